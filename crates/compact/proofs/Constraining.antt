@@ -15,7 +15,7 @@ pub one_more : (w : DartMap) (k d : ℕ) (constraints : List Constraint) (least 
 one_more w k d constraints least sound d_in kind along =
     let constraint : Constraint = record { from = tail w d; to = w.head d; least = least } in
     let inside : (constraint.from < w.vertices) × (constraint.to < w.vertices) × (least ≤ 1) = (
-      sound.meeting.head_in (w.reverse_dart d) (sound.linked.reverse_dart_in d d_in),
+      sound.meeting.head_in (w.reverse_dart d) (sound.tied.reverse_dart_in d d_in),
       sound.meeting.head_in d d_in,
       elim kind [
         | inl ahead ↦ omega (arith, ahead.1)

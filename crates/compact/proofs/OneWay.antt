@@ -51,7 +51,7 @@ abbrev clockwise : DartMap → ℕ → ℕ
 clockwise w a = w.reverse_dart (w.next a)
 
 clockwise_in : (w : DartMap) (a : ℕ) → IsSound w → a < w.darts → clockwise w a < w.darts
-clockwise_in w a sound a_in = sound.linked.reverse_dart_in (w.next a) (sound.linked.next_in a a_in)
+clockwise_in w a sound a_in = sound.tied.reverse_dart_in (w.next a) (sound.tied.next_in a a_in)
 
 -- one dart further
 sweep_on : (w : DartMap) (b c angles : ℕ) (xs : List ℕ) → IsSound w → angles < 4 → IsSweep w b c angles xs →
@@ -125,8 +125,8 @@ one_arrives w a b sound a_in b_in there way =
 -- and so are darts that leave it in one direction, as their reverses arrive in one
 pub one_leaves : (w : DartMap) (a b : ℕ) → IsSound w → a < w.darts → b < w.darts → tail w a ≡ tail w b → w.direction a ≡ w.direction b → a ≡ b
 one_leaves w a b sound a_in b_in from way =
-    let linked = sound.linked in
+    let tied = sound.tied in
     let same : w.reverse_dart a ≡ w.reverse_dart b =
-    one_arrives w (w.reverse_dart a) (w.reverse_dart b) sound (linked.reverse_dart_in a a_in) (linked.reverse_dart_in b b_in) from
+    one_arrives w (w.reverse_dart a) (w.reverse_dart b) sound (tied.reverse_dart_in a a_in) (tied.reverse_dart_in b b_in) from
     (sound.straight a a_in ∙ ap (λ (d : ℕ). (d + 2) % 4) way ∙ sym (sound.straight b b_in)) in
-    sym (linked.reverse_dart_back a a_in) ∙ ap w.reverse_dart same ∙ linked.reverse_dart_back b b_in
+    sym (tied.reverse_dart_back a a_in) ∙ ap w.reverse_dart same ∙ tied.reverse_dart_back b b_in

@@ -17,21 +17,21 @@ use Rattle.compact.specs.declared.fault.CompactFault.TheVariants.{Wide, Memory}
 
 -- a dart and its reverse change places of head and tail
 pub turned_round : (w : DartMap) (a : ℕ) → IsSound w → a < w.darts → tail w (w.reverse_dart a) ≡ w.head a
-turned_round w a sound a_in = ap w.head (sound.linked.reverse_dart_back a a_in)
+turned_round w a sound a_in = ap w.head (sound.tied.reverse_dart_back a a_in)
 
 -- numbers that keep both axes are in order
 pub in_order : (w : DartMap) (x y : ℕ → ℕ) → IsSound w → IsAlong w 0 x → IsAlong w 1 y → IsOrdered w x y
 in_order w x y sound along_x along_y = record {
   east = λ a a_in way.
       let back : w.direction (w.reverse_dart a) ≡ 2 = sound.straight a a_in ∙ ap (λ (d : ℕ). (d + 2) % 4) way in
-      let reverse_dart_in = sound.linked.reverse_dart_in a a_in in
+      let reverse_dart_in = sound.tied.reverse_dart_in a a_in in
       let there : y (tail w a) ≤ y (w.head a) = along_y.across a a_in (λ e. omega (arith, e, way)) (λ e. omega (arith, e, way)) in
       let home : y (tail w (w.reverse_dart a)) ≤ y (w.head (w.reverse_dart a)) = along_y.across (w.reverse_dart a) reverse_dart_in (λ e. omega (arith, e, back)) (λ e. omega (arith, e, back)) in
       let same : y (tail w (w.reverse_dart a)) ≡ y (w.head a) = ap y (turned_round w a sound a_in) in
       (omega (arith, along_x.forward a a_in way), omega (arith, there, home, same));
   north = λ a a_in way.
       let back : w.direction (w.reverse_dart a) ≡ 3 = sound.straight a a_in ∙ ap (λ (d : ℕ). (d + 2) % 4) way in
-      let reverse_dart_in = sound.linked.reverse_dart_in a a_in in
+      let reverse_dart_in = sound.tied.reverse_dart_in a a_in in
       let there : x (tail w a) ≤ x (w.head a) = along_x.across a a_in (λ e. omega (arith, e, way)) (λ e. omega (arith, e, way)) in
       let home : x (tail w (w.reverse_dart a)) ≤ x (w.head (w.reverse_dart a)) = along_x.across (w.reverse_dart a) reverse_dart_in (λ e. omega (arith, e, back)) (λ e. omega (arith, e, back)) in
       let same : x (tail w (w.reverse_dart a)) ≡ x (w.head a) = ap x (turned_round w a sound a_in) in
@@ -47,7 +47,7 @@ keep_x w x y sound ordered = record {
     | inr other ↦
         let south : w.direction a ≡ 3 = omega (arith, sound.meeting.quarter a a_in, one, two, other) in
         let back : w.direction (w.reverse_dart a) ≡ 1 = sound.straight a a_in ∙ ap (λ (d : ℕ). (d + 2) % 4) south in
-        let same : x (tail w (w.reverse_dart a)) ≡ x (w.head (w.reverse_dart a)) = (ordered.north (w.reverse_dart a) (sound.linked.reverse_dart_in a a_in) back).1 in
+        let same : x (tail w (w.reverse_dart a)) ≡ x (w.head (w.reverse_dart a)) = (ordered.north (w.reverse_dart a) (sound.tied.reverse_dart_in a a_in) back).1 in
         omega (arith, same, ap x (turned_round w a sound a_in))
   ];
 }
@@ -61,7 +61,7 @@ keep_y w x y sound ordered = record {
     | inr other ↦
         let west : w.direction a ≡ 2 = omega (arith, sound.meeting.quarter a a_in, one, two, other) in
         let back : w.direction (w.reverse_dart a) ≡ 0 = sound.straight a a_in ∙ ap (λ (d : ℕ). (d + 2) % 4) west in
-        let same : y (tail w (w.reverse_dart a)) ≡ y (w.head (w.reverse_dart a)) = (ordered.east (w.reverse_dart a) (sound.linked.reverse_dart_in a a_in) back).1 in
+        let same : y (tail w (w.reverse_dart a)) ≡ y (w.head (w.reverse_dart a)) = (ordered.east (w.reverse_dart a) (sound.tied.reverse_dart_in a a_in) back).1 in
         omega (arith, same, ap y (turned_round w a sound a_in))
   ];
 }

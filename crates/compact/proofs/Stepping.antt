@@ -142,9 +142,9 @@ pub level_across : (w : DartMap) (k d : ℕ) (around : List ℕ) (n : ℕ) (y : 
 level_across w k d around n y sound k_in d_in one two are along v v_in real =
     let (a, a_in, way, from, to) = are v d v_in d_in real in
     let b = w.reverse_dart a in
-    let b_in : b < w.darts = sound.linked.reverse_dart_in a a_in in
+    let b_in : b < w.darts = sound.tied.reverse_dart_in a a_in in
     let back : w.direction b ≡ (w.direction a + 2) % 4 = sound.straight a a_in in
-    let tail_b : tail w b ≡ w.head a = ap w.head (sound.linked.reverse_dart_back a a_in) in
+    let tail_b : tail w b ≡ w.head a = ap w.head (sound.tied.reverse_dart_back a a_in) in
     let there = along.across a a_in (λ e. one (sym way ∙ e)) (λ e. two (sym way ∙ e)) in
     let here = along.across b b_in (λ e. two (omega (arith, e, back, way, k_in, d_in, one))) (λ e. one (omega (arith, e, back, way, k_in, d_in, two))) in
     omega (arith, there, here, ap y from, ap y to, ap y tail_b)
@@ -164,7 +164,7 @@ pub along_steps : (w : DartMap) (k d : ℕ) (around : List ℕ) (x : ℕ → ℕ
     HasSteps w around w.darts → Grow (step around k) w.vertices x → StayLevel (step around d) w.vertices x → IsAlong w k x
 along_steps w k d around x sound k_in other has grow level =
     let head_in = sound.meeting.head_in in
-    let reverse_in = sound.linked.reverse_dart_in in
+    let reverse_in = sound.tied.reverse_dart_in in
     let to : (e a : ℕ) → a < w.darts → w.direction a ≡ e → step around e (tail w a) ≡ w.head a =
     λ e a a_in way. subst (λ (m : ℕ). step around m (tail w a) ≡ w.head a) way (has a a_in) in
     let from_in : (a : ℕ) → a < w.darts → tail w a < w.vertices = λ a a_in. head_in (w.reverse_dart a) (reverse_in a a_in) in
@@ -180,7 +180,7 @@ along_steps w k d around x sound k_in other has grow level =
             let b = w.reverse_dart a in
             let b_in : b < w.darts = reverse_in a a_in in
             let way : w.direction b ≡ d = omega (arith, sound.straight a a_in, sound.meeting.quarter a a_in, turned, one, two, k_in, other) in
-            let tail_b : tail w b ≡ w.head a = ap w.head (sound.linked.reverse_dart_back a a_in) in
+            let tail_b : tail w b ≡ w.head a = ap w.head (sound.tied.reverse_dart_back a a_in) in
             omega (arith, beside b b_in way, ap x tail_b)
       ];
     }

@@ -123,7 +123,7 @@ module _ (v : ℕ) (w : DartMap) (n : ℕ) (reverse_dart : ℕ → ℕ) (quarter
       let reverse_darts : w.reverse_dart b ≡ w.reverse_dart c =
       sym (are.chains.chains.back b b_in (some a b at_b a_in)) ∙ ap (λ (k : ℕ). w.before (w.reverse_dart k)) (at_b ∙ sym at_c)
       ∙ are.chains.chains.back c c_in (some a c at_c a_in) in
-      sym (are.chains.linked.reverse_dart_back b b_in) ∙ ap w.reverse_dart reverse_darts ∙ are.chains.linked.reverse_dart_back c c_in
+      sym (are.chains.tied.reverse_dart_back b b_in) ∙ ap w.reverse_dart reverse_darts ∙ are.chains.tied.reverse_dart_back c c_in
 
   rest_same : (y d e : ℕ) (bs cs : List ℕ) → y < w.darts → d < n → e < n → Follows w y bs → Follows w y cs → Below w.darts bs →
       Below w.darts cs → last_of y bs ≡ d → last_of y cs ≡ e → d ≡ e
@@ -155,12 +155,12 @@ module _ (v : ℕ) (w : DartMap) (n : ℕ) (reverse_dart : ℕ → ℕ) (quarter
       let behind : last_of (w.reverse_dart (last_of b bs)) (backs w b bs) ≡ w.reverse_dart b = backs_last b bs in
       follows_push w (w.reverse_dart (last_of b bs)) (w.reverse_dart a) (backs w b bs) (backs_follow b bs below.0 below.1 follows.2)
       (ap (λ (k : ℕ). w.before (w.reverse_dart k)) (sym follows.0) ∙ are.chains.chains.back b below.0 (some a b follows.0 a_in) ∙ sym behind)
-      (ap w.head (are.chains.linked.reverse_dart_back a a_in) ∙ sym follows.1 ∙ ap w.head (sym behind))
+      (ap w.head (are.chains.tied.reverse_dart_back a a_in) ∙ sym follows.1 ∙ ap w.head (sym behind))
 
   backs_below : (a : ℕ) (rest : List ℕ) → a < w.darts → Below w.darts rest → Below w.darts (backs w a rest)
   backs_below a [] a_in below = tt
   backs_below a (b ∷ bs) a_in below =
-      below_push w.darts (w.reverse_dart a) (backs w b bs) (backs_below b bs below.0 below.1) (are.chains.linked.reverse_dart_in a a_in)
+      below_push w.darts (w.reverse_dart a) (backs w b bs) (backs_below b bs below.0 below.1) (are.chains.tied.reverse_dart_in a a_in)
 
   backs_reverse : (a : ℕ) (rest : List ℕ) → w.reverse_dart (last_of a rest) ∷ backs w a rest ≡ map w.reverse_dart (reverse (a ∷ rest))
   backs_reverse a [] = refl
@@ -177,7 +177,7 @@ module _ (v : ℕ) (w : DartMap) (n : ℕ) (reverse_dart : ℕ → ℕ) (quarter
   -- the way back along the edge of a dart
   way_back : (d first : ℕ) (rest : List ℕ) → d < n → IsPath w d first rest → IsPath w (reverse_dart d) (w.reverse_dart d) (backs w first rest)
   way_back d first rest d_in path =
-      let inside : w.reverse_dart d < w.darts = are.chains.linked.reverse_dart_in d (dart_in d d_in) in
+      let inside : w.reverse_dart d < w.darts = are.chains.tied.reverse_dart_in d (dart_in d d_in) in
       let end : w.reverse_dart (last_of first rest) ≡ w.reverse_dart d = ap w.reverse_dart path.ends in
       record {
         first_in = inside;
@@ -185,9 +185,9 @@ module _ (v : ℕ) (w : DartMap) (n : ℕ) (reverse_dart : ℕ → ℕ) (quarter
         start = elim (are.chains.chains.inside (w.reverse_dart d) inside) [
           | inl none ↦ none
           | inr real ↦ absurd
-              (ends_there (w.reverse_dart (w.before (w.reverse_dart d))) d (are.chains.linked.reverse_dart_in (w.before (w.reverse_dart d)) real) d_in
+              (ends_there (w.reverse_dart (w.before (w.reverse_dart d))) d (are.chains.tied.reverse_dart_in (w.before (w.reverse_dart d)) real) d_in
               (are.chains.chains.back (w.reverse_dart d) inside (some (w.before (w.reverse_dart d)) (w.reverse_dart d) refl real)
-              ∙ are.chains.linked.reverse_dart_back d (dart_in d d_in)))
+              ∙ are.chains.tied.reverse_dart_back d (dart_in d d_in)))
         ];
         follows = subst (λ (k : ℕ). Follows w k (backs w first rest)) end
             (backs_follow first rest path.first_in path.rest_in path.follows);

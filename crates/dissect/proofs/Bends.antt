@@ -1,7 +1,7 @@
 -- A split that turns puts the turn at the end of the path of its edge, and the opposite one at the start of the way back.
 use Rattle.std.proofs.Common.{◌≡◌, ◌≢◌, ℕ, ◌+◌, ◌-◌, ◌%◌, ◌<◌, ◌≤◌, ◌⊎◌, ◌∙◌, List, [], ◌∷◌, ◌++◌, arith, subst, sym, ap, refl, inl, inr}
 use Rattle.std.proofs.lemmas.Bool.{cases_eq}
-use Rattle.dissect.specs.DartMaps.{DartMap, no_dart, IsLinked, IsSubdivided}
+use Rattle.dissect.specs.DartMaps.{DartMap, no_dart, IsTied, IsSubdivided}
 use Rattle.dissect.specs.Faces.{last_of, Below}
 use Rattle.dissect.specs.Paths.{Follows, HasPath, HasPaths, turn_to, bends}
 use Rattle.dissect.proofs.Lengthening.{
@@ -22,7 +22,7 @@ use Rattle.dissect.proofs.Splits.{split_keeps, split_kept, split_doubled, split_
 
 -- the edge of e turns; e is the last dart of its path, and its reverse the first one of the way back
 pub record IsBent (w : DartMap) (e way bend : ℕ) (new : DartMap) : Type 0 where
-  pub linked : IsLinked w
+  pub tied : IsTied w
   pub e_in : e < w.darts
   pub narrow : w.darts ≤ no_dart
   pub quarter : way < 4
@@ -33,7 +33,7 @@ pub record IsBent (w : DartMap) (e way bend : ℕ) (new : DartMap) : Type 0 wher
 
 pub bend_doubled : (w : DartMap) (e way bend : ℕ) (new : DartMap) → IsBent w e way bend new → IsDoubled w new e w.darts bend
 bend_doubled w e way bend new bent =
-    split_doubled w e way bend bend new bent.linked bent.e_in bent.quarter (few bend bent.turn) (is bend bent.turn) bent.split
+    split_doubled w e way bend bend new bent.tied bent.e_in bent.quarter (few bend bent.turn) (is bend bent.turn) bent.split
   where
     few : (bend : ℕ) → (bend ≡ 1) ⊎ (bend ≡ 3) → bend ≤ 4
     few bend (inl left) = omega (arith, left)
@@ -46,7 +46,7 @@ bend_doubled w e way bend new bent =
 pub bend_doubled_back : (w : DartMap) (e way bend : ℕ) (new : DartMap) → IsBent w e way bend new →
     IsDoubled w new (w.reverse_dart e) (w.darts + 1) (4 - bend)
 bend_doubled_back w e way bend new bent =
-    split_doubled_back w e way bend (4 - bend) new bent.linked bent.e_in bent.quarter (few bend bent.turn) (is bend bent.turn) bent.split
+    split_doubled_back w e way bend (4 - bend) new bent.tied bent.e_in bent.quarter (few bend bent.turn) (is bend bent.turn) bent.split
   where
     few : (bend : ℕ) → (bend ≡ 1) ⊎ (bend ≡ 3) → bend ≤ 4
     few bend (inl left) = omega (arith, left)
@@ -87,7 +87,7 @@ other_longer w e way bend new bent a (b ∷ bs) a_in below follows other =
     let not_e : b ≢ e = λ at. other (ap (last_of b) (after_last w e way bend new bent b bs at below.1 follows.2) ∙ at) in
     let not_t : b ≢ w.reverse_dart e = not_first w e way bend new bent a b a_in follows.0 in
     longer_kept w new a b bs (bends w b bs) (split_keeps w e way bend new bent.split) a_in follows
-    (split_kept w e way bend new bent.linked bent.split b below.0 not_e not_t) longer
+    (split_kept w e way bend new bent.tied bent.split b below.0 not_e not_t) longer
 
 -- the rest of the path that ends with e
 pub last_longer : (w : DartMap) (e way bend : ℕ) (new : DartMap) → IsBent w e way bend new → (a : ℕ) (rest : List ℕ) → a < w.darts →
@@ -114,7 +114,7 @@ last_longer w e way bend new bent a (b ∷ bs) a_in below follows not_e last =
           longer_turns w new a (b ∷ bs) (turn_then turn (bends w b bs ++ (bend ∷ []))) (bends w a (b ∷ bs) ++ (bend ∷ []))
           (turn_then-append turn (bends w b bs) (bend ∷ []))
           (longer_kept w new a b bs (bends w b bs ++ (bend ∷ [])) keeps a_in follows
-          (split_kept w e way bend new bent.linked bent.split b below.0 other not_t) longer)
+          (split_kept w e way bend new bent.tied bent.split b below.0 other not_t) longer)
     ]
 
 -- the path of e
@@ -135,9 +135,9 @@ bend_path w e way bend new bent reverse_dart turns apart old =
           (bend_turns bend [] bent.turn ∙ ap (λ (ts : List ℕ). ts ++ (bend ∷ [])) none)
           (path_doubled w new e reverse_dart f w.darts bend old.rest [] old.path old.back doubled longer)
       | inr not_e ↦
-          let not_t : f ≢ w.reverse_dart e = λ at. apart (sym old.back ∙ ap w.reverse_dart at ∙ bent.linked.reverse_dart_back e bent.e_in) in
+          let not_t : f ≢ w.reverse_dart e = λ at. apart (sym old.back ∙ ap w.reverse_dart at ∙ bent.tied.reverse_dart_back e bent.e_in) in
           path_kept w new e reverse_dart f old.rest (turns ++ (bend ∷ [])) old.path old.back
-          (split_kept w e way bend new bent.linked bent.split f old.path.first_in not_e not_t)
+          (split_kept w e way bend new bent.tied bent.split f old.path.first_in not_e not_t)
           (longer_turns w new f old.rest (bends w f old.rest ++ (bend ∷ [])) (turns ++ (bend ∷ []))
           (ap (λ (ts : List ℕ). ts ++ (bend ∷ [])) old.turns)
           (last_longer w e way bend new bent f old.rest old.path.first_in old.path.rest_in old.path.follows not_e old.path.ends))
@@ -148,7 +148,7 @@ pub bend_path_back : (w : DartMap) (e way bend : ℕ) (new : DartMap) → IsBent
     HasPath w d e turns → HasPath new d e ((4 - bend) ∷ turns)
 bend_path_back w e way bend new bent d turns apart old =
     let f : ℕ = old.first in
-    let at : f ≡ w.reverse_dart e = sym (bent.linked.reverse_dart_back f old.path.first_in) ∙ ap w.reverse_dart old.back in
+    let at : f ≡ w.reverse_dart e = sym (bent.tied.reverse_dart_back f old.path.first_in) ∙ ap w.reverse_dart old.back in
     let doubled : IsDoubled w new f (w.darts + 1) (4 - bend) =
     subst (λ (k : ℕ). IsDoubled w new k (w.darts + 1) (4 - bend)) (sym at) (bend_doubled_back w e way bend new bent) in
     path_turns new d e (turn_then (4 - bend) turns) ((4 - bend) ∷ turns) (bend_turns_back bend turns bent.turn)
@@ -164,27 +164,27 @@ bend_path_other w e way bend new bent d reverse_dart turns apart reverse_dart_ap
     let f : ℕ = old.first in
     let not_e : f ≢ e = λ at.
     apart (sym old.path.ends ∙ ap (last_of f) (after_last w e way bend new bent f old.rest at old.path.rest_in old.path.follows) ∙ at) in
-    let not_t : f ≢ w.reverse_dart e = λ at. reverse_dart_apart (sym old.back ∙ ap w.reverse_dart at ∙ bent.linked.reverse_dart_back e bent.e_in) in
+    let not_t : f ≢ w.reverse_dart e = λ at. reverse_dart_apart (sym old.back ∙ ap w.reverse_dart at ∙ bent.tied.reverse_dart_back e bent.e_in) in
     path_kept w new d reverse_dart f old.rest turns old.path old.back
-    (split_kept w e way bend new bent.linked bent.split f old.path.first_in not_e not_t)
+    (split_kept w e way bend new bent.tied bent.split f old.path.first_in not_e not_t)
     (longer_turns w new f old.rest (bends w f old.rest) turns old.turns
     (other_longer w e way bend new bent f old.rest old.path.first_in old.path.rest_in old.path.follows
     (λ h. apart (sym old.path.ends ∙ h))))
 
 -- the paths after a turn in the edge of e
 pub bend_paths : (w : DartMap) (e way bend : ℕ) (new : DartMap) (n : ℕ) (reverse_dart : ℕ → ℕ) (quarters quarters' : ℕ → List ℕ) →
-    IsLinked w → e < n → w.darts ≤ no_dart → way < 4 → (bend ≡ 1) ⊎ (bend ≡ 3) → IsSubdivided w e way bend new →
+    IsTied w → e < n → w.darts ≤ no_dart → way < 4 → (bend ≡ 1) ⊎ (bend ≡ 3) → IsSubdivided w e way bend new →
     ((d : ℕ) → d < n → reverse_dart d < n) → ((d : ℕ) → d < n → reverse_dart (reverse_dart d) ≡ d) → reverse_dart e ≢ e →
     quarters' e ≡ quarters e ++ (bend ∷ []) → quarters' (reverse_dart e) ≡ (4 - bend) ∷ quarters (reverse_dart e) →
     ((d : ℕ) → d < n → d ≢ e → d ≢ reverse_dart e → quarters' d ≡ quarters d) →
     HasPaths w n reverse_dart quarters → HasPaths new n reverse_dart quarters'
-bend_paths w e way bend new n reverse_dart quarters quarters' linked e_in narrow quarter turn split reverse_dart_in reverse_dart_back apart at_e at_reverse_dart at_other has =
+bend_paths w e way bend new n reverse_dart quarters quarters' tied e_in narrow quarter turn split reverse_dart_in reverse_dart_back apart at_e at_reverse_dart at_other has =
     let e_old : e < w.darts = omega (arith, e_in, has.few) in
     let back : HasPath w (reverse_dart e) (reverse_dart (reverse_dart e)) (quarters (reverse_dart e)) = has.paths (reverse_dart e) (reverse_dart_in e e_in) in
     let start : back.first ≡ w.reverse_dart e =
-    sym (linked.reverse_dart_back back.first back.path.first_in) ∙ ap w.reverse_dart (back.back ∙ reverse_dart_back e e_in) in
+    sym (tied.reverse_dart_back back.first back.path.first_in) ∙ ap w.reverse_dart (back.back ∙ reverse_dart_back e e_in) in
     let bent : IsBent w e way bend new = record {
-      linked = linked;
+      tied = tied;
       e_in = e_old;
       narrow = narrow;
       quarter = quarter;
@@ -210,7 +210,7 @@ bend_paths w e way bend new n reverse_dart quarters quarters' linked e_in narrow
               (λ h. not_reverse_dart (sym (reverse_dart_back d l) ∙ ap reverse_dart h)) (has.paths d l))
         ]
       ];
-      ends = split_ends w n e way bend new has.few e_old linked split has.ends;
+      ends = split_ends w n e way bend new has.few e_old tied split has.ends;
     }
   where
     last : (b : ℕ) → w.before b ≡ e → (w.before b ≡ no_dart) ⊎ ((n ≤ w.before b) × (w.before b < w.darts)) → ⊥

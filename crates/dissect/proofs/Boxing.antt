@@ -58,7 +58,7 @@ lesser_inside p =
 pub kept_paths : (p : PlaneModel) (shape : ShapeModel) (w : DartMap) (outside : ℕ) (t : DartTable) → IsMade p shape w outside t →
     HasPaths (dart_map_of t) (darts p) (reverse_dart p) (λ d. map angle_of (turns_at shape d))
 kept_paths p shape w outside t made =
-    enclosed_paths w outside (dart_map_of t) (darts p) (reverse_dart p) (λ d. map angle_of (turns_at shape d)) made.sound.linked
+    enclosed_paths w outside (dart_map_of t) (darts p) (reverse_dart p) (λ d. map angle_of (turns_at shape d)) made.sound.tied
     made.sound.meeting.quarter made.enclosed made.paths
 
 -- the map is that of the plane's edges
@@ -70,7 +70,7 @@ are_edges p shape w outside t made =
     let head_is : (d : ℕ) → d < darts p → (dart_map_of t).head d ≡ head p d - 1 = λ d l.
     keeps.head d (omega (arith, l, made.kept.few)) ∙ made.kept.heads d l in
     let chains : HasChains (vertices p) w = record {
-      linked = made.sound.linked;
+      tied = made.sound.tied;
       heads = made.sound.meeting.head_in;
       few = omega (arith, made.counts.vertex_count);
       chains = made.chains;
@@ -121,13 +121,13 @@ map_stands p shape w outside t old edges paths made =
       heads = keeps.head;
       directions = keeps.direction;
       through = λ d first first' rest rest' _.
-          through w outside (dart_map_of t) made.sound.linked made.sound.meeting.quarter e made.small d first first' rest rest';
-      rectangle = rectangle w outside (dart_map_of t) made.sound.linked made.sound.meeting.quarter e made.done;
+          through w outside (dart_map_of t) made.sound.tied made.sound.meeting.quarter e made.small d first first' rest rest';
+      rectangle = rectangle w outside (dart_map_of t) made.sound.tied made.sound.meeting.quarter e made.done;
       right = e.right;
       right_in = e.right_in;
       turns_right = omega (arith, e.join.right, e.surround.angle_old e.right e.right_in);
       outer = e.same_face made.faces.label made.faces.turns.labels ∙ made.faces.faces outside made.outside_in ∙ made.outer;
-      join = join w outside (dart_map_of t) made.sound.linked made.sound.meeting.quarter e;
+      join = join w outside (dart_map_of t) made.sound.tied made.sound.meeting.quarter e;
     }
 
 -- each edge has its path
@@ -155,7 +155,7 @@ are_boxes p shape w outside t old edges paths made all lesser count listed =
     record { first = path.0; rest = path.1; path = path.2 } in
     record {
       sound = made.cut_sound;
-      connected = enclosed_connected w outside (dart_map_of t) made.sound.linked made.connected made.enclosed;
+      connected = enclosed_connected w outside (dart_map_of t) made.sound.tied made.connected made.enclosed;
       faces = record {
         reaches = made.reaches;
         outside = w.darts + 4 + 0;

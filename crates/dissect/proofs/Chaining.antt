@@ -2,7 +2,7 @@
 use Rattle.std.proofs.Common.{ℕ, ◌+◌, ◌<◌, ◌≤◌, List, arith}
 use Rattle.faces.specs.Planes.{PlaneModel, darts, vertices}
 use Rattle.ortho_rep.specs.declared.turn.Turn.{Turn}
-use Rattle.dissect.specs.DartMaps.{DartMap, IsLinked, IsMeeting}
+use Rattle.dissect.specs.DartMaps.{DartMap, IsTied, IsMeeting}
 use Rattle.dissect.specs.Chains.{AreChains}
 use Rattle.dissect.proofs.Chains.{HasChains, split_chains, plain_chains}
 use Rattle.dissect.specs.Bare.{IsBare}
@@ -22,10 +22,10 @@ all_chains v p s k w new has few (bent j u mid last j_in less bends rest) =
     (omega (arith, few, bent_more j u (s j) mid bends)) rest
 
 -- the map of a plane that got all bends: between the darts of an edge lie vertices that are not the plane's
-pub bends_have_chains : (p : PlaneModel) (a h : ℕ → ℕ) (s : ℕ → List Turn) (w new : DartMap) → IsBare p a h w → IsLinked w → IsMeeting w →
+pub bends_have_chains : (p : PlaneModel) (a h : ℕ → ℕ) (s : ℕ → List Turn) (w new : DartMap) → IsBare p a h w → IsTied w → IsMeeting w →
     AreBent p s 0 w new → AreChains (vertices p) new
-bends_have_chains p a h s w new bare linked meeting all =
+bends_have_chains p a h s w new bare tied meeting all =
     (all_chains (vertices p) p s 0 w new
-    (plain_chains (vertices p) w linked meeting.head_in (omega (arith, bare.vertex_count))
+    (plain_chains (vertices p) w tied meeting.head_in (omega (arith, bare.vertex_count))
     (λ d l. bare.befores d (omega (arith, l, bare.dart_count))))
     (omega (arith, bare.dart_count)) all).chains

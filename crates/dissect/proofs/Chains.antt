@@ -1,17 +1,17 @@
 -- Splits, chords, cuts and a rectangle keep the chains of darts.
 use Rattle.std.proofs.Common.{◌≡◌, ◌≢◌, ℕ, ◌+◌, ◌<◌, ◌≤◌, ◌==◌, if◌then◌else◌, ◌⊎◌, ◌∙◌, arith, subst, sym, ap, refl, inl, inr, eqb}
 use Rattle.std.proofs.lemmas.Bool.{cases_eq, cases_lt, eq-eqb, ne_eqb, cond-true, cond-false}
-use Rattle.dissect.specs.DartMaps.{DartMap, no_dart, IsLinked, IsSubdivided, IsChord, IsCut, Grows, same, further}
+use Rattle.dissect.specs.DartMaps.{DartMap, no_dart, IsTied, IsSubdivided, IsChord, IsCut, Grows, same, further}
 use Rattle.dissect.specs.Surrounds.{IsSurrounded, IsEnclosed}
-use Rattle.dissect.proofs.Splitting.{by_age, by_place, split_linked}
+use Rattle.dissect.proofs.Splitting.{by_age, by_place, split_tied}
 use Rattle.dissect.specs.Chains.{AreChains}
-use Rattle.dissect.proofs.StayingConnected.{cut_linked}
+use Rattle.dissect.proofs.StayingConnected.{cut_tied}
 use Rattle.dissect.proofs.Cuts.{IsBeside, chord_beside}
-use Rattle.dissect.proofs.SurroundedPaths.{by_side, surrounded_linked, surrounded_beside}
+use Rattle.dissect.proofs.SurroundedPaths.{by_side, surrounded_tied, surrounded_beside}
 
 -- a map with chains, whose darts arrive at its vertices
 pub record HasChains (v : ℕ) (w : DartMap) : Type 0 where
-  pub linked : IsLinked w
+  pub tied : IsTied w
   pub heads : (a : ℕ) → a < w.darts → w.head a < w.vertices
   pub few : v ≤ w.vertices
   pub chains : AreChains v w
@@ -21,7 +21,7 @@ module _ (v : ℕ) (w : DartMap) (e way bend : ℕ) (new : DartMap) (has : HasCh
   t = w.reverse_dart e
 
   t_in : t < w.darts
-  t_in = has.linked.reverse_dart_in e e_in
+  t_in = has.tied.reverse_dart_in e e_in
 
   -- the dart of the split map that stands where the dart a stood: a new one in place of e and of its reverse
   abbrev stands : ℕ → ℕ
@@ -32,7 +32,7 @@ module _ (v : ℕ) (w : DartMap) (e way bend : ℕ) (new : DartMap) (has : HasCh
 
   stands_t : stands t ≡ w.darts + 1
   stands_t =
-      cond-false {A = ℕ} (eqb t e) _ _ (ne_eqb t e (has.linked.reverse_dart_apart e e_in))
+      cond-false {A = ℕ} (eqb t e) _ _ (ne_eqb t e (has.tied.reverse_dart_apart e e_in))
       ∙ cond-true {A = ℕ} (eqb t t) (w.darts + 1) t (eq-eqb t t refl)
 
   stands_other : (a : ℕ) → a ≢ e → a ≢ t → stands a ≡ a
@@ -65,7 +65,7 @@ module _ (v : ℕ) (w : DartMap) (e way bend : ℕ) (new : DartMap) (has : HasCh
         | inl at ↦ ap (λ (k : ℕ). new.reverse_dart (stands k)) at ∙ ap new.reverse_dart stands_e ∙ split.reverse_dart_first ∙ ap w.reverse_dart (sym at)
         | inr not_e ↦ elim (cases_eq a t) [
           | inl at ↦
-              ap (λ (k : ℕ). new.reverse_dart (stands k)) at ∙ ap new.reverse_dart stands_t ∙ split.reverse_dart_second ∙ sym (has.linked.reverse_dart_back e e_in)
+              ap (λ (k : ℕ). new.reverse_dart (stands k)) at ∙ ap new.reverse_dart stands_t ∙ split.reverse_dart_second ∙ sym (has.tied.reverse_dart_back e e_in)
               ∙ ap w.reverse_dart (sym at)
           | inr not_t ↦ ap new.reverse_dart (stands_other a not_e not_t) ∙ split.reverse_dart_other a l not_e not_t
         ]
@@ -78,12 +78,12 @@ module _ (v : ℕ) (w : DartMap) (e way bend : ℕ) (new : DartMap) (has : HasCh
         | inl at ↦ ap new.reverse_dart at ∙ split.reverse_dart_e ∙ sym stands_t ∙ ap (λ (k : ℕ). stands (w.reverse_dart k)) (sym at)
         | inr not_e ↦ elim (cases_eq a t) [
           | inl at ↦
-              ap new.reverse_dart at ∙ split.reverse_dart_reverse_dart ∙ sym stands_e ∙ ap stands (sym (has.linked.reverse_dart_back e e_in))
+              ap new.reverse_dart at ∙ split.reverse_dart_reverse_dart ∙ sym stands_e ∙ ap stands (sym (has.tied.reverse_dart_back e e_in))
               ∙ ap (λ (k : ℕ). stands (w.reverse_dart k)) (sym at)
           | inr not_t ↦
               split.reverse_dart_other a l not_e not_t
-              ∙ sym (stands_other (w.reverse_dart a) (λ h. not_t (sym (has.linked.reverse_dart_back a l) ∙ ap w.reverse_dart h))
-              (λ h. not_e (sym (has.linked.reverse_dart_back a l) ∙ ap w.reverse_dart h ∙ has.linked.reverse_dart_back e e_in)))
+              ∙ sym (stands_other (w.reverse_dart a) (λ h. not_t (sym (has.tied.reverse_dart_back a l) ∙ ap w.reverse_dart h))
+              (λ h. not_e (sym (has.tied.reverse_dart_back a l) ∙ ap w.reverse_dart h ∙ has.tied.reverse_dart_back e e_in)))
         ]
       ]
 
@@ -123,7 +123,7 @@ module _ (v : ℕ) (w : DartMap) (e way bend : ℕ) (new : DartMap) (has : HasCh
       let some_old : w.before a ≢ no_dart = λ h. some (before ∙ h) in
       let inside : w.before a < w.darts = real a l some_old in
       ap (λ (k : ℕ). new.before (new.reverse_dart k)) before ∙ ap new.before (reverse_dart_stands (w.before a) inside)
-      ∙ stands_before (w.reverse_dart (w.before a)) (has.linked.reverse_dart_in (w.before a) inside) ∙ has.chains.back a l some_old
+      ∙ stands_before (w.reverse_dart (w.before a)) (has.tied.reverse_dart_in (w.before a) inside) ∙ has.chains.back a l some_old
       ∙ sym (stands_reverse_dart a l))
 
   split_own : (a b : ℕ) → a < new.darts → b < new.darts → new.before a ≢ no_dart → new.before b ≢ no_dart →
@@ -161,7 +161,7 @@ module _ (v : ℕ) (w : DartMap) (e way bend : ℕ) (new : DartMap) (has : HasCh
   -- a split keeps the chains
   pub split_chains : HasChains v new
   split_chains = record {
-    linked = split_linked w e way bend new has.linked e_in split;
+    tied = split_tied w e way bend new has.tied e_in split;
     heads = λ a l. by_age w.darts (λ (a : ℕ). new.head a < new.vertices)
         (λ a l. omega (arith, split.head_old a l, has.heads a l, split.vertices))
         (omega (arith, split.head_first, split.vertices)) (omega (arith, split.head_second, split.vertices))
@@ -183,9 +183,9 @@ module _ (v : ℕ) (w : DartMap) (e way bend : ℕ) (new : DartMap) (has : HasCh
   }
 
 -- darts beside a map, before which none stands and which stand before none, keep its chains
-pub beside_chains : (v : ℕ) (w new : DartMap) → HasChains v w → IsBeside w new → IsLinked new → w.vertices ≤ new.vertices →
+pub beside_chains : (v : ℕ) (w new : DartMap) → HasChains v w → IsBeside w new → IsTied new → w.vertices ≤ new.vertices →
     ((a : ℕ) → a < new.darts → new.head a < new.vertices) → HasChains v new
-beside_chains v w new has beside linked more heads =
+beside_chains v w new has beside tied more heads =
     let late : (a : ℕ) → a < new.darts → new.before a ≢ no_dart → a < w.darts = λ a l some.
     elim (cases_lt a w.darts) [
       | inl old ↦ old
@@ -201,7 +201,7 @@ beside_chains v w new has beside linked more heads =
     let head : (a : ℕ) → a < w.darts → w.before a ≢ no_dart → new.head (new.before a) ≡ w.head (w.before a) = λ a l some.
     ap new.head (same a l) ∙ beside.keeps.head (w.before a) (real a l some) in
     record {
-      linked = linked;
+      tied = tied;
       heads = heads;
       few = omega (arith, has.few, more);
       chains = record {
@@ -217,7 +217,7 @@ beside_chains v w new has beside linked more heads =
             let some_old : w.before a ≢ no_dart = λ h. some (same a old ∙ h) in
             let inside : w.before a < w.darts = real a old some_old in
             ap (λ (k : ℕ). new.before (new.reverse_dart k)) (same a old) ∙ ap new.before (reverse_dart (w.before a) inside)
-            ∙ same (w.reverse_dart (w.before a)) (has.linked.reverse_dart_in (w.before a) inside) ∙ has.chains.back a old some_old ∙ sym (reverse_dart a old);
+            ∙ same (w.reverse_dart (w.before a)) (has.tied.reverse_dart_in (w.before a) inside) ∙ has.chains.back a old some_old ∙ sym (reverse_dart a old);
         fresh = λ a l some.
             let old : a < w.darts = late a l some in
             let some_old : w.before a ≢ no_dart = λ h. some (same a old ∙ h) in
@@ -235,10 +235,10 @@ beside_chains v w new has beside linked more heads =
     }
 
 -- a chord keeps the chains
-pub chord_chains : (v : ℕ) (w : DartMap) (d f way : ℕ) (new : DartMap) → HasChains v w → d < w.darts → f < w.darts → IsLinked new →
+pub chord_chains : (v : ℕ) (w : DartMap) (d f way : ℕ) (new : DartMap) → HasChains v w → d < w.darts → f < w.darts → IsTied new →
     IsChord w d f way new → HasChains v new
-chord_chains v w d f way new has d_in f_in linked chord =
-    beside_chains v w new has (chord_beside w d f way new has.linked chord) linked (omega (arith, chord.vertices))
+chord_chains v w d f way new has d_in f_in tied chord =
+    beside_chains v w new has (chord_beside w d f way new has.tied chord) tied (omega (arith, chord.vertices))
     (λ a l. by_age w.darts (λ (a : ℕ). new.head a < new.vertices)
     (λ a l. omega (arith, chord.head_old a l, has.heads a l, chord.vertices))
     (omega (arith, chord.head_there, has.heads f f_in, chord.vertices)) (omega (arith, chord.head_back, has.heads d d_in, chord.vertices))
@@ -249,7 +249,7 @@ pub cut_chains : (v : ℕ) (w : DartMap) (d e way : ℕ) (new : DartMap) → Has
 cut_chains v w d e way new has cut =
     chord_chains v cut.middle d w.darts way new
     (split_chains v w e (w.direction e) 2 cut.middle has cut.e_in cut.split) cut.fits.d_in cut.fits.f_in
-    (cut_linked w d e way new has.linked cut) cut.chord
+    (cut_tied w d e way new has.tied cut) cut.chord
 
 pub grows_chains : (v : ℕ) (w new : DartMap) → HasChains v w → Grows w new → HasChains v new
 grows_chains v w new has same = has
@@ -258,7 +258,7 @@ grows_chains v w new has (further mid last d e way grows cut) = cut_chains v mid
 -- a rectangle beside the map keeps the chains
 pub surround_chains : (v : ℕ) (w new : DartMap) → HasChains v w → IsSurrounded w new → HasChains v new
 surround_chains v w new has f =
-    beside_chains v w new has (surrounded_beside w new has.linked f) (surrounded_linked w new has.linked f) (omega (arith, f.vertices))
+    beside_chains v w new has (surrounded_beside w new has.tied f) (surrounded_tied w new has.tied f) (omega (arith, f.vertices))
     (λ a l. by_side w.darts (λ (a : ℕ). new.head a < new.vertices)
     (λ a l. omega (arith, f.head_old a l, has.heads a l, f.vertices))
     (λ k l. omega (arith, f.head_inner k l, f.vertices)) (λ k l. omega (arith, f.head_outer k l, f.vertices))
@@ -271,10 +271,10 @@ enclosed_chains v w outside new has e =
     (cut_chains v e.surrounded e.right (w.darts + e.side) e.direction e.joined (surround_chains v w e.surrounded has e.surround) e.join) e.grows
 
 -- where no dart stands before another, there are no chains
-pub plain_chains : (v : ℕ) (w : DartMap) → IsLinked w → ((a : ℕ) → a < w.darts → w.head a < w.vertices) → v ≤ w.vertices →
+pub plain_chains : (v : ℕ) (w : DartMap) → IsTied w → ((a : ℕ) → a < w.darts → w.head a < w.vertices) → v ≤ w.vertices →
     ((a : ℕ) → a < w.darts → w.before a ≡ no_dart) → HasChains v w
-plain_chains v w linked heads few none = record {
-  linked = linked;
+plain_chains v w tied heads few none = record {
+  tied = tied;
   heads = heads;
   few = few;
   chains = record {

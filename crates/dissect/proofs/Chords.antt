@@ -3,53 +3,53 @@ use Rattle.std.proofs.Common.{◌≡◌, ◌≢◌, ℕ, ◌+◌, ◌%◌, ◌<�
 use Rattle.std.proofs.lemmas.Bool.{cases_eq, eq-eqb, ne_eqb, cond-true, cond-false}
 use Rattle.common.specs.Sums.{sum_below}
 use Rattle.common.proofs.Sums.{sum_below-same, sum_below-add, sum_below-one}
-use Rattle.dissect.specs.DartMaps.{DartMap, IsLinked, IsMeeting, IsStraight, IsChord, Fits, around}
+use Rattle.dissect.specs.DartMaps.{DartMap, IsTied, IsMeeting, IsStraight, IsChord, Fits, around}
 use Rattle.dissect.proofs.Splitting.{by_place, by_age, part, part_here, part_elsewhere, part_same, around_more}
 
-pub chord_linked : (w : DartMap) (d f way : ℕ) (new : DartMap) → IsLinked w → Fits w d f way → IsChord w d f way new → IsLinked new
-chord_linked w d f way new linked fits s =
+pub chord_tied : (w : DartMap) (d f way : ℕ) (new : DartMap) → IsTied w → Fits w d f way → IsChord w d f way new → IsTied new
+chord_tied w d f way new tied fits s =
     let n : ℕ = w.darts in
     let d_in : d < w.darts = fits.d_in in
     let f_in : f < w.darts = fits.f_in in
     record {
       next_in = λ a l. by_place n d f (λ a. new.next a < new.darts)
           (omega (arith, s.next_d, s.darts)) (omega (arith, s.next_f, s.darts))
-          (λ a l nd nf. omega (arith, s.next_other a l nd nf, linked.next_in a l, s.darts))
-          (omega (arith, s.next_there, linked.next_in f f_in, s.darts)) (omega (arith, s.next_back, linked.next_in d d_in, s.darts))
+          (λ a l nd nf. omega (arith, s.next_other a l nd nf, tied.next_in a l, s.darts))
+          (omega (arith, s.next_there, tied.next_in f f_in, s.darts)) (omega (arith, s.next_back, tied.next_in d d_in, s.darts))
           a (omega (arith, s.darts));
       prev_in = λ a l. by_place n (w.next f) (w.next d) (λ a. new.prev a < new.darts)
           (omega (arith, s.prev_after_f, s.darts)) (omega (arith, s.prev_after_d, s.darts))
-          (λ a l nd nf. omega (arith, s.prev_other a l nd nf, linked.prev_in a l, s.darts))
+          (λ a l nd nf. omega (arith, s.prev_other a l nd nf, tied.prev_in a l, s.darts))
           (omega (arith, s.prev_there, s.darts)) (omega (arith, s.prev_back, s.darts))
           a (omega (arith, s.darts));
       next_back = λ a l. by_place n d f (λ a. new.prev (new.next a) ≡ a)
           (cc) (cc)
           (λ a l nd nf.
-          let other_f : w.next a ≢ w.next f = λ h. nf (sym (linked.next_back a l) ∙ ap w.prev h ∙ linked.next_back f f_in) in
-          let other_d : w.next a ≢ w.next d = λ h. nd (sym (linked.next_back a l) ∙ ap w.prev h ∙ linked.next_back d d_in) in
-          ap new.prev (s.next_other a l nd nf) ∙ s.prev_other (w.next a) (linked.next_in a l) other_f other_d
-          ∙ linked.next_back a l)
+          let other_f : w.next a ≢ w.next f = λ h. nf (sym (tied.next_back a l) ∙ ap w.prev h ∙ tied.next_back f f_in) in
+          let other_d : w.next a ≢ w.next d = λ h. nd (sym (tied.next_back a l) ∙ ap w.prev h ∙ tied.next_back d d_in) in
+          ap new.prev (s.next_other a l nd nf) ∙ s.prev_other (w.next a) (tied.next_in a l) other_f other_d
+          ∙ tied.next_back a l)
           (cc) (cc)
           a (omega (arith, s.darts));
       prev_back = λ a l. by_place n (w.next f) (w.next d) (λ a. new.next (new.prev a) ≡ a)
           (cc) (cc)
           (λ a l nf nd.
-          let other_d : w.prev a ≢ d = λ h. nd (sym (linked.prev_back a l) ∙ ap w.next h) in
-          let other_f : w.prev a ≢ f = λ h. nf (sym (linked.prev_back a l) ∙ ap w.next h) in
-          ap new.next (s.prev_other a l nf nd) ∙ s.next_other (w.prev a) (linked.prev_in a l) other_d other_f
-          ∙ linked.prev_back a l)
+          let other_d : w.prev a ≢ d = λ h. nd (sym (tied.prev_back a l) ∙ ap w.next h) in
+          let other_f : w.prev a ≢ f = λ h. nf (sym (tied.prev_back a l) ∙ ap w.next h) in
+          ap new.next (s.prev_other a l nf nd) ∙ s.next_other (w.prev a) (tied.prev_in a l) other_d other_f
+          ∙ tied.prev_back a l)
           (cc) (cc)
           a (omega (arith, s.darts));
       reverse_dart_in = λ a l. by_age n (λ a. new.reverse_dart a < new.darts)
-          (λ a l. omega (arith, s.reverse_dart_old a l, linked.reverse_dart_in a l, s.darts))
+          (λ a l. omega (arith, s.reverse_dart_old a l, tied.reverse_dart_in a l, s.darts))
           (omega (arith, s.reverse_dart_there, s.darts)) (omega (arith, s.reverse_dart_back, s.darts))
           a (omega (arith, s.darts));
       reverse_dart_back = λ a l. by_age n (λ a. new.reverse_dart (new.reverse_dart a) ≡ a)
-          (λ a l. ap new.reverse_dart (s.reverse_dart_old a l) ∙ s.reverse_dart_old (w.reverse_dart a) (linked.reverse_dart_in a l) ∙ linked.reverse_dart_back a l)
+          (λ a l. ap new.reverse_dart (s.reverse_dart_old a l) ∙ s.reverse_dart_old (w.reverse_dart a) (tied.reverse_dart_in a l) ∙ tied.reverse_dart_back a l)
           (cc) (cc)
           a (omega (arith, s.darts));
       reverse_dart_apart = λ a l. by_age n (λ a. new.reverse_dart a ≢ a)
-          (λ a l h. linked.reverse_dart_apart a l (sym (s.reverse_dart_old a l) ∙ h))
+          (λ a l h. tied.reverse_dart_apart a l (sym (s.reverse_dart_old a l) ∙ h))
           (λ h. omega (arith, s.reverse_dart_there, h)) (λ h. omega (arith, s.reverse_dart_back, h))
           a (omega (arith, s.darts));
     }
@@ -125,20 +125,20 @@ chord_whole w d f way new meeting fits s u l =
     ap (λ (h : ℕ). if h == u then new.angle (n + 1) else 0) s.head_back ∙ ap (λ (g : ℕ). if w.head d == u then g else 0) s.angle_back in
     omega (arith, more, sums, parted, parted_more, sum_d, sum_f, there, back, meeting.whole u (omega (arith, s.vertices)))
 
-pub chord_meeting : (w : DartMap) (d f way : ℕ) (new : DartMap) → IsLinked w → IsMeeting w → Fits w d f way →
+pub chord_meeting : (w : DartMap) (d f way : ℕ) (new : DartMap) → IsTied w → IsMeeting w → Fits w d f way →
     IsChord w d f way new → IsMeeting new
-chord_meeting w d f way new linked meeting fits s =
+chord_meeting w d f way new tied meeting fits s =
     let n : ℕ = w.darts in
     let d_in : d < w.darts = fits.d_in in
     let f_in : f < w.darts = fits.f_in in
     let inside : (a : ℕ) → a < w.darts → w.reverse_dart (w.next a) < w.darts =
-    λ a l. linked.reverse_dart_in (w.next a) (linked.next_in a l) in
+    λ a l. tied.reverse_dart_in (w.next a) (tied.next_in a l) in
     let arrives_d : new.reverse_dart (new.next d) ≡ n + 1 = ap new.reverse_dart s.next_d ∙ s.reverse_dart_there in
     let arrives_f : new.reverse_dart (new.next f) ≡ n = ap new.reverse_dart s.next_f ∙ s.reverse_dart_back in
     let arrives : (a : ℕ) → a < n → a ≢ d → a ≢ f → new.reverse_dart (new.next a) ≡ w.reverse_dart (w.next a) =
-    λ a l nd nf. ap new.reverse_dart (s.next_other a l nd nf) ∙ s.reverse_dart_old (w.next a) (linked.next_in a l) in
-    let arrives_there : new.reverse_dart (new.next n) ≡ w.reverse_dart (w.next f) = ap new.reverse_dart s.next_there ∙ s.reverse_dart_old (w.next f) (linked.next_in f f_in) in
-    let arrives_back : new.reverse_dart (new.next (n + 1)) ≡ w.reverse_dart (w.next d) = ap new.reverse_dart s.next_back ∙ s.reverse_dart_old (w.next d) (linked.next_in d d_in) in
+    λ a l nd nf. ap new.reverse_dart (s.next_other a l nd nf) ∙ s.reverse_dart_old (w.next a) (tied.next_in a l) in
+    let arrives_there : new.reverse_dart (new.next n) ≡ w.reverse_dart (w.next f) = ap new.reverse_dart s.next_there ∙ s.reverse_dart_old (w.next f) (tied.next_in f f_in) in
+    let arrives_back : new.reverse_dart (new.next (n + 1)) ≡ w.reverse_dart (w.next d) = ap new.reverse_dart s.next_back ∙ s.reverse_dart_old (w.next d) (tied.next_in d d_in) in
     record {
       head_in = λ a l. by_age n (λ a. new.head a < new.vertices)
           (λ a l. omega (arith, s.head_old a l, meeting.head_in a l, s.vertices))
@@ -201,13 +201,13 @@ chord_meeting w d f way new linked meeting fits s =
       whole = chord_whole w d f way new meeting fits s;
     }
 
-pub chord_straight : (w : DartMap) (d f way : ℕ) (new : DartMap) → IsLinked w → IsStraight w → Fits w d f way →
+pub chord_straight : (w : DartMap) (d f way : ℕ) (new : DartMap) → IsTied w → IsStraight w → Fits w d f way →
     IsChord w d f way new → IsStraight new
-chord_straight w d f way new linked straight fits s a l =
+chord_straight w d f way new tied straight fits s a l =
     by_age w.darts (λ a. new.direction (new.reverse_dart a) ≡ (new.direction a + 2) % 4)
     (λ a l. omega (
       arith,
-      ap new.direction (s.reverse_dart_old a l) ∙ s.direction_old (w.reverse_dart a) (linked.reverse_dart_in a l),
+      ap new.direction (s.reverse_dart_old a l) ∙ s.direction_old (w.reverse_dart a) (tied.reverse_dart_in a l),
       s.direction_old a l,
       straight a l,
     ))

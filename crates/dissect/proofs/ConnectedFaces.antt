@@ -1,40 +1,40 @@
 -- The map joined with its rectangle: what becomes of the faces.
 use Rattle.std.proofs.Common.{◌≡◌, ◌≢◌, ℕ, zero, suc, ◌+◌, ◌%◌, ◌<◌, ◌∙◌, List, [], ◌∷◌, map, arith, subst, sym, ap, refl, inl, inr}
 use Rattle.std.proofs.lemmas.Bool.{cases_eq}
-use Rattle.dissect.specs.DartMaps.{DartMap, IsLinked, IsCut}
+use Rattle.dissect.specs.DartMaps.{DartMap, IsTied, IsCut}
 use Rattle.dissect.specs.Surrounds.{IsSurrounded}
 use Rattle.dissect.specs.Turning.{total}
 use Rattle.dissect.specs.Faces.{StretchesIn, Stretches, Trail, last_of, Ring, IsOutside, In, Below, concatenated, AreRings}
-use Rattle.dissect.proofs.Splitting.{split_linked}
+use Rattle.dissect.proofs.Splitting.{split_tied}
 use Rattle.dissect.proofs.Stretching.{IsCutting, stretch_more, stretch_direct, split_stretches, Stretches-inside}
 use Rattle.dissect.proofs.Rings.{split_ring, chord_stretches, chord_ring}
 use Rattle.dissect.proofs.Waiting.{clear_of, ring_last}
 use Rattle.dissect.proofs.Listing.{in_left, in_right, in_below, below_left, below_right}
-use Rattle.dissect.proofs.Sounding.{surround_linked}
+use Rattle.dissect.proofs.Sounding.{surround_tied}
 
 -- a rectangle keeps the stretches of the map
-pub surround_stretch : (w new : DartMap) → IsSurrounded w new → IsLinked w → (k a c : ℕ) → a < w.darts → StretchesIn w k a c → Stretches new a c
-surround_stretch w new s linked zero a c l r =
-    let c_in : c < w.darts = omega (arith, linked.next_in a l, r.0) in
+pub surround_stretch : (w new : DartMap) → IsSurrounded w new → IsTied w → (k a c : ℕ) → a < w.darts → StretchesIn w k a c → Stretches new a c
+surround_stretch w new s tied zero a c l r =
+    let c_in : c < w.darts = omega (arith, tied.next_in a l, r.0) in
     stretch_direct new a c (s.next_old a l ∙ r.0) (λ h. r.1 (sym (s.angle_old c c_in) ∙ h))
-surround_stretch w new s linked (suc k) a c l r =
-    stretch_more new a (w.next a) c (s.next_old a l) (s.angle_old (w.next a) (linked.next_in a l) ∙ r.0)
-    (surround_stretch w new s linked k (w.next a) c (linked.next_in a l) r.1)
+surround_stretch w new s tied (suc k) a c l r =
+    stretch_more new a (w.next a) c (s.next_old a l) (s.angle_old (w.next a) (tied.next_in a l) ∙ r.0)
+    (surround_stretch w new s tied k (w.next a) c (tied.next_in a l) r.1)
 
-pub surround_trail : (w new : DartMap) → IsSurrounded w new → IsLinked w → (a : ℕ) (cs : List ℕ) → a < w.darts → Trail w a cs → Trail new a cs
-surround_trail w new s linked a [] l trail = tt
-surround_trail w new s linked a (c ∷ cs) l trail = (
-  surround_stretch w new s linked trail.0.places a c l trail.0.stretch,
-  surround_trail w new s linked c cs (Stretches-inside w a c linked l trail.0) trail.1,
+pub surround_trail : (w new : DartMap) → IsSurrounded w new → IsTied w → (a : ℕ) (cs : List ℕ) → a < w.darts → Trail w a cs → Trail new a cs
+surround_trail w new s tied a [] l trail = tt
+surround_trail w new s tied a (c ∷ cs) l trail = (
+  surround_stretch w new s tied trail.0.places a c l trail.0.stretch,
+  surround_trail w new s tied c cs (Stretches-inside w a c tied l trail.0) trail.1,
 )
 
-pub surround_ring : (w new : DartMap) → IsSurrounded w new → IsLinked w → (cs : List ℕ) → last_of 0 cs < w.darts → Ring w cs → Ring new cs
-surround_ring w new s linked [] l ring = ring
-surround_ring w new s linked (c ∷ cs) l ring = surround_trail w new s linked (last_of c cs) (c ∷ cs) l ring
+pub surround_ring : (w new : DartMap) → IsSurrounded w new → IsTied w → (cs : List ℕ) → last_of 0 cs < w.darts → Ring w cs → Ring new cs
+surround_ring w new s tied [] l ring = ring
+surround_ring w new s tied (c ∷ cs) l ring = surround_trail w new s tied (last_of c cs) (c ∷ cs) l ring
 
 -- the map w in its rectangle, joined by a cut from `right` to one of the rectangle's sides
 pub record IsConnecting (w surrounded : DartMap) (right side way : ℕ) (new : DartMap) : Type 0 where
-  pub linked : IsLinked w
+  pub tied : IsTied w
   pub surround : IsSurrounded w surrounded
   pub right_in : right < w.darts
   pub side_in : side < 4
@@ -44,10 +44,10 @@ pub record IsConnecting (w surrounded : DartMap) (right side way : ℕ) (new : D
 abbrev pub corner_of : DartMap → ℕ → ℕ
 corner_of w side = w.darts + (side + 3) % 4
 
-pub middle_of : (w surrounded : DartMap) (right side way : ℕ) (new : DartMap) → (j : IsConnecting w surrounded right side way new) → IsLinked j.join.middle
+pub middle_of : (w surrounded : DartMap) (right side way : ℕ) (new : DartMap) → (j : IsConnecting w surrounded right side way new) → IsTied j.join.middle
 middle_of w surrounded right side way new j =
-    split_linked surrounded (w.darts + side) (surrounded.direction (w.darts + side)) 2 j.join.middle
-    (surround_linked w surrounded j.surround j.linked) j.join.e_in j.join.split
+    split_tied surrounded (w.darts + side) (surrounded.direction (w.darts + side)) 2 j.join.middle
+    (surround_tied w surrounded j.surround j.tied) j.join.e_in j.join.split
 
 pub cutting_of : (w surrounded : DartMap) (right side way : ℕ) (new : DartMap) → (j : IsConnecting w surrounded right side way new) →
     IsCutting j.join.middle right (corner_of w side) surrounded.darts
@@ -118,10 +118,10 @@ pub inside_stretch : (w surrounded : DartMap) (right side way : ℕ) (new : Dart
     i ≢ (side + 3) % 4 → Stretches new (w.darts + i) (w.darts + m)
 inside_stretch w surrounded right side way new j i m il ml to corner here ne =
     let s = j.join.split in
-    let linked = surround_linked w surrounded j.surround j.linked in
+    let tied = surround_tied w surrounded j.surround j.tied in
     let i_in : w.darts + i < surrounded.darts = omega (arith, j.surround.darts, il) in
     let stretches : Stretches j.join.middle (w.darts + i) (w.darts + m) =
-    split_stretches surrounded (w.darts + side) (surrounded.direction (w.darts + side)) (w.darts + i) (w.darts + m) j.join.middle s linked j.join.e_in
+    split_stretches surrounded (w.darts + side) (surrounded.direction (w.darts + side)) (w.darts + i) (w.darts + m) j.join.middle s tied j.join.e_in
     i_in (stretch_direct surrounded (w.darts + i) (w.darts + m) to corner) in
     chord_stretches j.join.middle right (corner_of w side) surrounded.darts way (w.darts + i) (w.darts + m) new j.join.chord
     (middle_of w surrounded right side way new j) (cutting_of w surrounded right side way new j) (omega (arith, s.darts, i_in))
@@ -183,9 +183,9 @@ other_ring w surrounded right side way new j r below out ring =
     let s = j.join.split in
     let n : ℕ = w.darts in
     let end : last_of 0 r < n = ring_last w r ring below in
-    let in_surround : Ring surrounded r = surround_ring w surrounded j.surround j.linked r end ring in
+    let in_surround : Ring surrounded r = surround_ring w surrounded j.surround j.tied r end ring in
     let in_middle : Ring j.join.middle r = split_ring surrounded (n + side) (surrounded.direction (n + side)) j.join.middle s
-    (surround_linked w surrounded j.surround j.linked) j.join.e_in r (omega (arith, j.surround.darts, end)) in_surround in
+    (surround_tied w surrounded j.surround j.tied) j.join.e_in r (omega (arith, j.surround.darts, end)) in_surround in
     chord_ring j.join.middle right (corner_of w side) surrounded.darts way new j.join.chord (middle_of w surrounded right side way new j)
     (cutting_of w surrounded right side way new j) r
     (clear_of n j.join.middle.darts right (corner_of w side) r (omega (arith, s.darts, j.surround.darts)) below out

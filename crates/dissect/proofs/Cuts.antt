@@ -1,13 +1,13 @@
 -- Chords, cuts and a rectangle round the map keep the paths of all edges.
 use Rattle.std.proofs.Common.{◌≡◌, ℕ, ◌<◌, ◌≤◌, ◌⊎◌, ◌∙◌, List, [], ◌∷◌, arith, ap, inl, inr}
 use Rattle.std.proofs.lemmas.Bool.{cases_lt}
-use Rattle.dissect.specs.DartMaps.{DartMap, no_dart, IsLinked, IsChord, IsCut, Grows, same, further}
+use Rattle.dissect.specs.DartMaps.{DartMap, no_dart, IsTied, IsChord, IsCut, Grows, same, further}
 use Rattle.dissect.specs.Faces.{Below}
 use Rattle.dissect.specs.Paths.{Follows, HasPath, HasPaths, bends}
-use Rattle.dissect.proofs.Splitting.{by_age, split_linked}
+use Rattle.dissect.proofs.Splitting.{by_age, split_tied}
 use Rattle.dissect.proofs.Lengthening.{KeepsHeads, IsKept, IsLonger, longer_end, longer_kept, path_kept, longer_turns}
 use Rattle.dissect.proofs.Splits.{split_paths}
-use Rattle.dissect.proofs.StayingConnected.{grows_linked}
+use Rattle.dissect.proofs.StayingConnected.{grows_tied}
 
 -- a map to which darts were added that stand before none and have none before them
 pub record IsBeside (w new : DartMap) : Type 0 where
@@ -44,15 +44,15 @@ beside_paths w new n reverse_dart quarters beside has = record {
     as_before a kept (inl none) = inl (kept ∙ none)
     as_before a kept (inr inside) = inr (omega (arith, kept, inside.0), omega (arith, kept, inside.1, beside.keeps.more))
 
-pub chord_beside : (w : DartMap) (d f way : ℕ) (new : DartMap) → IsLinked w → IsChord w d f way new → IsBeside w new
-chord_beside w d f way new linked chord = record {
+pub chord_beside : (w : DartMap) (d f way : ℕ) (new : DartMap) → IsTied w → IsChord w d f way new → IsBeside w new
+chord_beside w d f way new tied chord = record {
   keeps = record { more = omega (arith, chord.darts); head = chord.head_old; direction = chord.direction_old };
   kept = λ b l. record {
     inside = omega (arith, chord.darts);
     before = chord.before_old b l;
     reverse_dart = chord.reverse_dart_old b l;
-    head = ap new.head (chord.reverse_dart_old b l) ∙ chord.head_old (w.reverse_dart b) (linked.reverse_dart_in b l);
-    direction = ap new.direction (chord.reverse_dart_old b l) ∙ chord.direction_old (w.reverse_dart b) (linked.reverse_dart_in b l);
+    head = ap new.head (chord.reverse_dart_old b l) ∙ chord.head_old (w.reverse_dart b) (tied.reverse_dart_in b l);
+    direction = ap new.direction (chord.reverse_dart_old b l) ∙ chord.direction_old (w.reverse_dart b) (tied.reverse_dart_in b l);
   };
   fresh = λ a l late. by_age w.darts (λ (a : ℕ). w.darts ≤ a → new.before a ≡ no_dart)
       (λ a l late. absurd (omega (arith, l, late))) (λ _. chord.before_there) (λ _. chord.before_back)
@@ -60,17 +60,17 @@ chord_beside w d f way new linked chord = record {
 }
 
 -- a chord keeps all paths
-pub chord_paths : (w : DartMap) (d f way : ℕ) (new : DartMap) (n : ℕ) (reverse_dart : ℕ → ℕ) (quarters : ℕ → List ℕ) → IsLinked w →
+pub chord_paths : (w : DartMap) (d f way : ℕ) (new : DartMap) (n : ℕ) (reverse_dart : ℕ → ℕ) (quarters : ℕ → List ℕ) → IsTied w →
     IsChord w d f way new → HasPaths w n reverse_dart quarters → HasPaths new n reverse_dart quarters
-chord_paths w d f way new n reverse_dart quarters linked chord = beside_paths w new n reverse_dart quarters (chord_beside w d f way new linked chord)
+chord_paths w d f way new n reverse_dart quarters tied chord = beside_paths w new n reverse_dart quarters (chord_beside w d f way new tied chord)
 
 -- and so does a cut
-pub cut_paths : (w : DartMap) (d e way : ℕ) (new : DartMap) (n : ℕ) (reverse_dart : ℕ → ℕ) (quarters : ℕ → List ℕ) → IsLinked w →
+pub cut_paths : (w : DartMap) (d e way : ℕ) (new : DartMap) (n : ℕ) (reverse_dart : ℕ → ℕ) (quarters : ℕ → List ℕ) → IsTied w →
     w.direction e < 4 → IsCut w d e way new → HasPaths w n reverse_dart quarters → HasPaths new n reverse_dart quarters
-cut_paths w d e way new n reverse_dart quarters linked quarter cut has =
+cut_paths w d e way new n reverse_dart quarters tied quarter cut has =
     chord_paths cut.middle d w.darts way new n reverse_dart quarters
-    (split_linked w e (w.direction e) 2 cut.middle linked cut.e_in cut.split) cut.chord
-    (split_paths w e (w.direction e) cut.middle n reverse_dart quarters linked cut.e_in quarter cut.split has)
+    (split_tied w e (w.direction e) 2 cut.middle tied cut.e_in cut.split) cut.chord
+    (split_paths w e (w.direction e) cut.middle n reverse_dart quarters tied cut.e_in quarter cut.split has)
 
 -- the four directions are numbered below 4
 abbrev pub AreQuarters : DartMap → Type 0
@@ -95,9 +95,9 @@ grows_quarters w new quarters same = quarters
 grows_quarters w new quarters (further mid last d e way grows cut) =
     cut_quarters mid d e way last (grows_quarters w mid quarters grows) cut
 
-pub grows_paths : (w new : DartMap) (n : ℕ) (reverse_dart : ℕ → ℕ) (quarters : ℕ → List ℕ) → IsLinked w → AreQuarters w → Grows w new →
+pub grows_paths : (w new : DartMap) (n : ℕ) (reverse_dart : ℕ → ℕ) (quarters : ℕ → List ℕ) → IsTied w → AreQuarters w → Grows w new →
     HasPaths w n reverse_dart quarters → HasPaths new n reverse_dart quarters
-grows_paths w new n reverse_dart quarters linked four same has = has
-grows_paths w new n reverse_dart quarters linked four (further mid last d e way grows cut) has =
-    cut_paths mid d e way last n reverse_dart quarters (grows_linked w mid linked grows) (grows_quarters w mid four grows e cut.e_in) cut
-    (grows_paths w mid n reverse_dart quarters linked four grows has)
+grows_paths w new n reverse_dart quarters tied four same has = has
+grows_paths w new n reverse_dart quarters tied four (further mid last d e way grows cut) has =
+    cut_paths mid d e way last n reverse_dart quarters (grows_tied w mid tied grows) (grows_quarters w mid four grows e cut.e_in) cut
+    (grows_paths w mid n reverse_dart quarters tied four grows has)

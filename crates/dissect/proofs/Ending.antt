@@ -23,10 +23,10 @@ module _ (p : PlaneModel) (a h : ℕ → ℕ) (total : ℕ) (w : DartMap) (label
     (owing_w : IsOwing p a h total w label owed) (paid : (x : ℕ) → x < w.darts → owed x ≡ []) where
   pub sound_ends : IsSound w
   sound_ends = record {
-    linked = owing_w.linked;
+    tied = owing_w.tied;
     meeting = owing_w.meeting;
     straight = λ x l.
-        let t_in = owing_w.linked.reverse_dart_in x l in
+        let t_in = owing_w.tied.reverse_dart_in x l in
         omega (
           arith,
           owing_w.ways x l,

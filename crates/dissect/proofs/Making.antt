@@ -1,7 +1,7 @@
 -- What the writes of a split and of a chord make of a table.
 use Rattle.std.proofs.Common.{◌≡◌, ◌≢◌, ℕ, ◌+◌, ◌-◌, ◌%◌, ◌<◌, ◌≤◌, ◌∙◌, List, length, get_or, set, arith, subst, sym, ap, refl, get_or-set_same, get_or-set_other}
 use Rattle.std.proofs.Math.ListN.{length-set}
-use Rattle.dissect.specs.DartMaps.{DartMap, IsLinked, IsSubdivided, IsChord, Fits, no_dart}
+use Rattle.dissect.specs.DartMaps.{DartMap, IsTied, IsSubdivided, IsChord, Fits, no_dart}
 
 -- the map of plain lists
 abbrev pub dart_map_from : (n v : ℕ) (next prev reverse_dart head direction angle before : List ℕ) → DartMap
@@ -34,7 +34,7 @@ twice xs ys i x j y apart i_in j_in said =
     })
 
 pub split_made : (n v e t way bend : ℕ) (N N1 N2 P P1 P2 T T1 T2 H H2 D D2 A A2 B B1 B2 : List ℕ) →
-    IsLinked (dart_map_from n v N P T H D A B) → e < n → t ≡ get_or T e 0 →
+    IsTied (dart_map_from n v N P T H D A B) → e < n → t ≡ get_or T e 0 →
     n + 2 ≤ length N → n + 2 ≤ length P → n + 2 ≤ length T → n + 2 ≤ length H → n + 2 ≤ length D → n + 2 ≤ length A → n + 2 ≤ length B →
     N1 ≡ set (set N (get_or P e 0) n) n e → P1 ≡ set (set P n (get_or P e 0)) e n →
     N2 ≡ set (set N1 (get_or P1 t 0) (n + 1)) (n + 1) t → P2 ≡ set (set P1 (n + 1) (get_or P1 t 0)) t (n + 1) →
@@ -42,15 +42,15 @@ pub split_made : (n v e t way bend : ℕ) (N N1 N2 P P1 P2 T T1 T2 H H2 D D2 A A
     B1 ≡ set (set B n (get_or B e 0)) e n → B2 ≡ set (set B1 (n + 1) (get_or B1 t 0)) t (n + 1) →
     H2 ≡ set (set H n v) (n + 1) v → D2 ≡ set (set D n way) (n + 1) ((way + 4 - bend) % 4) → A2 ≡ set (set A n bend) (n + 1) (4 - bend) →
     IsSubdivided (dart_map_from n v N P T H D A B) e way bend (dart_map_from (n + 2) (v + 1) N2 P2 T2 H2 D2 A2 B2)
-split_made n v e t way bend N N1 N2 P P1 P2 T T1 T2 H H2 D D2 A A2 B B1 B2 linked e_in t_is
+split_made n v e t way bend N N1 N2 P P1 P2 T T1 T2 H H2 D D2 A A2 B B1 B2 tied e_in t_is
     long_N long_P long_T long_H long_D long_A long_B said_N1 said_P1 said_N2 said_P2 said_T1 said_T2 said_B1 said_B2 said_H said_D said_A =
     let c : ℕ = get_or P e 0 in
-    let t_in : t < n = omega (arith, linked.reverse_dart_in e e_in, t_is) in
-    let te : t ≢ e = λ h. linked.reverse_dart_apart e e_in (sym t_is ∙ h) in
-    let c_in : c < n = linked.prev_in e e_in in
+    let t_in : t < n = omega (arith, tied.reverse_dart_in e e_in, t_is) in
+    let te : t ≢ e = λ h. tied.reverse_dart_apart e e_in (sym t_is ∙ h) in
+    let c_in : c < n = tied.prev_in e e_in in
     let p : ℕ = get_or P t 0 in
-    let p_in : p < n = linked.prev_in t t_in in
-    let cp : c ≢ p = λ h. te (sym (linked.prev_back t t_in) ∙ ap (λ (k : ℕ). get_or N k 0) (sym h) ∙ linked.prev_back e e_in) in
+    let p_in : p < n = tied.prev_in t t_in in
+    let cp : c ≢ p = λ h. te (sym (tied.prev_back t t_in) ∙ ap (λ (k : ℕ). get_or N k 0) (sym h) ∙ tied.prev_back e e_in) in
     let two_N = twice N N1 c n n e (λ h. omega (arith, h, c_in)) (omega (arith, c_in, long_N)) (omega (arith, long_N)) said_N1 in
     let two_P = twice P P1 n c e n (λ h. omega (arith, h, e_in)) (omega (arith, long_P)) (omega (arith, e_in, long_P)) said_P1 in
     let p_same : get_or P1 t 0 ≡ p = two_P.other t (λ h. omega (arith, h, t_in)) te in
@@ -109,7 +109,7 @@ split_made n v e t way bend N N1 N2 P P1 P2 T T1 T2 H H2 D D2 A A2 B B1 B2 linke
     }
 
 pub chord_made : (n v d f way : ℕ) (N N1 N2 N3 N4 P P1 P2 P3 P4 T T1 H H1 H2 D D2 A A4 B B2 : List ℕ) (nd nf : ℕ) →
-    IsLinked (dart_map_from n v N P T H D A B) → Fits (dart_map_from n v N P T H D A B) d f way →
+    IsTied (dart_map_from n v N P T H D A B) → Fits (dart_map_from n v N P T H D A B) d f way →
     nd ≡ get_or N d 0 → nf ≡ get_or N f 0 →
     n + 2 ≤ length N → n + 2 ≤ length P → n + 2 ≤ length T → n + 2 ≤ length H → n + 2 ≤ length D → n + 2 ≤ length A → n + 2 ≤ length B →
     N1 ≡ set N d n → N2 ≡ set N1 n nf → N3 ≡ set N2 f (n + 1) → N4 ≡ set N3 (n + 1) nd →
@@ -118,15 +118,15 @@ pub chord_made : (n v d f way : ℕ) (N N1 N2 N3 N4 P P1 P2 P3 P4 T T1 H H1 H2 D
     D2 ≡ set (set D n way) (n + 1) ((way + 2) % 4) → B2 ≡ set (set B n no_dart) (n + 1) no_dart →
     A4 ≡ set (set (set (set A n 1) (n + 1) 1) d (get_or A d 0 - 1)) f (get_or A f 0 - 1) →
     IsChord (dart_map_from n v N P T H D A B) d f way (dart_map_from (n + 2) v N4 P4 T1 H2 D2 A4 B2)
-chord_made n v d f way N N1 N2 N3 N4 P P1 P2 P3 P4 T T1 H H1 H2 D D2 A A4 B B2 nd nf linked fits nd_is nf_is
+chord_made n v d f way N N1 N2 N3 N4 P P1 P2 P3 P4 T T1 H H1 H2 D D2 A A4 B B2 nd nf tied fits nd_is nf_is
     long_N long_P long_T long_H long_D long_A long_B said_N1 said_N2 said_N3 said_N4 said_P1 said_P2 said_P3 said_P4
     said_T said_H1 said_H2 said_D said_B said_A =
     let d_in : d < n = fits.d_in in
     let f_in : f < n = fits.f_in in
-    let nd_in : nd < n = omega (arith, nd_is, linked.next_in d d_in) in
-    let nf_in : nf < n = omega (arith, nf_is, linked.next_in f f_in) in
-    let nd_back : get_or P nd 0 ≡ d = ap (λ (k : ℕ). get_or P k 0) nd_is ∙ linked.next_back d d_in in
-    let nf_back : get_or P nf 0 ≡ f = ap (λ (k : ℕ). get_or P k 0) nf_is ∙ linked.next_back f f_in in
+    let nd_in : nd < n = omega (arith, nd_is, tied.next_in d d_in) in
+    let nf_in : nf < n = omega (arith, nf_is, tied.next_in f f_in) in
+    let nd_back : get_or P nd 0 ≡ d = ap (λ (k : ℕ). get_or P k 0) nd_is ∙ tied.next_back d d_in in
+    let nf_back : get_or P nf 0 ≡ f = ap (λ (k : ℕ). get_or P k 0) nf_is ∙ tied.next_back f f_in in
     let ends : nf ≢ nd = λ h. fits.apart (sym nd_back ∙ ap (λ (k : ℕ). get_or P k 0) (sym h) ∙ nf_back) in
     let not_new : (a : ℕ) → a < n → (a ≢ n) × (a ≢ n + 1) = λ a l. ((λ h. omega (arith, h, l)), (λ h. omega (arith, h, l))) in
     let two_N = twice N N2 d n n nf (not_new d d_in).0 (omega (arith, d_in, long_N)) (omega (arith, long_N))

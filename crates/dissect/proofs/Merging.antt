@@ -9,7 +9,7 @@ use Rattle.dissect.proofs.Rings.{Clear, trail_front, trail_rest, trail_append, l
 use Rattle.dissect.proofs.Waiting.{clear_of, total-append}
 use Rattle.dissect.proofs.Listing.{in_append, in_left, in_right, in_below, below_append, below_left, below_right, below_more, distinct_append, distinct_left, distinct_right, distinct_apart}
 use Rattle.dissect.specs.Listed.{AreListed, AreKeptCorners, detour}
-use Rattle.dissect.proofs.Sounding.{by_side, surround_linked}
+use Rattle.dissect.proofs.Sounding.{by_side, surround_tied}
 use Rattle.dissect.proofs.Tracing.{concatenated_more, rings_more}
 use Rattle.dissect.proofs.ConnectedFaces.{surround_ring, IsConnecting, corner_of, middle_of, cutting_of, old_angle, right_angle, inner_angle, new_angles, inside_stretch, outside_four, other_rings, totals_same}
 
@@ -83,8 +83,8 @@ outer_round w surrounded right side way new j b bs ring below out =
     let d10 : middle.darts ≡ n + 10 = omega (arith, d8, s.darts) in
     let d11 : middle.darts + 1 ≡ n + 11 = omega (arith, d10) in
     let in_middle : Ring middle cs = split_ring surrounded (n + side) (surrounded.direction (n + side)) middle s
-    (surround_linked w surrounded j.surround j.linked) j.join.e_in cs (omega (arith, d8, end_in)) (surround_ring w surrounded j.surround j.linked cs end_in ring) in
-    let linked = middle_of w surrounded right side way new j in
+    (surround_tied w surrounded j.surround j.tied) j.join.e_in cs (omega (arith, d8, end_in)) (surround_ring w surrounded j.surround j.tied cs end_in ring) in
+    let tied = middle_of w surrounded right side way new j in
     let cutting = cutting_of w surrounded right side way new j in
     let from_right : Stretches middle right b = subst (λ (z : ℕ). Stretches middle z b) end_is in_middle.0 in
     let clear : Clear middle.darts right c (b ∷ bs) = clear_of n middle.darts right c (b ∷ bs) (omega (arith, d10)) below out
@@ -93,13 +93,13 @@ outer_round w surrounded right side way new j b bs ring below out =
     let trail : Trail middle b bs = trail_front middle b bs (right ∷ []) in_middle.1 in
     let last : Stretches middle (last_of b bs) right = (trail_rest middle b bs (right ∷ []) in_middle.1).0 in
     let end = clear_last middle.darts right c b bs clear.0 clear.1 clear.2 clear.3 in
-    let both = chord_stretch_to middle right c surrounded.darts way new t linked cutting last.places (last_of b bs) end.0 end.1 end.2
+    let both = chord_stretch_to middle right c surrounded.darts way new t tied cutting last.places (last_of b bs) end.0 end.1 end.2
     (corner_not_f middle right c surrounded.darts (last_of b bs) cutting (trail_corner middle b bs b_corner trail)) last.stretch in
     record {
       back = subst (λ (z : ℕ). Stretches new z b) d11
-          (chord_stretch_back middle right c surrounded.darts way new t linked cutting from_right.places b clear.1
+          (chord_stretch_back middle right c surrounded.darts way new t tied cutting from_right.places b clear.1
           (λ h. omega (arith, h, j.right_in)) from_right.stretch);
-      trail = chord_trail middle right c surrounded.darts way new t linked cutting b bs clear.0 b_corner clear.1 clear.2 clear.3 trail;
+      trail = chord_trail middle right c surrounded.darts way new t tied cutting b bs clear.0 b_corner clear.1 clear.2 clear.3 trail;
       to_right = both.0;
       straight_on = λ straight. subst (λ (z : ℕ). Stretches new (last_of b bs) z) d10 (both.1 straight);
     }

@@ -9,8 +9,8 @@ use Rattle.embedding.proofs.Lesser.{lesser_past, lesser_away, lesser_next}
 use Rattle.faces.specs.Planes.{PlaneModel, darts, reverse_dart}
 use Rattle.ortho_rep.specs.declared.turn.Turn.{Turn}
 use Rattle.ortho_rep.specs.Edges.{is_lesser, lesser_darts}
-use Rattle.dissect.specs.DartMaps.{DartMap, IsLinked, IsMeeting, IsSubdivided}
-use Rattle.dissect.proofs.Splitting.{split_linked, split_meeting}
+use Rattle.dissect.specs.DartMaps.{DartMap, IsTied, IsMeeting, IsSubdivided}
+use Rattle.dissect.proofs.Splitting.{split_tied, split_meeting}
 use Rattle.common.specs.Sums.{sum_below}
 use Rattle.common.proofs.Sums.{sum_below-more}
 use Rattle.dissect.specs.declared.table.DartTable.{DartTable}
@@ -21,21 +21,21 @@ use Rattle.dissect.proofs.Mirroring.{turn_counts}
 
 -- what one turn of the edge of e leads to
 pub record IsTurn (w : DartMap) (e : ℕ) (turns : List Turn) (i : ℕ) (new : DartMap) : Type 0 where
-  pub linked : IsLinked new
+  pub tied : IsTied new
   pub meeting : IsMeeting new
   pub steps : (end : DartMap) → IsBent e new (drop (i + 1) turns) end → IsBent e w (drop i turns) end
 
-pub turn_on : (w : DartMap) (e way bend : ℕ) (turns : List Turn) (i : ℕ) (turn : Turn) (new : DartMap) → IsLinked w → IsMeeting w → e < w.darts →
+pub turn_on : (w : DartMap) (e way bend : ℕ) (turns : List Turn) (i : ℕ) (turn : Turn) (new : DartMap) → IsTied w → IsMeeting w → e < w.darts →
     i < length turns → way ≡ start_direction w e → bend ≡ angle_of (get_or turns i turn) → IsSubdivided w e way bend new → IsTurn w e turns i new
-turn_on w e way bend turns i turn new linked meeting e_in inside way_is bend_is s =
+turn_on w e way bend turns i turn new tied meeting e_in inside way_is bend_is s =
     let counts = turn_counts (get_or turns i turn) [] in
     let at : IsSubdivided w e (start_direction w e) (angle_of (get_or turns i turn)) new =
     subst (λ (b : ℕ). IsSubdivided w e (start_direction w e) b new) bend_is (subst (λ (k : ℕ). IsSubdivided w e k bend new) way_is s) in
     let parts : drop i turns ≡ get_or turns i turn ∷ drop (i + 1) turns =
     drop-cons turns i turn inside ∙ ap (λ (k : ℕ). get_or turns i turn ∷ drop k turns) (sym (add-one i)) in
     record {
-      linked = split_linked w e way bend new linked e_in s;
-      meeting = split_meeting w e way bend new linked meeting e_in (omega (arith, way_is)) (omega (arith, bend_is, counts.2))
+      tied = split_tied w e way bend new tied e_in s;
+      meeting = split_meeting w e way bend new tied meeting e_in (omega (arith, way_is)) (omega (arith, bend_is, counts.2))
           (omega (arith, bend_is, counts.3)) s;
       steps = λ end rest. subst (λ (ts : List Turn). IsBent e w ts end) (sym parts)
           (turned w new end (get_or turns i turn) (drop (i + 1) turns) at rest);
@@ -43,17 +43,17 @@ turn_on w e way bend turns i turn new linked meeting e_in inside way_is bend_is 
 
 -- the edges whose lesser dart is below k have their bends: `start` is the table before the first of them
 pub record AreDone (p : PlaneModel) (s : ℕ → List Turn) (start t : DartTable) (k : ℕ) : Type 0 where
-  pub linked : IsLinked (dart_map_of t)
+  pub tied : IsTied (dart_map_of t)
   pub meeting : IsMeeting (dart_map_of t)
   pub count : t.darts ≡ start.darts + 2 * sum_below k (lesser_length p s)
   pub same : room t ≡ room start
   pub steps : (end : DartMap) → AreBent p s k (dart_map_of t) end → AreBent p s 0 (dart_map_of start) end
 
 pub edge_done : (p : PlaneModel) (s : ℕ → List Turn) (start t new : DartTable) (k : ℕ) → AreDone p s start t k → k < darts p → k < reverse_dart p k →
-    IsBent k (dart_map_of t) (s k) (dart_map_of new) → IsLinked (dart_map_of new) → IsMeeting (dart_map_of new) →
+    IsBent k (dart_map_of t) (s k) (dart_map_of new) → IsTied (dart_map_of new) → IsMeeting (dart_map_of new) →
     new.darts ≡ t.darts + 2 * length (s k) → room new ≡ room t → AreDone p s start new (k + 1)
-edge_done p s start t new k before inside lesser edge linked meeting count same = record {
-  linked = linked;
+edge_done p s start t new k before inside lesser edge tied meeting count same = record {
+  tied = tied;
   meeting = meeting;
   count = omega (arith, before.count, count, sum_below-more k (lesser_length p s), lesser_length-lesser p s k lesser);
   same = same ∙ before.same;
@@ -63,7 +63,7 @@ edge_done p s start t new k before inside lesser edge linked meeting count same 
 pub edge_left : (p : PlaneModel) (s : ℕ → List Turn) (start t : DartTable) (k : ℕ) → AreDone p s start t k → reverse_dart p k ≤ k →
     AreDone p s start t (k + 1)
 edge_left p s start t k before greater = record {
-  linked = before.linked;
+  tied = before.tied;
   meeting = before.meeting;
   count = omega (arith, before.count, sum_below-more k (lesser_length p s), lesser_length-greater p s k greater);
   same = before.same;
@@ -78,15 +78,15 @@ pub record AreRemaining (p : PlaneModel) (s : ℕ → List Turn) (start t : Dart
   pub done : AreDone p s start t place
 
 -- before the first of them
-pub none_done : (p : PlaneModel) (s : ℕ → List Turn) (start : DartTable) (edges : List ℕ) → IsLinked (dart_map_of start) → IsMeeting (dart_map_of start) →
+pub none_done : (p : PlaneModel) (s : ℕ → List Turn) (start : DartTable) (edges : List ℕ) → IsTied (dart_map_of start) → IsMeeting (dart_map_of start) →
     edges ≡ lesser_darts p → AreRemaining p s start start edges
-none_done p s start edges linked meeting are =
+none_done p s start edges tied meeting are =
     let all : darts p ≡ darts p - 0 = omega arith in
     record {
       place = 0;
       within = omega arith;
       are = are ∙ ap (λ (n : ℕ). filter (is_lesser p) (range_with_len 0 n)) all;
-      done = record { linked = linked; meeting = meeting; count = omega arith; same = refl; steps = λ end rest. rest };
+      done = record { tied = tied; meeting = meeting; count = omega arith; same = refl; steps = λ end rest. rest };
     }
 
 -- the first of the lesser darts that are left
@@ -128,13 +128,13 @@ next_at p s start t edges i inside left =
     next_left p s start t (get_or edges i 0) (drop (i + 1) edges) (subst (AreRemaining p s start t) parts left)
 
 pub next_done : (p : PlaneModel) (s : ℕ → List Turn) (start t new : DartTable) (d : ℕ) (rest : List ℕ) → IsNext p s start t d rest →
-    IsBent d (dart_map_of t) (s d) (dart_map_of new) → IsLinked (dart_map_of new) → IsMeeting (dart_map_of new) →
+    IsBent d (dart_map_of t) (s d) (dart_map_of new) → IsTied (dart_map_of new) → IsMeeting (dart_map_of new) →
     new.darts ≡ t.darts + 2 * length (s d) → room new ≡ room t → AreRemaining p s start new rest
-next_done p s start t new d rest next edge linked meeting count same = record {
+next_done p s start t new d rest next edge tied meeting count same = record {
   place = d + 1;
   within = omega (arith, next.inside);
   are = next.are;
-  done = edge_done p s start t new d next.done next.inside next.lesser edge linked meeting count same;
+  done = edge_done p s start t new d next.done next.inside next.lesser edge tied meeting count same;
 }
 
 none_from : (p : PlaneModel) (s : ℕ → List Turn) (start t : DartTable) (more k : ℕ) → more + k ≡ darts p →

@@ -3,16 +3,16 @@ use Rattle.std.proofs.Common.{◌≡◌, ◌≢◌, ◌⊎◌, ℕ, zero, suc, �
 use Rattle.std.specs.List.{list_any, IsDistinct, AllByRecursion}
 use Rattle.std.proofs.lemmas.Bool.{cases_eq, eqb-true, eq-eqb, ne_eqb, or_cases, or_left, or_right, both_ways}
 use Rattle.std.proofs.lemmas.Map.Steps.{length-le_from_distinct_below}
-use Rattle.dissect.specs.DartMaps.{DartMap, IsLinked}
+use Rattle.dissect.specs.DartMaps.{DartMap, IsTied}
 use Rattle.dissect.specs.Faces.{IsCorner, Trail, last_of, Ring, In, Distinct, Below}
 use Rattle.dissect.specs.Turning.{total}
 use Rattle.dissect.proofs.Stretching.{stretch_more, stretch_direct}
 use Rattle.dissect.proofs.Rings.{last_of-append}
 use Rattle.dissect.specs.Walks.{steps, path, turning, IsOrbit}
 
-pub steps_in : (w : DartMap) → IsLinked w → (k a : ℕ) → a < w.darts → steps w k a < w.darts
-steps_in w linked zero a l = l
-steps_in w linked (suc k) a l = steps_in w linked k (w.next a) (linked.next_in a l)
+pub steps_in : (w : DartMap) → IsTied w → (k a : ℕ) → a < w.darts → steps w k a < w.darts
+steps_in w tied zero a l = l
+steps_in w tied (suc k) a l = steps_in w tied k (w.next a) (tied.next_in a l)
 
 pub steps_more : (w : DartMap) (k a : ℕ) → steps w (suc k) a ≡ w.next (steps w k a)
 steps_more w zero a = refl
@@ -24,11 +24,11 @@ steps_add w (suc j) k a =
     let e : suc j + k ≡ suc (j + k) = omega arith in
     ap (λ (i : ℕ). steps w i a) e ∙ steps_add w j k (w.next a)
 
-pub steps_one : (w : DartMap) → IsLinked w → (k a b : ℕ) → a < w.darts → b < w.darts → steps w k a ≡ steps w k b → a ≡ b
-steps_one w linked zero a b la lb e = e
-steps_one w linked (suc k) a b la lb e =
-    let same : w.next a ≡ w.next b = steps_one w linked k (w.next a) (w.next b) (linked.next_in a la) (linked.next_in b lb) e in
-    sym (linked.next_back a la) ∙ ap w.prev same ∙ linked.next_back b lb
+pub steps_one : (w : DartMap) → IsTied w → (k a b : ℕ) → a < w.darts → b < w.darts → steps w k a ≡ steps w k b → a ≡ b
+steps_one w tied zero a b la lb e = e
+steps_one w tied (suc k) a b la lb e =
+    let same : w.next a ≡ w.next b = steps_one w tied k (w.next a) (w.next b) (tied.next_in a la) (tied.next_in b lb) e in
+    sym (tied.next_back a la) ∙ ap w.prev same ∙ tied.next_back b lb
 
 -- what the path holds, by steps
 pub path_member : (w : DartMap) (x a k : ℕ) → In x (path w a k) → (j : ℕ) × (1 ≤ j) × (j ≤ k) × (steps w j a ≡ x)
@@ -53,9 +53,9 @@ pub length-path : (w : DartMap) (a k : ℕ) → length (path w a k) ≡ k
 length-path w a zero = refl
 length-path w a (suc k) = ap suc (length-path w (w.next a) k)
 
-pub path_below : (w : DartMap) → IsLinked w → (a k : ℕ) → a < w.darts → Below w.darts (path w a k)
-path_below w linked a zero l = tt
-path_below w linked a (suc k) l = (linked.next_in a l, path_below w linked (w.next a) k (linked.next_in a l))
+pub path_below : (w : DartMap) → IsTied w → (a k : ℕ) → a < w.darts → Below w.darts (path w a k)
+path_below w tied a zero l = tt
+path_below w tied a (suc k) l = (tied.next_in a l, path_below w tied (w.next a) k (tied.next_in a l))
 
 pub path_distinct : (w : DartMap) (a k : ℕ) → ((i j : ℕ) → 1 ≤ i → i < j → j ≤ k → steps w i a ≢ steps w j a) → Distinct (path w a k)
 path_distinct w a zero apart = tt
@@ -65,11 +65,11 @@ path_distinct w a (suc k) apart = (
 )
 
 -- steps that meet come back
-pub steps_meet : (w : DartMap) → IsLinked w → (a i j : ℕ) → a < w.darts → i < j → steps w i a ≡ steps w j a → steps w (j - i) a ≡ a
-steps_meet w linked a i j l less same =
+pub steps_meet : (w : DartMap) → IsTied w → (a i j : ℕ) → a < w.darts → i < j → steps w i a ≡ steps w j a → steps w (j - i) a ≡ a
+steps_meet w tied a i j l less same =
     let e : j ≡ (j - i) + i = omega arith in
     let far : steps w j a ≡ steps w i (steps w (j - i) a) = ap (λ (k : ℕ). steps w k a) e ∙ steps_add w (j - i) i a in
-    sym (steps_one w linked i a (steps w (j - i) a) l (steps_in w linked (j - i) a l) (same ∙ far))
+    sym (steps_one w tied i a (steps w (j - i) a) l (steps_in w tied (j - i) a l) (same ∙ far))
 
 apart_from_all : (x : ℕ) (xs : List ℕ) → (In x xs → ⊥) → AllByRecursion (λ y. eqb x y ≡ false) xs
 apart_from_all x [] out = tt
@@ -119,24 +119,24 @@ back_within w a (suc k) =
       ]
     ]
 
-pub orbit_of : (w : DartMap) → IsLinked w → (a : ℕ) → a < w.darts → (p : ℕ) × IsOrbit w a p
-orbit_of w linked a l =
+pub orbit_of : (w : DartMap) → IsTied w → (a : ℕ) → a < w.darts → (p : ℕ) × IsOrbit w a p
+orbit_of w tied a l =
     elim (back_within w a w.darts) [
       | inl found ↦ (found.0, record { some = found.1; most = found.2; back = found.3; first = found.4 })
       | inr none ↦ absurd (
           let n : ℕ = w.darts in
           let all : Distinct (a ∷ path w a n) = (
             (λ here. let m = path_member w a a n here in none m.0 m.1 m.2 m.3),
-            path_distinct w a n (λ i j some less most same. none (j - i) (omega arith) (omega arith) (steps_meet w linked a i j l less same)),
+            path_distinct w a n (λ i j some less most same. none (j - i) (omega arith) (omega arith) (steps_meet w tied a i j l less same)),
           ) in
-          let few : length (a ∷ path w a n) ≤ n = distinct_few n (a ∷ path w a n) all (l, path_below w linked a n l) in
+          let few : length (a ∷ path w a n) ≤ n = distinct_few n (a ∷ path w a n) all (l, path_below w tied a n l) in
           omega (arith, few, length-path w a n)
           )
     ]
 
-pub orbit_distinct : (w : DartMap) (a p : ℕ) → IsLinked w → a < w.darts → IsOrbit w a p → Distinct (path w a p)
-orbit_distinct w a p linked l orbit =
-    path_distinct w a p (λ i j some less most same. orbit.first (j - i) (omega arith) (omega arith) (steps_meet w linked a i j l less same))
+pub orbit_distinct : (w : DartMap) (a p : ℕ) → IsTied w → a < w.darts → IsOrbit w a p → Distinct (path w a p)
+orbit_distinct w a p tied l orbit =
+    path_distinct w a p (λ i j some less most same. orbit.first (j - i) (omega arith) (omega arith) (steps_meet w tied a i j l less same))
 
 -- one more of a list that is filtered by turning
 pub turning_straight : (w : DartMap) (a : ℕ) (xs : List ℕ) → w.angle a ≡ 2 → turning w (a ∷ xs) ≡ turning w xs

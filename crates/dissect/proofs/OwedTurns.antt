@@ -5,7 +5,7 @@ use Rattle.common.specs.Sums.{sum_below}
 use Rattle.faces.specs.Planes.{PlaneModel, darts, vertices, head, face_at}
 use Rattle.ortho_rep.specs.declared.turn.Turn.{Turn}
 use Rattle.ortho_rep.specs.Turns.{mirrored, lefts, rights}
-use Rattle.dissect.specs.DartMaps.{DartMap, IsLinked, IsMeeting, IsSubdivided, reflex_turns}
+use Rattle.dissect.specs.DartMaps.{DartMap, IsTied, IsMeeting, IsSubdivided, reflex_turns}
 use Rattle.dissect.specs.FaceNumbers.{AreFaceNumbers}
 use Rattle.dissect.proofs.Splitting.{by_place, by_age, part}
 
@@ -29,7 +29,7 @@ Turns p w label owed f =
 -- `owed x`, and is of the face `label x`
 pub record IsOwing (p : PlaneModel) (a h : ℕ → ℕ) (total : ℕ) (w : DartMap) (label : ℕ → ℕ) (owed : ℕ → List Turn) : Type 0 where
   pub old : darts p ≤ w.darts
-  pub linked : IsLinked w
+  pub tied : IsTied w
   pub meeting : IsMeeting w
   pub mirrors : (x : ℕ) → x < w.darts → owed (w.reverse_dart x) ≡ mirrored (owed x)
   pub ways : (x : ℕ) → x < w.darts → (w.direction (w.reverse_dart x) + 2 + lefts (owed x)) % 4 ≡ (w.direction x + rights (owed x)) % 4
@@ -59,13 +59,13 @@ pub record IsLabelledNext (w : DartMap) (e : ℕ) (label next : ℕ → ℕ) : T
   pub old : (x : ℕ) → x < w.darts → next x ≡ label x
 
 -- there are such functions
-pub owed_next : (w : DartMap) (e : ℕ) (turns : List Turn) (owed : ℕ → List Turn) → IsLinked w → e < w.darts →
+pub owed_next : (w : DartMap) (e : ℕ) (turns : List Turn) (owed : ℕ → List Turn) → IsTied w → e < w.darts →
     (next : ℕ → List Turn) × IsOwedNext w e turns owed next
-owed_next w e turns owed linked e_in =
+owed_next w e turns owed tied e_in =
     let t : ℕ = w.reverse_dart e in
     let n : ℕ = w.darts in
-    let t_in : t < n = linked.reverse_dart_in e e_in in
-    let apart : t ≢ e = linked.reverse_dart_apart e e_in in
+    let t_in : t < n = tied.reverse_dart_in e e_in in
+    let apart : t ≢ e = tied.reverse_dart_apart e e_in in
     let new : ℕ → List Turn = λ x. cond (eqb x (n + 1)) (mirrored turns) (cond (eqb x n) [] (cond (eqb x t) [] (cond (eqb x e) turns (owed x)))) in
     let skip : (x y : ℕ) (v r : List Turn) → x ≢ y → cond (eqb x y) v r ≡ r = λ x y v r off. cond-false {A = List Turn} (eqb x y) v r (ne_eqb x y off) in
     let take : (x y : ℕ) (v r : List Turn) → x ≡ y → cond (eqb x y) v r ≡ v = λ x y v r at. cond-true {A = List Turn} (eqb x y) v r (eq-eqb x y at) in (
@@ -96,23 +96,23 @@ labelled_next w e label =
     )
 
 -- the numbers of a map stay numbers under a split
-pub split_labels : (w : DartMap) (e way bend : ℕ) (new : DartMap) (label next : ℕ → ℕ) → IsLinked w → e < w.darts →
+pub split_labels : (w : DartMap) (e way bend : ℕ) (new : DartMap) (label next : ℕ → ℕ) → IsTied w → e < w.darts →
     IsSubdivided w e way bend new → IsLabelledNext w e label next → AreFaceNumbers w label → AreFaceNumbers new next
-split_labels w e way bend new label next linked e_in s named labels =
+split_labels w e way bend new label next tied e_in s named labels =
     let n : ℕ = w.darts in
     let t : ℕ = w.reverse_dart e in
-    let t_in : t < n = linked.reverse_dart_in e e_in in
+    let t_in : t < n = tied.reverse_dart_in e e_in in
     let c : ℕ = w.prev e in
     let p : ℕ = w.prev t in
-    let c_in : c < n = linked.prev_in e e_in in
-    let p_in : p < n = linked.prev_in t t_in in
+    let c_in : c < n = tied.prev_in e e_in in
+    let p_in : p < n = tied.prev_in t t_in in
     let front : (x : ℕ) → x < n → label (w.prev x) ≡ label x = λ x l.
-    sym (labels.stays (w.prev x) (linked.prev_in x l)) ∙ ap label (linked.prev_back x l) in
+    sym (labels.stays (w.prev x) (tied.prev_in x l)) ∙ ap label (tied.prev_back x l) in
     record {
       stays = λ x l. by_place n c p (λ x. next (new.next x) ≡ next x)
           (ap next s.next_before ∙ named.at_first ∙ sym (front e e_in) ∙ sym (named.old c c_in))
           (ap next s.next_back ∙ named.at_second ∙ sym (front t t_in) ∙ sym (named.old p p_in))
-          (λ x l not_c not_p. ap next (s.next_other x l not_c not_p) ∙ named.old (w.next x) (linked.next_in x l) ∙ labels.stays x l
+          (λ x l not_c not_p. ap next (s.next_other x l not_c not_p) ∙ named.old (w.next x) (tied.next_in x l) ∙ labels.stays x l
           ∙ sym (named.old x l))
           (ap next s.next_first ∙ named.old e e_in ∙ sym named.at_first)
           (ap next s.next_second ∙ named.old t t_in ∙ sym named.at_second)
@@ -123,13 +123,13 @@ split_labels w e way bend new label next linked e_in s named labels =
             | inl at ↦
                 let one : set n ≡ true = subst (λ (k : ℕ). set k ≡ true) (ap new.next at ∙ s.next_before) (closed x (omega (arith, s.darts, l)) held) in
                 let two : set e ≡ true = subst (λ (k : ℕ). set k ≡ true) s.next_first (closed n (omega (arith, s.darts)) one) in
-                subst (λ (k : ℕ). set k ≡ true) (sym (ap w.next at ∙ linked.prev_back e e_in)) two
+                subst (λ (k : ℕ). set k ≡ true) (sym (ap w.next at ∙ tied.prev_back e e_in)) two
             | inr not_c ↦
                 elim (cases_eq x p) [
                   | inl at ↦
                       let one : set (n + 1) ≡ true = subst (λ (k : ℕ). set k ≡ true) (ap new.next at ∙ s.next_back) (closed x (omega (arith, s.darts, l)) held) in
                       let two : set t ≡ true = subst (λ (k : ℕ). set k ≡ true) s.next_second (closed (n + 1) (omega (arith, s.darts)) one) in
-                      subst (λ (k : ℕ). set k ≡ true) (sym (ap w.next at ∙ linked.prev_back t t_in)) two
+                      subst (λ (k : ℕ). set k ≡ true) (sym (ap w.next at ∙ tied.prev_back t t_in)) two
                   | inr not_p ↦ subst (λ (k : ℕ). set k ≡ true) (s.next_other x l not_c not_p) (closed x (omega (arith, s.darts, l)) held)
                 ]
           ] in

@@ -1,34 +1,34 @@
 -- A map in its rectangle: the sides and the join stay straight chains of darts, whatever is cut.
 use Rattle.std.proofs.Common.{◌≡◌, ℕ, ◌+◌, ◌<◌, ◌∙◌, [], ◌∷◌, arith, subst, sym, ap, refl, inl, inr}
-use Rattle.dissect.specs.DartMaps.{DartMap, IsLinked}
+use Rattle.dissect.specs.DartMaps.{DartMap, IsTied}
 use Rattle.dissect.specs.Faces.{In, AreWaiting}
 use Rattle.dissect.specs.Paths.{HasPath}
 use Rattle.dissect.specs.Surrounds.{IsEnclosed}
-use Rattle.dissect.proofs.Splitting.{split_linked}
+use Rattle.dissect.proofs.Splitting.{split_tied}
 use Rattle.dissect.proofs.Lengthening.{path_doubled, longer_end}
 use Rattle.dissect.proofs.Splits.{split_doubled}
-use Rattle.dissect.proofs.StayingConnected.{cut_linked}
+use Rattle.dissect.proofs.StayingConnected.{cut_tied}
 use Rattle.dissect.proofs.Cuts.{AreQuarters, cut_quarters, chord_beside}
-use Rattle.dissect.proofs.SurroundedPaths.{surrounded_linked, surrounded_quarters}
+use Rattle.dissect.proofs.SurroundedPaths.{surrounded_tied, surrounded_quarters}
 use Rattle.dissect.proofs.Sides.{HasChain, beside_chain, cut_chain, grows_chain}
 use Rattle.dissect.specs.Rectangle.{HasRectangle, IsConnectedAt}
 use Rattle.dissect.proofs.Keeping.{Keeps, cut_keeps, grows_keeps, keeps_on}
 
-module _ (w : DartMap) (outside : ℕ) (new : DartMap) (linked : IsLinked w) (four : AreQuarters w) (e : IsEnclosed w outside new) where
+module _ (w : DartMap) (outside : ℕ) (new : DartMap) (tied : IsTied w) (four : AreQuarters w) (e : IsEnclosed w outside new) where
   abbrev n : ℕ
   n = w.darts
 
   abbrev side_dart : ℕ
   side_dart = w.darts + e.side
 
-  linked_surrounded : IsLinked e.surrounded
-  linked_surrounded = surrounded_linked w e.surrounded linked e.surround
+  tied_surrounded : IsTied e.surrounded
+  tied_surrounded = surrounded_tied w e.surrounded tied e.surround
 
   four_surrounded : AreQuarters e.surrounded
   four_surrounded = surrounded_quarters w e.surrounded four e.surround
 
-  linked_joined : IsLinked e.joined
-  linked_joined = cut_linked e.surrounded e.right side_dart e.direction e.joined linked_surrounded e.join
+  tied_joined : IsTied e.joined
+  tied_joined = cut_tied e.surrounded e.right side_dart e.direction e.joined tied_surrounded e.join
 
   four_joined : AreQuarters e.joined
   four_joined = cut_quarters e.surrounded e.right side_dart e.direction e.joined four_surrounded e.join
@@ -36,12 +36,12 @@ module _ (w : DartMap) (outside : ℕ) (new : DartMap) (linked : IsLinked w) (fo
   -- a chain of the surrounded map is one of the last
   surrounded_chain : (end reverse_dart held : ℕ) → HasChain e.surrounded end reverse_dart held [] → HasChain new end reverse_dart held []
   surrounded_chain end reverse_dart held chain =
-      grows_chain e.joined new end reverse_dart held [] linked_joined four_joined e.grows
-      (cut_chain e.surrounded e.right side_dart e.direction e.joined end reverse_dart held [] linked_surrounded (four_surrounded side_dart e.join.e_in) e.join chain)
+      grows_chain e.joined new end reverse_dart held [] tied_joined four_joined e.grows
+      (cut_chain e.surrounded e.right side_dart e.direction e.joined end reverse_dart held [] tied_surrounded (four_surrounded side_dart e.join.e_in) e.join chain)
 
   -- and so is a chain of the joined map
   joined_chain : (end reverse_dart held : ℕ) → HasChain e.joined end reverse_dart held [] → HasChain new end reverse_dart held []
-  joined_chain end reverse_dart held chain = grows_chain e.joined new end reverse_dart held [] linked_joined four_joined e.grows chain
+  joined_chain end reverse_dart held chain = grows_chain e.joined new end reverse_dart held [] tied_joined four_joined e.grows chain
 
   keeps_joined : Keeps e.joined new
   keeps_joined = grows_keeps e.joined new e.grows
@@ -156,7 +156,7 @@ module _ (w : DartMap) (outside : ℕ) (new : DartMap) (linked : IsLinked w) (fo
       joined_chain side_dart (n + 4 + e.side) e.surrounded.darts
       (beside_chain e.join.middle e.joined side_dart (n + 4 + e.side) e.surrounded.darts []
       (chord_beside e.join.middle e.right e.surrounded.darts e.direction e.joined
-      (split_linked e.surrounded side_dart (e.surrounded.direction side_dart) 2 e.join.middle linked_surrounded e.join.e_in e.join.split) e.join.chord)
+      (split_tied e.surrounded side_dart (e.surrounded.direction side_dart) 2 e.join.middle tied_surrounded e.join.e_in e.join.split) e.join.chord)
       (record {
         path = path_doubled e.surrounded e.join.middle side_dart (n + 4 + e.side) side_dart e.surrounded.darts 0 [] []
             (record {
@@ -167,7 +167,7 @@ module _ (w : DartMap) (outside : ℕ) (new : DartMap) (linked : IsLinked w) (fo
               ends = refl;
             })
             (e.surround.reverse_dart_inner e.side e.side_in)
-            (split_doubled e.surrounded side_dart (e.surrounded.direction side_dart) 2 0 e.join.middle linked_surrounded e.join.e_in
+            (split_doubled e.surrounded side_dart (e.surrounded.direction side_dart) 2 0 e.join.middle tied_surrounded e.join.e_in
             (four_surrounded side_dart e.join.e_in) (omega arith) refl e.join.split)
             (longer_end e.surrounded e.join.middle side_dart);
         holds = inl refl;

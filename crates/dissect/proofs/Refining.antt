@@ -5,7 +5,7 @@ use Rattle.std.proofs.lemmas.List.Sums.{sum_by-cons}
 use Rattle.common.specs.Sums.{sum_below}
 use Rattle.common.proofs.Sums.{sum_below-le}
 use Rattle.dissect.specs.declared.table.TheConstants.{RECTANGLE_ROOM}
-use Rattle.dissect.specs.DartMaps.{DartMap, IsLinked, IsSound, IsCut, Grows, reflex_turns}
+use Rattle.dissect.specs.DartMaps.{DartMap, IsTied, IsSound, IsCut, Grows, reflex_turns}
 use Rattle.dissect.specs.Surrounds.{IsSurrounded, IsEnclosed}
 use Rattle.dissect.specs.FaceNumbers.{AreFaceNumbers, HasTurns}
 use Rattle.dissect.specs.Scan.{CanCut, HasRoom}
@@ -17,7 +17,7 @@ use Rattle.dissect.proofs.Reaching.{cut_reaches, grows_sound, grows_reaches, cut
 use Rattle.dissect.specs.Listed.{AreFlat, AreConnectedFaces, AreListed, detour}
 use Rattle.dissect.proofs.Orbits.{distinct_few}
 use Rattle.dissect.proofs.Turns.{listed_sum, turns_reach}
-use Rattle.dissect.proofs.Sounding.{by_side, surround_linked, surround_sound, surround_reflex_turns}
+use Rattle.dissect.proofs.Sounding.{by_side, surround_tied, surround_sound, surround_reflex_turns}
 use Rattle.dissect.proofs.ConnectedFaces.{surround_stretch, IsConnecting}
 use Rattle.dissect.proofs.Merging.{join_waits}
 
@@ -65,9 +65,9 @@ flat_ready w o corners counts faces flat waiting =
 four_distinct : (w : DartMap) (o : ℕ) → IsSound w → o < w.darts → (four : IsRectangle w 3 o) →
     Distinct (o ∷ four.second ∷ four.third ∷ four.fourth ∷ []) × Below w.darts (o ∷ four.second ∷ four.third ∷ four.fourth ∷ [])
 four_distinct w o sound l four =
-    let l2 : four.second < w.darts = Stretches-inside w o four.second sound.linked l four.to_second in
-    let l3 : four.third < w.darts = Stretches-inside w four.second four.third sound.linked l2 four.to_third in
-    let l4 : four.fourth < w.darts = Stretches-inside w four.third four.fourth sound.linked l3 four.to_fourth in
+    let l2 : four.second < w.darts = Stretches-inside w o four.second sound.tied l four.to_second in
+    let l3 : four.third < w.darts = Stretches-inside w four.second four.third sound.tied l2 four.to_third in
+    let l4 : four.fourth < w.darts = Stretches-inside w four.third four.fourth sound.tied l3 four.to_fourth in
     let d1 = stretch_direction w sound four.to_second.places o four.second l four.to_second.stretch in
     let d2 = stretch_direction w sound four.to_third.places four.second four.third l2 four.to_third.stretch in
     let d3 = stretch_direction w sound four.to_fourth.places four.third four.fourth l3 four.to_fourth.stretch in
@@ -114,10 +114,10 @@ four_reflex_turns w o sound l four =
     at_most true k = omega arith
     at_most false k = omega arith
 
-pub surround_reaches : (w new : DartMap) → IsSurrounded w new → IsLinked w → ReachesCorners w → ReachesCorners new
-surround_reaches w new s linked reaches = λ a l.
+pub surround_reaches : (w new : DartMap) → IsSurrounded w new → IsTied w → ReachesCorners w → ReachesCorners new
+surround_reaches w new s tied reaches = λ a l.
     by_side w.darts (λ a. (c : ℕ) × Stretches new a c)
-    (λ a l. ((reaches a l).0, surround_stretch w new s linked (reaches a l).1.places a (reaches a l).0 l (reaches a l).1.stretch))
+    (λ a l. ((reaches a l).0, surround_stretch w new s tied (reaches a l).1.places a (reaches a l).0 l (reaches a l).1.stretch))
     (λ k l. (
       w.darts + (k + 1) % 4,
       stretch_direct new (w.darts + k) (w.darts + (k + 1) % 4) (s.next_inner k l)
@@ -155,7 +155,7 @@ pub joining_of : (w surrounded : DartMap) (right side way : ℕ) (new : DartMap)
 joining_of w surrounded right side way new sound s right_in side_in cut =
     let behind : surrounded.next (w.darts + (side + 3) % 4) ≡ w.darts + side = omega (arith, s.next_inner ((side + 3) % 4) (omega arith)) in
     record {
-      linked = sound.linked;
+      tied = sound.tied;
       surround = s;
       right_in = right_in;
       side_in = side_in;
@@ -207,8 +207,8 @@ pub enclosed_reaches : (w surrounded : DartMap) (right side way : ℕ) (new last
     IsConnecting w surrounded right side way new → Grows new last → ReachesCorners last
 enclosed_reaches w surrounded right side way new last label outer sound turns j grows =
     grows_reaches new last (join_sound w surrounded right side way new sound j) grows
-    (cut_reaches surrounded right (w.darts + side) way new (surround_linked w surrounded j.surround sound.linked) j.join
-    (surround_reaches w surrounded j.surround sound.linked (turns_reach w label outer sound.linked turns)))
+    (cut_reaches surrounded right (w.darts + side) way new (surround_tied w surrounded j.surround sound.tied) j.join
+    (surround_reaches w surrounded j.surround sound.tied (turns_reach w label outer sound.tied turns)))
 
 pub enclosed_few : (w surrounded : DartMap) (right side way : ℕ) (new last : DartMap) → IsSound w → IsConnecting w surrounded right side way new → Grows new last →
     AreWaiting last (w.darts + 4) [] → last.vertices ≤ w.vertices + reflex_turns w + 4

@@ -4,11 +4,11 @@ use Rattle.std.proofs.lemmas.Bool.{cases_eq}
 use Rattle.common.specs.Sums.{sum_below}
 use Rattle.common.proofs.Sums.{sum_below-more, sum_below-changed, sum_below-member}
 use Rattle.dissect.specs.Turning.{total, Rising, Hopeful}
-use Rattle.dissect.specs.DartMaps.{DartMap, IsLinked, IsSubdivided, IsChord, Fits, IsSound, IsCut, further, reflex_turns}
+use Rattle.dissect.specs.DartMaps.{DartMap, IsTied, IsSubdivided, IsChord, Fits, IsSound, IsCut, further, reflex_turns}
 use Rattle.dissect.specs.Faces.{IsCorner, StretchesIn, Stretches, Trail, last_of, Ring, In, Distinct, Below, concatenated, AreWaiting}
 use Rattle.dissect.specs.Scan.{down, IsScan, CanCut, HasRoom}
-use Rattle.dissect.proofs.Splitting.{split_linked, split_meeting, split_straight}
-use Rattle.dissect.proofs.Chords.{chord_linked, chord_meeting, chord_straight}
+use Rattle.dissect.proofs.Splitting.{split_tied, split_meeting, split_straight}
+use Rattle.dissect.proofs.Chords.{chord_tied, chord_meeting, chord_straight}
 use Rattle.dissect.proofs.Rings.{trail_rest}
 use Rattle.dissect.proofs.LeftTurns.{hopeful_reads, hopeful_cut_straight, hopeful_cut_turning}
 use Rattle.dissect.proofs.Listing.{in_right, in_below, below_left, below_right, distinct_left, distinct_right, distinct_apart}
@@ -18,7 +18,7 @@ use Rattle.dissect.proofs.Waiting.{IsBite, kept_waiting, gone_waiting, bite_angl
 pub stretch_direction : (w : DartMap) → IsSound w → (k a b : ℕ) → a < w.darts → StretchesIn w k a b →
     (w.direction b + w.angle a) % 4 ≡ (w.direction a + 2) % 4
 stretch_direction w sound k a b l r =
-    let next_in : w.next a < w.darts = sound.linked.next_in a l in
+    let next_in : w.next a < w.darts = sound.tied.next_in a l in
     let across = sound.straight (w.next a) next_in in
     let turns = sound.meeting.turns a l in
     let q1 = sound.meeting.quarter (w.next a) next_in in
@@ -32,8 +32,8 @@ stretch_direction w sound k a b l r =
     go w sound zero a b l r step = subst (λ (m : ℕ). (w.direction m + w.angle a) % 4 ≡ (w.direction a + 2) % 4) r.0 step
     go w sound (suc k) a b l r step =
         let m : ℕ = w.next a in
-        let m_in : m < w.darts = sound.linked.next_in a l in
-        let n_in : w.next m < w.darts = sound.linked.next_in m m_in in
+        let m_in : m < w.darts = sound.tied.next_in a l in
+        let n_in : w.next m < w.darts = sound.tied.next_in m m_in in
         let onward : (w.direction (w.next m) + w.angle m) % 4 ≡ (w.direction m + 2) % 4 =
         omega (arith, sound.straight (w.next m) n_in, sound.meeting.turns m m_in, sound.meeting.quarter (w.next m) n_in, sound.meeting.quarter m m_in) in
         let rest : (w.direction b + w.angle m) % 4 ≡ (w.direction m + 2) % 4 = go w sound k m b m_in r.1 onward in
@@ -45,7 +45,7 @@ pub hook_faces : (w : DartMap) (d c1 c : ℕ) → IsSound w → d < w.darts → 
 hook_faces w d c1 c sound d_in c1_in c_in to_first to_second left_first left =
     let one = stretch_direction w sound to_first.places d c1 d_in to_first.stretch in
     let two = stretch_direction w sound to_second.places c1 c c1_in to_second.stretch in
-    let n_in : w.next c < w.darts = sound.linked.next_in c c_in in
+    let n_in : w.next c < w.darts = sound.tied.next_in c c_in in
     let three : (w.direction (w.next c) + w.angle c) % 4 ≡ (w.direction c + 2) % 4 =
     omega (arith, sound.straight (w.next c) n_in, sound.meeting.turns c c_in, sound.meeting.quarter (w.next c) n_in, sound.meeting.quarter c c_in) in
     omega (
@@ -67,7 +67,7 @@ pub chord_fits : (w : DartMap) (d c way : ℕ) (mid : DartMap) → IsSound w →
 chord_fits w d c way mid sound can way_is s =
     let most : w.angle d ≤ 4 = sound.meeting.most d can.d_in in
     let q : w.direction d < 4 = sound.meeting.quarter d can.d_in in
-    let qe : w.direction (w.next c) < 4 = sound.meeting.quarter (w.next c) (sound.linked.next_in c can.c_in) in
+    let qe : w.direction (w.next c) < 4 = sound.meeting.quarter (w.next c) (sound.tied.next_in c can.c_in) in
     record {
       d_in = omega (arith, s.darts, can.d_in);
       f_in = omega (arith, s.darts);
@@ -81,12 +81,12 @@ chord_fits w d c way mid sound can way_is s =
 
 pub cut_sound : (w : DartMap) (d e way : ℕ) (new : DartMap) → IsSound w → IsCut w d e way new → IsSound new
 cut_sound w d e way new sound cut =
-    let l1 = split_linked w e (w.direction e) 2 cut.middle sound.linked cut.e_in cut.split in
-    let m1 = split_meeting w e (w.direction e) 2 cut.middle sound.linked sound.meeting cut.e_in (sound.meeting.quarter e cut.e_in)
+    let l1 = split_tied w e (w.direction e) 2 cut.middle sound.tied cut.e_in cut.split in
+    let m1 = split_meeting w e (w.direction e) 2 cut.middle sound.tied sound.meeting cut.e_in (sound.meeting.quarter e cut.e_in)
     (omega arith) (omega arith) cut.split in
-    let s1 = split_straight w e cut.middle sound.linked sound.meeting cut.e_in sound.straight cut.split in
+    let s1 = split_straight w e cut.middle sound.tied sound.meeting cut.e_in sound.straight cut.split in
     record {
-      linked = chord_linked cut.middle d w.darts way new l1 cut.fits cut.chord;
+      tied = chord_tied cut.middle d w.darts way new l1 cut.fits cut.chord;
       meeting = chord_meeting cut.middle d w.darts way new l1 m1 cut.fits cut.chord;
       straight = chord_straight cut.middle d w.darts way new l1 s1 cut.fits cut.chord;
     }
@@ -171,7 +171,7 @@ scan_bites w0 face w d c1 c way st rest o rs new scan wait left_first left cut =
     let tail = below_right w.darts (down st []) (d ∷ c1 ∷ c ∷ rest) below in
     let apart = distinct_right (down st []) (d ∷ c1 ∷ c ∷ rest) distinct in
     record {
-      linked = scan.sound.linked;
+      tied = scan.sound.tied;
       cut = cut;
       c1_in = tail.1.0;
       c_in = tail.1.1.0;
@@ -328,10 +328,10 @@ read_fits w d c e facing one two mid read sound can s =
     (ap (λ (k : ℕ). (k + 7 - two) % 4) read.direction_is ∙ ap (λ (k : ℕ). (w.direction d + 7 - k) % 4) read.angle_is)
     (read_split w d c e facing one two mid read s)
 
-pub read_linked : (w : DartMap) (d c e facing one two : ℕ) (mid : DartMap) → IsRead w d c e facing one two → IsSound w → CanCut w d c →
-    IsSubdivided w e facing 2 mid → IsLinked mid
-read_linked w d c e facing one two mid read sound can s =
-    split_linked w (w.next c) (w.direction (w.next c)) 2 mid sound.linked (sound.linked.next_in c can.c_in)
+pub read_tied : (w : DartMap) (d c e facing one two : ℕ) (mid : DartMap) → IsRead w d c e facing one two → IsSound w → CanCut w d c →
+    IsSubdivided w e facing 2 mid → IsTied mid
+read_tied w d c e facing one two mid read sound can s =
+    split_tied w (w.next c) (w.direction (w.next c)) 2 mid sound.tied (sound.tied.next_in c can.c_in)
     (read_split w d c e facing one two mid read s)
 
 pub read_cut : (w : DartMap) (d c e facing one two : ℕ) (mid new : DartMap) → IsRead w d c e facing one two → IsSound w → CanCut w d c →
@@ -339,7 +339,7 @@ pub read_cut : (w : DartMap) (d c e facing one two : ℕ) (mid new : DartMap) �
     IsCut w d (w.next c) ((one + 7 - two) % 4) new
 read_cut w d c e facing one two mid new read sound can s chord = record {
   middle = mid;
-  e_in = sound.linked.next_in c can.c_in;
+  e_in = sound.tied.next_in c can.c_in;
   d_in = can.d_in;
   right = can.right;
   split = read_split w d c e facing one two mid read s;

@@ -2,13 +2,13 @@
 -- turns and the darts on it.
 use Rattle.std.proofs.Common.{ℕ, ◌+◌, ◌<◌, List, ◌∷◌, arith, subst, sym, refl, inl, inr}
 use Rattle.std.proofs.lemmas.Bool.{cases_eq}
-use Rattle.dissect.specs.DartMaps.{DartMap, IsLinked, IsSubdivided, IsCut, Grows, same, further}
+use Rattle.dissect.specs.DartMaps.{DartMap, IsTied, IsSubdivided, IsCut, Grows, same, further}
 use Rattle.dissect.specs.Faces.{In}
 use Rattle.dissect.specs.Paths.{HasPath, bends}
-use Rattle.dissect.proofs.Splitting.{split_linked}
+use Rattle.dissect.proofs.Splitting.{split_tied}
 use Rattle.dissect.proofs.Lengthening.{IsDoubled, IsKept, IsLonger, holds_behind, longer_turns, path_kept, path_doubled}
 use Rattle.dissect.proofs.Splits.{split_kept, split_doubled, split_doubled_back, split_longer}
-use Rattle.dissect.proofs.StayingConnected.{grows_linked}
+use Rattle.dissect.proofs.StayingConnected.{grows_tied}
 use Rattle.dissect.proofs.Cuts.{IsBeside, beside_longer, chord_beside, AreQuarters, grows_quarters}
 
 -- the chain that ends with the dart `end` sets out with the reverse of `reverse_dart`, has these turns, and holds the dart `held`
@@ -30,23 +30,23 @@ chain_doubled w new end reverse_dart held front turns old doubled longer = recor
   holds = inr (holds_behind held old.path.first old.path.rest longer.list longer.holds old.holds);
 }
 
-pub split_chain : (w : DartMap) (e way : ℕ) (new : DartMap) (end reverse_dart held : ℕ) (turns : List ℕ) → IsLinked w → e < w.darts → way < 4 →
+pub split_chain : (w : DartMap) (e way : ℕ) (new : DartMap) (end reverse_dart held : ℕ) (turns : List ℕ) → IsTied w → e < w.darts → way < 4 →
     IsSubdivided w e way 2 new → HasChain w end reverse_dart held turns → HasChain new end reverse_dart held turns
-split_chain w e way new end reverse_dart held turns linked e_in quarter split old =
+split_chain w e way new end reverse_dart held turns tied e_in quarter split old =
     let f : ℕ = old.path.first in
     let rest : List ℕ = old.path.rest in
     let longer = longer_turns w new f rest (bends w f rest) turns old.path.turns
-    (split_longer w e way new linked e_in quarter split f rest old.path.path.first_in old.path.path.rest_in old.path.path.follows) in
+    (split_longer w e way new tied e_in quarter split f rest old.path.path.first_in old.path.path.rest_in old.path.path.follows) in
     elim (cases_eq f e) [
       | inl at ↦ chain_doubled w new end reverse_dart held w.darts turns old
           (subst (λ (k : ℕ). IsDoubled w new k w.darts 0) (sym at)
-          (split_doubled w e way 2 0 new linked e_in quarter (omega arith) refl split)) longer
+          (split_doubled w e way 2 0 new tied e_in quarter (omega arith) refl split)) longer
       | inr not_e ↦ elim (cases_eq f (w.reverse_dart e)) [
         | inl at ↦ chain_doubled w new end reverse_dart held (w.darts + 1) turns old
             (subst (λ (k : ℕ). IsDoubled w new k (w.darts + 1) 0) (sym at)
-            (split_doubled_back w e way 2 0 new linked e_in quarter (omega arith) refl split)) longer
+            (split_doubled_back w e way 2 0 new tied e_in quarter (omega arith) refl split)) longer
         | inr not_t ↦ chain_kept w new end reverse_dart held turns old
-            (split_kept w e way 2 new linked split f old.path.path.first_in not_e not_t) longer
+            (split_kept w e way 2 new tied split f old.path.path.first_in not_e not_t) longer
       ]
     ]
 
@@ -57,16 +57,16 @@ beside_chain w new end reverse_dart held turns beside old =
     (longer_turns w new old.path.first old.path.rest (bends w old.path.first old.path.rest) turns old.path.turns
     (beside_longer w new beside old.path.first old.path.rest old.path.path.first_in old.path.path.rest_in old.path.path.follows))
 
-pub cut_chain : (w : DartMap) (d e way : ℕ) (new : DartMap) (end reverse_dart held : ℕ) (turns : List ℕ) → IsLinked w → w.direction e < 4 →
+pub cut_chain : (w : DartMap) (d e way : ℕ) (new : DartMap) (end reverse_dart held : ℕ) (turns : List ℕ) → IsTied w → w.direction e < 4 →
     IsCut w d e way new → HasChain w end reverse_dart held turns → HasChain new end reverse_dart held turns
-cut_chain w d e way new end reverse_dart held turns linked quarter cut old =
+cut_chain w d e way new end reverse_dart held turns tied quarter cut old =
     beside_chain cut.middle new end reverse_dart held turns
-    (chord_beside cut.middle d w.darts way new (split_linked w e (w.direction e) 2 cut.middle linked cut.e_in cut.split) cut.chord)
-    (split_chain w e (w.direction e) cut.middle end reverse_dart held turns linked cut.e_in quarter cut.split old)
+    (chord_beside cut.middle d w.darts way new (split_tied w e (w.direction e) 2 cut.middle tied cut.e_in cut.split) cut.chord)
+    (split_chain w e (w.direction e) cut.middle end reverse_dart held turns tied cut.e_in quarter cut.split old)
 
-pub grows_chain : (w new : DartMap) (end reverse_dart held : ℕ) (turns : List ℕ) → IsLinked w → AreQuarters w → Grows w new →
+pub grows_chain : (w new : DartMap) (end reverse_dart held : ℕ) (turns : List ℕ) → IsTied w → AreQuarters w → Grows w new →
     HasChain w end reverse_dart held turns → HasChain new end reverse_dart held turns
-grows_chain w new end reverse_dart held turns linked four same old = old
-grows_chain w new end reverse_dart held turns linked four (further mid last d e way grows cut) old =
-    cut_chain mid d e way last end reverse_dart held turns (grows_linked w mid linked grows) (grows_quarters w mid four grows e cut.e_in) cut
-    (grows_chain w mid end reverse_dart held turns linked four grows old)
+grows_chain w new end reverse_dart held turns tied four same old = old
+grows_chain w new end reverse_dart held turns tied four (further mid last d e way grows cut) old =
+    cut_chain mid d e way last end reverse_dart held turns (grows_tied w mid tied grows) (grows_quarters w mid four grows e cut.e_in) cut
+    (grows_chain w mid end reverse_dart held turns tied four grows old)

@@ -3,7 +3,7 @@ use Rattle.std.proofs.Common.{◌≡◌, ◌≢◌, ℕ, ◌+◌, ◌-◌, ◌%�
 use Rattle.std.proofs.lemmas.Bool.{cases_eq, cases_lt, eq-eqb, ne_eqb}
 use Rattle.common.specs.Sums.{sum_below}
 use Rattle.common.proofs.Sums.{sum_below-split, sum_below-same, sum_below-none}
-use Rattle.dissect.specs.DartMaps.{DartMap, IsLinked, IsMeeting, IsStraight, IsSound, around, reflex_turns}
+use Rattle.dissect.specs.DartMaps.{DartMap, IsTied, IsMeeting, IsStraight, IsSound, around, reflex_turns}
 use Rattle.dissect.specs.Surrounds.{IsSurrounded}
 use Rattle.dissect.proofs.Splitting.{part, part_here, part_elsewhere, part_same}
 use Rattle.dissect.proofs.SurroundWriting.{by_four}
@@ -20,43 +20,43 @@ by_side n P old inner outer a l =
       ]
     ]
 
-pub surround_linked : (w new : DartMap) → IsSurrounded w new → IsLinked w → IsLinked new
-surround_linked w new s linked =
+pub surround_tied : (w new : DartMap) → IsSurrounded w new → IsTied w → IsTied new
+surround_tied w new s tied =
     let n : ℕ = w.darts in
     let all : (P : ℕ → Type 0) → ((a : ℕ) → a < n → P a) → ((k : ℕ) → k < 4 → P (n + k)) → ((k : ℕ) → k < 4 → P (n + 4 + k)) →
     (a : ℕ) → a < new.darts → P a =
     λ P old inner outer a l. by_side n P old inner outer a (omega (arith, s.darts, l)) in
     record {
       next_in = all (λ a. new.next a < new.darts)
-          (λ a l. omega (arith, s.darts, s.next_old a l, linked.next_in a l))
+          (λ a l. omega (arith, s.darts, s.next_old a l, tied.next_in a l))
           (λ k l. omega (arith, s.darts, s.next_inner k l))
           (λ k l. omega (arith, s.darts, s.next_outer k l));
       prev_in = all (λ a. new.prev a < new.darts)
-          (λ a l. omega (arith, s.darts, s.prev_old a l, linked.prev_in a l))
+          (λ a l. omega (arith, s.darts, s.prev_old a l, tied.prev_in a l))
           (λ k l. omega (arith, s.darts, s.prev_inner k l))
           (λ k l. omega (arith, s.darts, s.prev_outer k l));
       next_back = all (λ a. new.prev (new.next a) ≡ a)
-          (λ a l. ap new.prev (s.next_old a l) ∙ s.prev_old (w.next a) (linked.next_in a l) ∙ linked.next_back a l)
+          (λ a l. ap new.prev (s.next_old a l) ∙ s.prev_old (w.next a) (tied.next_in a l) ∙ tied.next_back a l)
           (λ k l. let e : n + ((k + 1) % 4 + 3) % 4 ≡ n + k = omega arith in
           ap new.prev (s.next_inner k l) ∙ s.prev_inner ((k + 1) % 4) (omega arith) ∙ e)
           (λ k l. let e : n + 4 + ((k + 3) % 4 + 1) % 4 ≡ n + 4 + k = omega arith in
           ap new.prev (s.next_outer k l) ∙ s.prev_outer ((k + 3) % 4) (omega arith) ∙ e);
       prev_back = all (λ a. new.next (new.prev a) ≡ a)
-          (λ a l. ap new.next (s.prev_old a l) ∙ s.next_old (w.prev a) (linked.prev_in a l) ∙ linked.prev_back a l)
+          (λ a l. ap new.next (s.prev_old a l) ∙ s.next_old (w.prev a) (tied.prev_in a l) ∙ tied.prev_back a l)
           (λ k l. let e : n + ((k + 3) % 4 + 1) % 4 ≡ n + k = omega arith in
           ap new.next (s.prev_inner k l) ∙ s.next_inner ((k + 3) % 4) (omega arith) ∙ e)
           (λ k l. let e : n + 4 + ((k + 1) % 4 + 3) % 4 ≡ n + 4 + k = omega arith in
           ap new.next (s.prev_outer k l) ∙ s.next_outer ((k + 1) % 4) (omega arith) ∙ e);
       reverse_dart_in = all (λ a. new.reverse_dart a < new.darts)
-          (λ a l. omega (arith, s.darts, s.reverse_dart_old a l, linked.reverse_dart_in a l))
+          (λ a l. omega (arith, s.darts, s.reverse_dart_old a l, tied.reverse_dart_in a l))
           (λ k l. omega (arith, s.darts, s.reverse_dart_inner k l))
           (λ k l. omega (arith, s.darts, s.reverse_dart_outer k l));
       reverse_dart_back = all (λ a. new.reverse_dart (new.reverse_dart a) ≡ a)
-          (λ a l. ap new.reverse_dart (s.reverse_dart_old a l) ∙ s.reverse_dart_old (w.reverse_dart a) (linked.reverse_dart_in a l) ∙ linked.reverse_dart_back a l)
+          (λ a l. ap new.reverse_dart (s.reverse_dart_old a l) ∙ s.reverse_dart_old (w.reverse_dart a) (tied.reverse_dart_in a l) ∙ tied.reverse_dart_back a l)
           (λ k l. ap new.reverse_dart (s.reverse_dart_inner k l) ∙ s.reverse_dart_outer k l)
           (λ k l. ap new.reverse_dart (s.reverse_dart_outer k l) ∙ s.reverse_dart_inner k l);
       reverse_dart_apart = all (λ a. new.reverse_dart a ≢ a)
-          (λ a l h. linked.reverse_dart_apart a l (sym (s.reverse_dart_old a l) ∙ h))
+          (λ a l h. tied.reverse_dart_apart a l (sym (s.reverse_dart_old a l) ∙ h))
           (λ k l h. omega (arith, s.reverse_dart_inner k l, h))
           (λ k l h. omega (arith, s.reverse_dart_outer k l, h));
     }
@@ -131,15 +131,15 @@ surround_whole w new s m u l =
               λ h. omega (arith, h, ap new.head e, s.head_outer (i - 4) (omega arith))
         ])
 
-pub surround_meeting : (w new : DartMap) → IsSurrounded w new → IsLinked w → IsMeeting w → IsMeeting new
-surround_meeting w new s linked m =
+pub surround_meeting : (w new : DartMap) → IsSurrounded w new → IsTied w → IsMeeting w → IsMeeting new
+surround_meeting w new s tied m =
     let n : ℕ = w.darts in
     let all : (P : ℕ → Type 0) → ((a : ℕ) → a < n → P a) → ((k : ℕ) → k < 4 → P (n + k)) → ((k : ℕ) → k < 4 → P (n + 4 + k)) →
     (a : ℕ) → a < new.darts → P a =
     λ P old inner outer a l. by_side n P old inner outer a (omega (arith, s.darts, l)) in
     -- the dart that arrives next clockwise
     let clockwise_old : (a : ℕ) → a < n → new.reverse_dart (new.next a) ≡ w.reverse_dart (w.next a) =
-    λ a l. ap new.reverse_dart (s.next_old a l) ∙ s.reverse_dart_old (w.next a) (linked.next_in a l) in
+    λ a l. ap new.reverse_dart (s.next_old a l) ∙ s.reverse_dart_old (w.next a) (tied.next_in a l) in
     let clockwise_inner : (k : ℕ) → k < 4 → new.reverse_dart (new.next (n + k)) ≡ n + 4 + (k + 1) % 4 =
     λ k l. ap new.reverse_dart (s.next_inner k l) ∙ s.reverse_dart_inner ((k + 1) % 4) (omega arith) in
     let clockwise_outer : (k : ℕ) → k < 4 → new.reverse_dart (new.next (n + 4 + k)) ≡ n + (k + 3) % 4 =
@@ -150,7 +150,7 @@ surround_meeting w new s linked m =
           (λ k l. omega (arith, s.vertices, s.head_inner k l))
           (λ k l. omega (arith, s.vertices, s.head_outer k l));
       meets = all (λ a. new.head (new.reverse_dart (new.next a)) ≡ new.head a)
-          (λ a l. ap new.head (clockwise_old a l) ∙ s.head_old (w.reverse_dart (w.next a)) (linked.reverse_dart_in (w.next a) (linked.next_in a l))
+          (λ a l. ap new.head (clockwise_old a l) ∙ s.head_old (w.reverse_dart (w.next a)) (tied.reverse_dart_in (w.next a) (tied.next_in a l))
           ∙ m.meets a l ∙ sym (s.head_old a l))
           (λ k l. omega (arith, ap new.head (clockwise_inner k l), s.head_outer ((k + 1) % 4) (omega arith), s.head_inner k l))
           (λ k l. omega (arith, ap new.head (clockwise_outer k l), s.head_inner ((k + 3) % 4) (omega arith), s.head_outer k l));
@@ -162,7 +162,7 @@ surround_meeting w new s linked m =
           (λ a l. omega (
             arith,
             ap new.direction (clockwise_old a l),
-            s.direction_old (w.reverse_dart (w.next a)) (linked.reverse_dart_in (w.next a) (linked.next_in a l)),
+            s.direction_old (w.reverse_dart (w.next a)) (tied.reverse_dart_in (w.next a) (tied.next_in a l)),
             s.angle_old a l,
             s.direction_old a l,
             m.turns a l,
@@ -180,13 +180,13 @@ surround_meeting w new s linked m =
       whole = surround_whole w new s m;
     }
 
-pub surround_straight : (w new : DartMap) → IsSurrounded w new → IsLinked w → IsStraight w → IsStraight new
-surround_straight w new s linked straight = λ a l.
+pub surround_straight : (w new : DartMap) → IsSurrounded w new → IsTied w → IsStraight w → IsStraight new
+surround_straight w new s tied straight = λ a l.
     by_side w.darts (λ a. new.direction (new.reverse_dart a) ≡ (new.direction a + 2) % 4)
     (λ a l. omega (
       arith,
       ap new.direction (s.reverse_dart_old a l),
-      s.direction_old (w.reverse_dart a) (linked.reverse_dart_in a l),
+      s.direction_old (w.reverse_dart a) (tied.reverse_dart_in a l),
       s.direction_old a l,
       straight a l,
     ))
@@ -196,9 +196,9 @@ surround_straight w new s linked straight = λ a l.
 
 pub surround_sound : (w new : DartMap) → IsSurrounded w new → IsSound w → IsSound new
 surround_sound w new s sound = record {
-  linked = surround_linked w new s sound.linked;
-  meeting = surround_meeting w new s sound.linked sound.meeting;
-  straight = surround_straight w new s sound.linked sound.straight;
+  tied = surround_tied w new s sound.tied;
+  meeting = surround_meeting w new s sound.tied sound.meeting;
+  straight = surround_straight w new s sound.tied sound.straight;
 }
 
 -- the rectangle brings four right turns, on its outside

@@ -3,7 +3,7 @@ use Rattle.std.proofs.Common.{◌≡◌, ◌≢◌, ℕ, ◌+◌, ◌%◌, ◌<�
 use Rattle.common.specs.Sums.{sum_below}
 use Rattle.common.proofs.Sums.{sum_below-more, sum_below-same, sum_below-none}
 use Rattle.std.proofs.lemmas.Bool.{cases_eq, eq-eqb, ne_eqb, cond-true, cond-false}
-use Rattle.dissect.specs.DartMaps.{DartMap, IsLinked, IsMeeting, IsStraight, IsSubdivided, around}
+use Rattle.dissect.specs.DartMaps.{DartMap, IsTied, IsMeeting, IsStraight, IsSubdivided, around}
 
 -- a fact at each of n + 2 darts: at two named ones, at the other old ones, and at the two new ones
 pub by_place : (n c p : ℕ) (P : ℕ → Type 0) → P c → P p →
@@ -29,11 +29,11 @@ by_place n c p P at_c at_p other first second a l =
     below : (n a : ℕ) → a < n + 2 → a ≢ n → a ≢ n + 1 → a < n
     below n a l not_first not_second = omega arith
 
-pub split_linked : (w : DartMap) (e way bend : ℕ) (new : DartMap) → IsLinked w → e < w.darts →
-    IsSubdivided w e way bend new → IsLinked new
-split_linked w e way bend new linked e_in s =
+pub split_tied : (w : DartMap) (e way bend : ℕ) (new : DartMap) → IsTied w → e < w.darts →
+    IsSubdivided w e way bend new → IsTied new
+split_tied w e way bend new tied e_in s =
     let t : ℕ = w.reverse_dart e in
-    let t_in : t < w.darts = linked.reverse_dart_in e e_in in
+    let t_in : t < w.darts = tied.reverse_dart_in e e_in in
     let n : ℕ = w.darts in
     let P_next : ℕ → Type 0 = λ a. new.next a < new.darts in
     let P_prev : ℕ → Type 0 = λ a. new.prev a < new.darts in
@@ -45,50 +45,50 @@ split_linked w e way bend new linked e_in s =
     record {
       next_in = λ a l. by_place n (w.prev e) (w.prev t) P_next
           (omega (arith, s.next_before, s.darts)) (omega (arith, s.next_back, s.darts))
-          (λ a l nc np. omega (arith, s.next_other a l nc np, linked.next_in a l, s.darts))
+          (λ a l nc np. omega (arith, s.next_other a l nc np, tied.next_in a l, s.darts))
           (omega (arith, s.next_first, s.darts)) (omega (arith, s.next_second, s.darts, t_in))
           a (omega (arith, s.darts));
       prev_in = λ a l. by_place n e t P_prev
           (omega (arith, s.prev_e, s.darts)) (omega (arith, s.prev_reverse_dart, s.darts))
-          (λ a l nc np. omega (arith, s.prev_other a l nc np, linked.prev_in a l, s.darts))
-          (omega (arith, s.prev_first, s.darts, linked.prev_in e e_in))
-          (omega (arith, s.prev_second, s.darts, linked.prev_in t t_in))
+          (λ a l nc np. omega (arith, s.prev_other a l nc np, tied.prev_in a l, s.darts))
+          (omega (arith, s.prev_first, s.darts, tied.prev_in e e_in))
+          (omega (arith, s.prev_second, s.darts, tied.prev_in t t_in))
           a (omega (arith, s.darts));
       next_back = λ a l. by_place n (w.prev e) (w.prev t) P_next_back
           (cc) (cc)
           (λ a l nc np.
-          let other_e : w.next a ≢ e = λ h. nc (sym (linked.next_back a l) ∙ ap w.prev h) in
-          let other_t : w.next a ≢ t = λ h. np (sym (linked.next_back a l) ∙ ap w.prev h) in
-          ap new.prev (s.next_other a l nc np) ∙ s.prev_other (w.next a) (linked.next_in a l) other_e other_t
-          ∙ linked.next_back a l)
+          let other_e : w.next a ≢ e = λ h. nc (sym (tied.next_back a l) ∙ ap w.prev h) in
+          let other_t : w.next a ≢ t = λ h. np (sym (tied.next_back a l) ∙ ap w.prev h) in
+          ap new.prev (s.next_other a l nc np) ∙ s.prev_other (w.next a) (tied.next_in a l) other_e other_t
+          ∙ tied.next_back a l)
           (cc) (cc)
           a (omega (arith, s.darts));
       prev_back = λ a l. by_place n e t P_prev_back
           (cc) (cc)
           (λ a l nc np.
-          let other_c : w.prev a ≢ w.prev e = λ h. nc (sym (linked.prev_back a l) ∙ ap w.next h ∙ linked.prev_back e e_in) in
-          let other_p : w.prev a ≢ w.prev t = λ h. np (sym (linked.prev_back a l) ∙ ap w.next h ∙ linked.prev_back t t_in) in
-          ap new.next (s.prev_other a l nc np) ∙ s.next_other (w.prev a) (linked.prev_in a l) other_c other_p
-          ∙ linked.prev_back a l)
+          let other_c : w.prev a ≢ w.prev e = λ h. nc (sym (tied.prev_back a l) ∙ ap w.next h ∙ tied.prev_back e e_in) in
+          let other_p : w.prev a ≢ w.prev t = λ h. np (sym (tied.prev_back a l) ∙ ap w.next h ∙ tied.prev_back t t_in) in
+          ap new.next (s.prev_other a l nc np) ∙ s.next_other (w.prev a) (tied.prev_in a l) other_c other_p
+          ∙ tied.prev_back a l)
           (cc) (cc)
           a (omega (arith, s.darts));
       reverse_dart_in = λ a l. by_place n e t P_reverse_dart
           (omega (arith, s.reverse_dart_e, s.darts)) (omega (arith, s.reverse_dart_reverse_dart, s.darts))
-          (λ a l nc np. omega (arith, s.reverse_dart_other a l nc np, linked.reverse_dart_in a l, s.darts))
+          (λ a l nc np. omega (arith, s.reverse_dart_other a l nc np, tied.reverse_dart_in a l, s.darts))
           (omega (arith, s.reverse_dart_first, s.darts, t_in)) (omega (arith, s.reverse_dart_second, s.darts))
           a (omega (arith, s.darts));
       reverse_dart_back = λ a l. by_place n e t P_reverse_dart_back
           (cc) (cc)
           (λ a l nc np.
-          let other_e : w.reverse_dart a ≢ e = λ h. np (sym (linked.reverse_dart_back a l) ∙ ap w.reverse_dart h) in
-          let other_t : w.reverse_dart a ≢ t = λ h. nc (sym (linked.reverse_dart_back a l) ∙ ap w.reverse_dart h ∙ linked.reverse_dart_back e e_in) in
-          ap new.reverse_dart (s.reverse_dart_other a l nc np) ∙ s.reverse_dart_other (w.reverse_dart a) (linked.reverse_dart_in a l) other_e other_t
-          ∙ linked.reverse_dart_back a l)
+          let other_e : w.reverse_dart a ≢ e = λ h. np (sym (tied.reverse_dart_back a l) ∙ ap w.reverse_dart h) in
+          let other_t : w.reverse_dart a ≢ t = λ h. nc (sym (tied.reverse_dart_back a l) ∙ ap w.reverse_dart h ∙ tied.reverse_dart_back e e_in) in
+          ap new.reverse_dart (s.reverse_dart_other a l nc np) ∙ s.reverse_dart_other (w.reverse_dart a) (tied.reverse_dart_in a l) other_e other_t
+          ∙ tied.reverse_dart_back a l)
           (cc) (cc)
           a (omega (arith, s.darts));
       reverse_dart_apart = λ a l. by_place n e t P_apart
           (λ h. omega (arith, s.reverse_dart_e, h)) (λ h. omega (arith, s.reverse_dart_reverse_dart, h, t_in))
-          (λ a l nc np h. linked.reverse_dart_apart a l (sym (s.reverse_dart_other a l nc np) ∙ h))
+          (λ a l nc np h. tied.reverse_dart_apart a l (sym (s.reverse_dart_other a l nc np) ∙ h))
           (λ h. omega (arith, s.reverse_dart_first, h, t_in)) (λ h. omega (arith, s.reverse_dart_second, h))
           a (omega (arith, s.darts));
     }
@@ -117,21 +117,21 @@ around_more w u n e =
     ∙ ap (λ (k : ℕ). k + part w.head w.angle u (n + 1)) (sum_below-more n (part w.head w.angle u))
 
 -- what arrives next clockwise at an old dart's head is what arrived there before
-pub split_arrives : (w : DartMap) (e way bend : ℕ) (new : DartMap) → IsLinked w → e < w.darts → IsSubdivided w e way bend new →
+pub split_arrives : (w : DartMap) (e way bend : ℕ) (new : DartMap) → IsTied w → e < w.darts → IsSubdivided w e way bend new →
     (a : ℕ) → a < w.darts → new.reverse_dart (new.next a) ≡ w.reverse_dart (w.next a)
-split_arrives w e way bend new linked e_in s a l =
-    let t_in : w.reverse_dart e < w.darts = linked.reverse_dart_in e e_in in
+split_arrives w e way bend new tied e_in s a l =
+    let t_in : w.reverse_dart e < w.darts = tied.reverse_dart_in e e_in in
     elim (cases_eq a (w.prev e)) [
       | inl at ↦ ap (λ (k : ℕ). new.reverse_dart (new.next k)) at ∙ ap new.reverse_dart s.next_before ∙ s.reverse_dart_first
-          ∙ sym (ap w.reverse_dart (ap w.next at ∙ linked.prev_back e e_in))
+          ∙ sym (ap w.reverse_dart (ap w.next at ∙ tied.prev_back e e_in))
       | inr not_c ↦
           elim (cases_eq a (w.prev (w.reverse_dart e))) [
             | inl at ↦ ap (λ (k : ℕ). new.reverse_dart (new.next k)) at ∙ ap new.reverse_dart s.next_back ∙ s.reverse_dart_second
-                ∙ sym (ap w.reverse_dart (ap w.next at ∙ linked.prev_back (w.reverse_dart e) t_in) ∙ linked.reverse_dart_back e e_in)
+                ∙ sym (ap w.reverse_dart (ap w.next at ∙ tied.prev_back (w.reverse_dart e) t_in) ∙ tied.reverse_dart_back e e_in)
             | inr not_p ↦
-                let other_e : w.next a ≢ e = λ h. not_c (sym (linked.next_back a l) ∙ ap w.prev h) in
-                let other_t : w.next a ≢ w.reverse_dart e = λ h. not_p (sym (linked.next_back a l) ∙ ap w.prev h) in
-                ap new.reverse_dart (s.next_other a l not_c not_p) ∙ s.reverse_dart_other (w.next a) (linked.next_in a l) other_e other_t
+                let other_e : w.next a ≢ e = λ h. not_c (sym (tied.next_back a l) ∙ ap w.prev h) in
+                let other_t : w.next a ≢ w.reverse_dart e = λ h. not_p (sym (tied.next_back a l) ∙ ap w.prev h) in
+                ap new.reverse_dart (s.next_other a l not_c not_p) ∙ s.reverse_dart_other (w.next a) (tied.next_in a l) other_e other_t
           ]
     ]
 
@@ -173,16 +173,16 @@ split_whole w e way bend new meeting short s u l =
           omega (arith, more, same, first, second, meeting.whole u (omega (arith, s.vertices)))
     ]
 
-pub split_meeting : (w : DartMap) (e way bend : ℕ) (new : DartMap) → IsLinked w → IsMeeting w → e < w.darts →
+pub split_meeting : (w : DartMap) (e way bend : ℕ) (new : DartMap) → IsTied w → IsMeeting w → e < w.darts →
     way < 4 → 1 ≤ bend → bend < 4 → IsSubdivided w e way bend new → IsMeeting new
-split_meeting w e way bend new linked meeting e_in quarter some most s =
+split_meeting w e way bend new tied meeting e_in quarter some most s =
     let n : ℕ = w.darts in
-    let t_in : w.reverse_dart e < w.darts = linked.reverse_dart_in e e_in in
-    let arrives = split_arrives w e way bend new linked e_in s in
+    let t_in : w.reverse_dart e < w.darts = tied.reverse_dart_in e e_in in
+    let arrives = split_arrives w e way bend new tied e_in s in
     let arrives_first : new.reverse_dart (new.next n) ≡ n + 1 = ap new.reverse_dart s.next_first ∙ s.reverse_dart_e in
     let arrives_second : new.reverse_dart (new.next (n + 1)) ≡ n = ap new.reverse_dart s.next_second ∙ s.reverse_dart_reverse_dart in
     let inside : (a : ℕ) → a < w.darts → w.reverse_dart (w.next a) < w.darts =
-    λ a l. linked.reverse_dart_in (w.next a) (linked.next_in a l) in
+    λ a l. tied.reverse_dart_in (w.next a) (tied.next_in a l) in
     record {
       head_in = λ a l. by_age n (λ a. new.head a < new.vertices)
           (λ a l. omega (arith, s.head_old a l, meeting.head_in a l, s.vertices))
@@ -220,18 +220,18 @@ split_meeting w e way bend new linked meeting e_in quarter some most s =
     }
 
 -- a split that does not turn keeps a straight edge straight
-pub split_straight : (w : DartMap) (e : ℕ) (new : DartMap) → IsLinked w → IsMeeting w → e < w.darts → IsStraight w →
+pub split_straight : (w : DartMap) (e : ℕ) (new : DartMap) → IsTied w → IsMeeting w → e < w.darts → IsStraight w →
     IsSubdivided w e (w.direction e) 2 new → IsStraight new
-split_straight w e new linked meeting e_in straight s a l =
+split_straight w e new tied meeting e_in straight s a l =
     let n : ℕ = w.darts in
     let t : ℕ = w.reverse_dart e in
-    let t_in : t < w.darts = linked.reverse_dart_in e e_in in
+    let t_in : t < w.darts = tied.reverse_dart_in e e_in in
     by_place n e t (λ a. new.direction (new.reverse_dart a) ≡ (new.direction a + 2) % 4)
     (omega (arith, ap new.direction s.reverse_dart_e ∙ s.direction_second, s.direction_old e e_in, meeting.quarter e e_in))
     (omega (arith, ap new.direction s.reverse_dart_reverse_dart ∙ s.direction_first, s.direction_old t t_in, straight e e_in, meeting.quarter e e_in))
     (λ a l nc np. omega (
       arith,
-      ap new.direction (s.reverse_dart_other a l nc np) ∙ s.direction_old (w.reverse_dart a) (linked.reverse_dart_in a l),
+      ap new.direction (s.reverse_dart_other a l nc np) ∙ s.direction_old (w.reverse_dart a) (tied.reverse_dart_in a l),
       s.direction_old a l,
       straight a l,
     ))

@@ -11,7 +11,7 @@ use Rattle.ortho_rep.specs.Turns.{lefts, rights}
 use Rattle.ortho_rep.specs.Representation.{Rep}
 use Rattle.ortho_rep.proofs.WeakDuality.{gains, losses, turning-split}
 use Rattle.dissect.specs.Headings.{AreHeadings}
-use Rattle.dissect.specs.DartMaps.{DartMap, IsLinked, IsMeeting, around, reflex_turns}
+use Rattle.dissect.specs.DartMaps.{DartMap, IsTied, IsMeeting, around, reflex_turns}
 use Rattle.dissect.specs.FaceNumbers.{AreFaceNumbers}
 use Rattle.dissect.proofs.Splitting.{part, part_same}
 use Rattle.dissect.specs.Bare.{IsBare}
@@ -24,8 +24,8 @@ module _ (p : PlaneModel) (a : ℕ → ℕ) (s : ℕ → List Turn) (h : ℕ →
   in_plane : (x : ℕ) → x < w.darts → x < darts p
   in_plane x l = omega (arith, bare.dart_count)
 
-  pub linked : IsLinked w
-  linked =
+  pub tied : IsTied w
+  tied =
       let behind : (x : ℕ) → x < w.darts → (d : ℕ) × (d < darts p) × (next p d ≡ x) × (w.prev x ≡ d) = λ x l.
       let (d, inside, at) = onto (darts p) (next p) ends.next_one x (in_plane x l) in
       (d, inside, at, sym (ap w.prev at) ∙ bare.prevs d inside) in
@@ -132,7 +132,7 @@ module _ (p : PlaneModel) (a : ℕ → ℕ) (s : ℕ → List Turn) (h : ℕ →
       let total : owing w s ≡ sum_below (darts p) (λ d. length (s d)) = ap (λ (k : ℕ). sum_below k (λ d. length (s d))) bare.dart_count in
       record {
         old = omega (arith, bare.dart_count);
-        linked = linked;
+        tied = tied;
         meeting = meeting;
         mirrors = λ x l. ap s (bare.reverse_darts x (in_plane x l)) ∙ rep.strings x (in_plane x l);
         ways = λ x l.

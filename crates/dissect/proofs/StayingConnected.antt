@@ -1,10 +1,10 @@
 -- Splits, chords and cuts leave a connected map connected.
 use Rattle.std.proofs.Common.{◌≡◌, ℕ, ◌+◌, ◌<◌, ◌∙◌, Bool, true, arith, subst, sym, ap, inl, inr}
 use Rattle.std.proofs.lemmas.Bool.{cases_eq}
-use Rattle.dissect.specs.DartMaps.{DartMap, IsLinked, IsSubdivided, IsChord, Fits, IsCut, Grows, same, further}
+use Rattle.dissect.specs.DartMaps.{DartMap, IsTied, IsSubdivided, IsChord, Fits, IsCut, Grows, same, further}
 use Rattle.dissect.specs.Paths.{IsConnected}
-use Rattle.dissect.proofs.Splitting.{by_age, split_linked}
-use Rattle.dissect.proofs.Chords.{chord_linked}
+use Rattle.dissect.proofs.Splitting.{by_age, split_tied}
+use Rattle.dissect.proofs.Chords.{chord_tied}
 
 -- a set of darts closed under "next" and "reverse"
 pub record IsClosedUnder (w : DartMap) (s : ℕ → Bool) : Type 0 where
@@ -48,11 +48,11 @@ extended_connected w new extended connected s next reverse_dart a b l_a l_b h =
     let found = extended.some s shut a l_a h in
     extended.all s shut (λ c l_c. connected s old.next old.reverse_dart found.0 c found.1 l_c found.2) b l_b
 
-pub split_extended : (w : DartMap) (e way bend : ℕ) (new : DartMap) → IsLinked w → e < w.darts → IsSubdivided w e way bend new → IsExtended w new
-split_extended w e way bend new linked e_in split =
+pub split_extended : (w : DartMap) (e way bend : ℕ) (new : DartMap) → IsTied w → e < w.darts → IsSubdivided w e way bend new → IsExtended w new
+split_extended w e way bend new tied e_in split =
     let n : ℕ = w.darts in
     let t : ℕ = w.reverse_dart e in
-    let t_in : t < w.darts = linked.reverse_dart_in e e_in in
+    let t_in : t < w.darts = tied.reverse_dart_in e e_in in
     let old_in : (a : ℕ) → a < w.darts → a < new.darts = λ a l. omega (arith, split.darts) in
     let first_in : n < new.darts = omega (arith, split.darts) in
     let second_in : n + 1 < new.darts = omega (arith, split.darts) in
@@ -61,11 +61,11 @@ split_extended w e way bend new linked e_in split =
         next = λ a l h. elim (cases_eq a (w.prev e)) [
           | inl at ↦
               let on = by_next new s a n shut (old_in a l) (ap new.next at ∙ split.next_before) h in
-              by_next new s n (w.next a) shut first_in (split.next_first ∙ sym (ap w.next at ∙ linked.prev_back e e_in)) on
+              by_next new s n (w.next a) shut first_in (split.next_first ∙ sym (ap w.next at ∙ tied.prev_back e e_in)) on
           | inr not_c ↦ elim (cases_eq a (w.prev t)) [
             | inl at ↦
                 let on = by_next new s a (n + 1) shut (old_in a l) (ap new.next at ∙ split.next_back) h in
-                by_next new s (n + 1) (w.next a) shut second_in (split.next_second ∙ sym (ap w.next at ∙ linked.prev_back t t_in)) on
+                by_next new s (n + 1) (w.next a) shut second_in (split.next_second ∙ sym (ap w.next at ∙ tied.prev_back t t_in)) on
             | inr not_p ↦ by_next new s a (w.next a) shut (old_in a l) (split.next_other a l not_c not_p) h
           ]
         ];
@@ -76,7 +76,7 @@ split_extended w e way bend new linked e_in split =
           | inr not_e ↦ elim (cases_eq a t) [
             | inl at ↦
                 let on = by_reverse_dart new s a n shut (old_in a l) (ap new.reverse_dart at ∙ split.reverse_dart_reverse_dart) h in
-                by_next new s n (w.reverse_dart a) shut first_in (split.next_first ∙ sym (ap w.reverse_dart at ∙ linked.reverse_dart_back e e_in)) on
+                by_next new s n (w.reverse_dart a) shut first_in (split.next_first ∙ sym (ap w.reverse_dart at ∙ tied.reverse_dart_back e e_in)) on
             | inr not_t ↦ by_reverse_dart new s a (w.reverse_dart a) shut (old_in a l) (split.reverse_dart_other a l not_e not_t) h
           ]
         ];
@@ -87,15 +87,15 @@ split_extended w e way bend new linked e_in split =
           (λ h. (t, t_in, by_next new s (n + 1) t shut second_in split.next_second h))
           a (omega (arith, split.darts));
       all = λ s shut each a l. by_age n (λ (a : ℕ). s a ≡ true) each
-          (by_next new s (w.prev e) n shut (old_in (w.prev e) (linked.prev_in e e_in)) split.next_before
-          (each (w.prev e) (linked.prev_in e e_in)))
-          (by_next new s (w.prev t) (n + 1) shut (old_in (w.prev t) (linked.prev_in t t_in)) split.next_back
-          (each (w.prev t) (linked.prev_in t t_in)))
+          (by_next new s (w.prev e) n shut (old_in (w.prev e) (tied.prev_in e e_in)) split.next_before
+          (each (w.prev e) (tied.prev_in e e_in)))
+          (by_next new s (w.prev t) (n + 1) shut (old_in (w.prev t) (tied.prev_in t t_in)) split.next_back
+          (each (w.prev t) (tied.prev_in t t_in)))
           a (omega (arith, split.darts));
     }
 
-pub chord_extended : (w : DartMap) (d f way : ℕ) (new : DartMap) → IsLinked w → Fits w d f way → IsChord w d f way new → IsExtended w new
-chord_extended w d f way new linked fits chord =
+pub chord_extended : (w : DartMap) (d f way : ℕ) (new : DartMap) → IsTied w → Fits w d f way → IsChord w d f way new → IsExtended w new
+chord_extended w d f way new tied fits chord =
     let n : ℕ = w.darts in
     let old_in : (a : ℕ) → a < w.darts → a < new.darts = λ a l. omega (arith, chord.darts) in
     let there_in : n < new.darts = omega (arith, chord.darts) in
@@ -119,8 +119,8 @@ chord_extended w d f way new linked fits chord =
       };
       some = λ s shut a l. by_age n (λ (a : ℕ). s a ≡ true → (b : ℕ) × (b < w.darts) × (s b ≡ true))
           (λ a l h. (a, l, h))
-          (λ h. (w.next f, linked.next_in f fits.f_in, by_next new s n (w.next f) shut there_in chord.next_there h))
-          (λ h. (w.next d, linked.next_in d fits.d_in, by_next new s (n + 1) (w.next d) shut back_in chord.next_back h))
+          (λ h. (w.next f, tied.next_in f fits.f_in, by_next new s n (w.next f) shut there_in chord.next_there h))
+          (λ h. (w.next d, tied.next_in d fits.d_in, by_next new s (n + 1) (w.next d) shut back_in chord.next_back h))
           a (omega (arith, chord.darts));
       all = λ s shut each a l. by_age n (λ (a : ℕ). s a ≡ true) each
           (by_next new s d n shut (old_in d fits.d_in) chord.next_d (each d fits.d_in))
@@ -128,25 +128,25 @@ chord_extended w d f way new linked fits chord =
           a (omega (arith, chord.darts));
     }
 
-pub cut_linked : (w : DartMap) (d e way : ℕ) (new : DartMap) → IsLinked w → IsCut w d e way new → IsLinked new
-cut_linked w d e way new linked cut =
-    chord_linked cut.middle d w.darts way new
-    (split_linked w e (w.direction e) 2 cut.middle linked cut.e_in cut.split) cut.fits cut.chord
+pub cut_tied : (w : DartMap) (d e way : ℕ) (new : DartMap) → IsTied w → IsCut w d e way new → IsTied new
+cut_tied w d e way new tied cut =
+    chord_tied cut.middle d w.darts way new
+    (split_tied w e (w.direction e) 2 cut.middle tied cut.e_in cut.split) cut.fits cut.chord
 
-pub cut_extended : (w : DartMap) (d e way : ℕ) (new : DartMap) → IsLinked w → IsCut w d e way new → IsExtended w new
-cut_extended w d e way new linked cut =
+pub cut_extended : (w : DartMap) (d e way : ℕ) (new : DartMap) → IsTied w → IsCut w d e way new → IsExtended w new
+cut_extended w d e way new tied cut =
     extended_on w cut.middle new
-    (split_extended w e (w.direction e) 2 cut.middle linked cut.e_in cut.split)
+    (split_extended w e (w.direction e) 2 cut.middle tied cut.e_in cut.split)
     (chord_extended cut.middle d w.darts way new
-    (split_linked w e (w.direction e) 2 cut.middle linked cut.e_in cut.split) cut.fits cut.chord)
+    (split_tied w e (w.direction e) 2 cut.middle tied cut.e_in cut.split) cut.fits cut.chord)
 
-pub grows_linked : (w new : DartMap) → IsLinked w → Grows w new → IsLinked new
-grows_linked w new linked same = linked
-grows_linked w new linked (further mid last d e way grows cut) =
-    cut_linked mid d e way last (grows_linked w mid linked grows) cut
+pub grows_tied : (w new : DartMap) → IsTied w → Grows w new → IsTied new
+grows_tied w new tied same = tied
+grows_tied w new tied (further mid last d e way grows cut) =
+    cut_tied mid d e way last (grows_tied w mid tied grows) cut
 
-pub grows_extended : (w new : DartMap) → IsLinked w → Grows w new → IsExtended w new
-grows_extended w new linked same = extended_same w
-grows_extended w new linked (further mid last d e way grows cut) =
-    extended_on w mid last (grows_extended w mid linked grows)
-    (cut_extended mid d e way last (grows_linked w mid linked grows) cut)
+pub grows_extended : (w new : DartMap) → IsTied w → Grows w new → IsExtended w new
+grows_extended w new tied same = extended_same w
+grows_extended w new tied (further mid last d e way grows cut) =
+    extended_on w mid last (grows_extended w mid tied grows)
+    (cut_extended mid d e way last (grows_tied w mid tied grows) cut)

@@ -5,7 +5,7 @@ use Rattle.faces.specs.Planes.{PlaneModel, HasEnds, darts, reverse_dart}
 use Rattle.ortho_rep.specs.declared.turn.Turn.{Turn}
 use Rattle.ortho_rep.specs.Turns.{mirrored}
 use Rattle.dissect.specs.DartMaps.{DartMap, IsSubdivided}
-use Rattle.dissect.proofs.Splitting.{by_age, split_linked, split_meeting}
+use Rattle.dissect.proofs.Splitting.{by_age, split_tied, split_meeting}
 use Rattle.dissect.specs.Steps.{IsBent, straight, turned, AreBent, finished, passed, bent, angle_of, start_direction}
 use Rattle.dissect.proofs.Mirroring.{turn_counts}
 use Rattle.dissect.proofs.OwedTurns.{IsOwing, IsOwedNext, IsLabelledNext, owed_next, labelled_next, split_labels}
@@ -17,20 +17,20 @@ pub owing_on : (p : PlaneModel) (a h : ℕ → ℕ) (total : ℕ) (w : DartMap) 
     owed e ≡ turn ∷ turns → IsSubdivided w e (start_direction w e) (angle_of turn) new → IsLabelledNext w e label label' →
     IsOwedNext w e turns owed owed' → IsOwing p a h total new label' owed'
 owing_on p a h total w e turn turns new label label' owed owed' owing e_in owes s named next =
-    let linked = owing.linked in
+    let tied = owing.tied in
     let way : ℕ = start_direction w e in
-    let t_in : w.reverse_dart e < w.darts = linked.reverse_dart_in e e_in in
+    let t_in : w.reverse_dart e < w.darts = tied.reverse_dart_in e e_in in
     let counts = turn_counts turn turns in
-    let less = owing_less w e way turn turns new label label' owed owed' linked e_in s owes (owing.mirrors e e_in) named next in
+    let less = owing_less w e way turn turns new label label' owed owed' tied e_in s owes (owing.mirrors e e_in) named next in
     let inside : (x : ℕ) → x < darts p → x < w.darts = λ x l. omega (arith, l, owing.old) in
     record {
       old = omega (arith, owing.old, s.darts);
-      linked = split_linked w e way (angle_of turn) new linked e_in s;
-      meeting = split_meeting w e way (angle_of turn) new linked owing.meeting e_in (omega arith) counts.2 (omega (arith, counts.3)) s;
-      mirrors = mirrors_on w e way turn turns new label label' owed owed' linked e_in s owes (owing.mirrors e e_in) named next owing.mirrors;
-      ways = ways_on w e way turn turns new label label' owed owed' linked e_in s owes (owing.mirrors e e_in) named next refl
+      tied = split_tied w e way (angle_of turn) new tied e_in s;
+      meeting = split_meeting w e way (angle_of turn) new tied owing.meeting e_in (omega arith) counts.2 (omega (arith, counts.3)) s;
+      mirrors = mirrors_on w e way turn turns new label label' owed owed' tied e_in s owes (owing.mirrors e e_in) named next owing.mirrors;
+      ways = ways_on w e way turn turns new label label' owed owed' tied e_in s owes (owing.mirrors e e_in) named next refl
           owing.meeting.quarter owing.ways;
-      labels = split_labels w e way (angle_of turn) new label label' linked e_in s named owing.labels;
+      labels = split_labels w e way (angle_of turn) new label label' tied e_in s named owing.labels;
       named = λ x l. by_age w.darts (λ x. label' x < p.faces)
           (λ x l. omega (arith, named.old x l, owing.named x l))
           (omega (arith, named.at_first, owing.named e e_in)) (omega (arith, named.at_second, owing.named (w.reverse_dart e) t_in))
@@ -38,7 +38,7 @@ owing_on p a h total w e turn turns new label label' owed owed' owing e_in owes 
       turns = λ f l. omega (
         arith,
         owing.turns f l,
-        turned_alike w e way turn turns new label label' owed owed' linked e_in s owes (owing.mirrors e e_in) named next f,
+        turned_alike w e way turn turns new label label' owed owed' tied e_in s owes (owing.mirrors e e_in) named next f,
       );
       dart_count = omega (arith, owing.dart_count, less, s.darts);
       vertex_count = omega (arith, owing.vertex_count, less, s.vertices);
@@ -46,7 +46,7 @@ owing_on p a h total w e turn turns new label label' owed owed' owing e_in owes 
         arith,
         owing.right_turns,
         less,
-        reflex_turns_more w e way turn turns new label label' owed owed' linked e_in s owes (owing.mirrors e e_in) named next,
+        reflex_turns_more w e way turn turns new label label' owed owed' tied e_in s owes (owing.mirrors e e_in) named next,
       );
       heads = λ x l. omega (arith, owing.heads x l, s.head_old x (inside x l));
       angles = λ x l. s.angle_old x (inside x l) ∙ owing.angles x l;
@@ -84,11 +84,11 @@ edge_on p a h total e w [] new (straight _) label owed owing e_in owes = (
   },
 )
 edge_on p a h total e w (turn ∷ turns) new (turned _ mid _ _ _ s rest) label owed owing e_in owes =
-    let linked = owing.linked in
+    let tied = owing.tied in
     let n : ℕ = w.darts in
     let t : ℕ = w.reverse_dart e in
-    let t_in : t < n = linked.reverse_dart_in e e_in in
-    let (owed1, next) = owed_next w e turns owed linked e_in in
+    let t_in : t < n = tied.reverse_dart_in e e_in in
+    let (owed1, next) = owed_next w e turns owed tied e_in in
     let (label1, named) = labelled_next w e label in
     let step = owing_on p a h total w e turn turns mid label label1 owed owed1 owing e_in owes s named next in
     let (label2, owed2, ends, paid) = edge_on p a h total e mid turns new rest label1 owed1 step (omega (arith, s.darts, e_in)) next.at_e in

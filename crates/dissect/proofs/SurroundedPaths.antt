@@ -1,11 +1,11 @@
 -- A rectangle beside a map: what it keeps, and what the join and the cuts after it keep.
 use Rattle.std.proofs.Common.{◌≡◌, ◌≢◌, ℕ, ◌+◌, ◌-◌, ◌%◌, ◌<◌, ◌≤◌, ◌∙◌, zero, suc, Bool, true, List, arith, subst, sym, ap, inl, inr}
 use Rattle.std.proofs.lemmas.Bool.{cases_lt}
-use Rattle.dissect.specs.DartMaps.{DartMap, no_dart, IsLinked, IsCut}
+use Rattle.dissect.specs.DartMaps.{DartMap, no_dart, IsTied, IsCut}
 use Rattle.dissect.specs.Paths.{HasPaths, IsConnected}
 use Rattle.dissect.specs.Surrounds.{IsSurrounded, IsEnclosed}
-use Rattle.dissect.proofs.Splitting.{split_linked}
-use Rattle.dissect.proofs.StayingConnected.{IsClosedUnder, by_next, by_reverse_dart, extended_connected, chord_extended, cut_linked, cut_extended, grows_extended}
+use Rattle.dissect.proofs.Splitting.{split_tied}
+use Rattle.dissect.proofs.StayingConnected.{IsClosedUnder, by_next, by_reverse_dart, extended_connected, chord_extended, cut_tied, cut_extended, grows_extended}
 use Rattle.dissect.proofs.Cuts.{IsBeside, beside_paths, cut_paths, AreQuarters, cut_quarters, grows_paths}
 
 -- a fact at each dart of a surrounded map: at the old ones, at the four inside the rectangle and at the four outside it
@@ -23,39 +23,39 @@ by_side n P old inner outer a l =
     rest : (n a : ℕ) → n ≤ a → n + (a - n) ≡ a
     rest n a high = omega arith
 
-pub surrounded_linked : (w new : DartMap) → IsLinked w → IsSurrounded w new → IsLinked new
-surrounded_linked w new linked f =
+pub surrounded_tied : (w new : DartMap) → IsTied w → IsSurrounded w new → IsTied new
+surrounded_tied w new tied f =
     let n : ℕ = w.darts in
     record {
       next_in = λ a l. by_side n (λ (a : ℕ). new.next a < new.darts)
-          (λ a l. omega (arith, f.next_old a l, linked.next_in a l, f.darts))
+          (λ a l. omega (arith, f.next_old a l, tied.next_in a l, f.darts))
           (λ k l. omega (arith, f.next_inner k l, f.darts)) (λ k l. omega (arith, f.next_outer k l, f.darts))
           a (omega (arith, f.darts));
       prev_in = λ a l. by_side n (λ (a : ℕ). new.prev a < new.darts)
-          (λ a l. omega (arith, f.prev_old a l, linked.prev_in a l, f.darts))
+          (λ a l. omega (arith, f.prev_old a l, tied.prev_in a l, f.darts))
           (λ k l. omega (arith, f.prev_inner k l, f.darts)) (λ k l. omega (arith, f.prev_outer k l, f.darts))
           a (omega (arith, f.darts));
       next_back = λ a l. by_side n (λ (a : ℕ). new.prev (new.next a) ≡ a)
-          (λ a l. ap new.prev (f.next_old a l) ∙ f.prev_old (w.next a) (linked.next_in a l) ∙ linked.next_back a l)
+          (λ a l. ap new.prev (f.next_old a l) ∙ f.prev_old (w.next a) (tied.next_in a l) ∙ tied.next_back a l)
           (λ k l. ap new.prev (f.next_inner k l) ∙ f.prev_inner ((k + 1) % 4) (omega arith) ∙ omega (arith, l))
           (λ k l. ap new.prev (f.next_outer k l) ∙ f.prev_outer ((k + 3) % 4) (omega arith) ∙ omega (arith, l))
           a (omega (arith, f.darts));
       prev_back = λ a l. by_side n (λ (a : ℕ). new.next (new.prev a) ≡ a)
-          (λ a l. ap new.next (f.prev_old a l) ∙ f.next_old (w.prev a) (linked.prev_in a l) ∙ linked.prev_back a l)
+          (λ a l. ap new.next (f.prev_old a l) ∙ f.next_old (w.prev a) (tied.prev_in a l) ∙ tied.prev_back a l)
           (λ k l. ap new.next (f.prev_inner k l) ∙ f.next_inner ((k + 3) % 4) (omega arith) ∙ omega (arith, l))
           (λ k l. ap new.next (f.prev_outer k l) ∙ f.next_outer ((k + 1) % 4) (omega arith) ∙ omega (arith, l))
           a (omega (arith, f.darts));
       reverse_dart_in = λ a l. by_side n (λ (a : ℕ). new.reverse_dart a < new.darts)
-          (λ a l. omega (arith, f.reverse_dart_old a l, linked.reverse_dart_in a l, f.darts))
+          (λ a l. omega (arith, f.reverse_dart_old a l, tied.reverse_dart_in a l, f.darts))
           (λ k l. omega (arith, f.reverse_dart_inner k l, f.darts)) (λ k l. omega (arith, f.reverse_dart_outer k l, f.darts))
           a (omega (arith, f.darts));
       reverse_dart_back = λ a l. by_side n (λ (a : ℕ). new.reverse_dart (new.reverse_dart a) ≡ a)
-          (λ a l. ap new.reverse_dart (f.reverse_dart_old a l) ∙ f.reverse_dart_old (w.reverse_dart a) (linked.reverse_dart_in a l) ∙ linked.reverse_dart_back a l)
+          (λ a l. ap new.reverse_dart (f.reverse_dart_old a l) ∙ f.reverse_dart_old (w.reverse_dart a) (tied.reverse_dart_in a l) ∙ tied.reverse_dart_back a l)
           (λ k l. ap new.reverse_dart (f.reverse_dart_inner k l) ∙ f.reverse_dart_outer k l)
           (λ k l. ap new.reverse_dart (f.reverse_dart_outer k l) ∙ f.reverse_dart_inner k l)
           a (omega (arith, f.darts));
       reverse_dart_apart = λ a l. by_side n (λ (a : ℕ). new.reverse_dart a ≢ a)
-          (λ a l h. linked.reverse_dart_apart a l (sym (f.reverse_dart_old a l) ∙ h))
+          (λ a l h. tied.reverse_dart_apart a l (sym (f.reverse_dart_old a l) ∙ h))
           (λ k l h. omega (arith, f.reverse_dart_inner k l, h))
           (λ k l h. omega (arith, f.reverse_dart_outer k l, h))
           a (omega (arith, f.darts));
@@ -68,15 +68,15 @@ surrounded_quarters w new quarters f a l =
     (λ k l. omega (arith, f.direction_inner k l, l)) (λ k l. omega (arith, f.direction_outer k l))
     a (omega (arith, f.darts))
 
-pub surrounded_beside : (w new : DartMap) → IsLinked w → IsSurrounded w new → IsBeside w new
-surrounded_beside w new linked f = record {
+pub surrounded_beside : (w new : DartMap) → IsTied w → IsSurrounded w new → IsBeside w new
+surrounded_beside w new tied f = record {
   keeps = record { more = omega (arith, f.darts); head = f.head_old; direction = f.direction_old };
   kept = λ b l. record {
     inside = omega (arith, f.darts);
     before = f.before_old b l;
     reverse_dart = f.reverse_dart_old b l;
-    head = ap new.head (f.reverse_dart_old b l) ∙ f.head_old (w.reverse_dart b) (linked.reverse_dart_in b l);
-    direction = ap new.direction (f.reverse_dart_old b l) ∙ f.direction_old (w.reverse_dart b) (linked.reverse_dart_in b l);
+    head = ap new.head (f.reverse_dart_old b l) ∙ f.head_old (w.reverse_dart b) (tied.reverse_dart_in b l);
+    direction = ap new.direction (f.reverse_dart_old b l) ∙ f.direction_old (w.reverse_dart b) (tied.reverse_dart_in b l);
   };
   fresh = λ a l late. by_side w.darts (λ (a : ℕ). w.darts ≤ a → new.before a ≡ no_dart)
       (λ a l late. absurd (omega (arith, l, late))) (λ k l _. f.before_inner k l) (λ k l _. f.before_outer k l)
@@ -84,23 +84,23 @@ surrounded_beside w new linked f = record {
 }
 
 -- a rectangle beside the map keeps all paths
-pub surround_paths : (w new : DartMap) (n : ℕ) (reverse_dart : ℕ → ℕ) (quarters : ℕ → List ℕ) → IsLinked w → IsSurrounded w new →
+pub surround_paths : (w new : DartMap) (n : ℕ) (reverse_dart : ℕ → ℕ) (quarters : ℕ → List ℕ) → IsTied w → IsSurrounded w new →
     HasPaths w n reverse_dart quarters → HasPaths new n reverse_dart quarters
-surround_paths w new n reverse_dart quarters linked surrounded = beside_paths w new n reverse_dart quarters (surrounded_beside w new linked surrounded)
+surround_paths w new n reverse_dart quarters tied surrounded = beside_paths w new n reverse_dart quarters (surrounded_beside w new tied surrounded)
 
 -- and so do the join and the cuts after it
-pub enclosed_paths : (w : DartMap) (outside : ℕ) (new : DartMap) (n : ℕ) (reverse_dart : ℕ → ℕ) (quarters : ℕ → List ℕ) → IsLinked w → AreQuarters w →
+pub enclosed_paths : (w : DartMap) (outside : ℕ) (new : DartMap) (n : ℕ) (reverse_dart : ℕ → ℕ) (quarters : ℕ → List ℕ) → IsTied w → AreQuarters w →
     IsEnclosed w outside new →
     HasPaths w n reverse_dart quarters → HasPaths new n reverse_dart quarters
-enclosed_paths w outside new n reverse_dart quarters linked four e has =
-    let linked_surrounded = surrounded_linked w e.surrounded linked e.surround in
+enclosed_paths w outside new n reverse_dart quarters tied four e has =
+    let tied_surrounded = surrounded_tied w e.surrounded tied e.surround in
     let four_surrounded : AreQuarters e.surrounded = surrounded_quarters w e.surrounded four e.surround in
-    let linked_joined = cut_linked e.surrounded e.right (w.darts + e.side) e.direction e.joined linked_surrounded e.join in
+    let tied_joined = cut_tied e.surrounded e.right (w.darts + e.side) e.direction e.joined tied_surrounded e.join in
     let four_joined : AreQuarters e.joined = cut_quarters e.surrounded e.right (w.darts + e.side) e.direction e.joined four_surrounded e.join in
-    grows_paths e.joined new n reverse_dart quarters linked_joined four_joined e.grows
-    (cut_paths e.surrounded e.right (w.darts + e.side) e.direction e.joined n reverse_dart quarters linked_surrounded
+    grows_paths e.joined new n reverse_dart quarters tied_joined four_joined e.grows
+    (cut_paths e.surrounded e.right (w.darts + e.side) e.direction e.joined n reverse_dart quarters tied_surrounded
     (four_surrounded (w.darts + e.side) e.join.e_in) e.join
-    (surround_paths w e.surrounded n reverse_dart quarters linked e.surround has))
+    (surround_paths w e.surrounded n reverse_dart quarters tied e.surround has))
 
 -- a closed set of the surrounded map is one of the map
 pub surrounded_shut : (w new : DartMap) (s : ℕ → Bool) → IsSurrounded w new → IsClosedUnder new s → IsClosedUnder w s
@@ -152,15 +152,15 @@ join_there surrounded right e way new s cut shut h =
     by_next new s cut.middle.darts e shut (omega (arith, cut.chord.darts)) (cut.chord.next_there ∙ cut.split.next_first) there
 
 -- and back
-pub join_back : (surrounded : DartMap) (right e way : ℕ) (new : DartMap) (s : ℕ → Bool) → IsLinked surrounded → IsCut surrounded right e way new →
+pub join_back : (surrounded : DartMap) (right e way : ℕ) (new : DartMap) (s : ℕ → Bool) → IsTied surrounded → IsCut surrounded right e way new →
     IsClosedUnder new s → right ≢ surrounded.prev e → right ≢ surrounded.prev (surrounded.reverse_dart e) → s (surrounded.prev e) ≡ true →
     s (surrounded.next right) ≡ true
-join_back surrounded right e way new s linked cut shut not_c not_p h =
-    let linked_middle = split_linked surrounded e (surrounded.direction e) 2 cut.middle linked cut.e_in cut.split in
+join_back surrounded right e way new s tied cut shut not_c not_p h =
+    let tied_middle = split_tied surrounded e (surrounded.direction e) 2 cut.middle tied cut.e_in cut.split in
     let middle : IsClosedUnder cut.middle s =
-    (chord_extended cut.middle right surrounded.darts way new linked_middle cut.fits cut.chord).shut s shut in
+    (chord_extended cut.middle right surrounded.darts way new tied_middle cut.fits cut.chord).shut s shut in
     let first : s surrounded.darts ≡ true =
-    by_next cut.middle s (surrounded.prev e) surrounded.darts middle (omega (arith, cut.split.darts, linked.prev_in e cut.e_in))
+    by_next cut.middle s (surrounded.prev e) surrounded.darts middle (omega (arith, cut.split.darts, tied.prev_in e cut.e_in))
     cut.split.next_before h in
     let back : s (cut.middle.darts + 1) ≡ true =
     by_next new s surrounded.darts (cut.middle.darts + 1) shut (omega (arith, cut.chord.darts, cut.split.darts)) cut.chord.next_f first in
@@ -168,13 +168,13 @@ join_back surrounded right e way new s linked cut shut not_c not_p h =
     (cut.chord.next_back ∙ cut.split.next_other right cut.d_in not_c not_p) back
 
 -- a connected map stays connected with the rectangle that a cut leads to
-pub join_connected : (w surrounded : DartMap) (right side way : ℕ) (new : DartMap) → IsLinked w → IsConnected w → IsSurrounded w surrounded → right < w.darts →
+pub join_connected : (w surrounded : DartMap) (right side way : ℕ) (new : DartMap) → IsTied w → IsConnected w → IsSurrounded w surrounded → right < w.darts →
     side < 4 → IsCut surrounded right (w.darts + side) way new → IsConnected new
-join_connected w surrounded right side way new linked connected f right_in side_in cut s next reverse_dart a b l_a l_b h =
+join_connected w surrounded right side way new tied connected f right_in side_in cut s next reverse_dart a b l_a l_b h =
     let e : ℕ = w.darts + side in
     let shut : IsClosedUnder new s = record { next = next; reverse_dart = reverse_dart } in
-    let linked_surrounded = surrounded_linked w surrounded linked f in
-    let extended = cut_extended surrounded right e way new linked_surrounded cut in
+    let tied_surrounded = surrounded_tied w surrounded tied f in
+    let extended = cut_extended surrounded right e way new tied_surrounded cut in
     let shut_surrounded : IsClosedUnder surrounded s = extended.shut s shut in
     let shut_old : IsClosedUnder w s = surrounded_shut w surrounded s f shut_surrounded in
     let found = extended.some s shut a l_a h in
@@ -192,20 +192,20 @@ join_connected w surrounded right side way new linked connected f right_in side_
     let before : s (surrounded.prev e) ≡ true =
     ring_whole w surrounded s k f shut_surrounded l_k at (surrounded.prev e) (omega (arith, prev_e, f.darts)) (omega (arith, prev_e)) in
     subst (λ (j : ℕ). s j ≡ true) (f.next_old right right_in)
-    (join_back surrounded right e way new s linked_surrounded cut shut
+    (join_back surrounded right e way new s tied_surrounded cut shut
     (λ same. omega (arith, same, prev_e, right_in)) (λ same. omega (arith, same, prev_t, right_in)) before) in
     extended.all s shut
     (elim (cases_lt found.0 w.darts) [
       | inl low ↦ from_old found.0 low found.2
       | inr high ↦
           let ring = ring_some w surrounded s found.0 f shut_surrounded found.1 high found.2 in
-          from_old (w.next right) (linked.next_in right right_in) (from_ring ring.0 ring.1 ring.2)
+          from_old (w.next right) (tied.next_in right right_in) (from_ring ring.0 ring.1 ring.2)
     ]) b l_b
 
 -- a connected map stays connected in its rectangle
-pub enclosed_connected : (w : DartMap) (outside : ℕ) (new : DartMap) → IsLinked w → IsConnected w → IsEnclosed w outside new → IsConnected new
-enclosed_connected w outside new linked connected e =
-    let linked_surrounded = surrounded_linked w e.surrounded linked e.surround in
-    let linked_joined = cut_linked e.surrounded e.right (w.darts + e.side) e.direction e.joined linked_surrounded e.join in
-    extended_connected e.joined new (grows_extended e.joined new linked_joined e.grows)
-    (join_connected w e.surrounded e.right e.side e.direction e.joined linked connected e.surround e.right_in e.side_in e.join)
+pub enclosed_connected : (w : DartMap) (outside : ℕ) (new : DartMap) → IsTied w → IsConnected w → IsEnclosed w outside new → IsConnected new
+enclosed_connected w outside new tied connected e =
+    let tied_surrounded = surrounded_tied w e.surrounded tied e.surround in
+    let tied_joined = cut_tied e.surrounded e.right (w.darts + e.side) e.direction e.joined tied_surrounded e.join in
+    extended_connected e.joined new (grows_extended e.joined new tied_joined e.grows)
+    (join_connected w e.surrounded e.right e.side e.direction e.joined tied connected e.surround e.right_in e.side_in e.join)

@@ -1,17 +1,17 @@
 -- The path of an edge goes through the darts that it was made of, in their order, whatever is cut.
 use Rattle.std.proofs.Common.{◌≡◌, ℕ, ◌+◌, ◌<◌, ◌≤◌, ◌⊎◌, ◌∙◌, List, [], ◌∷◌, arith, subst, sym, refl, inl, inr}
 use Rattle.std.proofs.lemmas.Bool.{cases_eq}
-use Rattle.dissect.specs.DartMaps.{DartMap, no_dart, IsLinked, IsSubdivided, IsCut, Grows, same, further}
+use Rattle.dissect.specs.DartMaps.{DartMap, no_dart, IsTied, IsSubdivided, IsCut, Grows, same, further}
 use Rattle.dissect.specs.Faces.{last_of, Below}
 use Rattle.dissect.specs.Paths.{Follows, IsPath}
 use Rattle.dissect.specs.Surrounds.{IsEnclosed}
-use Rattle.dissect.proofs.Splitting.{split_linked}
+use Rattle.dissect.proofs.Splitting.{split_tied}
 use Rattle.dissect.proofs.Backwards.{path_unique}
 use Rattle.dissect.proofs.Lengthening.{KeepsHeads, IsKept, IsDoubled}
 use Rattle.dissect.proofs.Splits.{split_keeps, split_kept, split_doubled, split_doubled_back}
-use Rattle.dissect.proofs.StayingConnected.{grows_linked, cut_linked}
+use Rattle.dissect.proofs.StayingConnected.{grows_tied, cut_tied}
 use Rattle.dissect.proofs.Cuts.{IsBeside, chord_beside, AreQuarters, cut_quarters, grows_quarters}
-use Rattle.dissect.proofs.SurroundedPaths.{surrounded_linked, surrounded_quarters, surrounded_beside}
+use Rattle.dissect.proofs.SurroundedPaths.{surrounded_tied, surrounded_quarters, surrounded_beside}
 use Rattle.dissect.specs.Boxed.{StandOn}
 
 pub stands_itself : (xs : List ℕ) → StandOn xs xs
@@ -108,54 +108,54 @@ step_through w new end held step old =
 beside_step : (w new : DartMap) → IsBeside w new → IsStep w new
 beside_step w new beside = record { keeps = beside.keeps; stays = λ b l. inl (beside.kept b l) }
 
-split_step : (w : DartMap) (e way : ℕ) (new : DartMap) → IsLinked w → e < w.darts → way < 4 → IsSubdivided w e way 2 new → IsStep w new
-split_step w e way new linked e_in quarter split = record {
+split_step : (w : DartMap) (e way : ℕ) (new : DartMap) → IsTied w → e < w.darts → way < 4 → IsSubdivided w e way 2 new → IsStep w new
+split_step w e way new tied e_in quarter split = record {
   keeps = split_keeps w e way 2 new split;
   stays = λ b l. elim (cases_eq b e) [
     | inl at ↦ subst (StaysBehind w new) (sym at)
-        (inr (w.darts, split_doubled w e way 2 0 new linked e_in quarter (omega arith) refl split))
+        (inr (w.darts, split_doubled w e way 2 0 new tied e_in quarter (omega arith) refl split))
     | inr not_e ↦ elim (cases_eq b (w.reverse_dart e)) [
       | inl at ↦ subst (StaysBehind w new) (sym at)
-          (inr (w.darts + 1, split_doubled_back w e way 2 0 new linked e_in quarter (omega arith) refl split))
-      | inr not_t ↦ inl (split_kept w e way 2 new linked split b l not_e not_t)
+          (inr (w.darts + 1, split_doubled_back w e way 2 0 new tied e_in quarter (omega arith) refl split))
+      | inr not_t ↦ inl (split_kept w e way 2 new tied split b l not_e not_t)
     ]
   ];
 }
 
-cut_through : (w : DartMap) (d e way : ℕ) (new : DartMap) (end : ℕ) (held : List ℕ) → IsLinked w → w.direction e < 4 → IsCut w d e way new →
+cut_through : (w : DartMap) (d e way : ℕ) (new : DartMap) (end : ℕ) (held : List ℕ) → IsTied w → w.direction e < 4 → IsCut w d e way new →
     GoesThrough w end held → GoesThrough new end held
-cut_through w d e way new end held linked quarter cut old =
-    let linked_middle = split_linked w e (w.direction e) 2 cut.middle linked cut.e_in cut.split in
-    step_through cut.middle new end held (beside_step cut.middle new (chord_beside cut.middle d w.darts way new linked_middle cut.chord))
-    (step_through w cut.middle end held (split_step w e (w.direction e) cut.middle linked cut.e_in quarter cut.split) old)
+cut_through w d e way new end held tied quarter cut old =
+    let tied_middle = split_tied w e (w.direction e) 2 cut.middle tied cut.e_in cut.split in
+    step_through cut.middle new end held (beside_step cut.middle new (chord_beside cut.middle d w.darts way new tied_middle cut.chord))
+    (step_through w cut.middle end held (split_step w e (w.direction e) cut.middle tied cut.e_in quarter cut.split) old)
 
-grows_through : (w new : DartMap) (end : ℕ) (held : List ℕ) → IsLinked w → AreQuarters w → Grows w new → GoesThrough w end held →
+grows_through : (w new : DartMap) (end : ℕ) (held : List ℕ) → IsTied w → AreQuarters w → Grows w new → GoesThrough w end held →
     GoesThrough new end held
-grows_through w new end held linked four same old = old
-grows_through w new end held linked four (further mid last d e way grows cut) old =
-    cut_through mid d e way last end held (grows_linked w mid linked grows) (grows_quarters w mid four grows e cut.e_in) cut
-    (grows_through w mid end held linked four grows old)
+grows_through w new end held tied four same old = old
+grows_through w new end held tied four (further mid last d e way grows cut) old =
+    cut_through mid d e way last end held (grows_tied w mid tied grows) (grows_quarters w mid four grows e cut.e_in) cut
+    (grows_through w mid end held tied four grows old)
 
-enclosed_through : (w : DartMap) (outside : ℕ) (new : DartMap) (end : ℕ) (held : List ℕ) → IsLinked w → AreQuarters w →
+enclosed_through : (w : DartMap) (outside : ℕ) (new : DartMap) (end : ℕ) (held : List ℕ) → IsTied w → AreQuarters w →
     IsEnclosed w outside new → GoesThrough w end held → GoesThrough new end held
-enclosed_through w outside new end held linked four e old =
+enclosed_through w outside new end held tied four e old =
     let side : ℕ = w.darts + e.side in
-    let linked_surrounded = surrounded_linked w e.surrounded linked e.surround in
+    let tied_surrounded = surrounded_tied w e.surrounded tied e.surround in
     let four_surrounded = surrounded_quarters w e.surrounded four e.surround in
-    let linked_joined = cut_linked e.surrounded e.right side e.direction e.joined linked_surrounded e.join in
+    let tied_joined = cut_tied e.surrounded e.right side e.direction e.joined tied_surrounded e.join in
     let four_joined = cut_quarters e.surrounded e.right side e.direction e.joined four_surrounded e.join in
-    grows_through e.joined new end held linked_joined four_joined e.grows
-    (cut_through e.surrounded e.right side e.direction e.joined end held linked_surrounded (four_surrounded side e.join.e_in) e.join
-    (step_through w e.surrounded end held (beside_step w e.surrounded (surrounded_beside w e.surrounded linked e.surround)) old))
+    grows_through e.joined new end held tied_joined four_joined e.grows
+    (cut_through e.surrounded e.right side e.direction e.joined end held tied_surrounded (four_surrounded side e.join.e_in) e.join
+    (step_through w e.surrounded end held (beside_step w e.surrounded (surrounded_beside w e.surrounded tied e.surround)) old))
 
 -- what was a path of the map stands on the path with the same end in what it grew to
-pub through : (w : DartMap) (outside : ℕ) (new : DartMap) → IsLinked w → AreQuarters w → IsEnclosed w outside new → new.darts ≤ no_dart →
+pub through : (w : DartMap) (outside : ℕ) (new : DartMap) → IsTied w → AreQuarters w → IsEnclosed w outside new → new.darts ≤ no_dart →
     (end first first' : ℕ) (rest rest' : List ℕ) → IsPath w end first rest → IsPath new end first' rest' →
     StandOn (first ∷ rest) (first' ∷ rest')
-through w outside new linked four e narrow end first first' rest rest' path path' =
+through w outside new tied four e narrow end first first' rest rest' path path' =
     let old : GoesThrough w end (first ∷ rest) =
     record { first = first; rest = rest; path = path; holds = stands_itself (first ∷ rest) } in
-    let now = enclosed_through w outside new end (first ∷ rest) linked four e old in
+    let now = enclosed_through w outside new end (first ∷ rest) tied four e old in
     let one = path_unique new end now.first first' now.rest rest' narrow now.path path' in
     subst (λ (ys : List ℕ). StandOn (first ∷ rest) (first' ∷ ys)) one.rests
     (subst (λ (y : ℕ). StandOn (first ∷ rest) (y ∷ now.rest)) one.first now.holds)

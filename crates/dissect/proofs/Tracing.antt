@@ -1,7 +1,7 @@
 -- All faces are walked round, one after another.
 use Rattle.std.proofs.Common.{◌≡◌, ◌≢◌, ◌⊎◌, ℕ, zero, suc, ◌+◌, ◌-◌, ◌<◌, ◌≤◌, ◌∙◌, List, [], ◌∷◌, ◌++◌, Bool, false, length, map, get_or, replicate, length-append, append_assoc, append-nil, arith, subst, sym, ap, refl, inl, inr}
 use Rattle.std.proofs.lemmas.Bool.{cases_eq, both_ways}
-use Rattle.dissect.specs.DartMaps.{DartMap, IsLinked}
+use Rattle.dissect.specs.DartMaps.{DartMap, IsTied}
 use Rattle.dissect.specs.Faces.{IsCorner, Ring, In, Distinct, Below, concatenated, TurnsOnce, AreRings}
 use Rattle.dissect.specs.FaceNumbers.{HasTurns}
 use Rattle.dissect.proofs.Listing.{in_append, in_left, in_right, below_append, distinct_append}
@@ -43,20 +43,20 @@ path_self w a p orbit = subst (λ (z : ℕ). In z (path w a p)) orbit.back (path
 abbrev pub AreShut : DartMap → List Bool → Type 0
 AreShut w flags = (a : ℕ) → a < w.darts → IsFlagged flags a → IsFlagged flags (w.next a)
 
-shut_steps : (w : DartMap) (flags : List Bool) → IsLinked w → AreShut w flags → (k a : ℕ) → a < w.darts → IsFlagged flags a → IsFlagged flags (steps w k a)
-shut_steps w flags linked shut zero a l m = m
-shut_steps w flags linked shut (suc k) a l m = shut_steps w flags linked shut k (w.next a) (linked.next_in a l) (shut a l m)
+shut_steps : (w : DartMap) (flags : List Bool) → IsTied w → AreShut w flags → (k a : ℕ) → a < w.darts → IsFlagged flags a → IsFlagged flags (steps w k a)
+shut_steps w flags tied shut zero a l m = m
+shut_steps w flags tied shut (suc k) a l m = shut_steps w flags tied shut k (w.next a) (tied.next_in a l) (shut a l m)
 
 -- a walk that passes a flagged dart began at one
-pub shut_back : (w : DartMap) (flags : List Bool) (a p x : ℕ) → IsLinked w → AreShut w flags → a < w.darts → IsOrbit w a p →
+pub shut_back : (w : DartMap) (flags : List Bool) (a p x : ℕ) → IsTied w → AreShut w flags → a < w.darts → IsOrbit w a p →
     In x (path w a p) → IsFlagged flags x → IsFlagged flags a
-shut_back w flags a p x linked shut l orbit here m =
+shut_back w flags a p x tied shut l orbit here m =
     let j = path_member w x a p here in
     let e : j.0 + (p - j.0) ≡ p = omega (arith, j.2) in
     let back : steps w (p - j.0) x ≡ a =
     ap (steps w (p - j.0)) (sym j.3) ∙ sym (steps_add w j.0 (p - j.0) a) ∙ ap (λ (k : ℕ). steps w k a) e ∙ orbit.back in
-    let inside : x < w.darts = subst (λ (z : ℕ). z < w.darts) j.3 (steps_in w linked j.0 a l) in
-    subst (IsFlagged flags) back (shut_steps w flags linked shut (p - j.0) x inside m)
+    let inside : x < w.darts = subst (λ (z : ℕ). z < w.darts) j.3 (steps_in w tied j.0 a l) in
+    subst (IsFlagged flags) back (shut_steps w flags tied shut (p - j.0) x inside m)
 
 -- the outer face is walked, and the faces of the corners below d
 pub record IsTracing (w : DartMap) (right : ℕ) (flags : List Bool) (corners counts outer : List ℕ) (d : ℕ) : Type 0 where
@@ -131,18 +131,18 @@ trace_skips w right flags corners counts outer d trace skip = record {
 
 -- a corner that was not seen begins a new face
 pub trace_more : (w : DartMap) (right : ℕ) (label : ℕ → ℕ) (flags after : List Bool) (corners counts outer new : List ℕ) (d count : ℕ) →
-    IsLinked w → right < w.darts → HasTurns w label (label right) → d < w.darts → w.angle d ≢ 2 → (IsFlagged flags d → ⊥) →
+    IsTied w → right < w.darts → HasTurns w label (label right) → d < w.darts → w.angle d ≢ 2 → (IsFlagged flags d → ⊥) →
     length after ≡ length flags → count ≡ length new - length corners →
     IsTracing w right flags corners counts outer d → IsWalked w d flags after corners new →
     IsTracing w right after new (counts ++ (count ∷ [])) outer (d + 1)
-trace_more w right label flags after corners counts outer new d count linked right_in turns d_in corner bare same_size counted trace walked =
+trace_more w right label flags after corners counts outer new d count tied right_in turns d_in corner bare same_size counted trace walked =
     let p : ℕ = walked.places in
     let r : List ℕ = turning w (path w d p) in
     let inner : List (List ℕ) = trace.inner in
     let fresh : (x : ℕ) → In x (path w d p) → IsFlagged flags x → ⊥ =
-    λ x here m. bare (shut_back w flags d p x linked trace.shut d_in walked.orbit here m) in
+    λ x here m. bare (shut_back w flags d p x tied trace.shut d_in walked.orbit here m) in
     let inside : label d ≢ label right =
-    λ h. bare (trace.held d (orbit_holds w label right trace.places d linked turns.labels right_in trace.orbit d_in h)) in
+    λ h. bare (trace.held d (orbit_holds w label right trace.places d tied turns.labels right_in trace.orbit d_in h)) in
     let long : count ≡ length r = omega (arith, counted, ap length walked.corners, length-append corners r) in
     record {
       inner = inner ++ (r ∷ []);
@@ -152,12 +152,12 @@ trace_more w right label flags after corners counts outer new d count linked rig
             ∙ sym (lengths_more inner r);
       };
       rings = rings_more w inner r trace.rings (orbit_ring w d p walked.orbit corner)
-          (orbit_once w label (label right) d p linked turns d_in walked.orbit inside);
+          (orbit_once w label (label right) d p tied turns d_in walked.orbit inside);
       distinct = subst Distinct (sym (concatenated_more inner r))
-          (distinct_append (concatenated inner) r trace.distinct (turning_distinct w (path w d p) (orbit_distinct w d p linked d_in walked.orbit))
+          (distinct_append (concatenated inner) r trace.distinct (turning_distinct w (path w d p) (orbit_distinct w d p tied d_in walked.orbit))
           (λ a left right. fresh a (in_turning w a (path w d p) right).0 (trace.listed a left)));
       below = subst (Below w.darts) (sym (concatenated_more inner r))
-          (below_append w.darts (concatenated inner) r trace.below (turning_below w w.darts (path w d p) (path_below w linked d p d_in)));
+          (below_append w.darts (concatenated inner) r trace.below (turning_below w w.darts (path w d p) (path_below w tied d p d_in)));
       size = omega (arith, trace.size, same_size);
       shut = λ a l m. elim (walked.only a m) [
         | inl old ↦ walked.kept (w.next a) (trace.shut a l old)
@@ -188,24 +188,24 @@ trace_more w right label flags after corners counts outer new d count linked rig
       ];
     }
 
-pub trace_done : (w : DartMap) (right : ℕ) (label : ℕ → ℕ) (flags : List Bool) (corners counts outer : List ℕ) (d : ℕ) → IsLinked w →
+pub trace_done : (w : DartMap) (right : ℕ) (label : ℕ → ℕ) (flags : List Bool) (corners counts outer : List ℕ) (d : ℕ) → IsTied w →
     right < w.darts → 2 < w.angle right → HasTurns w label (label right) → w.darts ≤ d → IsTracing w right flags corners counts outer d →
     (inner : List (List ℕ)) × AreFlat corners counts inner × AreListed w right inner outer
-trace_done w right label flags corners counts outer d linked right_in turn turns all trace =
+trace_done w right label flags corners counts outer d tied right_in turn turns all trace =
     let p : ℕ = trace.places in
     let r : List ℕ = turning w (path w right p) in
     let corner : IsCorner w right = λ h. omega (arith, h, turn) in
     let listed : AreListed w right trace.inner r = record {
       rings = trace.rings;
       distinct = distinct_append (concatenated trace.inner) r trace.distinct
-          (turning_distinct w (path w right p) (orbit_distinct w right p linked right_in trace.orbit))
+          (turning_distinct w (path w right p) (orbit_distinct w right p tied right_in trace.orbit))
           (λ a left outside. trace.apart a left (in_turning w a (path w right p) outside).0);
       below = below_append w.darts (concatenated trace.inner) r trace.below
-          (turning_below w w.darts (path w right p) (path_below w linked right p right_in));
+          (turning_below w w.darts (path w right p) (path_below w tied right p right_in));
       ring = orbit_ring w right p trace.orbit corner;
       front = turning w (path w right (p - 1));
       ends = orbit_ends w right p trace.orbit corner;
-      turns_back = orbit_outside w label right p linked turns right_in trace.orbit;
+      turns_back = orbit_outside w label right p tied turns right_in trace.orbit;
       all = λ a l turn. elim (trace.known a (trace.passed a (omega (arith, l, all)) turn) turn) [
         | inl left ↦ in_left a (concatenated trace.inner) r left
         | inr outside ↦ in_right a (concatenated trace.inner) r (subst (In a) trace.outer_is outside)

@@ -6,7 +6,7 @@ use Rattle.ortho_rep.specs.declared.turn.Turn.{Turn}
 use Rattle.ortho_rep.specs.Turns.{mirrored, lefts, rights}
 use Rattle.ortho_rep.proofs.TurnCounts.{lefts-mirrored}
 use Rattle.ortho_rep.proofs.Mirrors.{length-mirrored}
-use Rattle.dissect.specs.DartMaps.{DartMap, IsLinked, IsSubdivided, reflex_turns}
+use Rattle.dissect.specs.DartMaps.{DartMap, IsTied, IsSubdivided, reflex_turns}
 use Rattle.dissect.proofs.Splitting.{by_place, part, part_here, part_elsewhere, part_same}
 use Rattle.dissect.specs.Steps.{angle_of, start_direction}
 use Rattle.dissect.proofs.SumsAndMaps.{sum_below-two_more}
@@ -14,7 +14,7 @@ use Rattle.dissect.proofs.Mirroring.{mirrored-mirrored, rights-mirrored, turn_co
 use Rattle.dissect.proofs.OwedTurns.{owing, gained, lost, IsOwedNext, IsLabelledNext}
 
 module _ (w : DartMap) (e way : ℕ) (turn : Turn) (turns : List Turn) (new : DartMap) (label label' : ℕ → ℕ) (owed owed' : ℕ → List Turn)
-    (linked : IsLinked w) (e_in : e < w.darts) (s : IsSubdivided w e way (angle_of turn) new)
+    (tied : IsTied w) (e_in : e < w.darts) (s : IsSubdivided w e way (angle_of turn) new)
     (owes : owed e ≡ turn ∷ turns) (mirrors : owed (w.reverse_dart e) ≡ mirrored (owed e))
     (named : IsLabelledNext w e label label') (next : IsOwedNext w e turns owed owed') where
   -- two turns less are owed
@@ -24,7 +24,7 @@ module _ (w : DartMap) (e way : ℕ) (turn : Turn) (turns : List Turn) (new : Da
       let t : ℕ = w.reverse_dart e in
       let sums : sum_below (n + 2) (λ x. length (owed' x)) + (length (owed e) + length (owed t))
       ≡ sum_below n (λ x. length (owed x)) + (length (owed' e) + length (owed' t)) + (length (owed' n) + length (owed' (n + 1))) =
-      sum_below-two_more n e t (λ x. length (owed x)) (λ x. length (owed' x)) e_in (linked.reverse_dart_in e e_in) (linked.reverse_dart_apart e e_in)
+      sum_below-two_more n e t (λ x. length (owed x)) (λ x. length (owed' x)) e_in (tied.reverse_dart_in e e_in) (tied.reverse_dart_apart e e_in)
       (λ x l not_e not_t. ap (length {A = Turn}) (next.others x l not_e not_t)) in
       let all : owing new owed' ≡ sum_below (n + 2) (λ x. length (owed' x)) = ap (λ (k : ℕ). sum_below k (λ x. length (owed' x))) s.darts in
       let at_e : length (owed e) ≡ length turns + 1 = ap (length {A = Turn}) owes ∙ omega arith in
@@ -40,10 +40,10 @@ module _ (w : DartMap) (e way : ℕ) (turn : Turn) (turns : List Turn) (new : Da
   reflex_turns_more =
       let n : ℕ = w.darts in
       let t : ℕ = w.reverse_dart e in
-      let t_in : t < n = linked.reverse_dart_in e e_in in
+      let t_in : t < n = tied.reverse_dart_in e e_in in
       let sums : sum_below (n + 2) (λ x. new.angle x - 2) + ((w.angle e - 2) + (w.angle t - 2))
       ≡ sum_below n (λ x. w.angle x - 2) + ((new.angle e - 2) + (new.angle t - 2)) + ((new.angle n - 2) + (new.angle (n + 1) - 2)) =
-      sum_below-two_more n e t (λ x. w.angle x - 2) (λ x. new.angle x - 2) e_in t_in (linked.reverse_dart_apart e e_in)
+      sum_below-two_more n e t (λ x. w.angle x - 2) (λ x. new.angle x - 2) e_in t_in (tied.reverse_dart_apart e e_in)
       (λ x l not_e not_t. ap (λ (k : ℕ). k - 2) (s.angle_old x l)) in
       let all : reflex_turns new ≡ sum_below (n + 2) (λ x. new.angle x - 2) = ap (λ (k : ℕ). sum_below k (λ x. new.angle x - 2)) s.darts in
       let counts = turn_counts turn turns in
@@ -123,7 +123,7 @@ module _ (w : DartMap) (e way : ℕ) (turn : Turn) (turns : List Turn) (new : Da
   side_reverse_dart f =
       let n : ℕ = w.darts in
       let t : ℕ = w.reverse_dart e in
-      let t_in : t < n = linked.reverse_dart_in e e_in in
+      let t_in : t < n = tied.reverse_dart_in e e_in in
       let counts = turn_counts turn turns in
       let old_label : label' t ≡ label t = named.old t t_in in
       elim (cases_eq (label t) f) [
@@ -175,17 +175,17 @@ module _ (w : DartMap) (e way : ℕ) (turn : Turn) (turns : List Turn) (new : Da
   turned_alike f =
       let n : ℕ = w.darts in
       let t : ℕ = w.reverse_dart e in
-      let t_in : t < n = linked.reverse_dart_in e e_in in
+      let t_in : t < n = tied.reverse_dart_in e e_in in
       let gain : ℕ → ℕ = part label (λ x. 2 + lefts (owed x)) f in
       let loss : ℕ → ℕ = part label (λ x. w.angle x + rights (owed x)) f in
       let gain' : ℕ → ℕ = part label' (λ x. 2 + lefts (owed' x)) f in
       let loss' : ℕ → ℕ = part label' (λ x. new.angle x + rights (owed' x)) f in
       let gains : sum_below (n + 2) gain' + (gain e + gain t) ≡ sum_below n gain + (gain' e + gain' t) + (gain' n + gain' (n + 1)) =
-      sum_below-two_more n e t gain gain' e_in t_in (linked.reverse_dart_apart e e_in)
+      sum_below-two_more n e t gain gain' e_in t_in (tied.reverse_dart_apart e e_in)
       (λ x l not_e not_t. part_same label label' (λ x. 2 + lefts (owed x)) (λ x. 2 + lefts (owed' x)) f x (named.old x l)
       (ap (λ (ts : List Turn). 2 + lefts ts) (next.others x l not_e not_t))) in
       let losses : sum_below (n + 2) loss' + (loss e + loss t) ≡ sum_below n loss + (loss' e + loss' t) + (loss' n + loss' (n + 1)) =
-      sum_below-two_more n e t loss loss' e_in t_in (linked.reverse_dart_apart e e_in)
+      sum_below-two_more n e t loss loss' e_in t_in (tied.reverse_dart_apart e e_in)
       (λ x l not_e not_t. part_same label label' (λ x. w.angle x + rights (owed x)) (λ x. new.angle x + rights (owed' x)) f x (named.old x l)
       (ap (λ (k : ℕ). k + rights (owed' x)) (s.angle_old x l) ∙ ap (λ (ts : List Turn). w.angle x + rights ts) (next.others x l not_e not_t))) in
       let all_gains : gained new label' owed' f ≡ sum_below (n + 2) gain' = ap (λ (k : ℕ). sum_below k gain') s.darts in
@@ -198,14 +198,14 @@ module _ (w : DartMap) (e way : ℕ) (turn : Turn) (turns : List Turn) (new : Da
   mirrors_on all x l =
       let n : ℕ = w.darts in
       let t : ℕ = w.reverse_dart e in
-      let t_in : t < n = linked.reverse_dart_in e e_in in
+      let t_in : t < n = tied.reverse_dart_in e e_in in
       by_place n e t (λ x. owed' (new.reverse_dart x) ≡ mirrored (owed' x))
       (ap owed' s.reverse_dart_e ∙ next.at_second ∙ sym (ap mirrored next.at_e))
       (ap owed' s.reverse_dart_reverse_dart ∙ next.at_first ∙ sym (ap mirrored next.at_reverse_dart))
       (λ x l not_e not_t.
-      let other_e : w.reverse_dart x ≢ e = λ h. not_t (sym (linked.reverse_dart_back x l) ∙ ap w.reverse_dart h) in
-      let other_t : w.reverse_dart x ≢ t = λ h. not_e (sym (linked.reverse_dart_back x l) ∙ ap w.reverse_dart h ∙ linked.reverse_dart_back e e_in) in
-      ap owed' (s.reverse_dart_other x l not_e not_t) ∙ next.others (w.reverse_dart x) (linked.reverse_dart_in x l) other_e other_t ∙ all x l
+      let other_e : w.reverse_dart x ≢ e = λ h. not_t (sym (tied.reverse_dart_back x l) ∙ ap w.reverse_dart h) in
+      let other_t : w.reverse_dart x ≢ t = λ h. not_e (sym (tied.reverse_dart_back x l) ∙ ap w.reverse_dart h ∙ tied.reverse_dart_back e e_in) in
+      ap owed' (s.reverse_dart_other x l not_e not_t) ∙ next.others (w.reverse_dart x) (tied.reverse_dart_in x l) other_e other_t ∙ all x l
       ∙ sym (ap mirrored (next.others x l not_e not_t)))
       (ap owed' s.reverse_dart_first ∙ next.at_reverse_dart ∙ sym (ap mirrored next.at_first))
       (ap owed' s.reverse_dart_second ∙ next.at_e ∙ sym (mirrored-mirrored turns) ∙ sym (ap mirrored next.at_second))
@@ -218,7 +218,7 @@ module _ (w : DartMap) (e way : ℕ) (turn : Turn) (turns : List Turn) (new : Da
   ways_on way_is quarter all x l =
       let n : ℕ = w.darts in
       let t : ℕ = w.reverse_dart e in
-      let t_in : t < n = linked.reverse_dart_in e e_in in
+      let t_in : t < n = tied.reverse_dart_in e e_in in
       let counts = turn_counts turn turns in
       let at_e : (w.direction t + 2 + lefts (turn ∷ turns)) % 4 ≡ (w.direction e + rights (turn ∷ turns)) % 4 =
       ap (λ (ts : List Turn). (w.direction t + 2 + lefts ts) % 4) (sym owes) ∙ all e e_in
@@ -249,7 +249,7 @@ module _ (w : DartMap) (e way : ℕ) (turn : Turn) (turns : List Turn) (new : Da
         ap rights next.at_reverse_dart,
       ))
       (λ x l not_e not_t. ap (λ (k : ℕ). (k + 2 + lefts (owed' x)) % 4)
-      (ap new.direction (s.reverse_dart_other x l not_e not_t) ∙ s.direction_old (w.reverse_dart x) (linked.reverse_dart_in x l))
+      (ap new.direction (s.reverse_dart_other x l not_e not_t) ∙ s.direction_old (w.reverse_dart x) (tied.reverse_dart_in x l))
       ∙ ap (λ (ts : List Turn). (w.direction (w.reverse_dart x) + 2 + lefts ts) % 4) (next.others x l not_e not_t) ∙ all x l
       ∙ sym (ap (λ (ts : List Turn). (w.direction x + rights ts) % 4) (next.others x l not_e not_t))
       ∙ sym (ap (λ (k : ℕ). (k + rights (owed' x)) % 4) (s.direction_old x l)))

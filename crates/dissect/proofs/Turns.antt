@@ -4,21 +4,21 @@ use Rattle.std.specs.List.{list_any}
 use Rattle.std.proofs.lemmas.Bool.{cases_eq, cases_Bool, eq-eqb, ne_eqb}
 use Rattle.common.specs.Sums.{sum_below}
 use Rattle.common.proofs.Sums.{sum_below-same, sum_below-none, sum_below-add, sum_below-one}
-use Rattle.dissect.specs.DartMaps.{DartMap, IsLinked}
+use Rattle.dissect.specs.DartMaps.{DartMap, IsTied}
 use Rattle.dissect.specs.Faces.{Stretches, Trail, In, Distinct, Below, TurnsOnce, ReachesCorners}
 use Rattle.dissect.specs.Turning.{total}
 use Rattle.dissect.specs.FaceNumbers.{AreFaceNumbers, darts_round, angles_round, HasTurns}
 use Rattle.dissect.specs.Walks.{steps, path, turning, IsOrbit}
 use Rattle.dissect.proofs.Orbits.{steps_more, path_member, path_holds, path_below, path_trail, any_in, in_any, orbit_of, orbit_distinct, turning_total}
 
-pub label_along : (w : DartMap) (label : ℕ → ℕ) → IsLinked w → AreFaceNumbers w label → (k a : ℕ) → a < w.darts → label (steps w k a) ≡ label a
-label_along w label linked labels zero a l = refl
-label_along w label linked labels (suc k) a l = label_along w label linked labels k (w.next a) (linked.next_in a l) ∙ labels.stays a l
+pub label_along : (w : DartMap) (label : ℕ → ℕ) → IsTied w → AreFaceNumbers w label → (k a : ℕ) → a < w.darts → label (steps w k a) ≡ label a
+label_along w label tied labels zero a l = refl
+label_along w label tied labels (suc k) a l = label_along w label tied labels k (w.next a) (tied.next_in a l) ∙ labels.stays a l
 
 -- the walk passes each dart with its number
-pub orbit_holds : (w : DartMap) (label : ℕ → ℕ) (a p x : ℕ) → IsLinked w → AreFaceNumbers w label → a < w.darts → IsOrbit w a p →
+pub orbit_holds : (w : DartMap) (label : ℕ → ℕ) (a p x : ℕ) → IsTied w → AreFaceNumbers w label → a < w.darts → IsOrbit w a p →
     x < w.darts → label x ≡ label a → In x (path w a p)
-orbit_holds w label a p x linked labels l orbit x_in same =
+orbit_holds w label a p x tied labels l orbit x_in same =
     let s : ℕ → Bool = λ y. list_any (eqb y) (path w a p) in
     let closed : (y : ℕ) → y < w.darts → s y ≡ true → s (w.next y) ≡ true = λ y l h.
     let m = path_member w y a p (any_in y (path w a p) h) in
@@ -67,21 +67,21 @@ listed_sum n f (y ∷ ys) distinct below =
         ]
 
 -- the same sum, over the darts with the number
-pub labelled_sum : (w : DartMap) (label : ℕ → ℕ) (a p : ℕ) (f : ℕ → ℕ) → IsLinked w → AreFaceNumbers w label → a < w.darts → IsOrbit w a p →
+pub labelled_sum : (w : DartMap) (label : ℕ → ℕ) (a p : ℕ) (f : ℕ → ℕ) → IsTied w → AreFaceNumbers w label → a < w.darts → IsOrbit w a p →
     sum_below w.darts (λ x. cond (eqb (label x) (label a)) (f x) 0) ≡ total (map f (path w a p))
-labelled_sum w label a p f linked labels l orbit =
+labelled_sum w label a p f tied labels l orbit =
     sum_below-same w.darts (λ x. cond (eqb (label x) (label a)) (f x) 0) (λ x. cond (list_any (eqb x) (path w a p)) (f x) 0)
     (λ x x_in. ap (λ (b : Bool). cond b (f x) 0) (same x x_in))
-    ∙ listed_sum w.darts f (path w a p) (orbit_distinct w a p linked l orbit) (path_below w linked a p l)
+    ∙ listed_sum w.darts f (path w a p) (orbit_distinct w a p tied l orbit) (path_below w tied a p l)
   where
     same : (x : ℕ) → x < w.darts → eqb (label x) (label a) ≡ list_any (eqb x) (path w a p)
     same x x_in =
         elim (cases_eq (label x) (label a)) [
-          | inl e ↦ eq-eqb (label x) (label a) e ∙ sym (in_any x (path w a p) (orbit_holds w label a p x linked labels l orbit x_in e))
+          | inl e ↦ eq-eqb (label x) (label a) e ∙ sym (in_any x (path w a p) (orbit_holds w label a p x tied labels l orbit x_in e))
           | inr ne ↦ elim (cases_Bool (list_any (eqb x) (path w a p))) [
             | inl there ↦
                 let m = path_member w x a p (any_in x (path w a p) there) in
-                absurd (ne (ap label (sym m.3) ∙ label_along w label linked labels m.0 a l))
+                absurd (ne (ap label (sym m.3) ∙ label_along w label tied labels m.0 a l))
             | inr none ↦ ne_eqb (label x) (label a) ne ∙ sym none
           ]
         ]
@@ -91,35 +91,35 @@ total-ones [] = refl
 total-ones (x ∷ xs) = omega (arith, total-ones xs)
 
 -- the angles on the walk are those of the face, and so are the darts
-pub orbit_angles : (w : DartMap) (label : ℕ → ℕ) (a p : ℕ) → IsLinked w → AreFaceNumbers w label → a < w.darts → IsOrbit w a p →
+pub orbit_angles : (w : DartMap) (label : ℕ → ℕ) (a p : ℕ) → IsTied w → AreFaceNumbers w label → a < w.darts → IsOrbit w a p →
     angles_round w label (label a) ≡ total (map w.angle (path w a p))
-orbit_angles w label a p linked labels l orbit = labelled_sum w label a p w.angle linked labels l orbit
+orbit_angles w label a p tied labels l orbit = labelled_sum w label a p w.angle tied labels l orbit
 
-pub orbit_darts : (w : DartMap) (label : ℕ → ℕ) (a p : ℕ) → IsLinked w → AreFaceNumbers w label → a < w.darts → IsOrbit w a p →
+pub orbit_darts : (w : DartMap) (label : ℕ → ℕ) (a p : ℕ) → IsTied w → AreFaceNumbers w label → a < w.darts → IsOrbit w a p →
     darts_round w label (label a) ≡ length (path w a p)
-orbit_darts w label a p linked labels l orbit = labelled_sum w label a p (λ _. 1) linked labels l orbit ∙ total-ones (path w a p)
+orbit_darts w label a p tied labels l orbit = labelled_sum w label a p (λ _. 1) tied labels l orbit ∙ total-ones (path w a p)
 
 -- so the corners on the walk turn once to the left,
-pub orbit_once : (w : DartMap) (label : ℕ → ℕ) (outer a p : ℕ) → IsLinked w → HasTurns w label outer → a < w.darts → IsOrbit w a p →
+pub orbit_once : (w : DartMap) (label : ℕ → ℕ) (outer a p : ℕ) → IsTied w → HasTurns w label outer → a < w.darts → IsOrbit w a p →
     label a ≢ outer → TurnsOnce w (turning w (path w a p))
-orbit_once w label outer a p linked turns l orbit inner =
+orbit_once w label outer a p tied turns l orbit inner =
     omega (
       arith,
       turning_total w (path w a p),
-      orbit_angles w label a p linked turns.labels l orbit,
-      orbit_darts w label a p linked turns.labels l orbit,
+      orbit_angles w label a p tied turns.labels l orbit,
+      orbit_darts w label a p tied turns.labels l orbit,
       turns.inner a l inner,
     )
 
 -- and those round the outer face once to the right
-pub orbit_outside : (w : DartMap) (label : ℕ → ℕ) (a p : ℕ) → IsLinked w → HasTurns w label (label a) → a < w.darts → IsOrbit w a p →
+pub orbit_outside : (w : DartMap) (label : ℕ → ℕ) (a p : ℕ) → IsTied w → HasTurns w label (label a) → a < w.darts → IsOrbit w a p →
     total (map w.angle (turning w (path w a p))) ≡ 2 * length (turning w (path w a p)) + 4
-orbit_outside w label a p linked turns l orbit =
+orbit_outside w label a p tied turns l orbit =
     omega (
       arith,
       turning_total w (path w a p),
-      orbit_angles w label a p linked turns.labels l orbit,
-      orbit_darts w label a p linked turns.labels l orbit,
+      orbit_angles w label a p tied turns.labels l orbit,
+      orbit_darts w label a p tied turns.labels l orbit,
       turns.outside,
     )
 
@@ -129,9 +129,9 @@ flat_total f [] flat = omega arith
 flat_total f (x ∷ xs) flat = omega (arith, flat x (inl refl), flat_total f xs (λ y h. flat y (inr h)))
 
 -- on each walk there is a corner
-pub turns_reach : (w : DartMap) (label : ℕ → ℕ) (outer : ℕ) → IsLinked w → HasTurns w label outer → ReachesCorners w
-turns_reach w label outer linked turns = λ a l.
-    let orbit = orbit_of w linked a l in
+pub turns_reach : (w : DartMap) (label : ℕ → ℕ) (outer : ℕ) → IsTied w → HasTurns w label outer → ReachesCorners w
+turns_reach w label outer tied turns = λ a l.
+    let orbit = orbit_of w tied a l in
     first w a (turning w (path w a orbit.0)) (path_trail w a orbit.0) (some a l orbit.0 orbit.1)
   where
     first : (w : DartMap) (a : ℕ) (cs : List ℕ) → Trail w a cs → 0 < length cs → (c : ℕ) × Stretches w a c
@@ -146,11 +146,11 @@ turns_reach w label outer linked turns = λ a l.
               elim (cases_eq (label a) outer) [
                 | inl e ↦ absurd (omega (
                   arith,
-                  orbit_outside w label a p linked (subst (HasTurns w label) (sym e) turns) l orbit,
+                  orbit_outside w label a p tied (subst (HasTurns w label) (sym e) turns) l orbit,
                   none,
                   empty,
                 ))
-                | inr inner ↦ absurd (omega (arith, orbit_once w label outer a p linked turns l orbit inner, none, empty))
+                | inr inner ↦ absurd (omega (arith, orbit_once w label outer a p tied turns l orbit inner, none, empty))
               ]
           | inr more ↦ omega arith
         ]

@@ -2,16 +2,16 @@
 use Rattle.std.proofs.Common.{◌≡◌, ◌≢◌, ◌⊎◌, ℕ, ◌+◌, ◌<◌, ◌≤◌, ◌∙◌, List, [], ◌∷◌, ◌++◌, length, length-append, append_assoc, map, arith, subst, sym, ap, refl, inl, inr}
 use Rattle.std.proofs.lemmas.Bool.{cases_eq}
 use Rattle.dissect.specs.Turning.{total}
-use Rattle.dissect.specs.DartMaps.{DartMap, IsLinked, IsCut}
+use Rattle.dissect.specs.DartMaps.{DartMap, IsTied, IsCut}
 use Rattle.dissect.specs.Faces.{IsCorner, Stretches, last_of, Ring, IsRectangle, IsOutside, In, Distinct, Below, concatenated, TurnsOnce, AreRings, AreWaiting}
-use Rattle.dissect.proofs.Splitting.{split_linked, by_age}
+use Rattle.dissect.proofs.Splitting.{split_tied, by_age}
 use Rattle.dissect.proofs.Stretching.{split_stretches}
 use Rattle.dissect.proofs.Rings.{Clear, IsHook, split_ring, split_four, chord_ring, cut_ring_within, split_outside, cut_boxes, cut_box, cut_outside}
 use Rattle.dissect.proofs.Listing.{in_left, in_right, in_below, below_left, below_right, distinct_right, distinct_apart, still_in, gone_distinct, kept_distinct, gone_below, kept_below}
 
 -- d turns right, c1 and c behind it turn left, and the cut goes from d to the dart e right behind c
 pub record IsBite (w : DartMap) (d c1 c e way : ℕ) (new : DartMap) : Type 0 where
-  pub linked : IsLinked w
+  pub tied : IsTied w
   pub cut : IsCut w d e way new
   pub c1_in : c1 < w.darts
   pub c_in : c < w.darts
@@ -35,18 +35,18 @@ hook_of w d c1 c e way new bite =
         right = omega (arith, s.angle_old d cut.d_in, cut.right);
         left = s.angle_old c bite.c_in ∙ bite.left;
         straight = s.angle_first;
-        behind = ap cut.middle.next (sym (bite.linked.next_back c bite.c_in) ∙ ap w.prev bite.behind) ∙ s.next_before;
+        behind = ap cut.middle.next (sym (bite.tied.next_back c bite.c_in) ∙ ap w.prev bite.behind) ∙ s.next_before;
       };
       c1_in = omega (arith, s.darts, bite.c1_in);
-      to_first = split_stretches w e (w.direction e) d c1 cut.middle s bite.linked cut.e_in cut.d_in bite.to_first;
-      to_second = split_stretches w e (w.direction e) c1 c cut.middle s bite.linked cut.e_in bite.c1_in bite.to_second;
+      to_first = split_stretches w e (w.direction e) d c1 cut.middle s bite.tied cut.e_in cut.d_in bite.to_first;
+      to_second = split_stretches w e (w.direction e) c1 c cut.middle s bite.tied cut.e_in bite.c1_in bite.to_second;
       left = s.angle_old c1 bite.c1_in ∙ bite.left_first;
       apart = bite.apart;
     }
 
-pub middle_linked : (w : DartMap) (d c1 c e way : ℕ) (new : DartMap) → (bite : IsBite w d c1 c e way new) → IsLinked bite.cut.middle
-middle_linked w d c1 c e way new bite =
-    split_linked w e (w.direction e) 2 bite.cut.middle bite.linked bite.cut.e_in bite.cut.split
+pub middle_tied : (w : DartMap) (d c1 c e way : ℕ) (new : DartMap) → (bite : IsBite w d c1 c e way new) → IsTied bite.cut.middle
+middle_tied w d c1 c e way new bite =
+    split_tied w e (w.direction e) 2 bite.cut.middle bite.tied bite.cut.e_in bite.cut.split
 
 pub bite_apart : (w : DartMap) (d c1 c e way : ℕ) (new : DartMap) → IsBite w d c1 c e way new → (d ≢ c1) × (d ≢ c)
 bite_apart w d c1 c e way new bite =
@@ -100,13 +100,13 @@ other_rings w d c1 c e way new bite (r ∷ rs) below out_d out_c rings =
     let cut = bite.cut in
     let s = cut.split in
     let here = hook_of w d c1 c e way new bite in
-    let linked = middle_linked w d c1 c e way new bite in
+    let tied = middle_tied w d c1 c e way new bite in
     let below_r : Below w.darts r = below_left w.darts r (concatenated rs) below in
     let out_d_r : In d r → ⊥ = λ h. out_d (in_left d r (concatenated rs) h) in
     let out_c_r : In c r → ⊥ = λ h. out_c (in_left c r (concatenated rs) h) in
-    let middle_ring : Ring cut.middle r = split_ring w e (w.direction e) cut.middle s bite.linked cut.e_in r
+    let middle_ring : Ring cut.middle r = split_ring w e (w.direction e) cut.middle s bite.tied cut.e_in r
     (ring_last w r rings.0.0 below_r) rings.0.0 in
-    let ring : Ring new r = chord_ring cut.middle d c w.darts way new cut.chord linked here.cutting r
+    let ring : Ring new r = chord_ring cut.middle d c w.darts way new cut.chord tied here.cutting r
     (clear_of w.darts cut.middle.darts d c r (omega (arith, s.darts)) below_r out_d_r out_c_r) middle_ring in
     let once : TurnsOnce new r = omega (arith, totals_kept w d c1 c e way new bite r below_r out_d_r, rings.0.1) in (
       (ring, once),
@@ -126,9 +126,9 @@ bite_places w o d c1 c e way new before tail list bite placed x_in d_stays befor
     let s = cut.split in
     let t = cut.chord in
     let hook = hook_of w d c1 c e way new bite in
-    let linked = middle_linked w d c1 c e way new bite in
+    let tied = middle_tied w d c1 c e way new bite in
     let apart = bite_apart w d c1 c e way new bite in
-    let boxes = cut_boxes cut.middle d c1 c w.darts way new t linked hook apart.1 in
+    let boxes = cut_boxes cut.middle d c1 c w.darts way new t tied hook apart.1 in
     let g_straight : new.angle (w.darts + 1) ≡ 2 =
     t.angle_other (w.darts + 1) (omega (arith, s.darts)) (λ h. omega (arith, h, cut.d_in)) (λ h. omega (arith, h))
     ∙ s.angle_second in
@@ -148,10 +148,10 @@ bite_places w o d c1 c e way new before tail list bite placed x_in d_stays befor
                   | inr right ↦ inl (tail_in a right)
                 ]
                 | inr four ↦ elim four [
-                  | inl box ↦ inr (inl (cut_box cut.middle d c1 c w.darts way a new t linked hook l_mid
-                      (split_four w e (w.direction e) 1 a cut.middle s bite.linked cut.e_in l box)))
-                  | inr surround ↦ inr (inr (cut_outside cut.middle o d c1 c w.darts way a new t linked hook l_mid
-                      (split_outside w o e (w.direction e) a cut.middle s bite.linked cut.e_in l surround)))
+                  | inl box ↦ inr (inl (cut_box cut.middle d c1 c w.darts way a new t tied hook l_mid
+                      (split_four w e (w.direction e) 1 a cut.middle s bite.tied cut.e_in l box)))
+                  | inr surround ↦ inr (inr (cut_outside cut.middle o d c1 c w.darts way a new t tied hook l_mid
+                      (split_outside w o e (w.direction e) a cut.middle s bite.tied cut.e_in l surround)))
                 ]
               ]
         ]
@@ -173,9 +173,9 @@ bite_outside w o d c1 c e way new bite l four =
     let cut = bite.cut in
     let s = cut.split in
     let outside : IsOutside w o o = record { four = four; holds = inl refl } in
-    let after : IsOutside new o o = cut_outside cut.middle o d c1 c w.darts way o new cut.chord (middle_linked w d c1 c e way new bite)
+    let after : IsOutside new o o = cut_outside cut.middle o d c1 c w.darts way o new cut.chord (middle_tied w d c1 c e way new bite)
     (hook_of w d c1 c e way new bite) (omega (arith, s.darts, l))
-    (split_outside w o e (w.direction e) o cut.middle s bite.linked cut.e_in l outside) in
+    (split_outside w o e (w.direction e) o cut.middle s bite.tied cut.e_in l outside) in
     after.four
 
 -- what the lists' being distinct says of d and c
@@ -227,12 +227,12 @@ bite_ring w d c1 c e way new before rest others bite parts ring once below =
     let t = cut.chord in
     let two : cut.middle.darts ≡ w.darts + 2 = s.darts in
     let hook = hook_of w d c1 c e way new bite in
-    let linked = middle_linked w d c1 c e way new bite in
+    let tied = middle_tied w d c1 c e way new bite in
     let middle_ring : Ring cut.middle (before ++ (d ∷ c1 ∷ c ∷ rest)) =
-    split_ring w e (w.direction e) cut.middle s bite.linked cut.e_in (before ++ (d ∷ c1 ∷ c ∷ rest))
+    split_ring w e (w.direction e) cut.middle s bite.tied cut.e_in (before ++ (d ∷ c1 ∷ c ∷ rest))
     (ring_last w (before ++ (d ∷ c1 ∷ c ∷ rest)) ring below) ring in
     let clear = parts.clear cut.middle.darts (omega (arith, two)) in
-    let rings = cut_ring_within cut.middle d c1 c w.darts way before rest new t linked hook clear.0 clear.1 middle_ring in
+    let rings = cut_ring_within cut.middle d c1 c w.darts way before rest new t tied hook clear.0 clear.1 middle_ring in
     let x_angle : new.angle (w.darts + 2) ≡ 1 = ap new.angle (sym two) ∙ t.angle_there in
     let d_angle : new.angle d + 1 ≡ w.angle d = bite_angle_d w d c1 c e way new bite in
     let same_before : total (map new.angle before) ≡ total (map w.angle before) =

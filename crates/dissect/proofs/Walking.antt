@@ -2,7 +2,7 @@
 use Rattle.std.proofs.Common.{◌≡◌, ◌≢◌, ◌⊎◌, ℕ, suc, ◌+◌, ◌<◌, ◌≤◌, ◌∙◌, List, [], ◌∷◌, ◌++◌, Bool, true, false, length, get_or, set, append_assoc, arith, subst, sym, ap, refl, inl, inr, get_or-set_same, get_or-set_other, append-nil}
 use Rattle.std.proofs.Math.ListN.{length-set}
 use Rattle.std.proofs.lemmas.Bool.{cases_eq}
-use Rattle.dissect.specs.DartMaps.{DartMap, IsLinked}
+use Rattle.dissect.specs.DartMaps.{DartMap, IsTied}
 use Rattle.dissect.specs.Faces.{In}
 use Rattle.dissect.specs.FaceNumbers.{AreFaceNumbers, HasTurns}
 use Rattle.dissect.proofs.Listing.{in_append, in_left, in_right}
@@ -30,10 +30,10 @@ seek_on w a k dart next seek low to =
     }
 
 -- a face that turns to the right has a right turn
-pub seek_fails : (w : DartMap) (label : ℕ → ℕ) (a k dart : ℕ) → IsLinked w → HasTurns w label (label a) → a < w.darts →
+pub seek_fails : (w : DartMap) (label : ℕ → ℕ) (a k dart : ℕ) → IsTied w → HasTurns w label (label a) → a < w.darts →
     w.darts ≤ k → IsSeeking w a k dart → ⊥
-seek_fails w label a k dart linked turns l all seek =
-    let orbit = orbit_of w linked a l in
+seek_fails w label a k dart tied turns l all seek =
+    let orbit = orbit_of w tied a l in
     let p : ℕ = orbit.0 in
     let flat : (x : ℕ) → In x (path w a p) → w.angle x ≤ 2 = λ x h.
     let m = path_member w x a p h in
@@ -44,8 +44,8 @@ seek_fails w label a k dart linked turns l all seek =
     omega (
       arith,
       flat_total w.angle (path w a p) flat,
-      orbit_angles w label a p linked turns.labels l orbit.1,
-      orbit_darts w label a p linked turns.labels l orbit.1,
+      orbit_angles w label a p tied turns.labels l orbit.1,
+      orbit_darts w label a p tied turns.labels l orbit.1,
       turns.outside,
     )
 
@@ -166,23 +166,23 @@ walk_ends w start before after others listed k dart step inside back = record {
 }
 
 -- a walk is back within as many steps as there are darts
-pub walk_fails : (w : DartMap) (start : ℕ) (before after : List Bool) (others listed : List ℕ) (k dart : ℕ) → IsLinked w → start < w.darts →
+pub walk_fails : (w : DartMap) (start : ℕ) (before after : List Bool) (others listed : List ℕ) (k dart : ℕ) → IsTied w → start < w.darts →
     w.darts ≤ k → IsWalking w start before after others listed k dart → ⊥
-walk_fails w start before after others listed k dart linked l all walk =
-    let orbit = orbit_of w linked start l in
+walk_fails w start before after others listed k dart tied l all walk =
+    let orbit = orbit_of w tied start l in
     walk.away orbit.0 orbit.1.some (omega (arith, orbit.1.most, all)) orbit.1.back
 
-pub seek_in : (w : DartMap) (a k dart : ℕ) → IsLinked w → a < w.darts → IsSeeking w a k dart → dart < w.darts
-seek_in w a k dart linked l seek = subst (λ (d : ℕ). d < w.darts) (sym seek.here) (steps_in w linked k a l)
+pub seek_in : (w : DartMap) (a k dart : ℕ) → IsTied w → a < w.darts → IsSeeking w a k dart → dart < w.darts
+seek_in w a k dart tied l seek = subst (λ (d : ℕ). d < w.darts) (sym seek.here) (steps_in w tied k a l)
 
-pub seek_label : (w : DartMap) (label : ℕ → ℕ) (a k dart : ℕ) → IsLinked w → AreFaceNumbers w label → a < w.darts → IsSeeking w a k dart →
+pub seek_label : (w : DartMap) (label : ℕ → ℕ) (a k dart : ℕ) → IsTied w → AreFaceNumbers w label → a < w.darts → IsSeeking w a k dart →
     label dart ≡ label a
-seek_label w label a k dart linked labels l seek = ap label seek.here ∙ label_along w label linked labels k a l
+seek_label w label a k dart tied labels l seek = ap label seek.here ∙ label_along w label tied labels k a l
 
-pub walk_in : (w : DartMap) (start : ℕ) (before after : List Bool) (others listed : List ℕ) (k dart : ℕ) → IsLinked w → start < w.darts →
+pub walk_in : (w : DartMap) (start : ℕ) (before after : List Bool) (others listed : List ℕ) (k dart : ℕ) → IsTied w → start < w.darts →
     IsWalking w start before after others listed k dart → dart < w.darts
-walk_in w start before after others listed k dart linked l walk =
-    subst (λ (d : ℕ). d < w.darts) (sym walk.here) (steps_in w linked k start l)
+walk_in w start before after others listed k dart tied l walk =
+    subst (λ (d : ℕ). d < w.darts) (sym walk.here) (steps_in w tied k start l)
 
 -- the values that one turn of the loop reads and writes
 pub record IsTurn (w : DartMap) (dart next angle : ℕ) (listed new : List ℕ) : Type 0 where

@@ -26,7 +26,7 @@ abbrev pub no_dart : ℕ
 no_dart = NO_DART
 
 -- "next" and "prev" undo each other, and "reverse" itself, without leaving the darts
-pub record IsLinked (w : DartMap) : Type 0 where
+pub record IsTied (w : DartMap) : Type 0 where
   pub next_in : (a : ℕ) → a < w.darts → w.next a < w.darts
   pub prev_in : (a : ℕ) → a < w.darts → w.prev a < w.darts
   pub next_back : (a : ℕ) → a < w.darts → w.prev (w.next a) ≡ a
@@ -137,7 +137,7 @@ pub record Fits (w : DartMap) (d f way : ℕ) : Type 0 where
 
 -- a map whose edges are straight
 pub record IsSound (w : DartMap) : Type 0 where
-  pub linked : IsLinked w
+  pub tied : IsTied w
   pub meeting : IsMeeting w
   pub straight : IsStraight w
 

@@ -2,7 +2,7 @@
 
 ghost use Rattle.std.specs.Prelude.{◌≡◌, ◌+◌, ◌*◌, ◌<◌, ◌≤◌, IfOk, length};
 ghost use Rattle.ortho_rep.specs.Edges.{lesser_darts};
-ghost use Rattle.dissect.specs.DartMaps.{IsLinked, IsMeeting};
+ghost use Rattle.dissect.specs.DartMaps.{IsTied, IsMeeting};
 ghost use Rattle.dissect.specs.Tables.{dart_map_of, room};
 ghost use Rattle.dissect.specs.Steps.{IsBent, angle_of};
 
@@ -24,12 +24,12 @@ fn angle_of(turn: Turn) -> u8
 
 /// Splits the edge of the dart `e` at each of these turns, in walking order. Constant time for a turn.
 pub fn bend_edge(table: &mut DartTable, e: u32, turns: &[Turn])
-    requires linked { IsLinked (dart_map_of table.old) }
+    requires tied { IsTied (dart_map_of table.old) }
     requires meeting { IsMeeting (dart_map_of table.old) }
     requires inside { e < table.old.darts }
     requires space { table.old.darts + 2 * length turns.now ≤ room table.old }
     ensures bent { IsBent e (dart_map_of table.old) turns.now (dart_map_of table.new) }
-    ensures linked { IsLinked (dart_map_of table.new) }
+    ensures tied { IsTied (dart_map_of table.new) }
     ensures meeting { IsMeeting (dart_map_of table.new) }
     ensures darts { table.new.darts ≡ table.old.darts + 2 * length turns.now }
     ensures room { room table.new ≡ room table.old }

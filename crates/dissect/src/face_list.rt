@@ -3,7 +3,7 @@
 ghost use Rattle.std.specs.Prelude.{◌≡◌, ◌<◌, ◌≤◌, ◌+◌, ℕ, [], IfOk, List, OnOk};
 ghost use Rattle.dissect.specs.FaceNumbers.{HasTurns};
 ghost use Rattle.dissect.specs.Tables.{room, dart_map_of};
-ghost use Rattle.dissect.specs.DartMaps.{IsLinked};
+ghost use Rattle.dissect.specs.DartMaps.{IsTied};
 ghost use Rattle.dissect.specs.Listed.{AreFlat, AreConnectedFaces, AreListed};
 
 use crate::table::DartTable;
@@ -47,7 +47,7 @@ fn face_count(table: &DartTable) -> usize {
 /// Lists the corners of all faces. The outer face is that of the right turn `right`, with which its
 /// corners end. They stand in the memory of earlier faces. Linear in the darts.
 pub fn list_faces(table: &DartTable, right: u32, faces: Faces) -> Result<Faces, AllocError>
-    requires linked { IsLinked (dart_map_of table.now) }
+    requires tied { IsTied (dart_map_of table.now) }
     requires inside { right < table.now.darts }
     requires turn { 2 < (dart_map_of table.now).angle right }
     requires turns { (label : ℕ → ℕ) × HasTurns (dart_map_of table.now) label (label right) }

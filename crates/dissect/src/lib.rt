@@ -12,7 +12,6 @@ mod dissection;
 mod edges;
 mod face_list;
 mod heading_search;
-mod links;
 mod normalization;
 mod parts;
 pub mod path_laws;
@@ -21,6 +20,7 @@ mod refinement;
 mod scan;
 mod scratch;
 mod table;
+mod ties;
 mod walks;
 
 pub use boxes::Boxes;

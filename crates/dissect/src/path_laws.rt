@@ -1,7 +1,7 @@
 //! Laws of the definitions, each as the contract of a function that does nothing.
 
 ghost use Rattle.std.specs.Prelude.{◌≡◌, ◌≢◌, ◌<◌, ◌≤◌, ◌⊎◌, ◌+◌, ◌-◌, ◌%◌, ◌++◌, ℕ, List, [], ◌∷◌, length};
-ghost use Rattle.dissect.specs.DartMaps.{DartMap, IsLinked, IsSound, IsSubdivided, IsCut, Grows, no_dart};
+ghost use Rattle.dissect.specs.DartMaps.{DartMap, IsTied, IsSound, IsSubdivided, IsCut, Grows, no_dart};
 ghost use Rattle.dissect.specs.Faces.{Distinct};
 ghost use Rattle.dissect.specs.Paths.{HasPaths, IsConnected, IsPath, turn_to};
 ghost use Rattle.dissect.specs.Surrounds.{IsEnclosed};
@@ -17,7 +17,7 @@ pub fn darts_are_paths()
 /// A split that does not turn keeps the turns of each edge.
 pub fn splits_keep_paths()
     ensures { (w : DartMap) (e way : ℕ) (new : DartMap) (n : ℕ) (reverse_dart : ℕ → ℕ) (quarters : ℕ → List ℕ)
-        → IsLinked w → e < w.darts → way < 4 → IsSubdivided w e way 2 new
+        → IsTied w → e < w.darts → way < 4 → IsSubdivided w e way 2 new
         → HasPaths w n reverse_dart quarters → HasPaths new n reverse_dart quarters }
 {}
 
@@ -25,7 +25,7 @@ pub fn splits_keep_paths()
 /// other edges none.
 pub fn bends_turn_paths()
     ensures { (w : DartMap) (e way bend : ℕ) (new : DartMap) (n : ℕ) (reverse_dart : ℕ → ℕ) (quarters turned : ℕ → List ℕ)
-        → IsLinked w → e < n → w.darts ≤ no_dart → way < 4 → (bend ≡ 1) ⊎ (bend ≡ 3) → IsSubdivided w e way bend new
+        → IsTied w → e < n → w.darts ≤ no_dart → way < 4 → (bend ≡ 1) ⊎ (bend ≡ 3) → IsSubdivided w e way bend new
         → ((d : ℕ) → d < n → reverse_dart d < n) → ((d : ℕ) → d < n → reverse_dart (reverse_dart d) ≡ d) → reverse_dart e ≢ e
         → turned e ≡ quarters e ++ (bend ∷ [])
         → turned (reverse_dart e) ≡ (4 - bend) ∷ quarters (reverse_dart e)
@@ -48,7 +48,7 @@ pub fn rectangles_keep_paths()
 
 /// A split of an edge leaves a connected map connected.
 pub fn splits_stay_connected()
-    ensures { (w : DartMap) (e way bend : ℕ) (new : DartMap) → IsLinked w → e < w.darts → IsSubdivided w e way bend new
+    ensures { (w : DartMap) (e way bend : ℕ) (new : DartMap) → IsTied w → e < w.darts → IsSubdivided w e way bend new
         → IsConnected w → IsConnected new }
 {}
 

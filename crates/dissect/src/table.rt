@@ -2,7 +2,7 @@
 
 ghost use Rattle.std.specs.Prelude.{◌≡◌, ◌≢◌, ◌+◌, ◌^◌, ◌<◌, ◌≤◌, vec_len};
 
-use crate::links::{link, pair, put_in_front, take_over};
+use crate::ties::{pair, put_in_front, take_over, tie};
 use std::alloc::Global;
 
 /// Stands where there is no dart.
@@ -46,7 +46,7 @@ pub struct DartTable {
 }
 
 impl DartTable {
-    ghost use Rattle.dissect.specs.DartMaps.{IsLinked, IsSubdivided, IsChord, Fits};
+    ghost use Rattle.dissect.specs.DartMaps.{IsTied, IsSubdivided, IsChord, Fits};
     ghost use Rattle.dissect.specs.Tables.{dart_map_of, room};
 
     /// A table with no darts and no room. It takes no memory.
@@ -69,7 +69,7 @@ impl DartTable {
     /// Splits the edge of the dart `e` by a new vertex, at which the walk along `e` arrives in the
     /// direction `way` and has the angle `bend` on its left.
     pub fn split(&mut self, e: u32, way: u8, bend: u8)
-        requires linked { IsLinked (dart_map_of self.old) }
+        requires tied { IsTied (dart_map_of self.old) }
         requires e_in { e < self.old.darts }
         requires space { self.old.darts + 2 ≤ room self.old }
         requires quarter { way < 4 }
@@ -100,7 +100,7 @@ impl DartTable {
     /// Joins the corner at the head of the dart `d` with the corner at the head of the dart `f` by an
     /// edge that leaves in the direction `way`.
     pub fn chord(&mut self, d: u32, f: u32, way: u8)
-        requires linked { IsLinked (dart_map_of self.old) }
+        requires tied { IsTied (dart_map_of self.old) }
         requires fits { Fits (dart_map_of self.old) d f way }
         requires space { self.old.darts + 2 ≤ room self.old }
         ensures chord { IsChord (dart_map_of self.old) d f way (dart_map_of self.new) }
@@ -110,10 +110,10 @@ impl DartTable {
         let back = there + 1;
         let after_d = self.next[d as usize];
         let after_f = self.next[f as usize];
-        link(&mut self.next, &mut self.prev, d, there);
-        link(&mut self.next, &mut self.prev, there, after_f);
-        link(&mut self.next, &mut self.prev, f, back);
-        link(&mut self.next, &mut self.prev, back, after_d);
+        tie(&mut self.next, &mut self.prev, d, there);
+        tie(&mut self.next, &mut self.prev, there, after_f);
+        tie(&mut self.next, &mut self.prev, f, back);
+        tie(&mut self.next, &mut self.prev, back, after_d);
         pair(&mut self.reverse_dart, there, back);
         self.head[there as usize] = self.head[f as usize];
         self.head[back as usize] = self.head[d as usize];

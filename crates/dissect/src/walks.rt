@@ -3,7 +3,7 @@
 ghost use Rattle.std.specs.Prelude.{◌≡◌, ◌≢◌, ◌⊎◌, ◌<◌, ◌≤◌, ℕ, [], ◌∷◌, ◌++◌, OnOk, vec_len};
 ghost use Rattle.dissect.specs.FaceNumbers.{AreFaceNumbers, HasTurns};
 ghost use Rattle.dissect.specs.Tables.{dart_map_of};
-ghost use Rattle.dissect.specs.DartMaps.{IsLinked};
+ghost use Rattle.dissect.specs.DartMaps.{IsTied};
 ghost use Rattle.dissect.specs.Walks.{IsWalked};
 
 use crate::table::DartTable;
@@ -12,7 +12,7 @@ use std::alloc::AllocError;
 /// The first right turn on the walk from `outside` on, round a face whose walk turns to the right.
 /// Linear in the darts of the face.
 pub fn find_right(table: &DartTable, outside: u32) -> u32
-    requires linked { IsLinked (dart_map_of table.now) }
+    requires tied { IsTied (dart_map_of table.now) }
     requires inside { outside < table.now.darts }
     requires turns { (label : ℕ → ℕ) × HasTurns (dart_map_of table.now) label (label outside) }
     ensures inside { result < table.now.darts }
@@ -48,7 +48,7 @@ pub fn walk(
     seen: &mut Vec<bool>,
     corners: &mut Vec<u32>,
 ) -> Result<(), AllocError>
-    requires linked { IsLinked (dart_map_of table.now) }
+    requires tied { IsTied (dart_map_of table.now) }
     requires inside { start < table.now.darts }
     requires size { table.now.darts ≤ vec_len seen.old }
     ensures size { vec_len seen.new ≡ vec_len seen.old }

@@ -57,7 +57,7 @@ module _ (w : DartMap) (sound : IsSound w) (x y : ℕ → ℕ) (ordered : IsOrde
   keeps_goes d zero a c a_in way keeps other = absurd (other keeps)
   keeps_goes d (suc k) a c a_in way keeps other =
       let b : ℕ = w.next a in
-      let b_in = sound.linked.next_in a a_in in
+      let b_in = sound.tied.next_in a a_in in
       goes_on d x y (w.head a) (w.head b) (w.head c)
       (subst (λ (u : ℕ). Goes d x y u (w.head b)) (next_tail w sound a a_in)
       (dart_goes w sound x y ordered d b b_in (keeps_way w sound k b c b_in keeps.1 ∙ way)))
@@ -254,7 +254,7 @@ module _ (w : DartMap) (sound : IsSound w) (x y : ℕ → ℕ) (ordered : IsOrde
         let side = (side_leads w sound x y ordered 3 a (faces.around 3) a_in (round'.ways 3 (omega arith)) on).1 in
         let level = (dart_goes w sound x y ordered 3 a a_in way).1 in
         let e : ℕ = w.reverse_dart a in
-        let e_in = sound.linked.reverse_dart_in a a_in in
+        let e_in = sound.tied.reverse_dart_in a a_in in
         let crosses : Crosses w y py e = record {
           inside = e_in;
           north = omega (arith, sound.straight a a_in, way);
@@ -265,7 +265,7 @@ module _ (w : DartMap) (sound : IsSound w) (x y : ℕ → ℕ) (ordered : IsOrde
         let (k, far) = chain_of w sound x y ordered faces py (x (w.head e) + 1) e (omega arith) crosses in
         let (m, near) = chain_of w sound x y ordered faces py (x (w.head b) + 1) b (omega arith) b_crosses in
         let at : e ≡ b = one_place px py k m e c b c_crosses step c_right b_left near far place in
-        let back : w.reverse_dart b ≡ a = ap w.reverse_dart (sym at) ∙ sound.linked.reverse_dart_back a a_in in
+        let back : w.reverse_dart b ≡ a = ap w.reverse_dart (sym at) ∙ sound.tied.reverse_dart_back a a_in in
         let corners : corner 3 ≡ faces.around 3 =
         on_one w a (corner 3) (faces.around 3) (round_corner w sound x y ordered 3 1 corner round (λ e. omega (arith, e)) 3 (omega arith)) (outside_corner 3 (omega arith))
         (subst (λ (d : ℕ). IsOn w d (corner 3)) back left) on in
@@ -330,7 +330,7 @@ module _ (w : DartMap) (sound : IsSound w) (x y : ℕ → ℕ) (ordered : IsOrde
           | inl wide ↦ (a, a_in, refl, wide)
           | inr narrow ↦
               let b : ℕ = w.reverse_dart (w.next a) in
-              let b_in = sound.linked.reverse_dart_in (w.next a) (sound.linked.next_in a a_in) in
+              let b_in = sound.tied.reverse_dart_in (w.next a) (sound.tied.next_in a a_in) in
               let turns = sound.meeting.turns a a_in in
               let q = sound.meeting.quarter in
               let (c, c_in, there, wide) =
@@ -362,7 +362,7 @@ module _ (w : DartMap) (sound : IsSound w) (x y : ℕ → ℕ) (ordered : IsOrde
         let goes = (dart_goes w sound x y ordered 1 a a_in way).1 in
         let from = tail_back w sound x y ordered a a_in in (
           c,
-          sound.linked.reverse_dart_in a a_in,
+          sound.tied.reverse_dart_in a a_in,
           inr refl,
           inl (omega (arith, sound.straight a a_in, way), omega (arith, goes, line), omega (arith, low), omega (arith, high, ap y from)),
           λ e f. omega (arith, f, low),
@@ -372,7 +372,7 @@ module _ (w : DartMap) (sound : IsSound w) (x y : ℕ → ℕ) (ordered : IsOrde
         let goes = (dart_goes w sound x y ordered 2 a a_in way).1 in
         let from = tail_back w sound x y ordered a a_in in (
           c,
-          sound.linked.reverse_dart_in a a_in,
+          sound.tied.reverse_dart_in a a_in,
           inr refl,
           inr (inl (omega (arith, sound.straight a a_in, way), omega (arith, goes, line), omega (arith, low, ap x from), omega (arith, high))),
           λ e f. omega (arith, e, high),
@@ -397,7 +397,7 @@ module _ (w : DartMap) (sound : IsSound w) (x y : ℕ → ℕ) (ordered : IsOrde
         let (c, c_in, is, sees, away) = holds_seen (w.direction a) px py a a_in refl one in
         let (d, d_in, is', sees', away') = holds_seen (w.direction b) px py b b_in refl two in
         let same : c ≡ d = sees_one px py c d c_in d_in sees sees' in
-        let back = sound.linked.reverse_dart_back in
+        let back = sound.tied.reverse_dart_back in
         elim is [
           | inl at ↦ elim is' [
             | inl at' ↦ inl (sym at ∙ same ∙ at')

@@ -27,10 +27,10 @@ module _ (w : DartMap) (sound : IsSound w) (connected : IsConnected w) (cut : Is
   upward0 a a_in east on = on
 
   back_in : (a : ℕ) → a < w.darts → w.reverse_dart a < w.darts
-  back_in = sound.linked.reverse_dart_in
+  back_in = sound.tied.reverse_dart_in
 
   back_back : (a : ℕ) → a < w.darts → w.reverse_dart (w.reverse_dart a) ≡ a
-  back_back = sound.linked.reverse_dart_back
+  back_back = sound.tied.reverse_dart_back
 
   none_left : (g0 : Growth (outer_joins w o faces nobody)) (a : ℕ) → a < w.darts → rest w o faces g0 a ≡ false
   none_left g0 a a_in =
@@ -115,7 +115,7 @@ module _ (w : DartMap) (sound : IsSound w) (connected : IsConnected w) (cut : Is
     both_sides u c =
         sym (moved w sound u (λ d. c (f (w.reverse_dart d))))
         ∙ sum_at-same w.darts w.head u (λ d. c (f (w.reverse_dart (clockwise w d)))) (λ d. c (f d))
-        (λ d d_in. ap (λ (e : ℕ). c (f e)) (back_back (w.next d) (sound.linked.next_in d d_in)) ∙ ap c (next_face d d_in))
+        (λ d d_in. ap (λ (e : ℕ). c (f e)) (back_back (w.next d) (sound.tied.next_in d d_in)) ∙ ap c (next_face d d_in))
 
     at_vertex : (u : ℕ) → sum_at w.darts w.head u left ≡ sum_at w.darts w.head u right
     at_vertex u = omega (

@@ -107,10 +107,10 @@ module _ (w : DartMap) (sound : IsSound w) (connected : IsConnected w) (o : ℕ)
   s = filled w o faces s0 g0
 
   back_in : (a : ℕ) → a < w.darts → w.reverse_dart a < w.darts
-  back_in = sound.linked.reverse_dart_in
+  back_in = sound.tied.reverse_dart_in
 
   back_back : (a : ℕ) → a < w.darts → w.reverse_dart (w.reverse_dart a) ≡ a
-  back_back = sound.linked.reverse_dart_back
+  back_back = sound.tied.reverse_dart_back
 
   pub of : OfFaces w (filled w o faces s0 g0)
   of a a_in = ap (λ (c : ℕ). not (g0.reached c)) (faces.stays a a_in)
@@ -267,7 +267,7 @@ module _ (w : DartMap) (sound : IsSound w) (connected : IsConnected w) (o : ℕ)
             | inr off ↦
                 let off' : s (w.next a) ≡ false = of a a_in ∙ off in
                 ap (λ (b : Bool). b || g2.reached (w.head (w.next a))) off'
-                ∙ ends (w.next a) (sound.linked.next_in a a_in) (and_off (s (w.next a)) (s (w.reverse_dart (w.next a))) off')
+                ∙ ends (w.next a) (sound.tied.next_in a a_in) (and_off (s (w.next a)) (s (w.reverse_dart (w.next a))) off')
                 ∙ ap g2.reached (sound.meeting.meets a a_in)
                 ∙ sym (ap (λ (b : Bool). b || g2.reached (w.head a)) off)
           ]

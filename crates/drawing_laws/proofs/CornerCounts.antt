@@ -42,16 +42,16 @@ test_lt x y =
 module _ (w : DartMap) (sound : IsSound w) where
   pub next_one : IsOneToOne w.darts w.next
   next_one = record {
-    inside = sound.linked.next_in;
-    one = λ a b a_in b_in same. sym (sound.linked.next_back a a_in) ∙ ap w.prev same ∙ sound.linked.next_back b b_in;
+    inside = sound.tied.next_in;
+    one = λ a b a_in b_in same. sym (sound.tied.next_back a a_in) ∙ ap w.prev same ∙ sound.tied.next_back b b_in;
   }
 
   pub clockwise_one : IsOneToOne w.darts (clockwise w)
   clockwise_one = record {
-    inside = λ a a_in. sound.linked.reverse_dart_in (w.next a) (sound.linked.next_in a a_in);
+    inside = λ a a_in. sound.tied.reverse_dart_in (w.next a) (sound.tied.next_in a a_in);
     one = λ a b a_in b_in same.
         next_one.one a b a_in b_in
-        (sym (sound.linked.reverse_dart_back (w.next a) (sound.linked.next_in a a_in)) ∙ ap w.reverse_dart same ∙ sound.linked.reverse_dart_back (w.next b) (sound.linked.next_in b b_in));
+        (sym (sound.tied.reverse_dart_back (w.next a) (sound.tied.next_in a a_in)) ∙ ap w.reverse_dart same ∙ sound.tied.reverse_dart_back (w.next b) (sound.tied.next_in b b_in));
   }
 
   clockwise_in : (a : ℕ) → a < w.darts → clockwise w a < w.darts
@@ -156,10 +156,10 @@ module _ (w : DartMap) (sound : IsSound w) where
             small false = omega arith
         border_bound a a_in on (inr not_east) (inl north) (inl one) =
             let b : ℕ = clockwise w a in
-            let n_in = sound.linked.next_in a a_in in
+            let n_in = sound.tied.next_in a a_in in
             let b_in : b < w.darts = clockwise_in a a_in in
             let east : w.direction b ≡ 0 = omega (arith, north, one, sound.meeting.turns a a_in, sound.meeting.quarter b b_in) in
-            let back : w.reverse_dart b ≡ w.next a = sound.linked.reverse_dart_back (w.next a) n_in in
+            let back : w.reverse_dart b ≡ w.next a = sound.tied.reverse_dart_back (w.next a) n_in in
             let back_on : s (w.reverse_dart b) ≡ true = ap s back ∙ of a a_in ∙ on in
             let here : s b ≡ true = upward b b_in east back_on in
             omega (
@@ -255,7 +255,7 @@ module _ (w : DartMap) (sound : IsSound w) where
           let one : ℕ → ℕ = λ a. onward w a * touches w s a in
           let both : sum_below n (touches w s) ≡ sum_below n (λ a. one a + one (w.reverse_dart a)) =
           sum_below-same n (touches w s) (λ a. one a + one (w.reverse_dart a)) halves in
-          omega (arith, both, sum_below-add n one (λ a. one (w.reverse_dart a)), sum_below-turned n w.reverse_dart one sound.linked.reverse_dart_in sound.linked.reverse_dart_back)
+          omega (arith, both, sum_below-add n one (λ a. one (w.reverse_dart a)), sum_below-turned n w.reverse_dart one sound.tied.reverse_dart_in sound.tied.reverse_dart_back)
         where
           touch : (a b c : Bool) → b ≡ c → cond {A = ℕ} (a && b) 0 1 ≡ cond (c && a) 0 1
           touch true true true e = refl
@@ -268,7 +268,7 @@ module _ (w : DartMap) (sound : IsSound w) where
           same : (a : ℕ) → a < w.darts → touches w s a ≡ touches w s (w.reverse_dart a)
           same a a_in =
               touch (s a) (s (w.reverse_dart a)) (s (w.reverse_dart a)) refl
-              ∙ ap (λ (d : ℕ). cond (s (w.reverse_dart a) && s d) 0 1) (sym (sound.linked.reverse_dart_back a a_in))
+              ∙ ap (λ (d : ℕ). cond (s (w.reverse_dart a) && s d) 0 1) (sym (sound.tied.reverse_dart_back a a_in))
 
           one_of : (d e x y : ℕ) → d < 4 → e ≡ (d + 2) % 4 → x ≡ y → x ≡ cond (ltb d 2) 1 0 * x + cond (ltb e 2) 1 0 * y
           one_of zero e x y few is xy = rw is (omega (arith, xy))

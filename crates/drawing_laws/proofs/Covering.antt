@@ -64,7 +64,7 @@ module _ (w : DartMap) (sound : IsSound w) where
         outside_in : (k : ℕ) → k < 4 → inner.darts + 4 + k < w.darts
         outside_in k few =
             let chain = (has.sides k few).there in
-            omega (arith, chain.back, sound.linked.reverse_dart_in chain.first chain.path.first_in)
+            omega (arith, chain.back, sound.tied.reverse_dart_in chain.first chain.path.first_in)
 
 -- ---- cells
 

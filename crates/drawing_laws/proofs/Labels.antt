@@ -159,10 +159,10 @@ module _ (w : DartMap) (sound : IsSound w) (faces : AreFaces w) where
   module _ (s : ℕ → Bool) (of : OfFaces w s) where
     held_keeps : (k a c : ℕ) → a < w.darts → Keeps w k a c → s a ≡ s c
     held_keeps zero a c a_in keeps = ap s keeps
-    held_keeps (suc k) a c a_in keeps = sym (of a a_in) ∙ held_keeps k (w.next a) c (sound.linked.next_in a a_in) keeps.1
+    held_keeps (suc k) a c a_in keeps = sym (of a a_in) ∙ held_keeps k (w.next a) c (sound.tied.next_in a a_in) keeps.1
 
     held_stretches : (a c : ℕ) → a < w.darts → Stretches w a c → s a ≡ s c
-    held_stretches a c a_in stretch = sym (of a a_in) ∙ held_keeps stretch.places (w.next a) c (sound.linked.next_in a a_in) (stretch_behind w stretch.places a c stretch.stretch)
+    held_stretches a c a_in stretch = sym (of a a_in) ∙ held_keeps stretch.places (w.next a) c (sound.tied.next_in a a_in) (stretch_behind w stretch.places a c stretch.stretch)
 
     held_side : (back angle : ℕ) (corner : ℕ → ℕ) → IsRound w back angle corner → (k : ℕ) → k < 4 → s (corner ((k + back) % 4)) ≡ s (corner k)
     held_side back angle corner round k few =
@@ -229,7 +229,7 @@ module _ (w : DartMap) (sound : IsSound w) (faces : AreFaces w) where
       record {
         label = label;
         inside = λ a a_in. inside_of a (label a) (of a a_in);
-        stays = λ a a_in. of_one (w.next a) (label (w.next a)) (label a) (of (w.next a) (sound.linked.next_in a a_in)) (of_next a (label a) (of a a_in));
+        stays = λ a a_in. of_one (w.next a) (label (w.next a)) (label a) (of (w.next a) (sound.tied.next_in a a_in)) (of_next a (label a) (of a a_in));
         held = λ s same a a_in. held_of s same a (label a) a_in (of a a_in);
         own = λ c c_in way one. of_one c (label c) c (of c c_in) (own_of c c_in way one);
         out = faces.around 1;

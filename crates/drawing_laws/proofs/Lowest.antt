@@ -16,7 +16,7 @@ use Rattle.drawing_laws.proofs.Axes.{Follow, HasEnds, least_following, no_gap, f
 
 ends_of : (b : BoxesModel) → AreBoxes b → HasEnds (dart_map b)
 ends_of b boxes = record {
-  tail_in = λ a inside. boxes.sound.meeting.head_in ((dart_map b).reverse_dart a) (boxes.sound.linked.reverse_dart_in a inside);
+  tail_in = λ a inside. boxes.sound.meeting.head_in ((dart_map b).reverse_dart a) (boxes.sound.tied.reverse_dart_in a inside);
   head_in = boxes.sound.meeting.head_in;
 }
 

@@ -87,7 +87,7 @@ module _ (p : PlaneModel) (shape : ShapeModel) (b : BoxesModel) (plane : IsPlane
           | inl same ↦ part_of_one p shape b plane boxed d e z d_in e_in one (inl (subst (λ (k : ℕ). IsPart (dart_map b) e k) (sym same) two))
           | inr back ↦
               let there : c ≡ (dart_map b).reverse_dart z =
-              sym (boxed.boxes.sound.linked.reverse_dart_back c c_in) ∙ ap (dart_map b).reverse_dart (sym back) in
+              sym (boxed.boxes.sound.tied.reverse_dart_back c c_in) ∙ ap (dart_map b).reverse_dart (sym back) in
               part_of_one p shape b plane boxed d e z d_in e_in one (inr (subst (λ (k : ℕ). IsPart (dart_map b) e k) there two))
         ]
         | inr (there, column, row) ↦ elim (meet_at_ends p shape b plane boxed d e z c d_in e_in one two there) [

@@ -51,13 +51,13 @@ module _ (w : DartMap) (sound : IsSound w) (connected : IsConnected w) (cut : Is
   delta_back a u a_in =
       sum_at-same w.darts w.head u (λ d. delta a (w.reverse_dart d)) (delta (w.reverse_dart a))
       (λ d d_in. ap (λ (b : Bool). cond {A = ℕ} b 1 0) (same d d_in))
-      ∙ delta_at (w.reverse_dart a) u (sound.linked.reverse_dart_in a a_in)
+      ∙ delta_at (w.reverse_dart a) u (sound.tied.reverse_dart_in a a_in)
     where
       same : (d : ℕ) → d < w.darts → eqb a (w.reverse_dart d) ≡ eqb (w.reverse_dart a) d
       same d d_in =
           same_if (eqb a (w.reverse_dart d)) (eqb (w.reverse_dart a) d)
-          (λ on. eq-eqb (w.reverse_dart a) d (ap w.reverse_dart (eqb-true a (w.reverse_dart d) on) ∙ sound.linked.reverse_dart_back d d_in))
-          (λ on. eq-eqb a (w.reverse_dart d) (sym (sound.linked.reverse_dart_back a a_in) ∙ ap w.reverse_dart (eqb-true (w.reverse_dart a) d on)))
+          (λ on. eq-eqb (w.reverse_dart a) d (ap w.reverse_dart (eqb-true a (w.reverse_dart d) on) ∙ sound.tied.reverse_dart_back d d_in))
+          (λ on. eq-eqb a (w.reverse_dart d) (sym (sound.tied.reverse_dart_back a a_in) ∙ ap w.reverse_dart (eqb-true (w.reverse_dart a) d on)))
 
   module _ (e : ℕ) (e_in : e < w.darts) (east : w.direction e ≡ 0) (g : Growth (forward w e)) where
     abbrev j : Joins
@@ -170,12 +170,12 @@ module _ (w : DartMap) (sound : IsSound w) (connected : IsConnected w) (cut : Is
     stays : (a : ℕ) → a < w.darts → w.direction a ≢ 0 → w.direction a ≢ 2 → number (w.head (w.reverse_dart a)) ≡ number (w.head a)
     stays a a_in not_east not_west =
         let b : ℕ = w.reverse_dart a in
-        let b_in = sound.linked.reverse_dart_in a a_in in
+        let b_in = sound.tied.reverse_dart_in a a_in in
         let back_west : w.direction b ≢ 2 = λ two. not_east (omega (arith, two, sound.straight a a_in, sound.meeting.quarter a a_in)) in
         sum_below-same w.darts (behind (w.head b)) (behind (w.head a))
         (λ e e_in. ap (λ (x : Bool). cond (eqb (w.direction e) 0) (cond {A = ℕ} x 1 0) 0)
         (same_if ((g e).reached (w.head b)) ((g e).reached (w.head a)) (onward a a_in not_west e)
-        (λ r. onward b b_in back_west e (ap (λ (d : ℕ). (g e).reached (w.head d)) (sound.linked.reverse_dart_back a a_in) ∙ r))))
+        (λ r. onward b b_in back_west e (ap (λ (d : ℕ). (g e).reached (w.head d)) (sound.tied.reverse_dart_back a a_in) ∙ r))))
 
   -- numbers that grow along darts to the east, and stay along those to the north and south
   pub numbers : (x : ℕ → ℕ) × ((a : ℕ) → a < w.darts → w.direction a ≡ 0 → x (w.head (w.reverse_dart a)) < x (w.head a))

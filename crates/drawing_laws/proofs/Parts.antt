@@ -94,7 +94,7 @@ module _ (p : PlaneModel) (shape : ShapeModel) (b : BoxesModel) (plane : IsPlane
   part_of_one d e a d_in e_in one (inr two) =
       let e' : ℕ = reverse_dart p e in
       let there : IsPart (dart_map b) e' a =
-      subst (λ (k : ℕ). IsPart (dart_map b) e' k) (boxed.boxes.sound.linked.reverse_dart_back a (part_in d a one)) (part_back e ((dart_map b).reverse_dart a) e_in two) in
+      subst (λ (k : ℕ). IsPart (dart_map b) e' k) (boxed.boxes.sound.tied.reverse_dart_back a (part_in d a one)) (part_back e ((dart_map b).reverse_dart a) e_in two) in
       inr (one_part d e' a d_in ((plane_ends p plane).reverse_dart_inside e e_in) one there)
 
   -- two parts of one dart, on one path

@@ -19,14 +19,14 @@ rotated w r = record {
 
 pub rotated_sound : (w : DartMap) (r : ℕ) → IsSound w → IsSound (rotated w r)
 rotated_sound w r sound = record {
-  linked = record {
-    next_in = sound.linked.next_in;
-    prev_in = sound.linked.prev_in;
-    next_back = sound.linked.next_back;
-    prev_back = sound.linked.prev_back;
-    reverse_dart_in = sound.linked.reverse_dart_in;
-    reverse_dart_back = sound.linked.reverse_dart_back;
-    reverse_dart_apart = sound.linked.reverse_dart_apart;
+  tied = record {
+    next_in = sound.tied.next_in;
+    prev_in = sound.tied.prev_in;
+    next_back = sound.tied.next_back;
+    prev_back = sound.tied.prev_back;
+    reverse_dart_in = sound.tied.reverse_dart_in;
+    reverse_dart_back = sound.tied.reverse_dart_back;
+    reverse_dart_apart = sound.tied.reverse_dart_apart;
   };
   meeting = record {
     head_in = sound.meeting.head_in;

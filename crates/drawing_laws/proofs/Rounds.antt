@@ -71,7 +71,7 @@ HoldsAll w d a r =
 module _ (w : DartMap) (sound : IsSound w) where
   seconds : (g a : ℕ) → a < w.darts → (r : IsRectangle w g a) → (r.second < w.darts) × ((w.direction r.second + 2 + g) % 4 ≡ w.direction a)
   seconds g a a_in r = (
-    Stretches-inside w a r.second sound.linked a_in r.to_second,
+    Stretches-inside w a r.second sound.tied a_in r.to_second,
     (let way = stretch_way w sound a r.second a_in r.to_second in omega (arith, way, r.angle_first)),
   )
 
@@ -233,7 +233,7 @@ end_of w sound reaches a a_in =
       | inl straight ↦
           let (c, stretch) = reaches a a_in in (
             c,
-            Stretches-inside w a c sound.linked a_in stretch,
+            Stretches-inside w a c sound.tied a_in stretch,
             Stretches-corner w a c stretch,
             record { places = suc stretch.places; keeps = stretch_keeps w stretch.places a c straight stretch.stretch },
           )

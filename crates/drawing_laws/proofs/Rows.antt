@@ -96,7 +96,7 @@ module _ (w : DartMap) (sound : IsSound w) (x y : ℕ → ℕ) (ordered : IsOrde
   -- a dart to the south, walked back
   back_crosses : (j s : ℕ) → s < w.darts → w.direction s ≡ 3 → y (w.head s) ≤ j → j < y (tail w s) → Crosses w y j (w.reverse_dart s)
   back_crosses j s s_in way low high = record {
-    inside = sound.linked.reverse_dart_in s s_in;
+    inside = sound.tied.reverse_dart_in s s_in;
     north = omega (arith, sound.straight s s_in, way);
     low = omega (arith, low, ap y (tail_back w sound x y ordered s s_in));
     high = high;
@@ -114,7 +114,7 @@ module _ (w : DartMap) (sound : IsSound w) (x y : ℕ → ℕ) (ordered : IsOrde
       let level = (dart_goes w sound x y ordered 3 s s_in way).1 in (
         w.reverse_dart s,
         back_crosses j s s_in way passes.0 passes.1,
-        subst (λ (a : ℕ). IsOn w a (corner 3)) (sym (sound.linked.reverse_dart_back s s_in)) on,
+        subst (λ (a : ℕ). IsOn w a (corner 3)) (sym (sound.tied.reverse_dart_back s s_in)) on,
         level ∙ line,
       )
 
@@ -140,7 +140,7 @@ module _ (w : DartMap) (sound : IsSound w) (x y : ℕ → ℕ) (ordered : IsOrde
       let corner = step.corner in
       let up = box_upright corner step.box in
       let s : ℕ = w.reverse_dart b in
-      let s_in = sound.linked.reverse_dart_in b two.inside in
+      let s_in = sound.tied.reverse_dart_in b two.inside in
       let line = (side_leads w sound x y ordered 3 s (corner 3) s_in (step.box.ways 3 (omega arith)) step.left).1 in
       let level : x (tail w b) ≡ x (w.head b) = (dart_goes w sound x y ordered 1 b two.inside two.north).1 in
       omega (arith, up.wide, line, level, north_line corner 3 1 a step.box one.inside step.right)

@@ -1,7 +1,7 @@
 -- Sides of faces: straight stretches of darts from a corner to the next, in numbers that are in the order of the darts.
 use Rattle.std.proofs.Common.{◌≡◌, ℕ, zero, suc, ◌+◌, ◌%◌, ◌<◌, ◌≤◌, ◌⊎◌, ◌∙◌, arith, subst, sym, ap, refl, inl, inr}
 use Rattle.std.proofs.lemmas.Bool.{cases_eq, cases_lt, cases_order}
-use Rattle.dissect.specs.DartMaps.{DartMap, IsLinked, IsSound}
+use Rattle.dissect.specs.DartMaps.{DartMap, IsTied, IsSound}
 use Rattle.dissect.specs.Faces.{IsCorner, StretchesIn, Stretches}
 use Rattle.dissect.proofs.Stretching.{stretch_back, steps_back}
 use Rattle.dissect.specs.Ordered.{IsOrdered, tail}
@@ -103,25 +103,25 @@ keeps_one w zero (suc k) a b c cb cc one two = absurd (cb (ap w.angle (sym one) 
 keeps_one w (suc j) zero a b c cb cc one two = absurd (cc (ap w.angle (sym two) ∙ one.0))
 keeps_one w (suc j) (suc k) a b c cb cc one two = keeps_one w j k (w.next a) b c cb cc one.1 two.1
 
-keeps_back : (w : DartMap) → IsLinked w → (k a c : ℕ) → a < w.darts → Keeps w k a c → steps_back w k c ≡ a
-keeps_back w linked zero a c a_in keeps = sym keeps
-keeps_back w linked (suc k) a c a_in keeps =
-    ap w.prev (keeps_back w linked k (w.next a) c (linked.next_in a a_in) keeps.1) ∙ linked.next_back a a_in
+keeps_back : (w : DartMap) → IsTied w → (k a c : ℕ) → a < w.darts → Keeps w k a c → steps_back w k c ≡ a
+keeps_back w tied zero a c a_in keeps = sym keeps
+keeps_back w tied (suc k) a c a_in keeps =
+    ap w.prev (keeps_back w tied k (w.next a) c (tied.next_in a a_in) keeps.1) ∙ tied.next_back a a_in
 
-keeps_between : (w : DartMap) → IsLinked w → (k a c j : ℕ) → a < w.darts → Keeps w k a c → j < k → w.angle (steps_back w (suc j) c) ≡ 2
-keeps_between w linked zero a c j a_in keeps less = absurd (omega arith)
-keeps_between w linked (suc k) a c j a_in keeps less =
+keeps_between : (w : DartMap) → IsTied w → (k a c j : ℕ) → a < w.darts → Keeps w k a c → j < k → w.angle (steps_back w (suc j) c) ≡ 2
+keeps_between w tied zero a c j a_in keeps less = absurd (omega arith)
+keeps_between w tied (suc k) a c j a_in keeps less =
     elim (cases_eq j k) [
       | inl e ↦ subst (λ (i : ℕ). w.angle (steps_back w (suc i) c) ≡ 2) (sym e)
-          (ap w.angle (keeps_back w linked (suc k) a c a_in keeps) ∙ keeps.0)
-      | inr other ↦ keeps_between w linked k (w.next a) c j (linked.next_in a a_in) keeps.1 (omega arith)
+          (ap w.angle (keeps_back w tied (suc k) a c a_in keeps) ∙ keeps.0)
+      | inr other ↦ keeps_between w tied k (w.next a) c j (tied.next_in a a_in) keeps.1 (omega arith)
     ]
 
 -- what is on a side lies behind the corner from which it sets out
-keeps_short : (w : DartMap) → IsLinked w → (k m p a c : ℕ) → p < w.darts → a < w.darts → IsCorner w p → StretchesIn w k p c → Keeps w m a c → m ≤ k
-keeps_short w linked k m p a c p_in a_in corner stretch keeps =
+keeps_short : (w : DartMap) → IsTied w → (k m p a c : ℕ) → p < w.darts → a < w.darts → IsCorner w p → StretchesIn w k p c → Keeps w m a c → m ≤ k
+keeps_short w tied k m p a c p_in a_in corner stretch keeps =
     elim (cases_lt k m) [
-      | inl less ↦ absurd (corner (ap w.angle (sym (stretch_back w linked k p c p_in stretch)) ∙ keeps_between w linked m a c k a_in keeps less))
+      | inl less ↦ absurd (corner (ap w.angle (sym (stretch_back w tied k p c p_in stretch)) ∙ keeps_between w tied m a c k a_in keeps less))
       | inr few ↦ omega (arith, few)
     ]
 
@@ -137,26 +137,26 @@ module _ (w : DartMap) (sound : IsSound w) where
   -- the way behind a dart, by its angle
   pub next_way : (a : ℕ) → a < w.darts → (w.direction (w.next a) + 2 + w.angle a) % 4 ≡ w.direction a
   next_way a a_in =
-      let next_in = sound.linked.next_in a a_in in
+      let next_in = sound.tied.next_in a a_in in
       omega (arith, sound.straight (w.next a) next_in, sound.meeting.turns a a_in)
 
   pub next_straight : (a : ℕ) → a < w.darts → w.angle a ≡ 2 → w.direction (w.next a) ≡ w.direction a
   next_straight a a_in straight =
-      omega (arith, next_way a a_in, straight, sound.meeting.quarter a a_in, sound.meeting.quarter (w.next a) (sound.linked.next_in a a_in))
+      omega (arith, next_way a a_in, straight, sound.meeting.quarter a a_in, sound.meeting.quarter (w.next a) (sound.tied.next_in a a_in))
 
   pub keeps_way : (k a c : ℕ) → a < w.darts → Keeps w k a c → w.direction a ≡ w.direction c
   keeps_way zero a c a_in keeps = ap w.direction keeps
   keeps_way (suc k) a c a_in keeps =
-      sym (next_straight a a_in keeps.0) ∙ keeps_way k (w.next a) c (sound.linked.next_in a a_in) keeps.1
+      sym (next_straight a a_in keeps.0) ∙ keeps_way k (w.next a) c (sound.tied.next_in a a_in) keeps.1
 
   pub keeps_inside : (k a c : ℕ) → a < w.darts → Keeps w k a c → c < w.darts
   keeps_inside zero a c a_in keeps = omega (arith, keeps, a_in)
-  keeps_inside (suc k) a c a_in keeps = keeps_inside k (w.next a) c (sound.linked.next_in a a_in) keeps.1
+  keeps_inside (suc k) a c a_in keeps = keeps_inside k (w.next a) c (sound.tied.next_in a a_in) keeps.1
 
   -- the way at the next corner
   pub stretch_way : (p c : ℕ) → p < w.darts → Stretches w p c → (w.direction c + 2 + w.angle p) % 4 ≡ w.direction p
   stretch_way p c p_in stretch =
-      let same = keeps_way stretch.places (w.next p) c (sound.linked.next_in p p_in) (stretch_behind w stretch.places p c stretch.stretch) in
+      let same = keeps_way stretch.places (w.next p) c (sound.tied.next_in p p_in) (stretch_behind w stretch.places p c stretch.stretch) in
       omega (arith, next_way p p_in, same)
 
   -- the vertex where a dart arrives is that from which the next sets out
@@ -168,17 +168,17 @@ module _ (w : DartMap) (sound : IsSound w) where
     reverse_way a k m a_in way is = sound.straight a a_in ∙ ap (λ (d : ℕ). (d + 2) % 4) way ∙ is
 
     pub tail_back : (a : ℕ) → a < w.darts → tail w (w.reverse_dart a) ≡ w.head a
-    tail_back a a_in = ap w.head (sound.linked.reverse_dart_back a a_in)
+    tail_back a a_in = ap w.head (sound.tied.reverse_dart_back a a_in)
 
     -- a dart goes in its direction
     pub dart_goes : (k a : ℕ) → a < w.darts → w.direction a ≡ k → Goes k x y (tail w a) (w.head a)
     dart_goes zero a a_in way = ordered.east a a_in way
     dart_goes (suc zero) a a_in way = ordered.north a a_in way
     dart_goes (suc (suc zero)) a a_in way =
-        let back = ordered.east (w.reverse_dart a) (sound.linked.reverse_dart_in a a_in) (reverse_way a 2 0 a_in way refl) in
+        let back = ordered.east (w.reverse_dart a) (sound.tied.reverse_dart_in a a_in) (reverse_way a 2 0 a_in way refl) in
         (omega (arith, back.0, ap x (tail_back a a_in)), omega (arith, back.1, ap y (tail_back a a_in)))
     dart_goes (suc (suc (suc zero))) a a_in way =
-        let back = ordered.north (w.reverse_dart a) (sound.linked.reverse_dart_in a a_in) (reverse_way a 3 1 a_in way refl) in
+        let back = ordered.north (w.reverse_dart a) (sound.tied.reverse_dart_in a a_in) (reverse_way a 3 1 a_in way refl) in
         (omega (arith, back.0, ap y (tail_back a a_in)), omega (arith, back.1, ap x (tail_back a a_in)))
     dart_goes (suc (suc (suc (suc k)))) a a_in way = absurd (omega (arith, way, sound.meeting.quarter a a_in))
 
@@ -188,7 +188,7 @@ module _ (w : DartMap) (sound : IsSound w) where
         subst (λ (e : ℕ). Leads d x y (w.head a) (w.head e)) keeps (leads_same d x y (w.head a))
     keeps_leads d (suc k) a c a_in way keeps =
         let b : ℕ = w.next a in
-        let b_in = sound.linked.next_in a a_in in
+        let b_in = sound.tied.next_in a a_in in
         let first : Goes d x y (w.head a) (w.head b) =
         subst (λ (u : ℕ). Goes d x y u (w.head b)) (next_tail a a_in) (dart_goes d b b_in (keeps_way k b c b_in keeps.1 ∙ way)) in
         goes_leads d x y (w.head a) (w.head c)
@@ -198,7 +198,7 @@ module _ (w : DartMap) (sound : IsSound w) where
     pub stretch_goes : (d p c : ℕ) → p < w.darts → w.direction c ≡ d → Stretches w p c → Goes d x y (w.head p) (w.head c)
     stretch_goes d p c p_in way stretch =
         let b : ℕ = w.next p in
-        let b_in = sound.linked.next_in p p_in in
+        let b_in = sound.tied.next_in p p_in in
         let keeps = stretch_behind w stretch.places p c stretch.stretch in
         goes_on d x y (w.head p) (w.head b) (w.head c)
         (subst (λ (u : ℕ). Goes d x y u (w.head b)) (next_tail p p_in) (dart_goes d b b_in (keeps_way stretch.places b c b_in keeps ∙ way)))
@@ -214,13 +214,13 @@ module _ (w : DartMap) (sound : IsSound w) where
         subst (λ (u : ℕ). Leads d x y (w.head p) u) (sym from) (leads_same d x y (w.head p))
     stretch_leads d (suc k) m p a c p_in a_in way stretch keeps few =
         let b : ℕ = w.next p in
-        let b_in = sound.linked.next_in p p_in in
+        let b_in = sound.tied.next_in p p_in in
         let behind : Keeps w (suc k) b c = stretch_keeps w k b c stretch.0 stretch.1 in
         elim (cases_eq m (suc k)) [
           | inl all ↦
               let at : a ≡ b =
-              sym (keeps_back w sound.linked (suc k) a c a_in (subst (λ (n : ℕ). Keeps w n a c) all keeps))
-              ∙ keeps_back w sound.linked (suc k) b c b_in behind in
+              sym (keeps_back w sound.tied (suc k) a c a_in (subst (λ (n : ℕ). Keeps w n a c) all keeps))
+              ∙ keeps_back w sound.tied (suc k) b c b_in behind in
               subst (λ (u : ℕ). Leads d x y (w.head p) u) (sym (ap (tail w) at ∙ next_tail p p_in)) (leads_same d x y (w.head p))
           | inr less ↦
               let first : Goes d x y (w.head p) (w.head b) =
@@ -234,12 +234,12 @@ module _ (w : DartMap) (sound : IsSound w) where
     stretch_spans : (d k p c t : ℕ) → p < w.darts → w.direction c ≡ d → StretchesIn w k p c → Spans d x y t (w.head p) (w.head c)
         → (a : ℕ) × (a < w.darts) × IsOn w a c × Spans d x y t (tail w a) (w.head a)
     stretch_spans d zero p c t p_in way stretch spans =
-        let c_in : c < w.darts = omega (arith, sound.linked.next_in p p_in, stretch.0) in
+        let c_in : c < w.darts = omega (arith, sound.tied.next_in p p_in, stretch.0) in
         let from : w.head p ≡ tail w c = sym (next_tail p p_in) ∙ ap (tail w) stretch.0 in
         (c, c_in, on_itself w c, subst (λ (u : ℕ). Spans d x y t u (w.head c)) from spans)
     stretch_spans d (suc k) p c t p_in way stretch spans =
         let b : ℕ = w.next p in
-        let b_in = sound.linked.next_in p p_in in
+        let b_in = sound.tied.next_in p p_in in
         elim (spans_split d x y t (w.head p) (w.head b) (w.head c) spans) [
           | inl first ↦ (
             b,
@@ -260,7 +260,7 @@ module _ (w : DartMap) (sound : IsSound w) where
     side_wide d p a c t p_in a_in corner way stretch on spans =
         spans_wide d x y t (w.head p) (tail w a) (w.head a) (w.head c)
         (stretch_leads d stretch.places on.places p a c p_in a_in way stretch.stretch on.keeps
-        (keeps_short w sound.linked stretch.places on.places p a c p_in a_in corner stretch.stretch on.keeps))
+        (keeps_short w sound.tied stretch.places on.places p a c p_in a_in corner stretch.stretch on.keeps))
         (keeps_leads d on.places a c a_in way on.keeps) spans
 
     -- where one dart of a side comes behind another, it passes no number that the other passes
@@ -279,8 +279,8 @@ module _ (w : DartMap) (sound : IsSound w) where
         let n : ℕ = two.places in
         elim (cases_order m n) [
           | inl same ↦
-              sym (keeps_back w sound.linked m a c a_in one.keeps) ∙ ap (λ (k : ℕ). steps_back w k c) same
-              ∙ keeps_back w sound.linked n b c b_in two.keeps
+              sym (keeps_back w sound.tied m a c a_in one.keeps) ∙ ap (λ (k : ℕ). steps_back w k c) same
+              ∙ keeps_back w sound.tied n b c b_in two.keeps
           | inr either ↦ elim either [
             | inl less ↦ absurd (not_both d m n a b c t a_in b_in corner way one.keeps two.keeps less sa sb)
             | inr more ↦ absurd (not_both d n m b a c t b_in a_in corner way two.keeps one.keeps more sb sa)

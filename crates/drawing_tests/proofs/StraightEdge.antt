@@ -1,7 +1,7 @@
 -- A map of one straight edge, as the tests make it.
 use Rattle.std.proofs.Common.{◌≡◌, ◌≢◌, ℕ, ◌+◌, ◌%◌, ◌<◌, ◌≤◌, ◌∙◌, true, List, get_or, arith, subst, sym, ap, refl, inl, inr}
 use Rattle.std.proofs.lemmas.Bool.{cases_eq}
-use Rattle.dissect.specs.DartMaps.{DartMap, IsLinked, IsMeeting, IsSound, around, reflex_turns}
+use Rattle.dissect.specs.DartMaps.{DartMap, IsTied, IsMeeting, IsSound, around, reflex_turns}
 use Rattle.dissect.specs.FaceNumbers.{HasTurns}
 use Rattle.dissect.proofs.Making.{dart_map_from}
 
@@ -33,7 +33,7 @@ edge_sound N P T H D A B e =
     let w : DartMap = dart_map_from 2 2 N P T H D A B in
     let clockwise_0 : w.reverse_dart (w.next 0) ≡ 0 = ap w.reverse_dart e.next_0 ∙ e.reverse_dart_1 in
     let clockwise_1 : w.reverse_dart (w.next 1) ≡ 1 = ap w.reverse_dart e.next_1 ∙ e.reverse_dart_0 in
-    let linked : IsLinked w = record {
+    let tied : IsTied w = record {
       next_in = by_two (λ a. w.next a < 2) (omega (arith, e.next_0)) (omega (arith, e.next_1));
       prev_in = by_two (λ a. w.prev a < 2) (omega (arith, e.prev_0)) (omega (arith, e.prev_1));
       next_back = by_two (λ a. w.prev (w.next a) ≡ a) (ap w.prev e.next_0 ∙ e.prev_1) (ap w.prev e.next_1 ∙ e.prev_0);
@@ -54,7 +54,7 @@ edge_sound N P T H D A B e =
       whole = by_two (λ u. around w u ≡ 4) (rw (e.head_0, e.head_1) (omega (arith, e.angle_1))) (rw (e.head_0, e.head_1) (omega (arith, e.angle_0)));
     } in
     record {
-      linked = linked;
+      tied = tied;
       meeting = meeting;
       straight = by_two (λ a. w.direction (w.reverse_dart a) ≡ (w.direction a + 2) % 4)
           (omega (arith, ap w.direction e.reverse_dart_0, e.direction_0, e.direction_1))

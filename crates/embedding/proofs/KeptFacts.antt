@@ -43,8 +43,8 @@ table_read n f table is d i x below at read =
     get_or_read table i x inside read 0 ∙ ap (λ (k : ℕ). get_or table k 0) at ∙ is.each d below
 
 -- what is read from a link
-pub link_read : (table : List ℕ) (i x value : ℕ) → i < length table → get_or table i 0 ≡ value → x ≡ get_or table i x → x ≡ value
-link_read table i x value inside is read = get_or_read table i x inside read 0 ∙ is
+pub tie_read : (table : List ℕ) (i x value : ℕ) → i < length table → get_or table i 0 ≡ value → x ≡ get_or table i x → x ≡ value
+tie_read table i x value inside is read = get_or_read table i x inside read 0 ∙ is
 
 -- and from a list of darts' ends
 pub end_read : (ends all : List ℕ) → ends ≡ all → (d i x : ℕ) → d < length all → i ≡ d → x ≡ get_or ends i x → x ≡ get_or all d 0

@@ -6,9 +6,9 @@ use Rattle.std.proofs.lemmas.List.FromFn.{get_or-map-range_with_len, length-map-
 use Rattle.embedding.specs.Lists.{list_of}
 use Rattle.embedding.specs.Darts.{heads, dart_count, first_dart, next_of}
 use Rattle.embedding.specs.Walk.{IsFaced, next_in}
-use Rattle.embedding.proofs.Faced.{linked, next_is, same_faces, same_degree}
+use Rattle.embedding.proofs.Faced.{tied, next_is, same_faces, same_degree}
 use Rattle.embedding.specs.Rules.{KeepsBefore}
-use Rattle.embedding.specs.Tables.{cut_at, IsTable, AreLinks, AreTables}
+use Rattle.embedding.specs.Tables.{cut_at, IsTable, AreTies, AreTables}
 use Rattle.embedding.proofs.EachList.{list_of-add}
 use Rattle.embedding.proofs.Building.{first_dart-more}
 
@@ -83,10 +83,10 @@ cut_whole g starts ends table same =
     ∙ (part_between g ends k (get_or starts k 0) (get_or starts (k + 1) 0) same (omega (arith, count)) (table.each k (omega (arith, count))) (table.each (k + 1) (omega (arith, count)))).part)
 
 -- the table in which links, faces and degrees stand before the starts
-pub kept_whole : (g : List (List ℕ)) (ends links front starts table : List ℕ) (count : ℕ) → KeepsBefore g 8 → length g < 256 → ends ≡ heads g
-    → AreLinks g (dart_count g) links → IsFaced (dart_count g) links count front → IsTable (length g + 1) (first_dart g) starts → table ≡ front ++ starts
+pub kept_whole : (g : List (List ℕ)) (ends ties front starts table : List ℕ) (count : ℕ) → KeepsBefore g 8 → length g < 256 → ends ≡ heads g
+    → AreTies g (dart_count g) ties → IsFaced (dart_count g) ties count front → IsTable (length g + 1) (first_dart g) starts → table ≡ front ++ starts
     → (cut_at (drop (3 * length ends + count) table) ends ≡ g) × AreTables g ends count table
-kept_whole g ends links front starts table count rules order same l f s is =
+kept_whole g ends ties front starts table count rules order same l f s is =
     let n = dart_count g in
     let size : length front ≡ 3 * length ends + count = omega (arith, f.size, ap length same) in
     let behind : drop (3 * length ends + count) table ≡ starts =
@@ -94,7 +94,7 @@ kept_whole g ends links front starts table count rules order same l f s is =
     let read : (i : ℕ) → i < 3 * n + count → get_or table i 0 ≡ get_or front i 0 =
     λ i below. ap (λ (t : List ℕ). get_or t i 0) is ∙ get_or_append_left front starts 0 i (omega (arith, f.size, below)) in
     let face_is : (d : ℕ) → d < n → get_or table (2 * n + d) 0 ≡ get_or front (2 * n + d) 0 = λ d b. read (2 * n + d) (omega (arith, b)) in
-    let walk = linked g rules links l in (
+    let walk = tied g rules ties l in (
       ap (λ (t : List ℕ). cut_at t ends) behind ∙ cut_whole g starts ends s same,
       record {
         rules = rules;
@@ -102,9 +102,9 @@ kept_whole g ends links front starts table count rules order same l f s is =
         heads_are = same;
         size = omega (arith, ap length is, length-append front starts, f.size, s.size);
         starts_are = subst (IsTable (length g + 1) (first_dart g)) (sym behind) s;
-        reverses_are = λ d below. read (2 * d) (omega (arith, below)) ∙ f.links_are (2 * d) (omega (arith, below)) ∙ l.reverses d below;
-        afters_are = λ d below. read (2 * d + 1) (omega (arith, below)) ∙ f.links_are (2 * d + 1) (omega (arith, below)) ∙ l.afters d below;
-        faces_are = same_faces n (next_in links) (next_of g) (λ d. get_or front (2 * n + d) 0) (λ d. get_or table (2 * n + d) 0) count walk.walked.inside (λ d b. sym (next_is g rules links l d b)) face_is f.faces_are;
+        reverses_are = λ d below. read (2 * d) (omega (arith, below)) ∙ f.ties_are (2 * d) (omega (arith, below)) ∙ l.reverses d below;
+        afters_are = λ d below. read (2 * d + 1) (omega (arith, below)) ∙ f.ties_are (2 * d + 1) (omega (arith, below)) ∙ l.afters d below;
+        faces_are = same_faces n (next_in ties) (next_of g) (λ d. get_or front (2 * n + d) 0) (λ d. get_or table (2 * n + d) 0) count walk.walked.inside (λ d b. sym (next_is g rules ties l d b)) face_is f.faces_are;
         degrees_are = λ k b. read (3 * n + k) (omega (arith, b)) ∙ f.degrees_are k b ∙ sym (same_degree n (λ d. get_or front (2 * n + d) 0) (λ d. get_or table (2 * n + d) 0) k face_is);
       },
     )

@@ -27,17 +27,17 @@ module _ (w : DartMap) (x y : ℕ → ℕ) (sound : IsSound w) (ordered : IsOrde
   reverse_way a a_in k m way is = sound.straight a a_in ∙ ap (λ (d : ℕ). (d + 2) % 4) way ∙ is
 
   tail_back : (a : ℕ) → a < w.darts → tail w (w.reverse_dart a) ≡ w.head a
-  tail_back a a_in = ap w.head (sound.linked.reverse_dart_back a a_in)
+  tail_back a a_in = ap w.head (sound.tied.reverse_dart_back a a_in)
 
   -- a dart goes in its direction
   dart_goes : (k a : ℕ) → a < w.darts → w.direction a ≡ k → k < 4 → Goes k x y (tail w a) (w.head a)
   dart_goes zero a a_in way few = ordered.east a a_in way
   dart_goes (suc zero) a a_in way few = ordered.north a a_in way
   dart_goes (suc (suc zero)) a a_in way few =
-      let back = ordered.east (w.reverse_dart a) (sound.linked.reverse_dart_in a a_in) (reverse_way a a_in 2 0 way refl) in
+      let back = ordered.east (w.reverse_dart a) (sound.tied.reverse_dart_in a a_in) (reverse_way a a_in 2 0 way refl) in
       (omega (arith, back.0, ap x (tail_back a a_in)), omega (arith, back.1, ap y (tail_back a a_in)))
   dart_goes (suc (suc (suc zero))) a a_in way few =
-      let back = ordered.north (w.reverse_dart a) (sound.linked.reverse_dart_in a a_in) (reverse_way a a_in 3 1 way refl) in
+      let back = ordered.north (w.reverse_dart a) (sound.tied.reverse_dart_in a a_in) (reverse_way a a_in 3 1 way refl) in
       (omega (arith, back.0, ap y (tail_back a a_in)), omega (arith, back.1, ap x (tail_back a a_in)))
   dart_goes (suc (suc (suc (suc k)))) a a_in way few = absurd (omega (arith, few))
 

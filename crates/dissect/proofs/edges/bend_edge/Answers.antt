@@ -11,14 +11,14 @@ turns-preserved c =
     let t = c.turns.table in
     let before = c.turns.invariant in
     let reverse_dart_is = get_or_read t.reverse_dart.items c.args.e c.index-reverse_dart.result.now (omega (arith, before.inside)) c.index-reverse_dart.ensures 0 in
-    let reverse_dart_in : c.index-reverse_dart.result.now < t.darts = omega (arith, reverse_dart_is, before.linked.reverse_dart_in c.args.e before.inside) in
+    let reverse_dart_in : c.index-reverse_dart.result.now < t.darts = omega (arith, reverse_dart_is, before.tied.reverse_dart_in c.args.e before.inside) in
     let direction_is = get_or_read t.direction.items c.index-reverse_dart.result.now c.index.result.now (omega (arith, reverse_dart_in)) c.index.ensures 0 in
     let way_is : (c.index.result.now + 2) % 4 ≡ start_direction (dart_map_of t) c.args.e =
     ap (λ (k : ℕ). (k + 2) % 4) (direction_is ∙ ap (dart_map_of t).direction reverse_dart_is) in
     let step = turn_on (dart_map_of t) c.args.e _ c.angle_of.result c.args.turns.now c.turns.turn-index _ (dart_map_of c.split.new.self)
-    before.linked before.meeting before.inside c.turns-test.true way_is c.angle_of.ensures c.split.ensures.split in
+    before.tied before.meeting before.inside c.turns-test.true way_is c.angle_of.ensures c.split.ensures.split in
     record {
-      linked = step.linked;
+      tied = step.tied;
       meeting = step.meeting;
       inside = omega (arith, before.inside, c.split.ensures.split.darts);
       count = omega (arith, before.count, c.split.ensures.split.darts);
@@ -37,6 +37,6 @@ overflow_add-way c =
     let t = c.turns.table in
     let before = c.turns.invariant in
     let reverse_dart_is = get_or_read t.reverse_dart.items c.args.e c.index-reverse_dart.result.now (omega (arith, before.inside)) c.index-reverse_dart.ensures 0 in
-    let reverse_dart_in : c.index-reverse_dart.result.now < t.darts = omega (arith, reverse_dart_is, before.linked.reverse_dart_in c.args.e before.inside) in
+    let reverse_dart_in : c.index-reverse_dart.result.now < t.darts = omega (arith, reverse_dart_is, before.tied.reverse_dart_in c.args.e before.inside) in
     let direction_is = get_or_read t.direction.items c.index-reverse_dart.result.now c.index.result.now (omega (arith, reverse_dart_in)) c.index.ensures 0 in
     omega (arith, direction_is, before.meeting.quarter c.index-reverse_dart.result.now reverse_dart_in)

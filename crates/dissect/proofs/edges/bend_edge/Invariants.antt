@@ -1,12 +1,12 @@
 use Rattle.std.proofs.Common.{◌≡◌, ◌+◌, ◌*◌, ◌<◌, drop}
-use Rattle.dissect.specs.DartMaps.{DartMap, IsLinked, IsMeeting}
+use Rattle.dissect.specs.DartMaps.{DartMap, IsTied, IsMeeting}
 use Rattle.dissect.specs.Tables.{dart_map_of, room}
 use Rattle.dissect.specs.Steps.{IsBent}
 use Rattle.dissect.proofs.edges.bend_edge.Given as goal
 
 abbrev pub invariant-turns : goal.invariant-turns
 invariant-turns l = record {
-  linked : IsLinked (dart_map_of l.table);
+  tied : IsTied (dart_map_of l.table);
   meeting : IsMeeting (dart_map_of l.table);
   inside : l.e < l.table.darts;
   count : l.table.darts ≡ l.fn.table.darts + 2 * l.turn-index;

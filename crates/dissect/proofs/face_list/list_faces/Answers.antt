@@ -42,7 +42,7 @@ darts-preserved c =
           let angle = get_or_read c.args.table.now.angle.items d w.index-then-not-index.result.now (omega arith) w.index-then-not-index.ensures 0 in
           let more = trace_more w0 c.args.right c.requires.turns.0 flags w.walk-then-index-ne2.new.seen.items c.darts.corners.items
           c.darts.counts.items c.walk.new.corners.items w.walk-then-index-ne2.new.corners.items d (w.len.result - w.len-before.result)
-          c.requires.linked c.requires.inside c.requires.turns.1 (omega arith) (λ h. w.if-index-ne2.true (angle ∙ h))
+          c.requires.tied c.requires.inside c.requires.turns.1 (omega arith) (λ h. w.if-index-ne2.true (angle ∙ h))
           (λ m. both_ways c.index.result.now w.if-not-index.true (read ∙ m))
           (omega (arith, w.in_ok-walk-2.ensures.size, w.walk-then-index-ne2.new.seen.ok.0, c.darts.seen.ok.0))
           (omega (arith, w.len.ensures, w.len-before.ensures, w.walk-then-index-ne2.new.corners.ok.0, c.darts.corners.ok.0))
@@ -63,6 +63,6 @@ darts-preserved c =
 
 pub returns : goal.returns
 returns c = record {
-  listed = trace_done (dart_map_of c.args.table.now) c.args.right c.requires.turns.0 _ _ _ _ _ c.requires.linked c.requires.inside
+  listed = trace_done (dart_map_of c.args.table.now) c.args.right c.requires.turns.0 _ _ _ _ _ c.requires.tied c.requires.inside
       c.requires.turn c.requires.turns.1 (omega arith) c.darts.invariant;
 }

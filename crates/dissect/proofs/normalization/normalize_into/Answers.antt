@@ -4,12 +4,12 @@ use Rattle.std.proofs.lemmas.List.{drop_all}
 use Rattle.faces.specs.Planes.{darts}
 use Rattle.ortho_rep.specs.declared.turn.Turn.{Turn}
 use Rattle.ortho_rep.specs.Shapes.{angle_at, turns_at}
-use Rattle.dissect.specs.DartMaps.{IsLinked, IsMeeting}
+use Rattle.dissect.specs.DartMaps.{IsTied, IsMeeting}
 use Rattle.dissect.specs.Tables.{dart_map_of}
 use Rattle.dissect.specs.Steps.{IsBent, AreBent, finished}
 use Rattle.dissect.proofs.EdgeTurns.{bends_twice, lesser_length-lesser, lesser_few}
 use Rattle.dissect.proofs.Normalizing.{AreRemaining, AreDone, none_done, next_at, next_done, none_left}
-use Rattle.dissect.proofs.Starting.{linked, meeting}
+use Rattle.dissect.proofs.Starting.{tied, meeting}
 use Rattle.dissect.proofs.Ending.{all_bends}
 use Rattle.dissect.proofs.Pathing.{bends_have_paths, bends_stay_connected}
 use Rattle.dissect.proofs.Chaining.{bends_have_chains}
@@ -23,7 +23,7 @@ edges-init c =
     let h = slice_index c.args.directions.now in
     let w = dart_map_of c.in_ok-table.table in
     none_done p s c.in_ok-table.table c.args.edges.now
-    (linked p a s h w c.graph-graph.ensures.plane c.graph-graph.ensures.ends c.requires.shape.rep c.requires.headings c.in_ok-table.ensures.bare)
+    (tied p a s h w c.graph-graph.ensures.plane c.graph-graph.ensures.ends c.requires.shape.rep c.requires.headings c.in_ok-table.ensures.bare)
     (meeting p a s h w c.graph-graph.ensures.plane c.graph-graph.ensures.ends c.requires.shape.rep c.requires.headings c.in_ok-table.ensures.bare)
     c.requires.edges
 
@@ -71,7 +71,7 @@ edges-preserved c =
     subst (λ (e : ℕ). IsBent e (dart_map_of c.edges.table) (s d) (dart_map_of new)) c.from.ensures
     (subst (λ (ts : List Turn). IsBent c.from.result (dart_map_of c.edges.table) ts (dart_map_of new)) c.turns.ensures.value c.bend_edge.ensures.bent) in
     next_done p s start c.edges.table new d (drop (c.edges.dart-index + 1) c.args.edges.now) next edge
-    c.bend_edge.ensures.linked c.bend_edge.ensures.meeting
+    c.bend_edge.ensures.tied c.bend_edge.ensures.meeting
     (omega (arith, c.bend_edge.ensures.darts, ap (length {A = Turn}) c.turns.ensures.value)) c.bend_edge.ensures.room
 
 pub returns : goal.returns
@@ -92,7 +92,7 @@ returns c =
     let new = dart_map_of c.edges.table in
     let bent : AreBent p s 0 w new = done.steps new (finished (darts p) new (omega arith)) in
     let bends = all_bends p a s h w new plane ends rep c.requires.headings bare bent in
-    let plain = linked p a s h w plane ends rep c.requires.headings bare in
+    let plain = tied p a s h w plane ends rep c.requires.headings bare in
     record {
       sound = bends.sound;
       darts = bends.darts;

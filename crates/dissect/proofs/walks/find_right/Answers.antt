@@ -6,32 +6,32 @@ use Rattle.dissect.proofs.walks.find_right.Goals as goal
 
 pub index-requires : goal.index-requires
 index-requires c =
-    let inside = seek_in (dart_map_of c.args.table.now) c.args.outside c.steps.counter c.steps.dart c.requires.linked c.requires.inside c.steps.invariant in
+    let inside = seek_in (dart_map_of c.args.table.now) c.args.outside c.steps.counter c.steps.dart c.requires.tied c.requires.inside c.steps.invariant in
     omega arith
 
 pub returns-then-index-gt2-clause-inside : goal.returns-then-index-gt2-clause-inside
 returns-then-index-gt2-clause-inside c =
-    seek_in (dart_map_of c.args.table.now) c.args.outside c.steps.counter c.steps.dart c.requires.linked c.requires.inside c.steps.invariant
+    seek_in (dart_map_of c.args.table.now) c.args.outside c.steps.counter c.steps.dart c.requires.tied c.requires.inside c.steps.invariant
 
 pub returns-then-index-gt2-clause-right : goal.returns-then-index-gt2-clause-right
 returns-then-index-gt2-clause-right c =
-    let inside = seek_in (dart_map_of c.args.table.now) c.args.outside c.steps.counter c.steps.dart c.requires.linked c.requires.inside c.steps.invariant in
+    let inside = seek_in (dart_map_of c.args.table.now) c.args.outside c.steps.counter c.steps.dart c.requires.tied c.requires.inside c.steps.invariant in
     let read = get_or_read c.args.table.now.angle.items c.steps.dart c.index.result.now (omega arith) c.index.ensures 0 in
     subst (λ k. 2 < k) read c.if-index-gt2.true
 
 pub returns-then-index-gt2-clause-same : goal.returns-then-index-gt2-clause-same
 returns-then-index-gt2-clause-same c = λ label labels.
-    seek_label (dart_map_of c.args.table.now) label c.args.outside c.steps.counter c.steps.dart c.requires.linked labels c.requires.inside c.steps.invariant
+    seek_label (dart_map_of c.args.table.now) label c.args.outside c.steps.counter c.steps.dart c.requires.tied labels c.requires.inside c.steps.invariant
 
 pub index-dart-requires : goal.index-dart-requires
 index-dart-requires c =
-    let inside = seek_in (dart_map_of c.args.table.now) c.args.outside c.steps.counter c.steps.dart c.requires.linked c.requires.inside c.steps.invariant in
+    let inside = seek_in (dart_map_of c.args.table.now) c.args.outside c.steps.counter c.steps.dart c.requires.tied c.requires.inside c.steps.invariant in
     omega arith
 
 pub steps-preserved : goal.steps-preserved
 steps-preserved c =
     let w = dart_map_of c.args.table.now in
-    let inside = seek_in w c.args.outside c.steps.counter c.steps.dart c.requires.linked c.requires.inside c.steps.invariant in
+    let inside = seek_in w c.args.outside c.steps.counter c.steps.dart c.requires.tied c.requires.inside c.steps.invariant in
     let angle = get_or_read c.args.table.now.angle.items c.steps.dart c.index.result.now (omega arith) c.index.ensures 0 in
     let next = get_or_read c.args.table.now.next.items c.steps.dart c.index-dart.result.now (omega arith) c.index-dart.ensures 0 in
     seek_on w c.args.outside c.steps.counter c.steps.dart c.index-dart.result.now c.steps.invariant
@@ -39,13 +39,13 @@ steps-preserved c =
 
 pub returns-clause-inside : goal.returns-clause-inside
 returns-clause-inside c =
-    seek_in (dart_map_of c.args.table.now) c.args.outside c.steps.counter c.steps.dart c.requires.linked c.requires.inside c.steps.invariant
+    seek_in (dart_map_of c.args.table.now) c.args.outside c.steps.counter c.steps.dart c.requires.tied c.requires.inside c.steps.invariant
 
 pub returns-clause-right : goal.returns-clause-right
 returns-clause-right c =
-    absurd (seek_fails (dart_map_of c.args.table.now) c.requires.turns.0 c.args.outside c.steps.counter c.steps.dart c.requires.linked
+    absurd (seek_fails (dart_map_of c.args.table.now) c.requires.turns.0 c.args.outside c.steps.counter c.steps.dart c.requires.tied
     c.requires.turns.1 c.requires.inside (omega arith) c.steps.invariant)
 
 pub returns-clause-same : goal.returns-clause-same
 returns-clause-same c = λ label labels.
-    seek_label (dart_map_of c.args.table.now) label c.args.outside c.steps.counter c.steps.dart c.requires.linked labels c.requires.inside c.steps.invariant
+    seek_label (dart_map_of c.args.table.now) label c.args.outside c.steps.counter c.steps.dart c.requires.tied labels c.requires.inside c.steps.invariant

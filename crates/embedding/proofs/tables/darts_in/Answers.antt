@@ -1,20 +1,20 @@
 use Rattle.std.proofs.Common.{◌≡◌, arith, subst, sym, ℕ}
 use Rattle.embedding.specs.Darts.{dart_count, first_dart}
-use Rattle.embedding.specs.Tables.{AreLinks}
-use Rattle.embedding.specs.Walk.{AreLinked, IsFaced}
+use Rattle.embedding.specs.Tables.{AreTies}
+use Rattle.embedding.specs.Walk.{AreTied, IsFaced}
 use Rattle.embedding.proofs.Building.{first_dart-all, heads_found}
-use Rattle.embedding.proofs.Faced.{linked}
+use Rattle.embedding.proofs.Faced.{tied}
 use Rattle.embedding.proofs.KeptFacts.{sizes}
 use Rattle.embedding.proofs.Parts.{kept_whole}
 use Rattle.embedding.proofs.tables.darts_in.Goals as goal
 
-pub add_faces-requires-clause-linked : goal.add_faces-requires-clause-linked
-add_faces-requires-clause-linked c =
+pub add_faces-requires-clause-tied : goal.add_faces-requires-clause-tied
+add_faces-requires-clause-tied c =
     let g = c.args.lists.now in
     let all : first_dart g c.loop-place.place ≡ dart_count g =
     first_dart-all g c.loop-place.place (omega (arith, c.loop-place-test.false, c.count-place-end.ensures.count)) in
-    let links = subst (λ (n : ℕ). AreLinks g n c.loop-place.table.items) all c.loop-place.invariant.links in
-    subst (λ (n : ℕ). AreLinked n c.loop-place.table.items) (sym c.darts-darts.ensures.count) (linked g c.requires.rules _ links)
+    let ties = subst (λ (n : ℕ). AreTies g n c.loop-place.table.items) all c.loop-place.invariant.ties in
+    subst (λ (n : ℕ). AreTied n c.loop-place.table.items) (sym c.darts-darts.ensures.count) (tied g c.requires.rules _ ties)
 
 pub add_faces-requires-clause-few : goal.add_faces-requires-clause-few
 add_faces-requires-clause-few c =
@@ -25,17 +25,17 @@ returns-clause-kept c =
     let g = c.args.lists.now in
     let all : first_dart g c.loop-place.place ≡ dart_count g =
     first_dart-all g c.loop-place.place (omega (arith, c.loop-place-test.false, c.count-place-end.ensures.count)) in
-    let links = subst (λ (n : ℕ). AreLinks g n c.loop-place.table.items) all c.loop-place.invariant.links in
+    let ties = subst (λ (n : ℕ). AreTies g n c.loop-place.table.items) all c.loop-place.invariant.ties in
     let faced = subst (λ (n : ℕ). IsFaced n c.loop-place.table.items c.in_ok-faces.faces c.add_faces.new.table.items) c.darts-darts.ensures.count c.in_ok-faces.ensures in
     let (starts, table, is) = c.in_ok-add_starts.ensures in
-    (kept_whole g _ _ _ starts _ _ c.requires.rules c.requires.few (heads_found g _ _ all c.loop-place.invariant.heads) links faced table is).1
+    (kept_whole g _ _ _ starts _ _ c.requires.rules c.requires.few (heads_found g _ _ all c.loop-place.invariant.heads) ties faced table is).1
 
 pub returns-clause-lists : goal.returns-clause-lists
 returns-clause-lists c =
     let g = c.args.lists.now in
     let all : first_dart g c.loop-place.place ≡ dart_count g =
     first_dart-all g c.loop-place.place (omega (arith, c.loop-place-test.false, c.count-place-end.ensures.count)) in
-    let links = subst (λ (n : ℕ). AreLinks g n c.loop-place.table.items) all c.loop-place.invariant.links in
+    let ties = subst (λ (n : ℕ). AreTies g n c.loop-place.table.items) all c.loop-place.invariant.ties in
     let faced = subst (λ (n : ℕ). IsFaced n c.loop-place.table.items c.in_ok-faces.faces c.add_faces.new.table.items) c.darts-darts.ensures.count c.in_ok-faces.ensures in
     let (starts, table, is) = c.in_ok-add_starts.ensures in
-    (kept_whole g _ _ _ starts _ _ c.requires.rules c.requires.few (heads_found g _ _ all c.loop-place.invariant.heads) links faced table is).0
+    (kept_whole g _ _ _ starts _ _ c.requires.rules c.requires.few (heads_found g _ _ all c.loop-place.invariant.heads) ties faced table is).0

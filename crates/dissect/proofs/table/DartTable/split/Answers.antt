@@ -12,7 +12,7 @@ returns-clause-split c =
     s.reverse_dart.items c.pair.new.reverse_dart.items c.pair-2.new.reverse_dart.items
     s.head.items _ s.direction.items _ s.angle.items _
     s.before.items c.take_over.new.before.items c.take_over-2.new.before.items
-    c.requires.linked c.requires.e_in
+    c.requires.tied c.requires.e_in
     (get_or_read s.reverse_dart.items c.args.e c.index-reverse_dart.result.now (omega arith) c.index-reverse_dart.ensures 0)
     (omega arith) (omega arith) (omega arith) (omega arith) (omega arith) (omega arith) (omega arith)
     c.put_in_front.ensures.next c.put_in_front.ensures.prev c.put_in_front-2.ensures.next c.put_in_front-2.ensures.prev

@@ -1,6 +1,6 @@
 use Rattle.std.proofs.Common.{◌≡◌, ℕ, ◌*◌, get_or, subst, arith}
 use Rattle.embedding.specs.Darts.{reverse_of}
-use Rattle.embedding.proofs.KeptFacts.{kept_as, link_read}
+use Rattle.embedding.proofs.KeptFacts.{kept_as, tie_read}
 use Rattle.embedding.proofs.Rotation.{reverse_is, reverse_involution}
 use Rattle.embedding.proofs.graphs.Graph.reverse.Goals as goal
 
@@ -9,7 +9,7 @@ returns-clause-inside c =
     let kept = kept_as _ _ c.self.view_is c.self.invariant in
     let at_place : 2 * c.from.result ≡ 2 * c.args.dart = omega (arith, c.from.ensures) in
     let at : c.index.result.now ≡ reverse_of c.args.self.now c.args.dart =
-    link_read _ (2 * c.args.dart) _ _ (omega (arith, kept.size, c.requires)) (kept.reverses_are c.args.dart c.requires) (subst (λ (i : ℕ). c.index.result.now ≡ get_or c.self.inside.table.items i c.index.result.now) at_place c.index.ensures) in
+    tie_read _ (2 * c.args.dart) _ _ (omega (arith, kept.size, c.requires)) (kept.reverses_are c.args.dart c.requires) (subst (λ (i : ℕ). c.index.result.now ≡ get_or c.self.inside.table.items i c.index.result.now) at_place c.index.ensures) in
     let is = reverse_is c.args.self.now kept.rules c.args.dart c.requires in
     rw at is.inside
 
@@ -18,7 +18,7 @@ returns-clause-back c =
     let kept = kept_as _ _ c.self.view_is c.self.invariant in
     let at_place : 2 * c.from.result ≡ 2 * c.args.dart = omega (arith, c.from.ensures) in
     let at : c.index.result.now ≡ reverse_of c.args.self.now c.args.dart =
-    link_read _ (2 * c.args.dart) _ _ (omega (arith, kept.size, c.requires)) (kept.reverses_are c.args.dart c.requires) (subst (λ (i : ℕ). c.index.result.now ≡ get_or c.self.inside.table.items i c.index.result.now) at_place c.index.ensures) in
+    tie_read _ (2 * c.args.dart) _ _ (omega (arith, kept.size, c.requires)) (kept.reverses_are c.args.dart c.requires) (subst (λ (i : ℕ). c.index.result.now ≡ get_or c.self.inside.table.items i c.index.result.now) at_place c.index.ensures) in
     let is = reverse_is c.args.self.now kept.rules c.args.dart c.requires in
     rw at ((reverse_involution c.args.self.now kept.rules).back c.args.dart c.requires)
 
@@ -27,7 +27,7 @@ returns-clause-tail c =
     let kept = kept_as _ _ c.self.view_is c.self.invariant in
     let at_place : 2 * c.from.result ≡ 2 * c.args.dart = omega (arith, c.from.ensures) in
     let at : c.index.result.now ≡ reverse_of c.args.self.now c.args.dart =
-    link_read _ (2 * c.args.dart) _ _ (omega (arith, kept.size, c.requires)) (kept.reverses_are c.args.dart c.requires) (subst (λ (i : ℕ). c.index.result.now ≡ get_or c.self.inside.table.items i c.index.result.now) at_place c.index.ensures) in
+    tie_read _ (2 * c.args.dart) _ _ (omega (arith, kept.size, c.requires)) (kept.reverses_are c.args.dart c.requires) (subst (λ (i : ℕ). c.index.result.now ≡ get_or c.self.inside.table.items i c.index.result.now) at_place c.index.ensures) in
     let is = reverse_is c.args.self.now kept.rules c.args.dart c.requires in
     rw at is.tail
 
@@ -36,6 +36,6 @@ returns-clause-head c =
     let kept = kept_as _ _ c.self.view_is c.self.invariant in
     let at_place : 2 * c.from.result ≡ 2 * c.args.dart = omega (arith, c.from.ensures) in
     let at : c.index.result.now ≡ reverse_of c.args.self.now c.args.dart =
-    link_read _ (2 * c.args.dart) _ _ (omega (arith, kept.size, c.requires)) (kept.reverses_are c.args.dart c.requires) (subst (λ (i : ℕ). c.index.result.now ≡ get_or c.self.inside.table.items i c.index.result.now) at_place c.index.ensures) in
+    tie_read _ (2 * c.args.dart) _ _ (omega (arith, kept.size, c.requires)) (kept.reverses_are c.args.dart c.requires) (subst (λ (i : ℕ). c.index.result.now ≡ get_or c.self.inside.table.items i c.index.result.now) at_place c.index.ensures) in
     let is = reverse_is c.args.self.now kept.rules c.args.dart c.requires in
     rw at is.head

@@ -23,7 +23,7 @@ pub fn put_in_front(next: &mut Vec<u32>, prev: &mut Vec<u32>, new: u32, old: u32
 }
 
 /// Lets `b` follow `a` on its face.
-pub fn link(next: &mut Vec<u32>, prev: &mut Vec<u32>, a: u32, b: u32)
+pub fn tie(next: &mut Vec<u32>, prev: &mut Vec<u32>, a: u32, b: u32)
     requires a_in { a < vec_len next.old }
     requires b_in { b < vec_len prev.old }
     ensures next { next.new.items ≡ slice_set next.old.items a b }
