@@ -56,9 +56,9 @@ level_set n segments new v first y v_in same_number made level u u_in =
 -- a vertex of a segment may be written where all numbers that stay the same along the steps are there as at its first one
 pub segments_set : (next : ℕ → ℕ) (n : ℕ) (segments new : List ℕ) (v first : ℕ) → v < n → first < n → ((y : ℕ → ℕ) → StayLevel next n y → y first ≡ y v) →
     new ≡ set segments v first → AreSegments next n segments → AreSegments next n new
-segments_set next n segments new v first v_in first_in joined made are = record {
+segments_set next n segments new v first v_in first_in connected made are = record {
   inside = vertices_set n segments new v first v_in first_in made are.inside;
-  level = λ y level. level_set n segments new v first y (omega (arith, v_in, are.inside.0)) (joined y level) made (are.level y level);
+  level = λ y level. level_set n segments new v first y (omega (arith, v_in, are.inside.0)) (connected y level) made (are.level y level);
 }
 
 -- segments stay segments under other names of the steps and of the number of vertices
@@ -76,7 +76,7 @@ pub on_own_segment : (next : ℕ → ℕ) (n : ℕ) (segment_firsts : List ℕ) 
 on_own_segment next n segment_firsts first vertex some are first_is vertex_is = record {
   first_in = omega (arith, first_is, are.1 0 some);
   vertex_in = omega (arith, vertex_is, are.1 0 some);
-  joined = λ y level. ap y (first_is ∙ sym vertex_is);
+  connected = λ y level. ap y (first_is ∙ sym vertex_is);
 }
 
 -- a number is raised to one more than that of a segment which has a step to its segment

@@ -45,7 +45,7 @@ AreOwn n segments = (length segments ≡ n) × ((v : ℕ) → v < n → slice_in
 pub record IsOnSegment (next : ℕ → ℕ) (n first vertex : ℕ) : Type 0 where
   pub first_in : first < n
   pub vertex_in : vertex < n
-  pub joined : (y : ℕ → ℕ) → StayLevel next n y → y first ≡ y vertex
+  pub connected : (y : ℕ → ℕ) → StayLevel next n y → y first ≡ y vertex
 
 -- the first n numbers are nowhere above y
 abbrev pub AreUnder : ℕ → List ℕ → (ℕ → ℕ) → Type 0

@@ -1,4 +1,4 @@
-//! Segments of vertices that darts across an axis join, and the lengths of longest paths over them.
+//! Lengths of longest paths (Tamassia 1987) over segments of vertices, which darts across an axis connect.
 
 ghost use Rattle.std.specs.Prelude.{◌≡◌, ◌*◌, ◌^◌, ◌<◌, ℕ, length, OnOk};
 ghost use Rattle.compact.specs.Steps.{step, AreVertices, AreLevelIn, AreSegments, AreOwn, IsOnSegment, AreUnder, StayUnder, StayUnderAll};

@@ -1,11 +1,10 @@
-//! Cuts the faces of a map in four directions into boxes, which turn left four times and are else
-//! straight: the core of a dissection.
+//! Cuts the faces of a map in four directions into boxes, by Tamassia's compaction (1987), with one pass a
+//! face. Boxes turn left four times and are else straight: the core of a dissection.
 //!
 //! A map is a table of darts whose edges run along the axes. A face is given by its corners, in
 //! walking order. Read from the place on where the walk has turned left most, a stack of corners
 //! takes them one by one; wherever a right turn stands below two left turns, a chord from the right
 //! turn to the edge behind the second left turn cuts a box off. Four left turns are left at the end.
-//! (The method is that of Tamassia's compaction, 1987, with one pass a face.)
 
 ghost use Rattle.std.specs.Prelude.{◌≡◌, ◌≢◌, ℕ, ◌+◌, ◌-◌, ◌*◌, ◌^◌, ◌<◌, ◌≤◌, ◌↔◌, List, [], ◌∷◌, length, map, drop, take, ◌++◌, sum, slice_index, true, All};
 ghost use Rattle.dissect.specs.DartMaps.{IsSound, IsCut, Grows};

@@ -1,7 +1,6 @@
-//! Rectangles of whole points, and whether any two of a list have a point in common.
+//! Whether any two rectangles of whole points meet, by a sweep from left to right (Shamos and Hoey 1976).
 //!
-//! Where all rectangles lie in few rows and columns, their points are flagged by bits. Else the method is
-//! a sweep from left to right (Shamos and Hoey 1976, for axis-parallel rectangles). Where the rectangles
+//! Where all rectangles lie in few rows and columns, their points are flagged by bits in its place. Where the rectangles
 //! have few rows, the frontier of the sweep stands in a table by rows; else the rectangles that it still
 //! meets stand in a dictionary.
 

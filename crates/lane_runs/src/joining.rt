@@ -1,4 +1,4 @@
-//! What the calling thread makes of the lanes that run.
+//! Lanes that run are joined here, by the calling thread.
 ghost use Rattle.std.specs.Prelude.{◌≡◌, ◌≤◌, ◌+◌, ℕ, List, [], All, IfOk, IfErr, true, vec_len};
 ghost use Rattle.ruled_lanes.specs.declared.limits.TheConstants.{LANES};
 ghost use Rattle.ruled_lanes.specs.FanEnds.{given_at, gathered, GivesToSameLane};

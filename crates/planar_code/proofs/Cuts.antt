@@ -46,12 +46,12 @@ length-front a b f = omega (arith, ap length f.1, length-append a f.0)
 
 -- records that cannot be continued are the longest
 pub cut_from : (body : List ℕ) (records : List (List ℕ)) (rest : List ℕ) → body ≡ concat records ++ rest → All IsRecord records → length records ≤ MAX_RECORDS → IsStuck (length records) rest → IsCut body records rest
-cut_from body records rest joined each few stuck = record {
-  joined = joined;
+cut_from body records rest concatenated each few stuck = record {
+  concatenated = concatenated;
   each = each;
   few = few;
   longest = λ others remaining e each_o few_o.
-      length-front others records (front_of-stuck others records remaining rest each_o each (sym e ∙ joined) few_o stuck);
+      length-front others records (front_of-stuck others records remaining rest each_o each (sym e ∙ concatenated) few_o stuck);
 }
 
 -- the longest records cannot be continued
@@ -61,16 +61,16 @@ stuck-cut body records rest c = elim (cases_eq (length records) MAX_RECORDS) [
   | inr short ↦ inr (λ first remaining r e.
       let others = records ++ first ∷ [] in
       let n = length-append records (first ∷ []) in
-      let joined : body ≡ concat others ++ remaining
-      = c.joined ∙ ap (λ z. concat records ++ z) e ∙ sym (append_assoc (concat records) first remaining) ∙ ap (λ z. z ++ remaining) (sym (concat-push records first)) in
+      let concatenated : body ≡ concat others ++ remaining
+      = c.concatenated ∙ ap (λ z. concat records ++ z) e ∙ sym (append_assoc (concat records) first remaining) ∙ ap (λ z. z ++ remaining) (sym (concat-push records first)) in
       let few = c.few in
-      absurd (omega (arith, c.longest others remaining joined (All-push IsRecord records first c.each r) (omega arith))))
+      absurd (omega (arith, c.longest others remaining concatenated (All-push IsRecord records first c.each r) (omega arith))))
 ]
 
 -- any whole records that begin the body begin the longest
 pub front_of-cut : (body : List ℕ) (records : List (List ℕ)) (rest : List ℕ) → IsCut body records rest → (others : List (List ℕ)) (remaining : List ℕ) → body ≡ concat others ++ remaining → All IsRecord others → length others ≤ MAX_RECORDS → (more : List (List ℕ)) × (records ≡ others ++ more)
 front_of-cut body records rest c others remaining e each few =
-    front_of-stuck others records remaining rest each c.each (sym e ∙ c.joined) few (stuck-cut body records rest c)
+    front_of-stuck others records remaining rest each c.each (sym e ∙ c.concatenated) few (stuck-cut body records rest c)
 
 -- the same number of records from the same bytes are the same
 pub records_same : (ra rb : List (List ℕ)) (x y : List ℕ) → All IsRecord ra → All IsRecord rb → length ra ≡ length rb → concat ra ++ x ≡ concat rb ++ y → (ra ≡ rb) × (x ≡ y)
@@ -87,4 +87,4 @@ records_same (a ∷ ra) (b ∷ rb) x y each_a each_b n e =
 -- bytes are cut in one way
 pub cut_same : (body : List ℕ) (rs ss : List (List ℕ)) (x y : List ℕ) → IsCut body rs x → IsCut body ss y → (rs ≡ ss) × (x ≡ y)
 cut_same body rs ss x y c d =
-    records_same rs ss x y c.each d.each (omega (arith, c.longest ss y d.joined d.each d.few, d.longest rs x c.joined c.each c.few)) (sym c.joined ∙ d.joined)
+    records_same rs ss x y c.each d.each (omega (arith, c.longest ss y d.concatenated d.each d.few, d.longest rs x c.concatenated c.each c.few)) (sym c.concatenated ∙ d.concatenated)

@@ -95,7 +95,7 @@ standing-front (After count rest) stream records s more all end (inl h) =
 standing-front (After count rest) stream records s more all end (inr h) =
     let body : h.body ≡ s.body ++ more
     = body_same h.body (s.body ++ more) (sym h.headed ∙ ap (λ z. z ++ more) s.headed ∙ append_assoc HEADER s.body more) in
-    front_of-cut h.body all h.rest h.cut records (rest ++ more) (body ∙ ap (λ z. z ++ more) s.cut.joined ∙ append_assoc (concat records) rest more) s.cut.each s.cut.few
+    front_of-cut h.body all h.rest h.cut records (rest ++ more) (body ∙ ap (λ z. z ++ more) s.cut.concatenated ∙ append_assoc (concat records) rest more) s.cut.each s.cut.few
 standing-front (Failed f) stream records s more all end split =
     ([], (split_same (stream ++ more) all records end (ending_of f) split (s more)).0 ∙ sym (append-nil records))
 

@@ -49,7 +49,7 @@ pub goes_more : (count : ℕ) (rest text : List ℕ) → count ≢ MAX_RECORDS �
 goes_more count rest text room unfinished stream records s = adds_none records (stream ++ text) (After count (rest ++ text)) (record {
   body = s.body ++ text;
   headed = ap (λ z. z ++ text) s.headed ∙ append_assoc HEADER s.body text;
-  cut = cut_from (s.body ++ text) records (rest ++ text) (ap (λ z. z ++ text) s.cut.joined ∙ append_assoc (concat records) rest text) s.cut.each s.cut.few (inr (no_record-unfinished (rest ++ text) unfinished));
+  cut = cut_from (s.body ++ text) records (rest ++ text) (ap (λ z. z ++ text) s.cut.concatenated ∙ append_assoc (concat records) rest text) s.cut.each s.cut.few (inr (no_record-unfinished (rest ++ text) unfinished));
   counted = s.counted;
   open_record = unfinished;
   full = λ e. absurd (room e);
@@ -64,7 +64,7 @@ goes_whole count rest text bytes room same whole stream records s =
       body = s.body ++ text;
       headed = ap (λ z. z ++ text) s.headed ∙ append_assoc HEADER s.body text;
       cut = cut_from (s.body ++ text) (records ++ bytes ∷ []) []
-          (ap (λ z. z ++ text) s.cut.joined ∙ append_assoc (concat records) rest text ∙ ap (λ z. concat records ++ z) (sym same) ∙ sym (concat-push records bytes) ∙ sym (append-nil (concat (records ++ bytes ∷ []))))
+          (ap (λ z. z ++ text) s.cut.concatenated ∙ append_assoc (concat records) rest text ∙ ap (λ z. concat records ++ z) (sym same) ∙ sym (concat-push records bytes) ∙ sym (append-nil (concat (records ++ bytes ∷ []))))
           (All-push IsRecord records bytes s.cut.each whole)
           (omega arith)
           (inr (no_record-unfinished [] unfinished-none));
@@ -79,7 +79,7 @@ fails count rest text f stuck ends stream records s = adds_none records (stream 
   body = s.body ++ (text ++ more);
   rest = rest ++ (text ++ more);
   headed = append_assoc stream text more ∙ ap (λ z. z ++ (text ++ more)) s.headed ∙ append_assoc HEADER s.body (text ++ more);
-  cut = cut_from (s.body ++ (text ++ more)) records (rest ++ (text ++ more)) (ap (λ z. z ++ (text ++ more)) s.cut.joined ∙ append_assoc (concat records) rest (text ++ more)) s.cut.each s.cut.few (subst (λ n. IsStuck n (rest ++ (text ++ more))) (sym s.counted) (stuck more));
+  cut = cut_from (s.body ++ (text ++ more)) records (rest ++ (text ++ more)) (ap (λ z. z ++ (text ++ more)) s.cut.concatenated ∙ append_assoc (concat records) rest (text ++ more)) s.cut.each s.cut.few (subst (λ n. IsStuck n (rest ++ (text ++ more))) (sym s.counted) (stuck more));
   ends = subst (λ n. EndsAs n (rest ++ (text ++ more)) (ending_of f)) (sym s.counted) (ends more);
 }))
 

@@ -69,7 +69,7 @@ long_list-oversize stream records bytes (inl h) = absurd (let e = h.ends in (cc)
 long_list-oversize stream records bytes (inr h) = go h.rest refl
   where
     whole : stream ≡ (HEADER ++ concat records) ++ h.rest
-    whole = h.headed ∙ ap (λ z. HEADER ++ z) h.cut.joined ∙ sym (append_assoc HEADER (concat records) h.rest)
+    whole = h.headed ∙ ap (λ z. HEADER ++ z) h.cut.concatenated ∙ sym (append_assoc HEADER (concat records) h.rest)
 
     stops : NoRecordFirst h.rest
     stops = elim (stuck-cut h.body records h.rest h.cut) [ inl full ↦ absurd (h.ends.3 full) | inr none ↦ none ]

@@ -19,7 +19,7 @@ use Rattle.planar_code.proofs.LeadsTo.{unfinished-none, no_record-zero, no_recor
 
 -- records that cannot be continued, and what they end in
 splits-body : (body : List ℕ) (records : List (List ℕ)) (rest : List ℕ) (e : Ending) → HasSplit body records rest → IsStuck (length records) rest → EndsAs (length records) rest e → SplitsBody body records e
-splits-body body records rest e h stuck ends = record { rest = rest; cut = cut_from body records rest h.joined h.each h.few stuck; ends = ends }
+splits-body body records rest e h stuck ends = record { rest = rest; cut = cut_from body records rest h.concatenated h.each h.few stuck; ends = ends }
 
 -- some bytes are left
 some-remaining : (rest : List ℕ) → 0 < length rest → rest ≢ []
@@ -51,14 +51,14 @@ module _ (body : List ℕ) (records : List (List ℕ)) (rest : List ℕ) (h : Ha
       let few = h.few in
       let counted = length-append records (take n rest ∷ []) in
       subst (λ z. HasSplit body z (drop n rest)) (sym e) (record {
-        joined = h.joined ∙ ap (λ z. concat records ++ z) (sym (take-append-drop n rest)) ∙ sym (append_assoc (concat records) (take n rest) (drop n rest)) ∙ ap (λ z. z ++ drop n rest) (sym (concat-push records (take n rest)));
+        concatenated = h.concatenated ∙ ap (λ z. concat records ++ z) (sym (take-append-drop n rest)) ∙ sym (append_assoc (concat records) (take n rest) (drop n rest)) ∙ ap (λ z. z ++ drop n rest) (sym (concat-push records (take n rest)));
         each = All-push IsRecord records (take n rest) h.each r;
         few = omega (arith, room);
       })
 
 -- no records yet
 pub has_split-none : (body : List ℕ) → HasSplit body [] body
-has_split-none body = record { joined = refl; each = All-nil IsRecord; few = omega arith }
+has_split-none body = record { concatenated = refl; each = All-nil IsRecord; few = omega arith }
 
 -- the list after the first bytes of a record ends there
 pub ends-next : (bytes : List ℕ) (at remaining n : ℕ) → at ≤ length bytes → EndsList (take at bytes) remaining (take (length bytes - at) (drop at bytes)) (end.After n) → (at + n ≤ length bytes) × (1 < remaining → IsStarted (take (at + n) bytes) (remaining - 1) 0) × (remaining ≡ 1 → IsRecord (take (at + n) bytes))

@@ -29,6 +29,6 @@ pub record SplitsBody (body : List ℕ) (records : List (List ℕ)) (end : Endin
 
 -- the records so far, and the bytes that are left
 pub record HasSplit (body : List ℕ) (records : List (List ℕ)) (rest : List ℕ) : Type 0 where
-  pub joined : body ≡ concat records ++ rest
+  pub concatenated : body ≡ concat records ++ rest
   pub each : All IsRecord records
   pub few : length records ≤ MAX_RECORDS

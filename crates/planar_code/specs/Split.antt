@@ -11,7 +11,7 @@ use Rattle.planar_code.specs.Stream.{IsRecord, IsUnfinished}
 -- the bytes after the header are cut into the longest list of whole records, at most 1,000,000 of
 -- them, and a rest
 pub record IsCut (body : List ℕ) (records : List (List ℕ)) (rest : List ℕ) : Type 0 where
-  pub joined : body ≡ concat records ++ rest
+  pub concatenated : body ≡ concat records ++ rest
   pub each : All IsRecord records
   pub few : length records ≤ MAX_RECORDS
   pub longest : (others : List (List ℕ)) (remaining : List ℕ) → body ≡ concat others ++ remaining → All IsRecord others → length others ≤ MAX_RECORDS → length others ≤ length records

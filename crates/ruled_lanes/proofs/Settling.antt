@@ -43,9 +43,9 @@ module _ {T : Type 0} where
   )
 
   -- what the gatherer then learns settles the fan
-  pub all_connected : (taken items : List (ℕ × T)) (all rest : List (LaneGiver T)) (v : Reach T) → length rest ≡ 0 → HasJoined taken all rest v
+  pub all_joined : (taken items : List (ℕ × T)) (all rest : List (LaneGiver T)) (v : Reach T) → length rest ≡ 0 → HasJoined taken all rest v
       → Accounts v items → SettlesFan taken all
-  all_connected taken items all rest v none h fact =
+  all_joined taken items all rest v none h fact =
       let learnt : Accounts (reach true LANES taken (map lane_given h.0)) items = subst (λ u. Accounts u items) h.2 fact in
       let Whole : LaneGiver T → Type 0 = λ g. of_lane (lane_of g) (taken ++ items) ≡ given_at g in
       let Settled : LaneGiver T → Type 0 = λ g. of_lane (lane_of g) taken ++ of_lane (lane_of g) items ≡ given_at g in

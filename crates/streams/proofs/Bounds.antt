@@ -31,7 +31,7 @@ length-running read records (After count rest) s running =
       arith,
       ap length s.headed,
       length-append HEADER s.body,
-      ap length s.cut.joined,
+      ap length s.cut.concatenated,
       length-append (concat records) rest,
       length-records records s.cut.each,
       length-unfinished rest s.open_record,

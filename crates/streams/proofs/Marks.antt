@@ -79,7 +79,7 @@ not_header : (records : List (List ℕ)) (f : FeedFault) → IsSplit HEADER reco
 not_header records f (inl h) = h.header [] (sym (append-nil HEADER))
 not_header records f (inr h) =
     let none : h.body ≡ [] = body_same h.body [] (sym h.headed ∙ sym (append-nil HEADER)) in
-    let rest : h.rest ≡ [] = nothing_after _ h.rest (sym none ∙ h.cut.joined) in
+    let rest : h.rest ≡ [] = nothing_after _ h.rest (sym none ∙ h.cut.concatenated) in
     not_empty (length records) f (subst (λ r. EndsAs (length records) r (ending_of f)) rest h.ends)
 
 -- after a fault no more bytes may come
@@ -97,6 +97,6 @@ beginning_stands text more records (After count rest) s all end (inl h) =
     absurd (h.header (s.body ++ more) (ap (λ l. l ++ more) s.headed ∙ append_assoc HEADER s.body more))
 beginning_stands text more records (After count rest) s all end (inr h) =
     let body : h.body ≡ s.body ++ more = body_same h.body (s.body ++ more) (sym h.headed ∙ ap (λ l. l ++ more) s.headed ∙ append_assoc HEADER s.body more) in
-    front_of-cut h.body all h.rest h.cut records (rest ++ more) (body ∙ ap (λ l. l ++ more) s.cut.joined ∙ append_assoc _ rest more) s.cut.each s.cut.few
+    front_of-cut h.body all h.rest h.cut records (rest ++ more) (body ∙ ap (λ l. l ++ more) s.cut.concatenated ∙ append_assoc _ rest more) s.cut.each s.cut.few
 beginning_stands text more records (Failed f) s all end split =
     ([], (split_same (text ++ more) all records _ _ split (s more)).0 ∙ sym (append-nil records))

@@ -3,7 +3,7 @@ use Rattle.std.proofs.lemmas.List.Elements.{All-pop, All-weaker}
 use Rattle.crossbeam_channel.specs.Claims.{view, IsSeatAt}
 use Rattle.crossbeam_channel.specs.Ends.{sends_on, receives_on}
 use Rattle.ruled_lanes.proofs.Fans.{merges}
-use Rattle.ruled_lanes.proofs.Settling.{none_joined, one_joined, all_connected}
+use Rattle.ruled_lanes.proofs.Settling.{none_joined, one_joined, all_joined}
 use Rattle.ruled_lanes.proofs.fan_ends.Gatherer.settle.Goals as goal
 
 pub absorb-requires-clause-rule : goal.absorb-requires-clause-rule
@@ -42,4 +42,4 @@ loop-giver-preserved g c =
 pub returns : goal.returns
 returns g c =
     let learnt = c.learn.ensures.learnt in
-    record { settled = all_connected _ learnt.0 _ c.loop-giver.givers.items _ (omega (arith, c.in_default-pop.ensures.cases)) c.loop-giver.invariant.joined learnt.1 }
+    record { settled = all_joined _ learnt.0 _ c.loop-giver.givers.items _ (omega (arith, c.in_default-pop.ensures.cases)) c.loop-giver.invariant.joined learnt.1 }
