@@ -88,7 +88,7 @@ impl DrawScratch {
     }
 
     /// The layout out of its holder, which goes back.
-    pub(crate) fn open(
+    pub(crate) fn unpack(
         &mut self,
         layout: Result<Held<Layout, SpentLayout>, LayoutFault>,
     ) -> Result<Layout, LayoutFault>

@@ -31,7 +31,7 @@ impl<P: Purpose> Staged for Item<P, <P as Purpose>::Carried, Traced> {
 
     fn work(self, alloc: Global, scratch: &mut LayScratch) -> Shaped<P> {
         let task = self.task;
-        let plane = scratch.open(self.state);
+        let plane = scratch.unpack(self.state);
         let layout = shape(alloc, scratch, plane, task.choice, task.drawing);
         Item {
             task,

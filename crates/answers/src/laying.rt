@@ -91,7 +91,7 @@ impl LayScratch {
     }
 
     /// The plane out of its holder, which goes back.
-    pub(crate) fn open(
+    pub(crate) fn unpack(
         &mut self,
         plane: Result<Held<Plane, Plane>, LayoutFault>,
     ) -> Result<Plane, LayoutFault>

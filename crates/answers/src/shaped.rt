@@ -29,7 +29,7 @@ impl<P: Purpose> Staged for Item<P, <P as Purpose>::Carried, LaidOut> {
 
     fn work(self, alloc: Global, scratch: &mut DrawScratch) -> P::Entry {
         let task = self.task;
-        let layout = scratch.open(self.state);
+        let layout = scratch.unpack(self.state);
         let answer = answer_with(alloc, scratch, layout, task.drawing);
         self.purpose.finish(alloc, scratch, task, self.rec, answer)
     }

@@ -9,8 +9,8 @@ use native.Mathlib.Decide.{dec_le}
 use lib.ListN.{get_elem?}
 use Rattle.crossbeam_channel.specs.Fifo.{Pushes, Pops, Forks, Merges, Learns}
 use Rattle.atomic_table.proofs.Lists.{at_set}
-use Rattle.ruled_lanes.specs.declared.fan_protocol.Reach.{Reach}
-use Rattle.ruled_lanes.specs.FanProtocol.{reach, gatherer, giver, nobody, given_in, of_lane, KnowsLane, KnowsFan, Accounts, IsFanned}
+use Rattle.ruled_lanes.specs.declared.fan_protocol.FanLog.{FanLog}
+use Rattle.ruled_lanes.specs.FanProtocol.{fan_log, gatherer, giver, nobody, given_in, of_lane, KnowsLane, KnowsFan, Accounts, IsFanned}
 use Rattle.ruled_lanes.proofs.Views.{Each, each_set, each_more}
 
 off : false ≡ true → ⊥
@@ -62,12 +62,12 @@ module _ {T : Type 0} where
   }
 
   -- a give, where the item bears the number of the one lane that the pass has
-  pub gives : (n pass : ℕ) (v : Reach T) (lane : ℕ) (x : ℕ × T) → v ≡ giver lane (given_in v) → x.0 ≡ lane → Pushes IsFanned n pass v x (λ w. w ≡ giver x.0 (given_in v ++ x.1 ∷ []))
+  pub gives : (n pass : ℕ) (v : FanLog T) (lane : ℕ) (x : ℕ × T) → v ≡ giver lane (given_in v) → x.0 ≡ lane → Pushes IsFanned n pass v x (λ w. w ≡ giver x.0 (given_in v ++ x.1 ∷ []))
   gives n pass v lane x role same items views _ h at =
-      let w : Reach T = giver x.0 (given_in v ++ x.1 ∷ []) in
+      let w : FanLog T = giver x.0 (given_in v ++ x.1 ∷ []) in
       let all : List (ℕ × T) = h.all ++ x ∷ [] in
       let mine : KnowsLane h.seat h.made h.all pass (lane, given_in v) =
-      All-head (KnowsLane h.seat h.made h.all pass) (lane, given_in v) [] (subst (λ (u : Reach T). All (KnowsLane h.seat h.made h.all pass) u.lanes) role (h.known pass v at).0) in
+      All-head (KnowsLane h.seat h.made h.all pass) (lane, given_in v) [] (subst (λ (u : FanLog T). All (KnowsLane h.seat h.made h.all pass) u.lanes) role (h.known pass v at).0) in
       let below : x.0 < h.made = subst (λ k. k < h.made) (sym same) mine.1 in
       let now : KnowsLane h.seat h.made all pass (x.0, given_in v ++ x.1 ∷ []) =
       (mine.0 ∙ ap h.seat (sym same), below, of_lane-mine x.0 h.all x refl ∙ ap (λ l. l ++ x.1 ∷ []) (ap (λ k. of_lane k h.all) same ∙ mine.2)) in (
@@ -92,12 +92,12 @@ module _ {T : Type 0} where
       )
 
   -- what the fan holds is of lanes that were made
-  of_made : (x : ℕ × T) (items : List (ℕ × T)) (views : List (Reach T)) (h : IsFanned (x ∷ items) views) → x.0 < h.made
+  of_made : (x : ℕ × T) (items : List (ℕ × T)) (views : List (FanLog T)) (h : IsFanned (x ∷ items) views) → x.0 < h.made
   of_made x items views h = dite (dec_le h.made x.0) (λ le. absurd (of_lane-some h.taken items x (ap (of_lane x.0) h.parted ∙ h.others x.0 le))) (λ n. lt_of_not-le n)
 
-  pub takes : (pass : ℕ) (v : Reach T) → v.takes ≡ true → Pops IsFanned pass v (λ x w. (x.0 < v.made) × (w ≡ reach v.takes v.made (v.taken ++ x ∷ []) v.lanes))
+  pub takes : (pass : ℕ) (v : FanLog T) → v.takes ≡ true → Pops IsFanned pass v (λ x w. (x.0 < v.made) × (w ≡ fan_log v.takes v.made (v.taken ++ x ∷ []) v.lanes))
   takes pass v may x items views h at =
-      let w : Reach T = reach v.takes v.made (v.taken ++ x ∷ []) v.lanes in
+      let w : FanLog T = fan_log v.takes v.made (v.taken ++ x ∷ []) v.lanes in
       let mine = h.known pass v at in
       let role = mine.1 may in
       let taken : List (ℕ × T) = h.taken ++ x ∷ [] in (
@@ -117,15 +117,15 @@ module _ {T : Type 0} where
       )
 
   -- the pass that takes makes a lane
-  pub forks : (pass : ℕ) (v : Reach T) → v.takes ≡ true → Forks IsFanned pass v (reach v.takes (v.made + 1) v.taken v.lanes) (giver v.made [])
+  pub forks : (pass : ℕ) (v : FanLog T) → v.takes ≡ true → Forks IsFanned pass v (fan_log v.takes (v.made + 1) v.taken v.lanes) (giver v.made [])
   forks pass v may items views h at =
-      let left : Reach T = reach v.takes (v.made + 1) v.taken v.lanes in
+      let left : FanLog T = fan_log v.takes (v.made + 1) v.taken v.lanes in
       let mine = h.known pass v at in
       let role = mine.1 may in
-      let vs : List (Reach T) = set views pass left in
+      let vs : List (FanLog T) = set views pass left in
       let seat : ℕ → ℕ = λ l. cond (l == h.made) (length vs) (h.seat l) in
-      let Now : ℕ → Reach T → Type 0 = KnowsFan seat (h.made + 1) h.taker h.taken h.all in
-      let older : (j : ℕ) (u : Reach T) → All (KnowsLane h.seat h.made h.all j) u.lanes → All (KnowsLane seat (h.made + 1) h.all j) u.lanes = λ j u k.
+      let Now : ℕ → FanLog T → Type 0 = KnowsFan seat (h.made + 1) h.taker h.taken h.all in
+      let older : (j : ℕ) (u : FanLog T) → All (KnowsLane h.seat h.made h.all j) u.lanes → All (KnowsLane seat (h.made + 1) h.all j) u.lanes = λ j u k.
       All-weaker (KnowsLane h.seat h.made h.all j) (KnowsLane seat (h.made + 1) h.all j)
       (λ l f. (f.0 ∙ passed_by l.0 h.made (length vs) (h.seat l.0) (λ e. omega arith), omega arith, f.2)) u.lanes k in
       let new : KnowsLane seat (h.made + 1) h.all (length vs) (v.made, []) =
@@ -145,16 +145,16 @@ module _ {T : Type 0} where
       }
 
   -- a pass takes in another's lanes
-  pub merges : (pass : ℕ) (v : Reach T) (other : ℕ) (u : Reach T) → Merges IsFanned pass v other u (reach v.takes v.made v.taken (u.lanes ++ v.lanes)) nobody
+  pub merges : (pass : ℕ) (v : FanLog T) (other : ℕ) (u : FanLog T) → Merges IsFanned pass v other u (fan_log v.takes v.made v.taken (u.lanes ++ v.lanes)) nobody
   merges pass v other u items views h at two at' =
-      let both : Reach T = reach v.takes v.made v.taken (u.lanes ++ v.lanes) in
+      let both : FanLog T = fan_log v.takes v.made v.taken (u.lanes ++ v.lanes) in
       let mine = h.known pass v at in
-      let vs : List (Reach T) = set views pass both in
+      let vs : List (FanLog T) = set views pass both in
       let was : get_elem? views other ≡ some u = ⊎_elim (λ x. absurd (two x.0)) (λ x. x.1) (at_set views pass other both u at') in
       let theirs = h.known other u was in
       let seat : ℕ → ℕ = λ l. cond (h.seat l == other) pass (h.seat l) in
-      let Now : ℕ → Reach T → Type 0 = λ j y. j ≢ other → KnowsFan seat h.made h.taker h.taken h.all j y in
-      let kept : (j : ℕ) (y : Reach T) → j ≢ other → All (KnowsLane h.seat h.made h.all j) y.lanes → All (KnowsLane seat h.made h.all j) y.lanes = λ j y no k.
+      let Now : ℕ → FanLog T → Type 0 = λ j y. j ≢ other → KnowsFan seat h.made h.taker h.taken h.all j y in
+      let kept : (j : ℕ) (y : FanLog T) → j ≢ other → All (KnowsLane h.seat h.made h.all j) y.lanes → All (KnowsLane seat h.made h.all j) y.lanes = λ j y no k.
       All-weaker (KnowsLane h.seat h.made h.all j) (KnowsLane seat h.made h.all j)
       (λ l f. (f.0 ∙ passed_by (h.seat l.0) other pass (h.seat l.0) (λ e. no (f.0 ∙ e)), f.1, f.2)) y.lanes k in
       let moved : All (KnowsLane seat h.made h.all pass) u.lanes =
@@ -174,7 +174,7 @@ module _ {T : Type 0} where
         known = each_set (KnowsFan seat h.made h.taker h.taken h.all) vs other nobody (All-nil (KnowsLane seat h.made h.all other), λ p. absurd (off p)) (λ j y apart e. now j y e apart);
       }
 
-  pub totals : (pass : ℕ) (v : Reach T) → v.takes ≡ true → Learns IsFanned pass v (Accounts v)
+  pub totals : (pass : ℕ) (v : FanLog T) → v.takes ≡ true → Learns IsFanned pass v (Accounts v)
   totals pass v may items views h at =
       let mine = h.known pass v at in
       let role = mine.1 may in

@@ -3,29 +3,29 @@
 use Rattle.std.specs.Prelude.{◌≡◌, ◌==◌, ℕ, ◌<◌, ◌≤◌, Bool, true, false, List, [], ◌∷◌, ◌++◌, map, filter, All}
 use mathlib.Core.Option.{some}
 use lib.ListN.{get_elem?}
-use Rattle.ruled_lanes.specs.declared.fan_protocol.Reach.{Reach}
+use Rattle.ruled_lanes.specs.declared.fan_protocol.FanLog.{FanLog}
 
 module _ {T : Type 0} where
-  abbrev pub reach : Bool → ℕ → List (ℕ × T) → List (ℕ × List T) → Reach T
-  reach takes made taken lanes = record { takes = takes; made = made; taken = taken; lanes = lanes }
+  abbrev pub fan_log : Bool → ℕ → List (ℕ × T) → List (ℕ × List T) → FanLog T
+  fan_log takes made taken lanes = record { takes = takes; made = made; taken = taken; lanes = lanes }
 
   -- the pass that takes, which has made so many lanes
-  abbrev pub gatherer : ℕ → List (ℕ × T) → Reach T
-  gatherer made taken = reach true made taken []
+  abbrev pub gatherer : ℕ → List (ℕ × T) → FanLog T
+  gatherer made taken = fan_log true made taken []
 
   -- the pass that gives at this lane
-  abbrev pub giver : ℕ → List T → Reach T
-  giver lane given = reach false 0 [] ((lane, given) ∷ [])
+  abbrev pub giver : ℕ → List T → FanLog T
+  giver lane given = fan_log false 0 [] ((lane, given) ∷ [])
 
-  abbrev pub nobody : Reach T
-  nobody = reach false 0 [] []
+  abbrev pub nobody : FanLog T
+  nobody = fan_log false 0 [] []
 
   abbrev pub first_given : List (ℕ × List T) → List T
   first_given [] = []
   first_given (l ∷ ls) = l.1
 
   -- what was given by a pass that has one lane
-  abbrev pub given_in : Reach T → List T
+  abbrev pub given_in : FanLog T → List T
   given_in v = first_given v.lanes
 
   -- the items of one lane, in order
@@ -37,16 +37,16 @@ module _ {T : Type 0} where
   KnowsLane seat made all pass l = (pass ≡ seat l.0) × (l.0 < made) × (of_lane l.0 all ≡ l.1)
 
   -- what the pass of this number knows, where the pass `taker` may take
-  abbrev pub KnowsFan : (ℕ → ℕ) → ℕ → ℕ → List (ℕ × T) → List (ℕ × T) → ℕ → Reach T → Type 0
+  abbrev pub KnowsFan : (ℕ → ℕ) → ℕ → ℕ → List (ℕ × T) → List (ℕ × T) → ℕ → FanLog T → Type 0
   KnowsFan seat made taker taken all pass v =
       All (KnowsLane seat made all pass) v.lanes × (v.takes ≡ true → (pass ≡ taker) × (v.taken ≡ taken) × (v.made ≡ made))
 
   -- each lane of a pass gave what was taken of it and then what the fan holds of it, and a lane that was
   -- not made has nothing
-  abbrev pub Accounts : Reach T → List (ℕ × T) → Type 0
+  abbrev pub Accounts : FanLog T → List (ℕ × T) → Type 0
   Accounts v held = All (λ l. of_lane l.0 (v.taken ++ held) ≡ l.1) v.lanes × ((lane : ℕ) → v.made ≤ lane → of_lane lane (v.taken ++ held) ≡ [])
 
-pub record IsFanned {T : Type 0} (items : List (ℕ × T)) (views : List (Reach T)) : Type 0 where
+pub record IsFanned {T : Type 0} (items : List (ℕ × T)) (views : List (FanLog T)) : Type 0 where
   -- the pass that has each lane, and the one that may take
   pub seat : ℕ → ℕ
   pub taker : ℕ
@@ -58,4 +58,4 @@ pub record IsFanned {T : Type 0} (items : List (ℕ × T)) (views : List (Reach 
   pub parted : taken ++ items ≡ all
   -- lanes that were not made gave nothing
   pub others : (lane : ℕ) → made ≤ lane → of_lane lane all ≡ []
-  pub known : (pass : ℕ) (v : Reach T) → get_elem? views pass ≡ some v → KnowsFan seat made taker taken all pass v
+  pub known : (pass : ℕ) (v : FanLog T) → get_elem? views pass ≡ some v → KnowsFan seat made taker taken all pass v

@@ -7,7 +7,7 @@ ghost use Rattle.ruled_lanes.specs.FanProtocol.{gatherer, giver, given_in};
 
 use crate::backoff::{TRIES, back_off};
 use crate::errors::Closed;
-use crate::fan_protocol::{EachLane, Fanned, Gives, NewLane, Reach, Takes};
+use crate::fan_protocol::{EachLane, FanLog, Fanned, Gives, NewLane, Takes};
 use crossbeam_channel::{Pass, RuledReceiver, RuledSender, TryRecvError, TrySendError};
 use std::sync::Wait;
 
@@ -15,8 +15,8 @@ use std::sync::Wait;
 /// so it knows all that was ever given at its lane.
 #[derive(Drop)]
 pub struct LaneGiver<T: Drop> {
-    sender: RuledSender<(u32, T), Reach<T>, Fanned>,
-    pass: Pass<(u32, T), Reach<T>>,
+    sender: RuledSender<(u32, T), FanLog<T>, Fanned>,
+    pass: Pass<(u32, T), FanLog<T>>,
     lane: u32,
     ghost seated: { IsSeatAt (sends_on sender) pass },
     ghost role: { view pass ≡ giver lane (given_in (view pass)) },
@@ -27,8 +27,8 @@ pub struct LaneGiver<T: Drop> {
 /// ever taken there.
 #[derive(Drop)]
 pub struct Gatherer<T: Drop> {
-    receiver: RuledReceiver<(u32, T), Reach<T>, Fanned>,
-    pass: Pass<(u32, T), Reach<T>>,
+    receiver: RuledReceiver<(u32, T), FanLog<T>, Fanned>,
+    pass: Pass<(u32, T), FanLog<T>>,
     ghost seated: { IsSeatAt (receives_on receiver) pass },
     ghost role: { view pass ≡ gatherer LANES (view pass).taken },
 }
@@ -41,8 +41,8 @@ impl<T: Drop> LaneGiver<T> {
 
     // The end of a channel that sends, with the pass of one lane.
     pub(crate) fn of(
-        sender: RuledSender<(u32, T), Reach<T>, Fanned>,
-        pass: Pass<(u32, T), Reach<T>>,
+        sender: RuledSender<(u32, T), FanLog<T>, Fanned>,
+        pass: Pass<(u32, T), FanLog<T>>,
         lane: u32,
     ) -> LaneGiver<T>
         requires seated { IsSeatAt (sends_on sender) pass }
@@ -121,8 +121,8 @@ impl<T: Drop> Gatherer<T> {
 
     // The end of a channel that receives, with the pass that may.
     pub(crate) fn of(
-        receiver: RuledReceiver<(u32, T), Reach<T>, Fanned>,
-        pass: Pass<(u32, T), Reach<T>>,
+        receiver: RuledReceiver<(u32, T), FanLog<T>, Fanned>,
+        pass: Pass<(u32, T), FanLog<T>>,
     ) -> Gatherer<T>
         requires seated { IsSeatAt (receives_on receiver) pass }
         requires role { view pass ≡ gatherer LANES (view pass).taken }
@@ -179,7 +179,10 @@ impl<T: Drop> Gatherer<T> {
 
     // What the rule tells the pass that takes, of what the fan then holds.
     #[tactic(auto, using(crate::proofs::Fans::totals))]
-    fn learn(sender: &RuledSender<(u32, T), Reach<T>, Fanned>, pass: &mut Pass<(u32, T), Reach<T>>)
+    fn learn(
+        sender: &RuledSender<(u32, T), FanLog<T>, Fanned>,
+        pass: &mut Pass<(u32, T), FanLog<T>>,
+    )
         requires seated { IsSeatAt (sends_on sender.now) pass.old }
         requires takes { (view pass.old).takes ≡ true }
         ensures learnt { (held : List (ℕ × T)) × Accounts (view pass.old) held }

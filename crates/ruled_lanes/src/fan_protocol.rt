@@ -1,13 +1,13 @@
 //! The rule of a fan, over what it holds and what its passes know.
 ghost use Rattle.std.specs.Prelude.{◌≡◌, ◌<◌, [], ◌∷◌, ◌++◌, ⊤};
-ghost use Rattle.ruled_lanes.specs.FanProtocol.{reach, giver, given_in, Accounts};
+ghost use Rattle.ruled_lanes.specs.FanProtocol.{fan_log, giver, given_in, Accounts};
 
 use crossbeam_channel::protocol::{Join, Lesson, Outcome, Protocol, Split};
 use std::collections::LinkedList;
 
 // Whether a pass may take, what it has taken and how many lanes it has made, and the lanes at which it
 // may give, each with what it has given there. No value of it is made.
-pub struct Reach<T> {
+pub struct FanLog<T> {
     pub takes: bool,
     pub made: u32,
     pub taken: LinkedList<(u32, T)>,
@@ -16,7 +16,7 @@ pub struct Reach<T> {
 
 pub struct Fanned;
 
-impl<T> Protocol<(u32, T), Reach<T>> for Fanned {
+impl<T> Protocol<(u32, T), FanLog<T>> for Fanned {
     ghost use Rattle.std.specs.Prelude.{[]};
     ghost use Rattle.ruled_lanes.specs.FanProtocol.{gatherer, IsFanned};
 
@@ -28,20 +28,20 @@ impl<T> Protocol<(u32, T), Reach<T>> for Fanned {
 // The pass that takes makes the next lane, whose pass gives there alone.
 pub struct NewLane;
 
-impl<T> Split<Reach<T>> for NewLane {
+impl<T> Split<FanLog<T>> for NewLane {
     ghost use Rattle.std.specs.Prelude.{◌+◌, []};
-    ghost use Rattle.ruled_lanes.specs.FanProtocol.{reach, giver};
+    ghost use Rattle.ruled_lanes.specs.FanProtocol.{fan_log, giver};
 
-    ghost left = { λ v. reach v.takes (v.made + 1) v.taken v.lanes };
+    ghost left = { λ v. fan_log v.takes (v.made + 1) v.taken v.lanes };
 
     ghost right = { λ v. giver v.made [] };
 }
 
-impl<T> Join<Reach<T>> for NewLane {
+impl<T> Join<FanLog<T>> for NewLane {
     ghost use Rattle.std.specs.Prelude.{◌++◌};
-    ghost use Rattle.ruled_lanes.specs.FanProtocol.{reach, nobody};
+    ghost use Rattle.ruled_lanes.specs.FanProtocol.{fan_log, nobody};
 
-    ghost both = { λ v w. reach v.takes v.made v.taken (w.lanes ++ v.lanes) };
+    ghost both = { λ v w. fan_log v.takes v.made v.taken (w.lanes ++ v.lanes) };
 
     ghost spent = { nobody };
 }
@@ -49,22 +49,22 @@ impl<T> Join<Reach<T>> for NewLane {
 // The step of a give: the item joins what was given at the lane whose number it bears.
 pub struct Gives;
 
-impl<T> Outcome<(u32, T), Reach<T>> for Gives {
+impl<T> Outcome<(u32, T), FanLog<T>> for Gives {
     ghost then = { λ v x w. w ≡ giver x.0 (given_in v ++ x.1 ∷ []) };
 }
 
-impl<T> Lesson<(u32, T), Reach<T>> for Gives {
+impl<T> Lesson<(u32, T), FanLog<T>> for Gives {
     ghost fact = { λ v items. ⊤ };
 }
 
 // The step of a take: the item, of one of the lanes that were made, joins what was taken.
 pub struct Takes;
 
-impl<T> Outcome<(u32, T), Reach<T>> for Takes {
-    ghost then = { λ v x w. (x.0 < v.made) × (w ≡ reach v.takes v.made (v.taken ++ x ∷ []) v.lanes) };
+impl<T> Outcome<(u32, T), FanLog<T>> for Takes {
+    ghost then = { λ v x w. (x.0 < v.made) × (w ≡ fan_log v.takes v.made (v.taken ++ x ∷ []) v.lanes) };
 }
 
-impl<T> Lesson<(u32, T), Reach<T>> for Takes {
+impl<T> Lesson<(u32, T), FanLog<T>> for Takes {
     ghost fact = { λ v items. ⊤ };
 }
 
@@ -72,6 +72,6 @@ impl<T> Lesson<(u32, T), Reach<T>> for Takes {
 // lane than those that were made has anything.
 pub struct EachLane;
 
-impl<T> Lesson<(u32, T), Reach<T>> for EachLane {
+impl<T> Lesson<(u32, T), FanLog<T>> for EachLane {
     ghost fact = { λ v items. Accounts v items };
 }

@@ -4,7 +4,7 @@ ghost use Rattle.ruled_lanes.specs.FanEnds.{given_at, gathered, room_of_fan, Are
 
 use crate::errors::Memory;
 use crate::fan_ends::{Gatherer, LaneGiver};
-use crate::fan_protocol::{Fanned, NewLane, Reach};
+use crate::fan_protocol::{FanLog, Fanned, NewLane};
 use crate::limits::{LANES, MAX_CAPACITY};
 use crossbeam_channel::bounded_with;
 use std::alloc::Global;
@@ -22,7 +22,7 @@ pub fn fan_in<T: Send + Drop>(
     ensures lanes { IfOk result (λ r. (vec_len r.0 ≡ LANES) × StandInOrder r.0.items) }
     ensures unused { IfOk result (λ r. All (λ g. given_at g ≡ []) r.0.items × (gathered r.1 ≡ [])) }
 {
-    let (sender, receiver, mut pass) = match bounded_with::<(u32, T), Reach<T>, Fanned, Global>(
+    let (sender, receiver, mut pass) = match bounded_with::<(u32, T), FanLog<T>, Fanned, Global>(
         alloc,
         capacity as usize,
     ) {

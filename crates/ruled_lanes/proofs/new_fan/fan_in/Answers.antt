@@ -3,7 +3,7 @@ use Rattle.std.proofs.lemmas.List.Elements.{All-push}
 use Rattle.crossbeam_channel.specs.Claims.{view}
 use Rattle.crossbeam_channel.specs.Ends.{sends_on}
 use Rattle.ruled_lanes.specs.declared.fan_ends.LaneGiver.{LaneGiver}
-use Rattle.ruled_lanes.specs.FanProtocol.{reach, given_in}
+use Rattle.ruled_lanes.specs.FanProtocol.{fan_log, given_in}
 use Rattle.ruled_lanes.specs.FanEnds.{lane_of, given_at, StandInOrder}
 use Rattle.ruled_lanes.proofs.Fans.{begins, forks}
 use Rattle.ruled_lanes.proofs.new_fan.fan_in.Goals as goal
@@ -38,7 +38,7 @@ loop-lane-preserved g c =
       room = omega arith;
       many = ap length items ∙ length-append c.loop-lane.givers.items (c.of.result ∷ []) ∙ ap (λ n. n + 1) was.many;
       seated = search rules;
-      role = left ∙ ap (λ v. reach v.takes (v.made + 1) v.taken v.lanes) was.role;
+      role = left ∙ ap (λ v. fan_log v.takes (v.made + 1) v.taken v.lanes) was.role;
       fan = subst (All Same) (sym items) (All-push Same c.loop-lane.givers.items c.of.result was.fan (ap sends_on c.of.ensures.0 ∙ c.in-Ok-try_clone.ensures));
       order = subst StandInOrder (sym items) (stand_more c.loop-lane.givers.items c.of.result (omega (arith, c.of.ensures)) was.order);
       unused = subst (All Unused) (sym items) (All-push Unused c.loop-lane.givers.items c.of.result was.unused (ap (λ p. given_in (view p)) c.of.ensures.1 ∙ ap given_in right));
