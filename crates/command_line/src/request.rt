@@ -166,10 +166,20 @@ fn drawing_of(words: &[String]) -> DrawingKind
 
 /// What the program takes, with the texts of its help.
 fn describe<'a>(alloc: Global) -> Result<Command<'a>, AllocError> {
-    let version = Arg::new(alloc, "version")
-        .long("version")
-        .help("Prints the version, and the toolchain that the program is proved with")
-        .action(ArgAction::SetTrue);
+    take_frames(alloc, take_layout(alloc, describe_program(alloc)?)?)
+}
+
+/// The program, with the command `layout`.
+fn take_layout<'a>(alloc: Global, program: Command<'a>) -> Result<Command<'a>, AllocError> {
+    program.subcommand(describe_layout(alloc)?)
+}
+
+/// The program, with the command `frames`.
+fn take_frames<'a>(alloc: Global, program: Command<'a>) -> Result<Command<'a>, AllocError> {
+    program.subcommand(describe_frames(alloc)?)
+}
+
+fn describe_program<'a>(alloc: Global) -> Result<Command<'a>, AllocError> {
     Command::new(alloc, "planarbend")
         .bin_name("planarbend")?
         .about("Draws embedded planar graphs in planar_code with the fewest bends")
@@ -177,33 +187,40 @@ fn describe<'a>(alloc: Global) -> Result<Command<'a>, AllocError> {
         .no_binary_name(true)
         .subcommand_required(true)
         .arg_required_else_help(true)
-        .arg(version)?
-        .subcommand(describe_layout(alloc)?)?
-        .subcommand(describe_frames(alloc)?)
+        .arg(version_option(alloc))
+}
+
+fn version_option<'a>(alloc: Global) -> Arg<'a> {
+    Arg::new(alloc, "version")
+        .long("version")
+        .help("Prints the version, and the toolchain that the program is proved with")
+        .action(ArgAction::SetTrue)
 }
 
 fn describe_layout<'a>(alloc: Global) -> Result<Command<'a>, AllocError> {
-    let json = Arg::new(alloc, "json")
-        .long("json")
-        .help("Prints JSON lines in place of the report: also shapes, prices and points")
-        .action(ArgAction::SetTrue);
-    let progress = Arg::new(alloc, "progress")
-        .long("progress")
-        .help(
-            "Tells on standard error, where that is a terminal, how far the run is; given twice, also where it is none",
-        )
-        .action(ArgAction::Count);
-    Command::new(alloc, "layout")
+    let layout = Command::new(alloc, "layout")
         .about(
             "Prints for each graph of planar_code files its fewest bends and whether it is drawn",
         )
-        .after_help(LAYOUT_HELP)
-        .arg(lanes_option(alloc))?
-        .arg(waiting_option(alloc))?
-        .arg(outer_option(alloc))?
-        .arg(drawing_option(alloc))?
-        .arg(json)?
-        .arg(progress)?
+        .after_help(LAYOUT_HELP);
+    take_texts(alloc, take_drawings(alloc, take_lanes(alloc, layout)?)?)
+}
+
+/// The command, with the options of lanes.
+fn take_lanes<'a>(alloc: Global, layout: Command<'a>) -> Result<Command<'a>, AllocError> {
+    layout.arg(lanes_option(alloc))?.arg(waiting_option(alloc))
+}
+
+/// The command, with the options of drawings.
+fn take_drawings<'a>(alloc: Global, layout: Command<'a>) -> Result<Command<'a>, AllocError> {
+    layout.arg(outer_option(alloc))?.arg(drawing_option(alloc))
+}
+
+/// The command, with the options of texts, and the files.
+fn take_texts<'a>(alloc: Global, layout: Command<'a>) -> Result<Command<'a>, AllocError> {
+    layout
+        .arg(json_option(alloc))?
+        .arg(progress_option(alloc))?
         .arg(layout_files(alloc))
 }
 
@@ -246,6 +263,22 @@ fn drawing_option<'a>(alloc: Global) -> Arg<'a> {
             "The drawing: short has shorter edges, and is what --json takes; quick is found sooner, and is what the report takes",
         )
         .value_parser(DRAWING)
+}
+
+fn json_option<'a>(alloc: Global) -> Arg<'a> {
+    Arg::new(alloc, "json")
+        .long("json")
+        .help("Prints JSON lines in place of the report: also shapes, prices and points")
+        .action(ArgAction::SetTrue)
+}
+
+fn progress_option<'a>(alloc: Global) -> Arg<'a> {
+    Arg::new(alloc, "progress")
+        .long("progress")
+        .help(
+            "Tells on standard error, where that is a terminal, how far the run is; given twice, also where it is none",
+        )
+        .action(ArgAction::Count)
 }
 
 fn layout_files<'a>(alloc: Global) -> Arg<'a> {
