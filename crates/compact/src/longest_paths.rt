@@ -97,7 +97,6 @@ impl AxisSegments {
         ensures in_degrees { OnOk result (length self.new.in_degrees.items ≡ vertices) }
     {
         let places = vertices as usize;
-        self.segments.clear();
         self.segments.resize(places, 0)?;
         self.segment_firsts.clear();
         self.segment_firsts.resize(places, 0)?;

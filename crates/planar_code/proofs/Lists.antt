@@ -22,11 +22,6 @@ lists_in-flat_map (entries ∷ lists) each =
 pub lists_of-record : (bytes : List ℕ) (r : IsRecord bytes) → lists_of bytes ≡ r.lists
 lists_of-record bytes r = ap lists_of r.spelt ∙ lists_in-flat_map r.lists r.each
 
--- a record's first byte counts its lists
-pub first-record : (bytes : List ℕ) → IsRecord bytes → (first : ℕ) → first ≡ get_or bytes 0 first → first ≡ length (lists_of bytes)
-first-record bytes r first e =
-    e ∙ ap (λ b. get_or b 0 first) r.spelt ∙ ap length (sym (lists_of-record bytes r))
-
 -- a record is spelt by the lists that its bytes hold
 pub spelt-record : (bytes : List ℕ) → IsRecord bytes → bytes ≡ length (lists_of bytes) ∷ flat_map ended (lists_of bytes)
 spelt-record bytes r =

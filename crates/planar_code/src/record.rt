@@ -2,13 +2,18 @@ ghost use Rattle.std.specs.Prelude.{◌≡◌, ℕ, ◌<◌, List, ◌∷◌, le
 ghost use Rattle.std.specs.List.{flat_map};
 ghost use Rattle.planar_code.specs.Stream.{IsRecord, IsList, ended, lists_of};
 
+use smallvec::SmallVec;
 use std::alloc::{AllocError, Global};
 use std::marker::Model;
 
-/// One record of a stream: its bytes, which are one record and nothing more.
+/// How many bytes of a record stand in the value itself. Graphs of up to nine vertices of degree 4 have no more, and
+/// most of ten.
+const SHORT: usize = 48;
+
+/// One record of a stream: its bytes, which are one record and nothing more. A short one takes no memory.
 #[derive(Debug, Drop)]
 pub struct Record {
-    bytes: Vec<u8>,
+    bytes: SmallVec<u8, SHORT>,
 }
 
 impl Model for Record {
@@ -20,13 +25,13 @@ impl Model for Record {
 }
 
 impl Record {
-    /// A copy of bytes that are one record, in a buffer of just their length.
+    /// A copy of bytes that are one record. A long one has a buffer of just their length.
     pub(crate) fn from_slice(alloc: Global, bytes: &[u8]) -> Result<Record, AllocError>
         requires { IsRecord bytes.now }
         ensures { IfOk result (λ r. r ≡ bytes.now) }
     {
         Ok(Record {
-            bytes: Vec::from_slice(alloc, bytes)?,
+            bytes: SmallVec::from_slice(alloc, bytes)?,
         })
     }
 
@@ -48,6 +53,6 @@ impl Record {
         ensures some { 0 < result }
         ensures lists { result ≡ length (lists_of self.now) }
     {
-        self.bytes[0]
+        self.bytes()[0]
     }
 }
