@@ -1,20 +1,24 @@
 //! One lane: four stages. The last one runs on the lane's own thread, which starts a thread for each other one.
-ghost use Rattle.std.specs.Prelude.{◌≡◌, ◌∷◌, ◌++◌, [], IfOk, IfSome, Some};
+ghost use Rattle.std.specs.Prelude.{◌≡◌, ◌∷◌, ◌++◌, [], List, IfOk, IfSome, Some, vec_len};
+ghost use Rattle.ruled_lanes.specs.LinkEnds.{given, taken, AreEnds};
 ghost use Rattle.ruled_lanes.specs.FanEnds.{given_at, GivesToSameLane};
+ghost use Rattle.lanes.specs.declared.message.Message.{Message as AnyMessage};
 ghost use Rattle.lanes.specs.declared.message.Message.TheVariants.{Stop};
 ghost use Rattle.lanes.specs.Notes.{notes, GoOn};
-ghost use Rattle.lane_runs.specs.Lanes.{TellsSeat, StartsLane, EndsLane};
+ghost use Rattle.lanes.specs.Stages.{IsPassedOn};
+ghost use Rattle.lane_runs.specs.Lanes.{TellsSeat, StartsToRead, StartsLane, EndsLane};
 ghost use Rattle.lane_runs.specs.Taking.{TakesAll};
 
 use crate::fault::LaneFault;
 use crate::lane_kind::LaneKind;
 use crate::links::settle_lane;
+use crate::read_stage::Reading;
 use crate::running::LaneReturn;
 use crate::shared::Shared;
-use crate::stages::{LastStage, new_stages};
-use crate::starting::start_stage;
+use crate::stages::{LastStage, MiddleStage, Stages, new_stages};
+use crate::starting::{Started, StartedRead, start_stage};
 use lanes::{Gate, Message, Numbered, Opener, run_last_stage};
-use ruled_lanes::{LaneGiver, Seat};
+use ruled_lanes::{LaneGiver, Seat, Taker};
 use std::sync::Wait;
 use std::thread::{Scope, Threads};
 
@@ -65,27 +69,96 @@ impl<'s, R: Threads + Wait + Sync, O: Opener, G: Gate, L: LaneKind + 's> Shared<
         let Ok(stages) = new_stages(self.kind, run.alloc, run.capacity, lane, seat) else {
             return Err(LaneFault::Memory);
         };
+        let Stages {
+            read,
+            embed,
+            shape,
+            draw,
+        } = stages;
+        match self.start_stages(scope, read, embed, shape) {
+            Ok(started) => {
+                let LastStage { scratch, taker } = draw;
+                let drew = run_last_stage(run.rt, run.alloc, run.gate, scratch, taker, giver);
+                match started.join(run.rt, drew) {
+                    Some(seat) => Ok(seat),
+                    None => Err(LaneFault::LaneLost),
+                }
+            }
+            Err(fault) => Err(fault),
+        }
+    }
+
+    /// Starts the first three stages of a lane, each in a thread of its own.
+    fn start_stages<'e>(
+        &'s self,
+        scope: &'s Scope<'s, &'e ()>,
+        read: Reading<L::Framed, L::End>,
+        embed: MiddleStage<L::Framed, L::End>,
+        shape: MiddleStage<L::Embedded, L::End>,
+    ) -> Result<StartedStages<L, O>, LaneFault>
+        requires read { StartsToRead self.now.tickets.now read.seat (vec_len read.buffer) read.giver
+            × TakesAll L.takes L.ends (O.meaning self.now.run.now.opener.now) }
+        requires embed { (taken embed.taker ≡ []) × (given embed.giver ≡ []) }
+        requires shape { (taken shape.taker ≡ []) × (given shape.giver ≡ []) }
+        ensures choice { IfOk result (λ started. started.read.promise.choice ≡ self.now.run.now.choice) }
+        ensures opener { IfOk result (λ started. started.read.promise.opener.value ≡ self.now.run.now.opener.now) }
+        ensures tickets { IfOk result (λ started. started.read.promise.tickets.value ≡ self.now.tickets.now) }
+        ensures giver { IfOk result (λ started. started.read.promise.giver.value ≡ read.giver) }
+        ensures embed_taker { IfOk result (λ started. started.embed.promise.taker.value ≡ embed.taker) }
+        ensures embed_giver { IfOk result (λ started. started.embed.promise.giver.value ≡ embed.giver) }
+        ensures shape_taker { IfOk result (λ started. started.shape.promise.taker.value ≡ shape.taker) }
+        ensures shape_giver { IfOk result (λ started. started.shape.promise.giver.value ≡ shape.giver) }
+    {
+        let run = self.run;
+        let lane = read.lane;
         // The first stage comes last: a lane that could not be started has drawn no file.
-        let Ok(embed) = start_stage(scope, run.rt, run.alloc, run.gate, lane, stages.embed) else {
+        let Ok(embed) = start_stage(scope, run.rt, run.alloc, run.gate, lane, embed) else {
             return Err(LaneFault::Thread);
         };
-        let Ok(shape) = start_stage(scope, run.rt, run.alloc, run.gate, lane, stages.shape) else {
+        let Ok(shape) = start_stage(scope, run.rt, run.alloc, run.gate, lane, shape) else {
             return Err(LaneFault::Thread);
         };
-        let Ok(read) = self.start_read(scope, stages.read) else {
+        let Ok(read) = self.start_read(scope, read) else {
             return Err(LaneFault::Thread);
         };
-        let LastStage { scratch, taker } = stages.draw;
-        let drew = run_last_stage(run.rt, run.alloc, run.gate, scratch, taker, giver);
-        let read = read.join(run.rt);
-        let embed = embed.join(run.rt);
-        let shape = shape.join(run.rt);
+        Ok(StartedStages { read, embed, shape })
+    }
+}
+
+/// The first three stages of a lane, each in a thread of its own.
+#[derive(Drop)]
+struct StartedStages<L: LaneKind, O: Opener> {
+    read: StartedRead<L::Framed, L::End, O>,
+    embed: Started<L::Framed, L::End>,
+    shape: Started<L::Embedded, L::End>,
+}
+
+impl<L: LaneKind, O: Opener> StartedStages<L, O> {
+    /// Joins the threads, and settles the links of the lane by the ends that all its stages gave back. It gives the
+    /// lane's seat back, or none where an end of a link was gone.
+    fn join<R: Threads + Wait>(
+        self,
+        rt: &R,
+        drew: Option<Taker<Message<L::Shaped, L::End>>>,
+    ) -> Option<Seat>
+        requires framed { AreEnds self.read.promise.giver.value self.embed.promise.taker.value }
+        requires embedded { AreEnds self.embed.promise.giver.value self.shape.promise.taker.value }
+        requires shaped { IfSome drew (AreEnds self.shape.promise.giver.value) }
+        ensures { IfSome result (λ seat. (gave : List (AnyMessage L.Entry L.End))
+            → IfSome drew (λ took. IsPassedOn L.Shaped.about L.Entry.about (taken took) gave)
+            → TellsSeat L.Entry.about self.read.promise.choice (O.meaning self.read.promise.opener.value)
+            self.read.promise.tickets.value seat gave) }
+    {
+        let StartedStages { read, embed, shape } = self;
+        let read = read.join(rt);
+        let embed = embed.join(rt);
+        let shape = shape.join(rt);
         let Some((ends, embed, shape, draw)) = all_of(read, embed, shape, drew) else {
-            return Err(LaneFault::LaneLost);
+            return None;
         };
         let (read, seat) = ends;
-        settle_lane::<L, _>(run.rt, read, embed, shape, draw);
-        Ok(seat)
+        settle_lane::<L, _>(rt, read, embed, shape, draw);
+        Some(seat)
     }
 }
 
