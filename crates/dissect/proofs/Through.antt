@@ -142,10 +142,10 @@ enclosed_through w outside new end held tied four e old =
     let side : ℕ = w.darts + e.side in
     let tied_surrounded = surrounded_tied w e.surrounded tied e.surround in
     let four_surrounded = surrounded_quarters w e.surrounded four e.surround in
-    let tied_joined = cut_tied e.surrounded e.right side e.direction e.joined tied_surrounded e.join in
-    let four_joined = cut_quarters e.surrounded e.right side e.direction e.joined four_surrounded e.join in
-    grows_through e.joined new end held tied_joined four_joined e.grows
-    (cut_through e.surrounded e.right side e.direction e.joined end held tied_surrounded (four_surrounded side e.join.e_in) e.join
+    let tied_bridged = cut_tied e.surrounded e.right side e.direction e.bridged tied_surrounded e.bridge in
+    let four_bridged = cut_quarters e.surrounded e.right side e.direction e.bridged four_surrounded e.bridge in
+    grows_through e.bridged new end held tied_bridged four_bridged e.grows
+    (cut_through e.surrounded e.right side e.direction e.bridged end held tied_surrounded (four_surrounded side e.bridge.e_in) e.bridge
     (step_through w e.surrounded end held (beside_step w e.surrounded (surrounded_beside w e.surrounded tied e.surround)) old))
 
 -- what was a path of the map stands on the path with the same end in what it grew to

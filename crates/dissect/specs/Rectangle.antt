@@ -1,4 +1,4 @@
--- The rectangle round a map, and how the two are joined. The map `inner` has n darts and v vertices, which have the
+-- The rectangle round a map, and how the two are connected. The map `inner` has n darts and v vertices, which have the
 -- same numbers in the map that holds it.
 use Rattle.std.specs.Prelude.{◌≡◌, ◌≢◌, ℕ, ◌+◌, ◌%◌, ◌<◌, List, [], ◌∷◌}
 use Rattle.dissect.specs.DartMaps.{DartMap}
@@ -29,7 +29,7 @@ pub record HasRectangle (inner w : DartMap) : Type 0 where
   pub corners : (k : ℕ) → k < 4 → w.head (inner.darts + 4 + k) ≡ inner.vertices + (k + 3) % 4
   pub outside : (k : ℕ) → k < 4 → IsOutside w (inner.darts + 4) (inner.darts + 4 + k)
 
--- A straight chain of darts, which ends with the dart n + 10 and the other way with n + 11, joins the map with a side of its
+-- A straight chain of darts, which ends with the dart n + 10 and the other way with n + 11, connects the map with a side of its
 -- rectangle: it sets out where the dart `right` arrives, and leaves a right angle between itself and the next edge on its left.
 pub record IsConnectedAt (inner : DartMap) (right : ℕ) (w : DartMap) : Type 0 where
   pub chain : IsStraightChain w (inner.darts + 10) (inner.darts + 11)

@@ -16,7 +16,7 @@ fn put_at<T: Copy>(list: &mut Vec<T>, start: usize, items: &[T])
     list[start..start + items.len()].copy_from_slice(items);
 }
 
-/// Adds a rectangle round the map, not yet joined to it: its inside runs along the four new darts from `darts` on, to
+/// Adds a rectangle round the map, not yet connected to it: its inside runs along the four new darts from `darts` on, to
 /// the east, north, west and south, and its outside along their reverses, the four after these. The
 /// table needs room for eight darts. Constant time.
 pub fn surround(table: &mut DartTable)

@@ -1,4 +1,4 @@
-//! Puts a rectangle round a map in four directions, joins the two, and cuts every face into boxes.
+//! Puts a rectangle round a map in four directions, connects the two, and cuts every face into boxes.
 //!
 //! A cut leads from a right turn of the outer face to the side of the rectangle that it faces, so that
 //! the outer face and the inside of the rectangle become one face. Each face but the outside of the
@@ -30,7 +30,7 @@ fn facing_side(table: &DartTable, right: u32) -> u32
     u32::from(table.direction[right as usize] + 4 - table.angle[right as usize]) % 4
 }
 
-/// Puts a rectangle round the map, joins it to a right turn of the outer face, which is that of
+/// Puts a rectangle round the map, connects it to a right turn of the outer face, which is that of
 /// the dart `outside`, and cuts all faces into boxes. The table needs room for four darts for each
 /// right turn, and for `RECTANGLE_ROOM` more. Linear in the darts. Faces are listed in the memory that is
 /// lent, which is given back.

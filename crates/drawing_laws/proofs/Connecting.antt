@@ -6,7 +6,7 @@ use Rattle.common.proofs.Sums.{sum_below-more, sum_below-add, sum_below-le, sum_
 use Rattle.dissect.specs.DartMaps.{DartMap, IsSound}
 use Rattle.dissect.specs.Paths.{IsConnected}
 use Rattle.dissect.proofs.Reordered.{sum_at, sum_at-same, reordered_at}
-use Rattle.dissect.proofs.Trees.{Joins}
+use Rattle.dissect.proofs.Trees.{Connections}
 use Rattle.dissect.proofs.Peeling.{IsPaired}
 use Rattle.drawing_laws.proofs.Growing.{Growth, growth, Up, is_up, ups, up_from, up_leads, enough, one_way, by_growth, peels}
 use Rattle.drawing_laws.proofs.Labels.{Labels, OfFaces}
@@ -50,8 +50,8 @@ at_most_one : (a b c d : ℕ) → a + b ≤ 1 → c + d ≤ 1 → a + c ≤ 1 �
 at_most_one a b c d h1 h2 h3 h4 h5 h6 = omega arith
 
 -- the faces that the outside reaches across edges, without one of the set
-abbrev pub outer_joins : (w : DartMap) (o : ℕ) → Labels w o → (ℕ → Bool) → Joins
-outer_joins w o faces s = record {
+abbrev pub outer_connections : (w : DartMap) (o : ℕ) → Labels w o → (ℕ → Bool) → Connections
+outer_connections w o faces s = record {
   darts = w.darts;
   nodes = w.darts;
   from = λ d. faces.label (w.reverse_dart d);
@@ -61,7 +61,7 @@ outer_joins w o faces s = record {
 }
 
 -- all other faces
-abbrev pub filled : (w : DartMap) (o : ℕ) (faces : Labels w o) (s : ℕ → Bool) → Growth (outer_joins w o faces s) → ℕ → Bool
+abbrev pub filled : (w : DartMap) (o : ℕ) (faces : Labels w o) (s : ℕ → Bool) → Growth (outer_connections w o faces s) → ℕ → Bool
 filled w o faces s g a = not (g.reached (faces.label a))
 
 -- the face of a dart, where those of the set are one
@@ -69,8 +69,8 @@ abbrev pub face_node : (w : DartMap) (o : ℕ) → Labels w o → (ℕ → Bool)
 face_node w o faces s a = cond (s a) w.darts (faces.label a)
 
 -- the faces, connected across the edges that touch one off the set
-abbrev pub face_joins : (w : DartMap) (o : ℕ) → Labels w o → (ℕ → Bool) → ℕ → Joins
-face_joins w o faces s root = record {
+abbrev pub face_connections : (w : DartMap) (o : ℕ) → Labels w o → (ℕ → Bool) → ℕ → Connections
+face_connections w o faces s root = record {
   darts = w.darts;
   nodes = w.darts + 1;
   from = λ d. face_node w o faces s (w.reverse_dart d);
@@ -79,24 +79,24 @@ face_joins w o faces s root = record {
   root = root;
 }
 
-abbrev pub in_tree : (w : DartMap) (j : Joins) → Growth j → ℕ → Bool
+abbrev pub in_tree : (w : DartMap) (j : Connections) → Growth j → ℕ → Bool
 in_tree w j g d = is_up j g d || is_up j g (w.reverse_dart d)
 
 -- the vertices, connected along those of these edges that are not of the tree on the faces
-abbrev pub vertex_joins : (w : DartMap) (o : ℕ) (faces : Labels w o) (s : ℕ → Bool) (root : ℕ) → Growth (face_joins w o faces s root) → Joins
-vertex_joins w o faces s root g = record {
+abbrev pub vertex_connections : (w : DartMap) (o : ℕ) (faces : Labels w o) (s : ℕ → Bool) (root : ℕ) → Growth (face_connections w o faces s root) → Connections
+vertex_connections w o faces s root g = record {
   darts = w.darts;
   nodes = w.vertices;
   from = λ d. w.head (w.reverse_dart d);
   to = w.head;
-  allowed = λ d. not (s d && s (w.reverse_dart d)) && not (in_tree w (face_joins w o faces s root) g d);
+  allowed = λ d. not (s d && s (w.reverse_dart d)) && not (in_tree w (face_connections w o faces s root) g d);
   root = w.head faces.out;
 }
 
 module _ (w : DartMap) (sound : IsSound w) (connected : IsConnected w) (o : ℕ) (faces : Labels w o)
     (s0 : ℕ → Bool) (of0 : OfFaces w s0)
     (upward0 : (a : ℕ) → a < w.darts → w.direction a ≡ 0 → s0 (w.reverse_dart a) ≡ true → s0 a ≡ true)
-    (free : s0 faces.out ≡ false) (g0 : Growth (outer_joins w o faces s0)) where
+    (free : s0 faces.out ≡ false) (g0 : Growth (outer_connections w o faces s0)) where
   abbrev n : ℕ
   n = w.darts
 
@@ -156,12 +156,12 @@ module _ (w : DartMap) (sound : IsSound w) (connected : IsConnected w) (o : ℕ)
   module _ (root : ℕ) (root_in : root < w.darts + 1)
       (merged : (d : ℕ) → d < w.darts → filled w o faces s0 g0 d ≡ true → face_node w o faces (filled w o faces s0 g0) d ≡ root)
       (start : ℕ) (start_in : start < w.darts) (starts : face_node w o faces (filled w o faces s0 g0) start ≡ root)
-      (g1 : Growth (face_joins w o faces (filled w o faces s0 g0) root)) where
+      (g1 : Growth (face_connections w o faces (filled w o faces s0 g0) root)) where
     abbrev f : ℕ → ℕ
     f = face_node w o faces s
 
-    abbrev j1 : Joins
-    j1 = face_joins w o faces s root
+    abbrev j1 : Connections
+    j1 = face_connections w o faces s root
 
     pub face_in : (d : ℕ) → d < w.darts → face_node w o faces (filled w o faces s0 g0) d < w.darts + 1
     face_in d d_in =
@@ -170,7 +170,7 @@ module _ (w : DartMap) (sound : IsSound w) (connected : IsConnected w) (o : ℕ)
           | inr off ↦ omega (arith, cond-false {A = ℕ} (s d) n (faces.label d) off, faces.inside d d_in)
         ]
 
-    pub paired1 : IsPaired (face_joins w o faces (filled w o faces s0 g0) root) w.reverse_dart
+    pub paired1 : IsPaired (face_connections w o faces (filled w o faces s0 g0) root) w.reverse_dart
     paired1 = record { inside = back_in; back = back_back; from = λ d l. refl; node = face_in }
 
     pub face_next : (a : ℕ) → a < w.darts → face_node w o faces (filled w o faces s0 g0) (w.next a) ≡ face_node w o faces (filled w o faces s0 g0) a
@@ -199,8 +199,8 @@ module _ (w : DartMap) (sound : IsSound w) (connected : IsConnected w) (o : ℕ)
         let both = or_parts (is_up j1 g1 a) (is_up j1 g1 (w.reverse_dart a)) off in
         or_from (is_up j1 g1 (w.reverse_dart a)) (is_up j1 g1 (w.reverse_dart (w.reverse_dart a))) both.1 (ap (is_up j1 g1) (back_back a a_in) ∙ both.0)
 
-    pub up_of : (a : ℕ) → in_tree w (face_joins w o faces (filled w o faces s0 g0) root) g1 a ≡ true
-        → Up (face_joins w o faces (filled w o faces s0 g0) root) g1 a ⊎ Up (face_joins w o faces (filled w o faces s0 g0) root) g1 (w.reverse_dart a)
+    pub up_of : (a : ℕ) → in_tree w (face_connections w o faces (filled w o faces s0 g0) root) g1 a ≡ true
+        → Up (face_connections w o faces (filled w o faces s0 g0) root) g1 a ⊎ Up (face_connections w o faces (filled w o faces s0 g0) root) g1 (w.reverse_dart a)
     up_of a on =
         elim (or_cases (is_up j1 g1 a) (is_up j1 g1 (w.reverse_dart a)) on) [
           | inl up ↦ inl (up_from j1 g1 a up)
@@ -209,11 +209,11 @@ module _ (w : DartMap) (sound : IsSound w) (connected : IsConnected w) (o : ℕ)
 
     -- ---- the tree on the vertices
 
-    module _ (g2 : Growth (vertex_joins w o faces (filled w o faces s0 g0) root g1)) where
-      abbrev j2 : Joins
-      j2 = vertex_joins w o faces s root g1
+    module _ (g2 : Growth (vertex_connections w o faces (filled w o faces s0 g0) root g1)) where
+      abbrev j2 : Connections
+      j2 = vertex_connections w o faces s root g1
 
-      pub paired2 : IsPaired (vertex_joins w o faces (filled w o faces s0 g0) root g1) w.reverse_dart
+      pub paired2 : IsPaired (vertex_connections w o faces (filled w o faces s0 g0) root g1) w.reverse_dart
       paired2 = record { inside = back_in; back = back_back; from = λ d l. refl; node = sound.meeting.head_in }
 
       off_tree : (d : ℕ) → d < w.darts → (s d && s (w.reverse_dart d)) ≡ false → in_tree w j1 g1 d ≡ false
@@ -282,7 +282,7 @@ module _ (w : DartMap) (sound : IsSound w) (connected : IsConnected w) (o : ℕ)
 
       round_faces : (v : ℕ) → g0.reached v ≡ true → (a : ℕ) → a < w.darts → faces.label a ≡ v → g2.reached (w.head a) ≡ true
       round_faces v r =
-          by_growth (outer_joins w o faces s0) g0 (λ (v : ℕ). (a : ℕ) → a < w.darts → faces.label a ≡ v → g2.reached (w.head a) ≡ true)
+          by_growth (outer_connections w o faces s0) g0 (λ (v : ℕ). (a : ℕ) → a < w.darts → faces.label a ≡ v → g2.reached (w.head a) ≡ true)
           (λ a a_in named. from_told a faces.out a_in named (or_right (s faces.out) (g2.reached (w.head faces.out)) g2.grown.root) (off_of a (ap g0.reached named ∙ g0.grown.root)))
           step v r
         where
@@ -431,8 +431,8 @@ module _ (w : DartMap) (sound : IsSound w) (connected : IsConnected w) (o : ℕ)
               )
 
       pub tight : sum_below w.darts (touches w (filled w o faces s0 g0)) + 2 * cond (g1.reached w.darts) 1 0
-          ≤ 2 * sum_below w.darts (ups (face_joins w o faces (filled w o faces s0 g0) root) g1)
-          + 2 * sum_below w.darts (ups (vertex_joins w o faces (filled w o faces s0 g0) root g1) g2)
+          ≤ 2 * sum_below w.darts (ups (face_connections w o faces (filled w o faces s0 g0) root) g1)
+          + 2 * sum_below w.darts (ups (vertex_connections w o faces (filled w o faces s0 g0) root g1) g2)
       tight =
           let first = enough j1 g1 face_in root_in in
           let last = sum_below-more w.darts (λ v. cond (g1.reached v) 1 0) in
@@ -447,8 +447,8 @@ module _ (w : DartMap) (sound : IsSound w) (connected : IsConnected w) (o : ℕ)
 
       -- each edge is of one of the trees
       pub spanned : (d : ℕ) → d < w.darts → (filled w o faces s0 g0 d && filled w o faces s0 g0 (w.reverse_dart d)) ≡ false
-          → (Up (face_joins w o faces (filled w o faces s0 g0) root) g1 d ⊎ Up (face_joins w o faces (filled w o faces s0 g0) root) g1 (w.reverse_dart d))
-          ⊎ (Up (vertex_joins w o faces (filled w o faces s0 g0) root g1) g2 d ⊎ Up (vertex_joins w o faces (filled w o faces s0 g0) root g1) g2 (w.reverse_dart d))
+          → (Up (face_connections w o faces (filled w o faces s0 g0) root) g1 d ⊎ Up (face_connections w o faces (filled w o faces s0 g0) root) g1 (w.reverse_dart d))
+          ⊎ (Up (vertex_connections w o faces (filled w o faces s0 g0) root g1) g2 d ⊎ Up (vertex_connections w o faces (filled w o faces s0 g0) root g1) g2 (w.reverse_dart d))
       spanned d d_in touch =
           elim (cases_Bool (in_tree w j1 g1 d)) [
             | inl on ↦ inl (up_of d on)
@@ -479,11 +479,11 @@ pub holds_outside : (w : DartMap) → IsSound w → IsConnected w → (o : ℕ) 
     → (a : ℕ) → a < w.darts → s a ≡ true → s o ≡ true
 holds_outside w sound connected o faces s of_s up a a_in on =
     faces.out_held s of_s
-    ∙ true_from_ne_false (s faces.out) (λ off. closing off (growth (outer_joins w o faces s) faces.inside))
+    ∙ true_from_ne_false (s faces.out) (λ off. closing off (growth (outer_connections w o faces s) faces.inside))
   where
-    closing : s faces.out ≡ false → Growth (outer_joins w o faces s) → ⊥
+    closing : s faces.out ≡ false → Growth (outer_connections w o faces s) → ⊥
     closing off g0 =
-        first (growth (face_joins w o faces s' w.darts) (λ d d_in. bound d d_in (cases_Bool (s' d))))
+        first (growth (face_connections w o faces s' w.darts) (λ d d_in. bound d d_in (cases_Bool (s' d))))
       where
         s' : ℕ → Bool
         s' = filled w o faces s g0
@@ -495,8 +495,8 @@ holds_outside w sound connected o faces s of_s up a a_in on =
         in_set : (d : ℕ) → d < w.darts → s' d ≡ true → face_node w o faces s' d ≡ w.darts
         in_set d d_in yes' = cond-true {A = ℕ} (s' d) w.darts (faces.label d) yes'
 
-        first : Growth (face_joins w o faces s' w.darts) → ⊥
+        first : Growth (face_connections w o faces s' w.darts) → ⊥
         first g1 =
             set_not_reached w sound connected o faces s of_s up off g0 w.darts (omega arith) in_set a a_in
             (in_set a a_in (holds_first w sound connected o faces s of_s up off g0 a a_in on)) g1
-            (growth (vertex_joins w o faces s' w.darts g1) sound.meeting.head_in) g1.grown.root
+            (growth (vertex_connections w o faces s' w.darts g1) sound.meeting.head_in) g1.grown.root

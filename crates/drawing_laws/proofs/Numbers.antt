@@ -8,7 +8,7 @@ use Rattle.dissect.specs.Paths.{IsConnected}
 use Rattle.dissect.specs.Boxes.{IsCutUp, BoxesModel, AreBoxes, dart_map}
 use Rattle.dissect.specs.Ordered.{IsOrdered}
 use Rattle.dissect.proofs.Reordered.{sum_at, sum_at-add, sum_at-same}
-use Rattle.dissect.proofs.Trees.{Joins}
+use Rattle.dissect.proofs.Trees.{Connections}
 use Rattle.drawing_laws.proofs.Growing.{Growth, growth, way_sum, way_root, way_step, by_growth}
 use Rattle.drawing_laws.proofs.Labels.{labels}
 use Rattle.drawing_laws.proofs.Rotating.{rotated, rotated_sound, rotated_cut}
@@ -21,7 +21,7 @@ same_if false true f g = g refl
 same_if false false f g = refl
 
 -- the vertices, connected by darts that do not go to the west
-abbrev pub forward : DartMap → ℕ → Joins
+abbrev pub forward : DartMap → ℕ → Connections
 forward w e = record {
   darts = w.darts;
   nodes = w.vertices;
@@ -60,7 +60,7 @@ module _ (w : DartMap) (sound : IsSound w) (connected : IsConnected w) (cut : Is
           (λ on. eq-eqb a (w.reverse_dart d) (sym (sound.tied.reverse_dart_back a a_in) ∙ ap w.reverse_dart (eqb-true (w.reverse_dart a) d on)))
 
   module _ (e : ℕ) (e_in : e < w.darts) (east : w.direction e ≡ 0) (g : Growth (forward w e)) where
-    abbrev j : Joins
+    abbrev j : Connections
     j = forward w e
 
     -- how often the way to the vertex v takes the dart d

@@ -5,9 +5,9 @@ use Rattle.embedding.specs.Darts.{heads, dart_count, first_dart, reverse_of, aft
 use Rattle.embedding.specs.Faces.{HasFaces, degree_in}
 use Rattle.embedding.specs.Rules.{KeepsBefore}
 
--- the parts into which the starts cut a list: part k goes from start k up to start k + 1
-abbrev pub cut_at : List ℕ → List ℕ → List (List ℕ)
-cut_at starts ends =
+-- the parts into which the starts split a list: part k goes from start k up to start k + 1
+abbrev pub parts_at : List ℕ → List ℕ → List (List ℕ)
+parts_at starts ends =
     map (λ k. slice_range ends (slice_index starts k) (slice_index starts (k + 1))) (range_with_len 0 (length starts - 1))
 
 -- the list holds the values of f at the numbers below n, in order

@@ -5,7 +5,7 @@ ghost use Rattle.std.specs.Prelude.{◌≡◌, ℕ, ◌+◌, ◌*◌, ◌<◌, �
 ghost use Rattle.embedding.specs.Lists.{list_of};
 ghost use Rattle.embedding.specs.Darts.{dart_count, first_dart, head_of, tail_of, reverse_of, after_of};
 ghost use Rattle.embedding.specs.Rules.{KeepsBefore};
-ghost use Rattle.embedding.specs.Tables.{cut_at, IsTable, AreTies, AreTables};
+ghost use Rattle.embedding.specs.Tables.{parts_at, IsTable, AreTies, AreTables};
 
 use crate::lists::Lists;
 use crate::numbering::add_faces;
@@ -91,7 +91,7 @@ pub(crate) fn darts_in(
     requires few { length lists.now < 256 }
     ensures kept { IfOk result (λ t. AreTables lists.now t.heads.items t.faces t.table.items) }
     ensures lists { IfOk result (λ t.
-        cut_at (drop (3 * length t.heads.items + t.faces) t.table.items) t.heads.items ≡ lists.now) }
+        parts_at (drop (3 * length t.heads.items + t.faces) t.table.items) t.heads.items ≡ lists.now) }
 {
     let darts = lists.darts();
     let mut heads = emptied(old_heads, darts)?;

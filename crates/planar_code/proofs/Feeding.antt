@@ -10,7 +10,7 @@ use Rattle.planar_code.specs.declared.fault.FeedFault.TheVariants as fault
 use Rattle.planar_code.specs.Split.{IsSplit, MayGoOn, ending_of}
 use Rattle.planar_code.specs.Place.{Place, Early, After, Failed, StandsAt, IsRunning, LosesRecord, Reads, Feeds, HasMore, beyond}
 use Rattle.planar_code.proofs.Records.{nothing_after}
-use Rattle.planar_code.proofs.Cuts.{front_of-cut}
+use Rattle.planar_code.proofs.Divisions.{front_of-divided}
 use Rattle.planar_code.proofs.Splits.{split_same, body_same}
 use Rattle.planar_code.proofs.LeadsTo.{standing-header}
 
@@ -26,15 +26,15 @@ split-early stream records front s = inl (record {
 
 -- with no bytes of a record after the last, the stream is complete
 pub split-complete : (stream : List ℕ) (records : List (List ℕ)) (count : ℕ) (rest : List ℕ) → rest ≡ [] → StandsAt stream records (After count rest) → IsSplit stream records ending.Complete
-split-complete stream records count rest none s = inr (record { body = s.body; rest = rest; headed = s.headed; cut = s.cut; ends = none })
+split-complete stream records count rest none s = inr (record { body = s.body; rest = rest; headed = s.headed; divided = s.divided; ends = none })
 
--- with some, it is cut
+-- with some, it has not ended
 pub split-truncated : (stream : List ℕ) (records : List (List ℕ)) (count : ℕ) (rest : List ℕ) → rest ≢ [] → StandsAt stream records (After count rest) → IsSplit stream records ending.Truncated
 split-truncated stream records count rest some s = inr (record {
   body = s.body;
   rest = rest;
   headed = s.headed;
-  cut = s.cut;
+  divided = s.divided;
   ends = (s.open_record, some, λ full. some (s.full (sym s.counted ∙ full)));
 })
 
@@ -80,11 +80,11 @@ failed-closed f stream records s (inr (inr h)) =
 -- no stream has more than 1,000,000 records
 pub length-split : (stream : List ℕ) (records : List (List ℕ)) (end : Ending) → IsSplit stream records end → length records ≤ MAX_RECORDS
 length-split stream records end (inl h) = omega (arith, ap length h.none)
-length-split stream records end (inr h) = h.cut.few
+length-split stream records end (inr h) = h.divided.few
 
 pub length-standing : (p : Place) (stream : List ℕ) (records : List (List ℕ)) → StandsAt stream records p → length records ≤ MAX_RECORDS
 length-standing (Early front) stream records s = omega (arith, ap length s.none)
-length-standing (After count rest) stream records s = s.cut.few
+length-standing (After count rest) stream records s = s.divided.few
 length-standing (Failed f) stream records s = length-split stream records (ending_of f) (split-failed stream records f s)
 
 -- the records so far begin those of the stream, however it goes on
@@ -95,7 +95,7 @@ standing-front (After count rest) stream records s more all end (inl h) =
 standing-front (After count rest) stream records s more all end (inr h) =
     let body : h.body ≡ s.body ++ more
     = body_same h.body (s.body ++ more) (sym h.headed ∙ ap (λ z. z ++ more) s.headed ∙ append_assoc HEADER s.body more) in
-    front_of-cut h.body all h.rest h.cut records (rest ++ more) (body ∙ ap (λ z. z ++ more) s.cut.concatenated ∙ append_assoc (concat records) rest more) s.cut.each s.cut.few
+    front_of-divided h.body all h.rest h.divided records (rest ++ more) (body ∙ ap (λ z. z ++ more) s.divided.concatenated ∙ append_assoc (concat records) rest more) s.divided.each s.divided.few
 standing-front (Failed f) stream records s more all end split =
     ([], (split_same (stream ++ more) all records end (ending_of f) split (s more)).0 ∙ sym (append-nil records))
 

@@ -12,7 +12,7 @@ use Rattle.planar_code.specs.Split.{BeginsWithZero, EndsAs, IsSplit, ending_of}
 use Rattle.planar_code.specs.Started.{IsOversize}
 use Rattle.planar_code.specs.Place.{Place, Early, After, Failed, StandsAt, Goes}
 use Rattle.planar_code.proofs.Records.{no_record-unfinished}
-use Rattle.planar_code.proofs.Cuts.{IsStuck, concat-push, cut_from}
+use Rattle.planar_code.proofs.Divisions.{IsStuck, concat-push, divided_from}
 
 -- no bytes begin a record
 pub unfinished-none : IsUnfinished []
@@ -49,7 +49,7 @@ pub goes_more : (count : ℕ) (rest text : List ℕ) → count ≢ MAX_RECORDS �
 goes_more count rest text room unfinished stream records s = adds_none records (stream ++ text) (After count (rest ++ text)) (record {
   body = s.body ++ text;
   headed = ap (λ z. z ++ text) s.headed ∙ append_assoc HEADER s.body text;
-  cut = cut_from (s.body ++ text) records (rest ++ text) (ap (λ z. z ++ text) s.cut.concatenated ∙ append_assoc (concat records) rest text) s.cut.each s.cut.few (inr (no_record-unfinished (rest ++ text) unfinished));
+  divided = divided_from (s.body ++ text) records (rest ++ text) (ap (λ z. z ++ text) s.divided.concatenated ∙ append_assoc (concat records) rest text) s.divided.each s.divided.few (inr (no_record-unfinished (rest ++ text) unfinished));
   counted = s.counted;
   open_record = unfinished;
   full = λ e. absurd (room e);
@@ -63,9 +63,9 @@ goes_whole count rest text bytes room same whole stream records s =
     record {
       body = s.body ++ text;
       headed = ap (λ z. z ++ text) s.headed ∙ append_assoc HEADER s.body text;
-      cut = cut_from (s.body ++ text) (records ++ bytes ∷ []) []
-          (ap (λ z. z ++ text) s.cut.concatenated ∙ append_assoc (concat records) rest text ∙ ap (λ z. concat records ++ z) (sym same) ∙ sym (concat-push records bytes) ∙ sym (append-nil (concat (records ++ bytes ∷ []))))
-          (All-push IsRecord records bytes s.cut.each whole)
+      divided = divided_from (s.body ++ text) (records ++ bytes ∷ []) []
+          (ap (λ z. z ++ text) s.divided.concatenated ∙ append_assoc (concat records) rest text ∙ ap (λ z. concat records ++ z) (sym same) ∙ sym (concat-push records bytes) ∙ sym (append-nil (concat (records ++ bytes ∷ []))))
+          (All-push IsRecord records bytes s.divided.each whole)
           (omega arith)
           (inr (no_record-unfinished [] unfinished-none));
       counted = omega arith;
@@ -79,7 +79,7 @@ fails count rest text f stuck ends stream records s = adds_none records (stream 
   body = s.body ++ (text ++ more);
   rest = rest ++ (text ++ more);
   headed = append_assoc stream text more ∙ ap (λ z. z ++ (text ++ more)) s.headed ∙ append_assoc HEADER s.body (text ++ more);
-  cut = cut_from (s.body ++ (text ++ more)) records (rest ++ (text ++ more)) (ap (λ z. z ++ (text ++ more)) s.cut.concatenated ∙ append_assoc (concat records) rest (text ++ more)) s.cut.each s.cut.few (subst (λ n. IsStuck n (rest ++ (text ++ more))) (sym s.counted) (stuck more));
+  divided = divided_from (s.body ++ (text ++ more)) records (rest ++ (text ++ more)) (ap (λ z. z ++ (text ++ more)) s.divided.concatenated ∙ append_assoc (concat records) rest (text ++ more)) s.divided.each s.divided.few (subst (λ n. IsStuck n (rest ++ (text ++ more))) (sym s.counted) (stuck more));
   ends = subst (λ n. EndsAs n (rest ++ (text ++ more)) (ending_of f)) (sym s.counted) (ends more);
 }))
 
@@ -154,7 +154,7 @@ pub standing-header : StandsAt HEADER [] (After 0 [])
 standing-header = record {
   body = [];
   headed = refl;
-  cut = cut_from [] [] [] refl (All-nil IsRecord) (omega arith) (inr (no_record-unfinished [] unfinished-none));
+  divided = divided_from [] [] [] refl (All-nil IsRecord) (omega arith) (inr (no_record-unfinished [] unfinished-none));
   counted = refl;
   open_record = unfinished-none;
   full = λ e. refl;

@@ -5,7 +5,7 @@ use Rattle.planar_code.specs.declared.ending.Ending.{Ending}
 use Rattle.planar_code.specs.declared.fault.FeedFault.{FeedFault}
 use Rattle.planar_code.specs.declared.fault.FeedFault.TheVariants as fault
 use Rattle.planar_code.specs.Stream.{IsUnfinished}
-use Rattle.planar_code.specs.Split.{IsCut, IsSplit, ending_of}
+use Rattle.planar_code.specs.Split.{IsDivided, IsSplit, ending_of}
 
 -- all that a framer keeps of its stream: a beginning of the header; after the header how many records
 -- there were and the bytes of the record that is open; or its fault
@@ -27,7 +27,7 @@ pub record StandsEarly (stream : List ℕ) (records : List (List ℕ)) (front : 
 pub record StandsAfter (stream : List ℕ) (records : List (List ℕ)) (count : ℕ) (rest : List ℕ) : Type 0 where
   pub body : List ℕ
   pub headed : stream ≡ HEADER ++ body
-  pub cut : IsCut body records rest
+  pub divided : IsDivided body records rest
   pub counted : length records ≡ count
   pub open_record : IsUnfinished rest
   pub full : count ≡ MAX_RECORDS → rest ≡ []

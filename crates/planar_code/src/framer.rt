@@ -24,7 +24,7 @@ enum Part {
     Failed(FeedFault),
 }
 
-/// Cuts a stream that comes in pieces into records.
+/// Divides a stream that comes in pieces into records.
 ///
 /// It keeps the place that the stream has led to and nothing else of the past: of the header how far
 /// it has come, then how many records there were and the bytes of the open one, or its fault.
@@ -132,8 +132,8 @@ impl Framer {
     /// Reads the next piece of the stream, and puts each record that it ends at the end of `out`, in
     /// order.
     ///
-    /// The stream may be cut anywhere, also within the header or a record. The work is linear in its
-    /// bytes: a record that lies whole in a piece is copied once, and one that is cut is copied twice. Want
+    /// The stream may be divided anywhere, also within the header or a record. The work is linear in its
+    /// bytes: a record that lies whole in a piece is copied once, and one that is divided is copied twice. Want
     /// of memory is answered only where the piece ends a record, for its bytes or its place in `out`.
     ///
     /// # Errors

@@ -119,7 +119,7 @@ found_at stream records Io s may = record {
   marked = ((refl, open_stands stream records (After (length records) []) s (λ f e. cc)), split_stands stream records (After (length records) []) s);
 }
 found_at stream records (Ended ending.Complete) s may =
-    found_split stream records ending.Complete (inr (record { body = s.body; rest = []; headed = s.headed; cut = s.cut; ends = refl }))
+    found_split stream records ending.Complete (inr (record { body = s.body; rest = []; headed = s.headed; divided = s.divided; ends = refl }))
 found_at stream records (Ended ending.Truncated) s may =
     let n = length records in
     let t : StandsAt (stream ++ 1 ∷ []) (records ++ []) (After n (1 ∷ [])) =
@@ -129,7 +129,7 @@ found_at stream records (Ended ending.Truncated) s may =
       body = t.body;
       rest = 1 ∷ [];
       headed = t.headed;
-      cut = t.cut;
+      divided = t.divided;
       ends = (t.open_record, (λ e. cc), λ full. may (sym t.counted ∙ full));
     })))
 found_at stream [] (Ended ending.Header) s may = found_header

@@ -51,51 +51,51 @@ module _ (inner w : DartMap) (x y : ℕ → ℕ) (sound : IsSound w) (narrow : w
   last_in n a [] a_in below = a_in
   last_in n a (c ∷ cs) a_in below = last_in n c cs below.0 below.1
 
-  module _ (right : ℕ) (joined : IsConnectedAt inner right w) where
-    -- the join goes straight from the turn to its place on the side
-    join_goes : (k : ℕ) → k < 4 → w.direction (inner.darts + 10) ≡ k → Goes k x y (w.head right) (w.head (inner.darts + 8))
-    join_goes k few way =
-        subst (λ (u : ℕ). Goes k x y u (w.head (inner.darts + 8))) joined.from
-        (subst (λ (u : ℕ). Goes k x y (w.head (inner.darts + 11)) u) joined.to
-        (path_goes w x y sound ordered k (inner.darts + 10) (inner.darts + 11) joined.chain.there way few))
+  module _ (right : ℕ) (bridged : IsConnectedAt inner right w) where
+    -- the bridge goes straight from the turn to its place on the side
+    bridge_goes : (k : ℕ) → k < 4 → w.direction (inner.darts + 10) ≡ k → Goes k x y (w.head right) (w.head (inner.darts + 8))
+    bridge_goes k few way =
+        subst (λ (u : ℕ). Goes k x y u (w.head (inner.darts + 8))) bridged.from
+        (subst (λ (u : ℕ). Goes k x y (w.head (inner.darts + 11)) u) bridged.to
+        (path_goes w x y sound ordered k (inner.darts + 10) (inner.darts + 11) bridged.chain.there way few))
 
     -- and that place lies between the corners of the side
-    place_between : (k from : ℕ) → k < 4 → inner.vertices + (k + 3) % 4 ≡ from → k ≡ joined.side
+    place_between : (k from : ℕ) → k < 4 → inner.vertices + (k + 3) % 4 ≡ from → k ≡ bridged.side
         → Goes k x y from (w.head (inner.darts + 8)) × Goes k x y (w.head (inner.darts + 8)) (inner.vertices + k)
     place_between k from few is at =
         let on : IsPlaceOn w (inner.darts + k) (inner.darts + 8) =
-        subst (λ (j : ℕ). IsPlaceOn w (inner.darts + j) (inner.darts + 8)) (sym at) joined.on_side in
+        subst (λ (j : ℕ). IsPlaceOn w (inner.darts + j) (inner.darts + 8)) (sym at) bridged.on_side in
         let (to, further) = path_passes w x y sound ordered k (inner.darts + k) (inner.darts + 4 + k) (inner.darts + 8) narrow (has.sides k few).there (has.directions k few) few on in (
           subst (λ (u : ℕ). Goes k x y u (w.head (inner.darts + 8))) (has.corners k few ∙ is) to,
           subst (λ (u : ℕ). Goes k x y (w.head (inner.darts + 8)) u) (has.inside k few) further,
         )
 
-    looks : (side : ℕ) → side ≡ joined.side → side < 4 → LiesBefore x y (corners_of inner.vertices) (w.head (inner.darts + 8)) (w.head right)
+    looks : (side : ℕ) → side ≡ bridged.side → side < 4 → LiesBefore x y (corners_of inner.vertices) (w.head (inner.darts + 8)) (w.head right)
     looks side at few =
         let quarter : w.direction (inner.darts + 10) < 4 =
         sound.meeting.quarter (inner.darts + 10)
-        (subst (λ (e : ℕ). e < w.darts) joined.chain.there.path.ends
-        (last_in w.darts joined.chain.there.first joined.chain.there.rest joined.chain.there.path.first_in joined.chain.there.path.rest_in)) in
+        (subst (λ (e : ℕ). e < w.darts) bridged.chain.there.path.ends
+        (last_in w.darts bridged.chain.there.first bridged.chain.there.rest bridged.chain.there.path.first_in bridged.chain.there.path.rest_in)) in
         by_side side at few quarter
       where
-        by_side : (side : ℕ) → side ≡ joined.side → side < 4 → w.direction (inner.darts + 10) < 4
+        by_side : (side : ℕ) → side ≡ bridged.side → side < 4 → w.direction (inner.darts + 10) < 4
             → LiesBefore x y (corners_of inner.vertices) (w.head (inner.darts + 8)) (w.head right)
         by_side zero at few quarter =
             let (to, on) = place_between 0 (inner.vertices + 3) (omega arith) refl at in
-            let join = join_goes 3 (omega arith) (omega (arith, joined.meets, at, quarter)) in
-            inl ((to.0, on.0), sym to.1, sym join.1, join.0)
+            let bridge = bridge_goes 3 (omega arith) (omega (arith, bridged.meets, at, quarter)) in
+            inl ((to.0, on.0), sym to.1, sym bridge.1, bridge.0)
         by_side (suc zero) at few quarter =
             let (to, on) = place_between 1 (inner.vertices + 0) (omega arith) refl at in
-            let join = join_goes 0 (omega arith) (omega (arith, joined.meets, at, quarter)) in
-            inr (inl ((to.0, on.0), sym to.1, sym join.1, join.0))
+            let bridge = bridge_goes 0 (omega arith) (omega (arith, bridged.meets, at, quarter)) in
+            inr (inl ((to.0, on.0), sym to.1, sym bridge.1, bridge.0))
         by_side (suc (suc zero)) at few quarter =
             let (to, on) = place_between 2 (inner.vertices + 1) (omega arith) refl at in
-            let join = join_goes 1 (omega arith) (omega (arith, joined.meets, at, quarter)) in
-            inr (inr (inl ((on.0, to.0), sym to.1, sym join.1, join.0)))
+            let bridge = bridge_goes 1 (omega arith) (omega (arith, bridged.meets, at, quarter)) in
+            inr (inr (inl ((on.0, to.0), sym to.1, sym bridge.1, bridge.0)))
         by_side (suc (suc (suc zero))) at few quarter =
             let (to, on) = place_between 3 (inner.vertices + 2) (omega arith) refl at in
-            let join = join_goes 2 (omega arith) (omega (arith, joined.meets, at, quarter)) in
-            inr (inr (inr ((on.0, to.0), sym to.1, sym join.1, join.0)))
+            let bridge = bridge_goes 2 (omega arith) (omega (arith, bridged.meets, at, quarter)) in
+            inr (inr (inr ((on.0, to.0), sym to.1, sym bridge.1, bridge.0)))
         by_side (suc (suc (suc (suc k)))) at few quarter = absurd (omega (arith, few))
 
 pub looks_out : (p : PlaneModel) (shape : ShapeModel) (b : BoxesModel) → IsBoxed p shape b → LooksOut p shape b
@@ -129,5 +129,5 @@ looks_out p shape b boxed =
       rectangle = λ x y ordered. are_corners e.enclosed_map (dart_map b) x y sound narrow ordered e.rectangle;
       before = λ x y ordered.
           subst (λ (u : ℕ). LiesBefore x y (corners_of e.enclosed_map.vertices) ((dart_map b).head (n + 8)) u) (e.heads e.right e.right_in)
-          (looks e.enclosed_map (dart_map b) x y sound narrow ordered e.rectangle e.right e.join e.join.side refl e.join.side_in);
+          (looks e.enclosed_map (dart_map b) x y sound narrow ordered e.rectangle e.right e.bridge e.bridge.side refl e.bridge.side_in);
     }

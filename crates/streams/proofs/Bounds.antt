@@ -26,14 +26,14 @@ pub length-running : (read : List ℕ) (records : List (List ℕ)) (place : Plac
 length-running read records (Early front) s running =
     omega (arith, ap length s.same, length-append front s.missing, ap length s.whole)
 length-running read records (After count rest) s running =
-    let few = s.cut.few in
+    let few = s.divided.few in
     omega (
       arith,
       ap length s.headed,
       length-append HEADER s.body,
-      ap length s.cut.concatenated,
+      ap length s.divided.concatenated,
       length-append (concat records) rest,
-      length-records records s.cut.each,
+      length-records records s.divided.each,
       length-unfinished rest s.open_record,
     )
 length-running read records (Failed f) s running = absurd (running f refl)

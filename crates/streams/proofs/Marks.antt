@@ -8,7 +8,7 @@ use Rattle.planar_code.specs.declared.fault.FeedFault.TheVariants as fault
 use Rattle.planar_code.specs.Split.{IsSplit, IsHeaderless, MayGoOn, EndsAs, ending_of}
 use Rattle.planar_code.specs.Place.{Place, Early, After, Failed, StandsAt, StandsEarly, StandsAfter, IsRunning}
 use Rattle.planar_code.proofs.Records.{nothing_after}
-use Rattle.planar_code.proofs.Cuts.{front_of-cut}
+use Rattle.planar_code.proofs.Divisions.{front_of-divided}
 use Rattle.planar_code.proofs.Splits.{split_same, body_same}
 use Rattle.streams.specs.Marks.{IsBeginningOf}
 
@@ -26,14 +26,14 @@ early_headerless text records front s = record {
 -- after whole records a stream ends complete, or in the next one
 after_ends : (text : List ℕ) (records : List (List ℕ)) (count : ℕ) (rest : List ℕ) → StandsAfter text records count rest
     → IsSplit text records ending.Complete ⊎ IsSplit text records ending.Truncated
-after_ends text records count [] s = inl (inr (record { body = s.body; rest = []; headed = s.headed; cut = s.cut; ends = refl }))
+after_ends text records count [] s = inl (inr (record { body = s.body; rest = []; headed = s.headed; divided = s.divided; ends = refl }))
 after_ends text records count (x ∷ rest) s =
     let some : (x ∷ rest) ≢ [] = λ e. cc in
     inr (inr (record {
       body = s.body;
       rest = x ∷ rest;
       headed = s.headed;
-      cut = s.cut;
+      divided = s.divided;
       ends = (s.open_record, some, λ full. some (s.full (sym s.counted ∙ full)));
     }))
 
@@ -79,7 +79,7 @@ not_header : (records : List (List ℕ)) (f : FeedFault) → IsSplit HEADER reco
 not_header records f (inl h) = h.header [] (sym (append-nil HEADER))
 not_header records f (inr h) =
     let none : h.body ≡ [] = body_same h.body [] (sym h.headed ∙ sym (append-nil HEADER)) in
-    let rest : h.rest ≡ [] = nothing_after _ h.rest (sym none ∙ h.cut.concatenated) in
+    let rest : h.rest ≡ [] = nothing_after _ h.rest (sym none ∙ h.divided.concatenated) in
     not_empty (length records) f (subst (λ r. EndsAs (length records) r (ending_of f)) rest h.ends)
 
 -- after a fault no more bytes may come
@@ -97,6 +97,6 @@ beginning_stands text more records (After count rest) s all end (inl h) =
     absurd (h.header (s.body ++ more) (ap (λ l. l ++ more) s.headed ∙ append_assoc HEADER s.body more))
 beginning_stands text more records (After count rest) s all end (inr h) =
     let body : h.body ≡ s.body ++ more = body_same h.body (s.body ++ more) (sym h.headed ∙ ap (λ l. l ++ more) s.headed ∙ append_assoc HEADER s.body more) in
-    front_of-cut h.body all h.rest h.cut records (rest ++ more) (body ∙ ap (λ l. l ++ more) s.cut.concatenated ∙ append_assoc _ rest more) s.cut.each s.cut.few
+    front_of-divided h.body all h.rest h.divided records (rest ++ more) (body ∙ ap (λ l. l ++ more) s.divided.concatenated ∙ append_assoc _ rest more) s.divided.each s.divided.few
 beginning_stands text more records (Failed f) s all end split =
     ([], (split_same (text ++ more) all records _ _ split (s more)).0 ∙ sym (append-nil records))

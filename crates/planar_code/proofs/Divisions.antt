@@ -5,7 +5,7 @@ use Rattle.std.proofs.lemmas.List.Elements.{All-head, All-tail, All-push}
 use Rattle.std.proofs.lemmas.Bool.{cases_eq}
 use Rattle.planar_code.specs.declared.TheConstants.{MAX_RECORDS}
 use Rattle.planar_code.specs.Stream.{IsRecord, NoRecordFirst}
-use Rattle.planar_code.specs.Split.{IsCut}
+use Rattle.planar_code.specs.Split.{IsDivided}
 use Rattle.planar_code.proofs.Records.{record_same}
 
 -- one more record at the end
@@ -45,8 +45,8 @@ pub length-front : (a b : List (List ℕ)) → ((more : List (List ℕ)) × (b �
 length-front a b f = omega (arith, ap length f.1, length-append a f.0)
 
 -- records that cannot be continued are the longest
-pub cut_from : (body : List ℕ) (records : List (List ℕ)) (rest : List ℕ) → body ≡ concat records ++ rest → All IsRecord records → length records ≤ MAX_RECORDS → IsStuck (length records) rest → IsCut body records rest
-cut_from body records rest concatenated each few stuck = record {
+pub divided_from : (body : List ℕ) (records : List (List ℕ)) (rest : List ℕ) → body ≡ concat records ++ rest → All IsRecord records → length records ≤ MAX_RECORDS → IsStuck (length records) rest → IsDivided body records rest
+divided_from body records rest concatenated each few stuck = record {
   concatenated = concatenated;
   each = each;
   few = few;
@@ -55,8 +55,8 @@ cut_from body records rest concatenated each few stuck = record {
 }
 
 -- the longest records cannot be continued
-pub stuck-cut : (body : List ℕ) (records : List (List ℕ)) (rest : List ℕ) → IsCut body records rest → IsStuck (length records) rest
-stuck-cut body records rest c = elim (cases_eq (length records) MAX_RECORDS) [
+pub stuck-divided : (body : List ℕ) (records : List (List ℕ)) (rest : List ℕ) → IsDivided body records rest → IsStuck (length records) rest
+stuck-divided body records rest c = elim (cases_eq (length records) MAX_RECORDS) [
   | inl full ↦ inl full
   | inr short ↦ inr (λ first remaining r e.
       let others = records ++ first ∷ [] in
@@ -68,9 +68,9 @@ stuck-cut body records rest c = elim (cases_eq (length records) MAX_RECORDS) [
 ]
 
 -- any whole records that begin the body begin the longest
-pub front_of-cut : (body : List ℕ) (records : List (List ℕ)) (rest : List ℕ) → IsCut body records rest → (others : List (List ℕ)) (remaining : List ℕ) → body ≡ concat others ++ remaining → All IsRecord others → length others ≤ MAX_RECORDS → (more : List (List ℕ)) × (records ≡ others ++ more)
-front_of-cut body records rest c others remaining e each few =
-    front_of-stuck others records remaining rest each c.each (sym e ∙ c.concatenated) few (stuck-cut body records rest c)
+pub front_of-divided : (body : List ℕ) (records : List (List ℕ)) (rest : List ℕ) → IsDivided body records rest → (others : List (List ℕ)) (remaining : List ℕ) → body ≡ concat others ++ remaining → All IsRecord others → length others ≤ MAX_RECORDS → (more : List (List ℕ)) × (records ≡ others ++ more)
+front_of-divided body records rest c others remaining e each few =
+    front_of-stuck others records remaining rest each c.each (sym e ∙ c.concatenated) few (stuck-divided body records rest c)
 
 -- the same number of records from the same bytes are the same
 pub records_same : (ra rb : List (List ℕ)) (x y : List ℕ) → All IsRecord ra → All IsRecord rb → length ra ≡ length rb → concat ra ++ x ≡ concat rb ++ y → (ra ≡ rb) × (x ≡ y)
@@ -84,7 +84,7 @@ records_same (a ∷ ra) (b ∷ rb) x y each_a each_b n e =
     let others = records_same ra rb x y (All-tail IsRecord a ra each_a) (All-tail IsRecord b rb each_b) (omega arith) first.1 in
     (cc, others.1)
 
--- bytes are cut in one way
-pub cut_same : (body : List ℕ) (rs ss : List (List ℕ)) (x y : List ℕ) → IsCut body rs x → IsCut body ss y → (rs ≡ ss) × (x ≡ y)
-cut_same body rs ss x y c d =
+-- bytes are divided in one way
+pub divided_same : (body : List ℕ) (rs ss : List (List ℕ)) (x y : List ℕ) → IsDivided body rs x → IsDivided body ss y → (rs ≡ ss) × (x ≡ y)
+divided_same body rs ss x y c d =
     records_same rs ss x y c.each d.each (omega (arith, c.longest ss y d.concatenated d.each d.few, d.longest rs x c.concatenated c.each c.few)) (sym c.concatenated ∙ d.concatenated)
