@@ -146,10 +146,10 @@ impl<'c, C: Console> Meter<'c, C> {
         if time < last_told.saturating_add(PAUSE) {
             return;
         }
-        let turn = self
+        let stored_time = self
             .last_told
             .compare_exchange(last_told, time, Ordering::SeqCst, Ordering::SeqCst);
-        if turn.is_ok() {
+        if stored_time.is_ok() {
             self.tell(time, if self.style == Style::Apart { "\n" } else { "" });
         }
     }

@@ -322,7 +322,7 @@ sent_on net p e on place x y z i back u v amount most b moved others free start 
 -- ---- one residual arc of the path
 
 -- residual arc k leads from u to v, something fits along it, and it costs nothing
-pub record IsLink (net : NetworkModel) (reverse : ℕ → ℕ) (forward : List ℕ) (capacity : ℕ → ℕ) (p : ℕ → ℤ) (u k v : ℕ) : Type 0 where
+pub record IsTightArc (net : NetworkModel) (reverse : ℕ → ℕ) (forward : List ℕ) (capacity : ℕ → ℕ) (p : ℕ → ℤ) (u k v : ℕ) : Type 0 where
   pub arc : ℕ
   pub back : Bool
   pub inside : arc < arc_count net
@@ -342,8 +342,8 @@ some_coded z c r least e h =
 free_cost : (c z a b a' b' : ℤ) → c +ℤ a -ℤ b ≡ pos 0 → c ≡ z → a' ≡ a → b' ≡ b → z +ℤ a' -ℤ b' ≡ pos 0
 free_cost c z a b a' b' h e f g = omega (arith, ints)
 
-pub tight_link : (net : NetworkModel) (first : List ℕ) (reverse : ℕ → ℕ) (forward : List ℕ) (capacity : ℕ → ℕ) (arcs : List ResidualArc) (p : ℕ → ℤ) (u k v : ℕ) → IsNetwork net → HasResidualArcs net first reverse forward → AreResidualArcs net reverse forward capacity arcs → u < node_count net → IsTight first arcs p u k v → IsLink net reverse forward capacity p u k v
-tight_link net first reverse forward capacity arcs p u k v n l f b t =
+pub tight_arc_of : (net : NetworkModel) (first : List ℕ) (reverse : ℕ → ℕ) (forward : List ℕ) (capacity : ℕ → ℕ) (arcs : List ResidualArc) (p : ℕ → ℤ) (u k v : ℕ) → IsNetwork net → HasResidualArcs net first reverse forward → AreResidualArcs net reverse forward capacity arcs → u < node_count net → IsTight first arcs p u k v → IsTightArc net reverse forward capacity p u k v
+tight_arc_of net first reverse forward capacity arcs p u k v n l f b t =
     let o = l.cover u k b t.leaves in
     let z = unit_cost net o.arc o.back in
     let cost : cost_at arcs k ≡ coded z (capacity k) = subst (λ (q : ℕ). cost_at arcs q ≡ coded z (capacity q)) o.place (code_is net reverse forward capacity arcs o.arc o.back f o.inside) in
@@ -387,29 +387,29 @@ both_ends net on place x y i true u v s e a b less kept =
     let f : place (arc_at net i).from ≡ place v = ap place e in
     kept (ap on e ∙ b) (ap on s ∙ a) (omega arith) (omega arith)
 
-link_kept : (net : NetworkModel) (reverse : ℕ → ℕ) (forward : List ℕ) (capacity : ℕ → ℕ) (p e : ℕ → ℤ) (on : ℕ → Bool) (place : ℕ → ℕ) (x y : ℕ → ℕ) (u k v amount most : ℕ) → (t : IsLink net reverse forward capacity p u k v) → on u ≡ true → on v ≡ true → place u < place v → IsSending net p e on place x y v amount most → y t.arc ≡ x t.arc
-link_kept net reverse forward capacity p e on place x y u k v amount most t a b less s =
+arc_kept : (net : NetworkModel) (reverse : ℕ → ℕ) (forward : List ℕ) (capacity : ℕ → ℕ) (p e : ℕ → ℤ) (on : ℕ → Bool) (place : ℕ → ℕ) (x y : ℕ → ℕ) (u k v amount most : ℕ) → (t : IsTightArc net reverse forward capacity p u k v) → on u ≡ true → on v ≡ true → place u < place v → IsSending net p e on place x y v amount most → y t.arc ≡ x t.arc
+arc_kept net reverse forward capacity p e on place x y u k v amount most t a b less s =
     both_ends net on place x y t.arc t.back u v t.start t.end a b less (s.kept t.arc t.inside)
 
 -- what fitted along the next residual arc still does
-pub still_fits : (net : NetworkModel) (reverse : ℕ → ℕ) (forward : List ℕ) (capacity room' : ℕ → ℕ) (arcs arcs' : List ResidualArc) (p e : ℕ → ℤ) (on : ℕ → Bool) (place : ℕ → ℕ) (u k v amount most : ℕ) → AreResidualArcs net reverse forward capacity arcs → AreResidualArcs net reverse forward room' arcs' → IsLink net reverse forward capacity p u k v → on u ≡ true → on v ≡ true → place u < place v → IsSending net p e on place (carried reverse forward capacity) (carried reverse forward room') v amount most → amount ≤ capacity k → amount ≤ room' k
+pub still_fits : (net : NetworkModel) (reverse : ℕ → ℕ) (forward : List ℕ) (capacity room' : ℕ → ℕ) (arcs arcs' : List ResidualArc) (p e : ℕ → ℤ) (on : ℕ → Bool) (place : ℕ → ℕ) (u k v amount most : ℕ) → AreResidualArcs net reverse forward capacity arcs → AreResidualArcs net reverse forward room' arcs' → IsTightArc net reverse forward capacity p u k v → on u ≡ true → on v ≡ true → place u < place v → IsSending net p e on place (carried reverse forward capacity) (carried reverse forward room') v amount most → amount ≤ capacity k → amount ≤ room' k
 still_fits net reverse forward capacity room' arcs arcs' p e on place u k v amount most f f' t a b less s fits =
-    let own = link_kept net reverse forward capacity p e on place (carried reverse forward capacity) (carried reverse forward room') u k v amount most t a b less s in
+    let own = arc_kept net reverse forward capacity p e on place (carried reverse forward capacity) (carried reverse forward room') u k v amount most t a b less s in
     let same : room' k ≡ capacity k = subst (λ (q : ℕ). room' q ≡ capacity q) t.place (same_capacity net reverse forward capacity room' arcs arcs' t.arc t.back f f' t.inside own) in
     omega arith
 
 -- a push along the next residual arc
-pub sending_more : (net : NetworkModel) (first : List ℕ) (reverse : ℕ → ℕ) (forward : List ℕ) (capacity room' room'' : ℕ → ℕ) (p e : ℕ → ℤ) (on : ℕ → Bool) (place : ℕ → ℕ) (u k v amount most : ℕ) → HasResidualArcs net first reverse forward → IsLink net reverse forward capacity p u k v → on u ≡ true → on v ≡ true → place u < place v → IsSending net p e on place (carried reverse forward capacity) (carried reverse forward room') v amount most → IsPushed reverse room' room'' k amount → IsSending net p e on place (carried reverse forward capacity) (carried reverse forward room'') u amount most
+pub sending_more : (net : NetworkModel) (first : List ℕ) (reverse : ℕ → ℕ) (forward : List ℕ) (capacity room' room'' : ℕ → ℕ) (p e : ℕ → ℤ) (on : ℕ → Bool) (place : ℕ → ℕ) (u k v amount most : ℕ) → HasResidualArcs net first reverse forward → IsTightArc net reverse forward capacity p u k v → on u ≡ true → on v ≡ true → place u < place v → IsSending net p e on place (carried reverse forward capacity) (carried reverse forward room') v amount most → IsPushed reverse room' room'' k amount → IsSending net p e on place (carried reverse forward capacity) (carried reverse forward room'') u amount most
 sending_more net first reverse forward capacity room' room'' p e on place u k v amount most l t a b less s pushed =
     sent_on net p e on place (carried reverse forward capacity) (carried reverse forward room') (carried reverse forward room'') t.arc t.back u v amount most t.inside
     (moved_by net first reverse forward room' room'' t.arc t.back k amount l t.inside t.place pushed)
     (kept_by net first reverse forward room' room'' t.arc t.back k amount l t.inside t.place pushed)
     t.free t.start t.end
-    (link_kept net reverse forward capacity p e on place (carried reverse forward capacity) (carried reverse forward room') u k v amount most t a b less s)
+    (arc_kept net reverse forward capacity p e on place (carried reverse forward capacity) (carried reverse forward room') u k v amount most t a b less s)
     (λ _. less) (λ j c f g d h. s.kept j c f g (omega arith) (omega arith)) s.carries s.priced s.grown (omega (arith, s.few))
 
 -- the push along the last residual arc
-pub sending_first : (net : NetworkModel) (first : List ℕ) (reverse : ℕ → ℕ) (forward : List ℕ) (capacity room' : ℕ → ℕ) (p e : ℕ → ℤ) (on : ℕ → Bool) (place : ℕ → ℕ) (u k v amount : ℕ) → HasResidualArcs net first reverse forward → IsLink net reverse forward capacity p u k v → on v ≡ false → Carries net (carried reverse forward capacity) e v amount → HasPotentials net (carried reverse forward capacity) p → IsPushed reverse capacity room' k amount → IsSending net p e on place (carried reverse forward capacity) (carried reverse forward room') u amount (carrying net (carried reverse forward capacity) + place u + 1)
+pub sending_first : (net : NetworkModel) (first : List ℕ) (reverse : ℕ → ℕ) (forward : List ℕ) (capacity room' : ℕ → ℕ) (p e : ℕ → ℤ) (on : ℕ → Bool) (place : ℕ → ℕ) (u k v amount : ℕ) → HasResidualArcs net first reverse forward → IsTightArc net reverse forward capacity p u k v → on v ≡ false → Carries net (carried reverse forward capacity) e v amount → HasPotentials net (carried reverse forward capacity) p → IsPushed reverse capacity room' k amount → IsSending net p e on place (carried reverse forward capacity) (carried reverse forward room') u amount (carrying net (carried reverse forward capacity) + place u + 1)
 sending_first net first reverse forward capacity room' p e on place u k v amount l t off carries priced pushed =
     let x = carried reverse forward capacity in
     sent_on net p e on place x x (carried reverse forward room') t.arc t.back u v amount (carrying net x + place u + 1) t.inside
@@ -537,7 +537,7 @@ pub record IsStep (net : NetworkModel) (first : List ℕ) (reverse : ℕ → ℕ
   pub member : on (end_at arcs (reverse k)) ≡ true
   pub before : place (end_at arcs (reverse k)) < place v
   pub leaves : StartsAt first (end_at arcs (reverse k)) k
-  pub link : IsLink net reverse forward capacity p (end_at arcs (reverse k)) k v
+  pub tight_arc : IsTightArc net reverse forward capacity p (end_at arcs (reverse k)) k v
 
 pub path_step : (net : NetworkModel) (first : List ℕ) (reverse : ℕ → ℕ) (forward : List ℕ) (capacity : ℕ → ℕ) (arcs : List ResidualArc) (p : ℕ → ℤ) (enter place : ℕ → ℕ) (root found : ℕ) → IsNetwork net → HasResidualArcs net first reverse forward → AreResidualArcs net reverse forward capacity arcs → (h : HasPath (node_count net) first arcs p enter place root found) → (v : ℕ) → h.on v ≡ true → 0 < place v → IsStep net first reverse forward capacity arcs p h.on place v (enter v)
 path_step net first reverse forward capacity arcs p enter place root found n l f h v on some =
@@ -549,7 +549,7 @@ path_step net first reverse forward capacity arcs p enter place root found n l f
       member = ap h.on s ∙ a.member;
       before = subst (λ (t : ℕ). place t < place v) (sym s) a.before;
       leaves = subst (λ (t : ℕ). StartsAt first t (enter v)) (sym s) a.step.leaves;
-      link = subst (λ (t : ℕ). IsLink net reverse forward capacity p t (enter v) v) (sym s) (tight_link net first reverse forward capacity arcs p a.start (enter v) v n l f b a.step);
+      tight_arc = subst (λ (t : ℕ). IsTightArc net reverse forward capacity p t (enter v) v) (sym s) (tight_arc_of net first reverse forward capacity arcs p a.start (enter v) v n l f b a.step);
     }
 
 -- the last residual arc of the path leads off it
@@ -557,7 +557,7 @@ pub record IsLast (net : NetworkModel) (first : List ℕ) (reverse : ℕ → ℕ
   pub node : end_at arcs (reverse k) < node_count net
   pub member : on (end_at arcs (reverse k)) ≡ true
   pub leaves : StartsAt first (end_at arcs (reverse k)) k
-  pub link : IsLink net reverse forward capacity p (end_at arcs (reverse k)) k (end_at arcs k)
+  pub tight_arc : IsTightArc net reverse forward capacity p (end_at arcs (reverse k)) k (end_at arcs k)
 
 pub path_last : (net : NetworkModel) (first : List ℕ) (reverse : ℕ → ℕ) (forward : List ℕ) (capacity : ℕ → ℕ) (arcs : List ResidualArc) (p : ℕ → ℤ) (enter place : ℕ → ℕ) (root found : ℕ) → IsNetwork net → HasResidualArcs net first reverse forward → AreResidualArcs net reverse forward capacity arcs → (h : HasPath (node_count net) first arcs p enter place root found) → IsLast net first reverse forward capacity arcs p h.on found
 path_last net first reverse forward capacity arcs p enter place root found n l f h =
@@ -567,11 +567,11 @@ path_last net first reverse forward capacity arcs p enter place root found n l f
       node = subst (λ (t : ℕ). t < node_count net) (sym s) b;
       member = ap h.on s ∙ h.member;
       leaves = subst (λ (t : ℕ). StartsAt first t found) (sym s) h.step.leaves;
-      link = subst (λ (t : ℕ). IsLink net reverse forward capacity p t found (end_at arcs found)) (sym s) (tight_link net first reverse forward capacity arcs p h.last found (end_at arcs found) n l f b h.step);
+      tight_arc = subst (λ (t : ℕ). IsTightArc net reverse forward capacity p t found (end_at arcs found)) (sym s) (tight_arc_of net first reverse forward capacity arcs p h.last found (end_at arcs found) n l f b h.step);
     }
 
-pub link_end : (net : NetworkModel) (reverse : ℕ → ℕ) (forward : List ℕ) (capacity : ℕ → ℕ) (p : ℕ → ℤ) (u k v : ℕ) → IsNetwork net → IsLink net reverse forward capacity p u k v → v < node_count net
-link_end net reverse forward capacity p u k v n t = subst (λ (q : ℕ). q < node_count net) t.end (end_in net t.arc t.back n.ends t.inside)
+pub tight_arc_end : (net : NetworkModel) (reverse : ℕ → ℕ) (forward : List ℕ) (capacity : ℕ → ℕ) (p : ℕ → ℤ) (u k v : ℕ) → IsNetwork net → IsTightArc net reverse forward capacity p u k v → v < node_count net
+tight_arc_end net reverse forward capacity p u k v n t = subst (λ (q : ℕ). q < node_count net) t.end (end_in net t.arc t.back n.ends t.inside)
 
 -- the same of the solver's own lists
 pub own_step : (net : NetworkModel) (s : Solver) (root : ℕ) → (h : CanAugment net s root) → (v : ℕ) → h.path.on v ≡ true → 0 < places_in s v → IsStep net s.residual.first.items (reverse_at s.residual.capacities.items) s.residual.forward.items (capacity_at s.residual.capacities.items) s.residual.arcs.items (potential_at s) h.path.on (places_in s) v (enters_in s v)
@@ -583,7 +583,7 @@ own_last net s root h =
     path_last net s.residual.first.items (reverse_at s.residual.capacities.items) s.residual.forward.items (capacity_at s.residual.capacities.items) s.residual.arcs.items (potential_at s) (enters_in s) (places_in s) root s.found h.ready.network h.ready.residual.arcs_built h.ready.residual.filled h.path
 
 pub own_end : (net : NetworkModel) (s : Solver) (root : ℕ) → CanAugment net s root → end_at s.residual.arcs.items s.found < node_count net
-own_end net s root h = link_end net (reverse_at s.residual.capacities.items) s.residual.forward.items (capacity_at s.residual.capacities.items) (potential_at s) (end_at s.residual.arcs.items (reverse_at s.residual.capacities.items s.found)) s.found (end_at s.residual.arcs.items s.found) h.ready.network (own_last net s root h).link
+own_end net s root h = tight_arc_end net (reverse_at s.residual.capacities.items) s.residual.forward.items (capacity_at s.residual.capacities.items) (potential_at s) (end_at s.residual.arcs.items (reverse_at s.residual.capacities.items s.found)) s.found (end_at s.residual.arcs.items s.found) h.ready.network (own_last net s root h).tight_arc
 
 pub last_pair : (net : NetworkModel) (s : Solver) (root : ℕ) → CanAugment net s root → IsPaired s.residual s.found
 last_pair net s root h = let l = own_last net s root h in is_paired net s.residual (end_at s.residual.arcs.items (reverse_at s.residual.capacities.items s.found)) s.found h.ready.network h.ready.residual l.node l.leaves

@@ -60,15 +60,15 @@ open_room : (c : Cap) (r x : ℕ) → r + x ≡ units_of c → 0 < r → IsUnsat
 open_room (AtMost k) r x h o = omega arith
 open_room Any r x h o = tt
 
-pub residual_open : (net : NetworkModel) (reverse : ℕ → ℕ) (forward : List ℕ) (capacity : ℕ → ℕ) (arcs : List ResidualArc) (i : ℕ) (back : Bool) → AreResidualArcs net reverse forward capacity arcs → i < arc_count net → carried reverse forward capacity i ≤ 2097152 → IsResidual net (carried reverse forward capacity) i back → 0 < capacity (number_of reverse forward i back)
-residual_open net reverse forward capacity arcs i false f b l r = room_open (arc_at net i).cap (capacity (number_of reverse forward i false)) (carried reverse forward capacity i) (f.fits i b) l r
-residual_open net reverse forward capacity arcs i true f b l r = r
+pub has_residual : (net : NetworkModel) (reverse : ℕ → ℕ) (forward : List ℕ) (capacity : ℕ → ℕ) (arcs : List ResidualArc) (i : ℕ) (back : Bool) → AreResidualArcs net reverse forward capacity arcs → i < arc_count net → carried reverse forward capacity i ≤ 2097152 → IsResidual net (carried reverse forward capacity) i back → 0 < capacity (number_of reverse forward i back)
+has_residual net reverse forward capacity arcs i false f b l r = room_open (arc_at net i).cap (capacity (number_of reverse forward i false)) (carried reverse forward capacity i) (f.fits i b) l r
+has_residual net reverse forward capacity arcs i true f b l r = r
 
-pub open_residual : (net : NetworkModel) (reverse : ℕ → ℕ) (forward : List ℕ) (capacity : ℕ → ℕ) (arcs : List ResidualArc) (i : ℕ) (back : Bool) → AreResidualArcs net reverse forward capacity arcs → i < arc_count net → 0 < capacity (number_of reverse forward i back) → IsResidual net (carried reverse forward capacity) i back
-open_residual net reverse forward capacity arcs i false f b o = open_room (arc_at net i).cap (capacity (number_of reverse forward i false)) (carried reverse forward capacity i) (f.fits i b) o
-open_residual net reverse forward capacity arcs i true f b o = o
+pub with_capacity : (net : NetworkModel) (reverse : ℕ → ℕ) (forward : List ℕ) (capacity : ℕ → ℕ) (arcs : List ResidualArc) (i : ℕ) (back : Bool) → AreResidualArcs net reverse forward capacity arcs → i < arc_count net → 0 < capacity (number_of reverse forward i back) → IsResidual net (carried reverse forward capacity) i back
+with_capacity net reverse forward capacity arcs i false f b o = open_room (arc_at net i).cap (capacity (number_of reverse forward i false)) (carried reverse forward capacity i) (f.fits i b) o
+with_capacity net reverse forward capacity arcs i true f b o = o
 
--- a residual arc along which something fits is open, and its cost is what a unit costs
+-- a residual arc along which something fits has capacity, and its cost is what a unit costs
 pub unit_cost_open : (net : NetworkModel) (reverse : ℕ → ℕ) (forward : List ℕ) (capacity : ℕ → ℕ) (arcs : List ResidualArc) (i : ℕ) (back : Bool) → IsNetwork net → AreResidualArcs net reverse forward capacity arcs → i < arc_count net → 0 < capacity (number_of reverse forward i back) → (cost_at arcs (number_of reverse forward i back) ≡ unit_cost net i back) × HasResidualCapacity arcs (number_of reverse forward i back)
 unit_cost_open net reverse forward capacity arcs i back k f b o =
     elim (code_cases net reverse forward capacity arcs i back k f b) [
@@ -110,7 +110,7 @@ reduced_by_number net first reverse forward capacity arcs p n l f h v k b st op 
     let back = o.back in
     let here : HasResidualCapacity arcs (number_of reverse forward i back) = subst (λ (t : ℕ). HasResidualCapacity arcs t) (sym o.place) op in
     let (fits, unit_is) = open_unit_cost net reverse forward capacity arcs i back n f o.inside here in
-    let red : pos 0 ≤ℤ reduced_cost net p i back = h.residual i back o.inside (open_residual net reverse forward capacity arcs i back f o.inside fits) in
+    let red : pos 0 ≤ℤ reduced_cost net p i back = h.residual i back o.inside (with_capacity net reverse forward capacity arcs i back f o.inside fits) in
     let two : pos 0 ≤ℤ (cost_at arcs (number_of reverse forward i back) +ℤ p (start_of net i back) -ℤ p (end_at arcs (number_of reverse forward i back))) = rw (unit_is, f.end i back o.inside) red in
     let one : pos 0 ≤ℤ (cost_at arcs (number_of reverse forward i back) +ℤ p v -ℤ p (end_at arcs (number_of reverse forward i back))) = subst (λ (t : ℕ). pos 0 ≤ℤ (cost_at arcs (number_of reverse forward i back) +ℤ p t -ℤ p (end_at arcs (number_of reverse forward i back)))) o.start two in
     subst (λ (t : ℕ). pos 0 ≤ℤ (cost_at arcs t +ℤ p v -ℤ p (end_at arcs t))) o.place one
@@ -118,7 +118,7 @@ reduced_by_number net first reverse forward capacity arcs p n l f h v k b st op 
 pub potentials_by_arc : (net : NetworkModel) (first : List ℕ) (reverse : ℕ → ℕ) (forward : List ℕ) (capacity : ℕ → ℕ) (arcs : List ResidualArc) (p : ℕ → ℤ) → IsNetwork net → HasResidualArcs net first reverse forward → AreResidualArcs net reverse forward capacity arcs → ((i : ℕ) → i < arc_count net → carried reverse forward capacity i ≤ 2097152) → ((v k : ℕ) → v < node_count net → StartsAt first v k → HasResidualCapacity arcs k → pos 0 ≤ℤ (cost_at arcs k +ℤ p v -ℤ p (end_at arcs k))) → HasPotentials net (carried reverse forward capacity) p
 potentials_by_arc net first reverse forward capacity arcs p n l f few h = record {
   residual = λ i back b r.
-      let fits : 0 < capacity (number_of reverse forward i back) = residual_open net reverse forward capacity arcs i back f b (few i b) r in
+      let fits : 0 < capacity (number_of reverse forward i back) = has_residual net reverse forward capacity arcs i back f b (few i b) r in
       let (unit_is, op) = unit_cost_open net reverse forward capacity arcs i back n f b fits in
       let red : pos 0 ≤ℤ (cost_at arcs (number_of reverse forward i back) +ℤ p (start_of net i back) -ℤ p (end_at arcs (number_of reverse forward i back))) = h (start_of net i back) (number_of reverse forward i back) (start_in net i back n.ends b) (l.block i back b) op in
       rw (unit_is, f.end i back b) at red;
@@ -336,7 +336,7 @@ nothing_found net first reverse forward capacity arcs p e s q enter order place 
           let j = number_of reverse forward i back in
           let ub : u < n = start_in net i back k.ends b in
           let m : q u <ℤ far = plain_lt (q u) far so in
-          let fits : 0 < capacity j = residual_open net reverse forward capacity arcs i back fl b (omega (arith, rd.capacity i b)) res in
+          let fits : 0 < capacity j = has_residual net reverse forward capacity arcs i back fl b (omega (arith, rd.capacity i b)) res in
           let op : HasResidualCapacity arcs j = (unit_cost_open net reverse forward capacity arcs i back k fl b fits).1 in
           let st : StartsAt first u j = l.block i back b in
           let ends : end_at arcs j ≡ end_of net i back = fl.end i back b in

@@ -1,4 +1,4 @@
--- A path of open residual arcs of reduced cost 0, from a node where units are left over to one where
+-- A path of residual arcs with capacity of reduced cost 0, from a node where units are left over to one where
 -- units are wanting.
 use Rattle.std.specs.Prelude.{ℕ, zero, suc, ◌<◌, ◌≡◌, ℤ, pos, ◌+ℤ◌, ◌-ℤ◌, Bool, true, false, List}
 use Rattle.networks.specs.declared.residual.ResidualArc.{ResidualArc}
@@ -6,7 +6,7 @@ use Rattle.networks.specs.declared.residual.ResidualCapacity.{ResidualCapacity}
 use Rattle.networks.specs.ResidualArcs.{end_at, cost_at, reverse_at, capacity_at, StartsAt}
 use Rattle.networks.specs.Search.{HasResidualCapacity}
 
--- residual arc k leads from node u to node v, is open, and its reduced cost is 0
+-- residual arc k leads from node u to node v, has capacity, and its reduced cost is 0
 pub record IsTight (first : List ℕ) (arcs : List ResidualArc) (p : ℕ → ℤ) (u k v : ℕ) : Type 0 where
   pub leaves : StartsAt first u k
   pub unblocked : HasResidualCapacity arcs k

@@ -46,7 +46,7 @@ abbrev pub IsUnsaturated : Cap → ℕ → Type 0
 IsUnsaturated (AtMost k) amount = amount < k
 IsUnsaturated Any amount = Unit {0}
 
--- the residual arc is open: one more unit can go along it
+-- the residual arc has capacity: one more unit can go along it
 abbrev pub IsResidual : NetworkModel → (ℕ → ℕ) → ℕ → Bool → Type 0
 IsResidual net x i false = IsUnsaturated (arc_at net i).cap (x i)
 IsResidual net x i true = 0 < x i
@@ -68,7 +68,7 @@ unit_cost net i true = pos 0 -ℤ pos (arc_at net i).cost
 abbrev pub reduced_cost : NetworkModel → (ℕ → ℤ) → ℕ → Bool → ℤ
 reduced_cost net p i back = unit_cost net i back +ℤ p (start_of net i back) -ℤ p (end_of net i back)
 
--- each open residual arc has a reduced cost of at least 0
+-- each residual arc with capacity has a reduced cost of at least 0
 pub record HasPotentials (net : NetworkModel) (x : ℕ → ℕ) (p : ℕ → ℤ) : Type 0 where
   pub residual : (i : ℕ) (back : Bool) → i < arc_count net → IsResidual net x i back → pos 0 ≤ℤ reduced_cost net p i back
 

@@ -8,7 +8,7 @@ use Rattle.dissect.specs.Boxes.{BoxesModel, dart_map}
 use Rattle.dissect.specs.Boxed.{IsBoxed, StandOn}
 use Rattle.dissect.specs.Ordered.{IsOrdered}
 use Rattle.dissect.specs.Rectangle.{HasRectangle, IsConnectedAt, IsPlaceOn}
-use Rattle.run_laws.specs.Outside.{Corners, AreCorners, LiesBefore, LooksOut}
+use Rattle.run_laws.specs.Outside.{RectangleCorners, AreRectangleCorners, LiesBefore, LooksOut}
 use Rattle.run_laws.proofs.Straight.{Goes, path_goes, path_passes}
 
 -- what is on a list that stands on another is on the other
@@ -20,7 +20,7 @@ in_stands a (x ∷ xs) (y ∷ ys) (inl on) (inr there) = inr (in_stands a xs ys 
 in_stands a (x ∷ xs) (y ∷ ys) (inr on) here = inr (in_stands a (x ∷ xs) ys on here)
 
 -- the corners, where the map has v vertices
-abbrev corners_of : ℕ → Corners
+abbrev corners_of : ℕ → RectangleCorners
 corners_of v = record { south_west = v + 3; south_east = v + 0; north_east = v + 1; north_west = v + 2 }
 
 module _ (inner w : DartMap) (x y : ℕ → ℕ) (sound : IsSound w) (narrow : w.darts ≤ no_dart) (ordered : IsOrdered w x y) (has : HasRectangle inner w) where
@@ -31,7 +31,7 @@ module _ (inner w : DartMap) (x y : ℕ → ℕ) (sound : IsSound w) (narrow : w
       (subst (λ (u : ℕ). Goes k x y (w.head (inner.darts + 4 + k)) u) (has.inside k few)
       (path_goes w x y sound ordered k (inner.darts + k) (inner.darts + 4 + k) (has.sides k few).there (has.directions k few) few))
 
-  are_corners : AreCorners x y (corners_of inner.vertices)
+  are_corners : AreRectangleCorners x y (corners_of inner.vertices)
   are_corners =
       let v : ℕ = inner.vertices in
       let bottom = side_goes 0 (v + 3) (omega arith) refl in

@@ -109,14 +109,14 @@ impl FaceSearch {
         let mut dart = first;
         for _step in 0..plane.degree(face) {
             let step = Step { dart, goal, price };
-            self.cross(plane, prices, flow, step);
-            self.turn(plane, prices, flow, step);
+            self.step_across_edge(plane, prices, flow, step);
+            self.step_at_vertex(plane, prices, flow, step);
             dart = plane.next(dart);
         }
     }
 
     /// Takes the step across the edge of a dart, where that is free.
-    fn cross(&mut self, plane: &Plane, prices: &Prices, flow: &Flow, step: Step)
+    fn step_across_edge(&mut self, plane: &Plane, prices: &Prices, flow: &Flow, step: Step)
         requires prices { HasPrices plane.now prices.now }
         requires dart { step.dart < darts plane.now }
     {
@@ -129,7 +129,7 @@ impl FaceSearch {
 
     /// Takes each step from the corner of a dart to others at the same vertex, where that is free and no vertex of degree
     /// 2 begins to turn.
-    fn turn(&mut self, plane: &Plane, prices: &Prices, flow: &Flow, step: Step)
+    fn step_at_vertex(&mut self, plane: &Plane, prices: &Prices, flow: &Flow, step: Step)
         requires prices { HasPrices plane.now prices.now }
         requires dart { step.dart < darts plane.now }
     {
@@ -144,12 +144,12 @@ impl FaceSearch {
         if angle == 2 && third == step.dart {
             return;
         }
-        self.turn_to(plane, prices, step, second);
-        self.turn_to(plane, prices, step, third);
+        self.step_to_corner(plane, prices, step, second);
+        self.step_to_corner(plane, prices, step, third);
     }
 
     /// Takes the step from the corner of its dart to this one, where that is another one and free.
-    fn turn_to(&mut self, plane: &Plane, prices: &Prices, step: Step, take: u16)
+    fn step_to_corner(&mut self, plane: &Plane, prices: &Prices, step: Step, take: u16)
         requires prices { HasPrices plane.now prices.now }
         requires take { take < darts plane.now }
     {

@@ -6,7 +6,7 @@ use std::alloc::AllocError;
 /// Finds for each segment the segments of the other axis that cross it where it begins and where it ends,
 /// counts these in their pulls, and lists the segment by its coordinate.
 pub(crate) fn find_ends(along: &mut Segments, other: &mut Segments) -> Result<(), AllocError> {
-    along.open_lists()?;
+    along.resize_lists()?;
     let firsts = along.firsts.as_mut_slice();
     for (place, segment) in along.segments.iter_mut().enumerate() {
         segment.low = other.segment_of(usize::from(segment.low));

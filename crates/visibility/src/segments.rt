@@ -208,7 +208,7 @@ impl Segments {
     }
 
     /// Has a list for each coordinate up to the greatest, and nothing in them.
-    pub(crate) fn open_lists(&mut self) -> Result<(), AllocError> {
+    pub(crate) fn resize_lists(&mut self) -> Result<(), AllocError> {
         self.firsts
             .resize(usize::from(self.greatest) + 1, NO_SEGMENT)?;
         Ok(())
@@ -218,7 +218,7 @@ impl Segments {
     pub(crate) fn list_anew(&mut self) -> Result<(), AllocError> {
         self.greatest = greatest_of(self.segments.as_slice());
         self.firsts.clear();
-        self.open_lists()?;
+        self.resize_lists()?;
         let firsts = self.firsts.as_mut_slice();
         for (place, segment) in self.segments.iter_mut().enumerate() {
             list(firsts, segment, place.min(usize::from(u16::MAX)) as u16);
