@@ -15,7 +15,7 @@ pub struct Steps<'a> {
     /// The direction along the axis.
     pub ahead: u8,
     /// The direction against it.
-    pub behind: u8,
+    pub back: u8,
     /// The direction a quarter turn to the left of `ahead`.
     pub left: u8,
     /// The direction a quarter turn to the right of `ahead`.
@@ -28,14 +28,14 @@ impl<'a> Steps<'a> {
         ensures around { result.around.now ≡ around.now }
         ensures ahead { result.ahead ≡ 0 }
         ensures left { result.left ≡ 1 }
-        ensures behind { result.behind ≡ 2 }
+        ensures back { result.back ≡ 2 }
         ensures right { result.right ≡ 3 }
     {
         Steps {
             around,
             ahead: 0,
             left: 1,
-            behind: 2,
+            back: 2,
             right: 3,
         }
     }
@@ -45,14 +45,14 @@ impl<'a> Steps<'a> {
         ensures around { result.around.now ≡ around.now }
         ensures ahead { result.ahead ≡ 1 }
         ensures left { result.left ≡ 2 }
-        ensures behind { result.behind ≡ 3 }
+        ensures back { result.back ≡ 3 }
         ensures right { result.right ≡ 0 }
     {
         Steps {
             around,
             ahead: 1,
             left: 2,
-            behind: 3,
+            back: 3,
             right: 0,
         }
     }
@@ -135,8 +135,8 @@ fn list_segments(steps: Steps<'_>, segments: &mut [u32], segment_firsts: &mut [u
 /// A walk along segments, one after another: where it is.
 #[derive(Clone, Copy, Debug)]
 struct SegmentWalk {
-    /// The segment behind this one, by its place among all.
-    behind: usize,
+    /// The next segment, by its place among all.
+    next_place: usize,
     /// The first vertex of the segment.
     first: u32,
     vertex: u32,
@@ -149,7 +149,7 @@ impl SegmentWalk {
         ensures vertex { result.vertex ≡ first }
     {
         SegmentWalk {
-            behind: 1,
+            next_place: 1,
             first,
             vertex: first,
         }
@@ -157,7 +157,7 @@ impl SegmentWalk {
 }
 
 /// Writes the first vertex of the segment at the vertex where the walk is, counts the step that leads to it
-/// from behind, and goes on: to the next vertex of the segment, or to the first one of the segment behind it.
+/// along the axis, and goes on: to the next vertex of the segment, or to the first one of the next segment.
 /// No branch hangs on where segments end, which cannot be foreseen.
 fn write_next(
     steps: Steps<'_>,
@@ -166,7 +166,7 @@ fn write_next(
     segments: &mut [u32],
     in_degrees: &mut [u32],
 ) -> SegmentWalk
-    requires directions { (steps.left < 4) × (steps.behind < 4) }
+    requires directions { (steps.left < 4) × (steps.back < 4) }
     requires count { length steps.around.now ≡ 4 * length segments.old }
     requires segment_firsts { AreVertices (length segments.old) segment_firsts.now }
     requires in_degrees { length in_degrees.old ≡ length segments.old }
@@ -177,19 +177,19 @@ fn write_next(
     ensures in_degrees { length in_degrees.new ≡ length in_degrees.old }
 {
     let SegmentWalk {
-        behind,
+        next_place,
         first,
         vertex,
     } = walk;
     segments[vertex as usize] = first;
     let at = 4 * vertex as usize;
-    let is_led_to = (steps.around[at + usize::from(steps.behind)] as usize) < segments.len();
+    let is_led_to = (steps.around[at + usize::from(steps.back)] as usize) < segments.len();
     in_degrees[first as usize] = in_degrees[first as usize].wrapping_add(u32::from(is_led_to));
     let next = steps.around[at + usize::from(steps.left)];
     let ends = next as usize >= segments.len();
-    let after = segment_firsts.get(behind).copied().unwrap_or(first);
+    let after = segment_firsts.get(next_place).copied().unwrap_or(first);
     SegmentWalk {
-        behind: behind.wrapping_add(usize::from(ends)),
+        next_place: next_place.wrapping_add(usize::from(ends)),
         first: if ends { after } else { first },
         vertex: if ends { after } else { next },
     }

@@ -89,7 +89,7 @@ fn push_points(
 /// The point of the vertex or corner at this place.
 fn point_at(x: &Segments, y: &Segments, place: usize) -> Point {
     Point {
-        x: x.number_at(place),
-        y: y.number_at(place),
+        x: x.coordinate_at(place),
+        y: y.coordinate_at(place),
     }
 }

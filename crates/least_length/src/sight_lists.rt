@@ -1,33 +1,33 @@
-//! Neighbours on levels.
+//! Pairs of segments that see each other on a level, and where they are listed.
 
 ghost use Rattle.std.specs.Prelude.{◌≡◌, []};
 
-use crate::segments::{Edge, Segment, Sight};
+use crate::segments::{Segment, Sight, Wire};
 use crate::sweep::highest;
 use std::alloc::{AllocError, Global};
 use std::mem;
 
 /// What was met last on a level.
 #[derive(Clone, Copy, Debug)]
-struct Level {
+struct LevelMet {
     /// One more than the place of the segment, or 0.
     segment: u16,
-    /// One more than the place of the segment where the edge ends, or 0.
+    /// One more than the place of the segment where the wire ends, or 0.
     end: u16,
 }
 
 /// Nothing was met yet.
-const BARE: Level = Level { segment: 0, end: 0 };
+const NONE_MET: LevelMet = LevelMet { segment: 0, end: 0 };
 
-/// Pairs of segments that are neighbours on some level, and where those of each segment are listed.
+/// Pairs of segments that see each other on some level, and where those of each segment are listed.
 #[derive(Drop)]
-pub(crate) struct Neighbours {
+pub(crate) struct SightLists {
     pub(crate) sights: Vec<Sight>,
     /// What was met last on each level.
-    frontier: Vec<Level>,
-    /// For each segment one more than the place of an edge that begins there, or 0.
+    frontier: Vec<LevelMet>,
+    /// For each segment one more than the place of a wire that begins there, or 0.
     firsts: Vec<u32>,
-    /// For each edge one more than the place of another one that begins on the same segment, or 0.
+    /// For each wire one more than the place of another one that begins on the same segment, or 0.
     nexts: Vec<u32>,
     /// For each segment where its pairs begin in `pairs`; one place more, where the last ones end.
     starts: Vec<u16>,
@@ -35,12 +35,12 @@ pub(crate) struct Neighbours {
     pairs: Vec<u16>,
 }
 
-impl Neighbours {
+impl SightLists {
     /// No memory yet.
-    pub(crate) fn empty(alloc: Global) -> Neighbours
+    pub(crate) fn empty(alloc: Global) -> SightLists
         ensures { result.sights.items ≡ [] }
     {
-        Neighbours {
+        SightLists {
             sights: Vec::new(alloc),
             frontier: Vec::new(alloc),
             firsts: Vec::new(alloc),
@@ -50,15 +50,15 @@ impl Neighbours {
         }
     }
 
-    /// Lists the neighbours of segments that are in the order of their numbers: for each segment those that
-    /// stand next before it. The weight of a pair is the number of edges that run from one to the other. A pair
+    /// Lists the pairs of segments that are in the order of their coordinates: for each segment those that
+    /// stand next before it. The weight of a pair is the number of wires that run from one to the other. A pair
     /// that is met on several levels in a row is listed once.
-    pub(crate) fn list(&mut self, segments: &[Segment], edges: &[Edge]) -> Result<(), AllocError> {
-        self.list_edges(segments.len(), edges)?;
+    pub(crate) fn list(&mut self, segments: &[Segment], wires: &[Wire]) -> Result<(), AllocError> {
+        self.list_wires(segments.len(), wires)?;
         self.sights.clear();
         self.frontier.clear();
         self.frontier
-            .resize(usize::from(highest(segments)) + 1, BARE)?;
+            .resize(usize::from(highest(segments)) + 1, NONE_MET)?;
         for (place, segment) in segments.iter().enumerate() {
             let behind = place.min(usize::from(u16::MAX) - 1) as u16;
             let frontier = self.frontier.as_mut_slice();
@@ -67,21 +67,21 @@ impl Neighbours {
             ) {
                 list_before(&mut self.sights, met, behind)?;
             }
-            self.begin_edges(edges, place);
+            self.begin_wires(wires, place);
         }
         Ok(())
     }
 
-    /// Lists the edges by the segments where they begin.
-    fn list_edges(&mut self, segments: usize, edges: &[Edge]) -> Result<(), AllocError> {
+    /// Lists the wires by the segments where they begin.
+    fn list_wires(&mut self, segments: usize, wires: &[Wire]) -> Result<(), AllocError> {
         self.firsts.clear();
         self.firsts.resize(segments, 0)?;
         self.nexts.clear();
         let firsts = self.firsts.as_mut_slice();
         let mut count: u32 = 0;
-        for edge in edges {
+        for wire in wires {
             count = count.wrapping_add(1);
-            let next = match firsts.get_mut(usize::from(edge.from)) {
+            let next = match firsts.get_mut(usize::from(wire.from)) {
                 Some(first) => mem::replace(first, count),
                 None => 0,
             };
@@ -90,16 +90,16 @@ impl Neighbours {
         Ok(())
     }
 
-    /// Notes at the frontier where the edges end that begin on this segment.
-    fn begin_edges(&mut self, edges: &[Edge], segment: usize) {
+    /// Notes at the frontier where the wires end that begin on this segment.
+    fn begin_wires(&mut self, wires: &[Wire], segment: usize) {
         let mut listed = self.firsts.get(segment).copied().unwrap_or(0);
-        for _ in 0..edges.len() {
+        for _ in 0..wires.len() {
             let place = (listed as usize).wrapping_sub(1);
-            let Some(edge) = edges.get(place) else {
+            let Some(wire) = wires.get(place) else {
                 break;
             };
-            if let Some(level) = self.frontier.get_mut(usize::from(edge.level)) {
-                level.end = edge.to.saturating_add(1);
+            if let Some(met) = self.frontier.get_mut(usize::from(wire.level)) {
+                met.end = wire.to.saturating_add(1);
             }
             listed = self.nexts.get(place).copied().unwrap_or(0);
         }
@@ -153,19 +153,23 @@ impl Neighbours {
 }
 
 /// Lists the segments that stand on these levels at the frontier before this one, which takes their places.
-fn list_before(sights: &mut Vec<Sight>, met: &mut [Level], behind: u16) -> Result<(), AllocError> {
+fn list_before(
+    sights: &mut Vec<Sight>,
+    met: &mut [LevelMet],
+    behind: u16,
+) -> Result<(), AllocError> {
     let mut last = 0;
     let mut weight = 0;
-    for level in met.iter_mut() {
-        if level.segment != last {
+    for here in met.iter_mut() {
+        if here.segment != last {
             list_pair(sights, last, behind, weight)?;
             weight = 0;
         }
-        if level.end > behind {
+        if here.end > behind {
             weight = weight.saturating_add(1);
         }
-        last = level.segment;
-        level.segment = behind.saturating_add(1);
+        last = here.segment;
+        here.segment = behind.saturating_add(1);
     }
     list_pair(sights, last, behind, weight)
 }
