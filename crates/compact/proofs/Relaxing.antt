@@ -1,4 +1,4 @@
--- How relaxing one constraint, and then all constraints, keeps the numbers low.
+-- How relaxing one constraint, and then all constraints, keeps the coordinates low.
 use Rattle.std.proofs.Common.{◌≡◌, ℕ, ◌+◌, ◌-◌, ◌<◌, ◌≤◌, ◌∙◌, List, length, slice_index, get_or, set, take, arith, subst, sym, ap, inl, inr, get_or-set_same, get_or-set_other}
 use Rattle.std.proofs.lemmas.Bool.{cases_eq}
 use Rattle.std.proofs.lemmas.List.{length-set, take_all}
@@ -14,7 +14,7 @@ use Rattle.compact.specs.Constraints.{Keeps, AreInside, IsLow, AreWide, IsRelaxe
 abbrev pub at : List ℕ → ℕ → ℕ
 at xs v = slice_index xs v
 
--- what holds of the numbers when the first constraints were relaxed
+-- what holds of the coordinates when the first constraints were relaxed
 abbrev pub Stands : List Constraint → List ℕ → List ℕ → Relaxation → Type 0
 Stands constraints old now Kept = (now ≡ old) × Keeps constraints (at now)
 Stands constraints old now Raised = slack now < slack old
@@ -25,7 +25,7 @@ pub record IsRelaxedUpTo (constraints : List Constraint) (i : ℕ) (old now : Li
   pub low : IsLow constraints (length old) (at now)
   pub stands : Stands (take i constraints) old now found
 
--- a number raised to keep a constraint is still low
+-- a coordinate raised to keep a constraint is still low
 pub low_raised : (constraints : List Constraint) (i : ℕ) (d : Constraint) (old new : List ℕ) (n : ℕ) → length old ≡ n → i < length constraints →
     (get_or constraints i d).to < n → (get_or constraints i d).from < n → IsLow constraints n (at old) → new ≡ set old (get_or constraints i d).to (at old (get_or constraints i d).from + (get_or constraints i d).least) → IsLow constraints n (at new)
 low_raised constraints i d old new n size i_in to_in from_in low made y keeps v v_in =
@@ -59,7 +59,7 @@ slack_falls old new to need to_in made less most =
     ])
     (let here : at new to ≡ need = ap (λ xs. at xs to) made ∙ get_or-set_same old to need 0 to_in in omega (arith, here, less, most)))
 
--- where a number would pass 65,535, all numbers that keep the constraints do
+-- where a coordinate would pass 65,535, all coordinates that keep the constraints do
 pub is_wide : (constraints : List Constraint) (i : ℕ) (d : Constraint) (now : List ℕ) (n : ℕ) → i < length constraints → (get_or constraints i d).to < n → (get_or constraints i d).from < n →
     IsLow constraints n (at now) → MAX_COORDINATE < at now (get_or constraints i d).from + (get_or constraints i d).least → AreWide constraints n
 is_wide constraints i d now n i_in to_in from_in low wide y keeps =
@@ -77,7 +77,7 @@ IsWideOr constraints i old new found Kept = IsRelaxedUpTo constraints (i + 1) ol
 IsWideOr constraints i old new found Raised = IsRelaxedUpTo constraints (i + 1) old new Raised
 IsWideOr constraints i old new found Wide = IsLow constraints (length old) (at new) × AreWide constraints (length old)
 
--- relaxing the constraint at place i takes the numbers one constraint further
+-- relaxing the constraint at place i takes the coordinates one constraint further
 pub goes_on : (constraints : List Constraint) (i : ℕ) (d : Constraint) (old now new : List ℕ) (found one : Relaxation) → i < length constraints → AreInside (length old) constraints →
     IsRelaxedUpTo constraints i old now found → IsRelaxed (get_or constraints i d) now new one → length new ≡ length now →
     IsWideOr constraints i old new found one

@@ -1,4 +1,4 @@
--- Numbers that are raised along steps, and what the steps are.
+-- Coordinates that are raised along steps, and what the steps are.
 use Rattle.std.proofs.Common.{◌≡◌, ◌≢◌, ℕ, ◌+◌, ◌*◌, ◌%◌, ◌<◌, ◌≤◌, ◌⊎◌, ◌∙◌, List, length, slice_index, set, replicate, All, arith, subst, sym, ap, refl, inl, inr, get_or-set_same, get_or-set_other}
 use Rattle.std.proofs.lemmas.Bool.{cases_eq}
 use Rattle.std.proofs.lemmas.List.{length-set}
@@ -10,7 +10,7 @@ use Rattle.compact.specs.Ordered.{tail, growth, across, IsAcross, IsAlong}
 use Rattle.compact.specs.Steps.{step, AreSteps, HasSteps, Grow, StayLevel, AreVertices, AreLevelIn, AreSegments, IsOnSegment, AreUnder, StayUnder}
 use Rattle.compact.proofs.OneWay.{one_leaves}
 
--- a number raised to one that is not above y stays under y
+-- a coordinate raised to one that is not above y stays under y
 pub raised_under : (xs new : List ℕ) (n to need : ℕ) (y : ℕ → ℕ) → to < length xs → new ≡ set xs to need → need ≤ y to → AreUnder n xs y → AreUnder n new y
 raised_under xs new n to need y to_in made enough under v v_in =
     elim (cases_eq to v) [
@@ -41,19 +41,19 @@ vertices_set n segments new v first v_in first_in made are = (
   ],
 )
 
--- and one number in each segment stays one where a vertex gets a first one with its number
+-- and one coordinate in each segment stays one where a vertex gets a first one with its coordinate
 pub level_set : (n : ℕ) (segments new : List ℕ) (v first : ℕ) (y : ℕ → ℕ) → v < length segments → y first ≡ y v → new ≡ set segments v first → AreLevelIn segments n y → AreLevelIn new n y
-level_set n segments new v first y v_in same_number made level u u_in =
+level_set n segments new v first y v_in same_coordinate made level u u_in =
     elim (cases_eq v u) [
       | inl same ↦
           let here : slice_index new u ≡ first = ap (λ (zs : List ℕ). slice_index zs u) made ∙ subst (λ (k : ℕ). slice_index (set segments v first) k ≡ first) same (get_or-set_same segments v first 0 v_in) in
-          ap y here ∙ same_number ∙ ap y same
+          ap y here ∙ same_coordinate ∙ ap y same
       | inr other ↦
           let here : slice_index new u ≡ slice_index segments u = ap (λ (zs : List ℕ). slice_index zs u) made ∙ get_or-set_other segments v u first 0 (λ e. other (sym e)) in
           ap y here ∙ level u u_in
     ]
 
--- a vertex of a segment may be written where all numbers that stay the same along the steps are there as at its first one
+-- a vertex of a segment may be written where all coordinates that stay the same along the steps are there as at its first one
 pub segments_set : (next : ℕ → ℕ) (n : ℕ) (segments new : List ℕ) (v first : ℕ) → v < n → first < n → ((y : ℕ → ℕ) → StayLevel next n y → y first ≡ y v) →
     new ≡ set segments v first → AreSegments next n segments → AreSegments next n new
 segments_set next n segments new v first v_in first_in connected made are = record {
@@ -79,7 +79,7 @@ on_own_segment next n segment_firsts first vertex some are first_is vertex_is = 
   connected = λ y level. ap y (first_is ∙ sym vertex_is);
 }
 
--- a number is raised to one more than that of a segment which has a step to its segment
+-- a coordinate is raised to one more than that of a segment which has a step to its segment
 pub raised_segment : (ahead : ℕ → ℕ) (n : ℕ) (segments xs new : List ℕ) (v need : ℕ) → v < n → ahead v < n → length xs ≡ n → AreVertices n segments →
     need ≤ slice_index xs (slice_index segments v) + 1 ⊎ need ≤ slice_index xs (slice_index segments (ahead v)) →
     new ≡ set xs (slice_index segments (ahead v)) need → StayUnder ahead n segments xs new
@@ -93,7 +93,7 @@ raised_segment ahead n segments xs new v need v_in to_in size are enough made y 
     ] in
     raised_under xs new n to need y (omega (arith, to_segment, size)) made small under
 
--- each vertex gets the number of its segment
+-- each vertex gets the coordinate of its segment
 pub spread_one : (n : ℕ) (segments xs new : List ℕ) (v x : ℕ) → v < n → length xs ≡ n → AreVertices n segments → x ≡ slice_index xs (slice_index segments v) → new ≡ set xs v x →
     (y : ℕ → ℕ) → AreLevelIn segments n y → AreUnder n xs y → AreUnder n new y
 spread_one n segments xs new v x v_in size are is made y level under =
@@ -131,7 +131,7 @@ step_kept w a around new place to sound a_in here there is made has b below =
           ap (λ (zs : List ℕ). slice_index zs at) made ∙ get_or-set_other around place at to 0 apart ∙ has b (omega (arith, below, other))
     ]
 
--- numbers in the order of the darts along an axis grow by 1 along its direction
+-- coordinates in the order of the darts along an axis grow by 1 along its direction
 pub grow_ahead : (w : DartMap) (k : ℕ) (around : List ℕ) (n : ℕ) (y : ℕ → ℕ) → k < 4 → AreSteps w around n → IsAlong w k y → Grow (step around k) n y
 grow_ahead w k around n y k_in are along v v_in real =
     let (a, a_in, way, from, to) = are v k v_in k_in real in
@@ -158,7 +158,7 @@ pub across_far : (axis : Axis) → IsAcross (growth axis) (across axis)
 across_far X = (λ e. omega (arith, e), λ e. omega (arith, e))
 across_far Y = (λ e. omega (arith, e), λ e. omega (arith, e))
 
--- numbers that grow along the steps in one direction of an axis, and stay the same along those across it, are in
+-- coordinates that grow along the steps in one direction of an axis, and stay the same along those across it, are in
 -- the order of all darts: the other darts go back along these steps
 pub along_steps : (w : DartMap) (k d : ℕ) (around : List ℕ) (x : ℕ → ℕ) → IsSound w → k < 2 → k + d ≡ 1 →
     HasSteps w around w.darts → Grow (step around k) w.vertices x → StayLevel (step around d) w.vertices x → IsAlong w k x
@@ -185,7 +185,7 @@ along_steps w k d around x sound k_in other has grow level =
       ];
     }
 
--- the steps in this direction from the first vertices keep the order: the numbers along it grow, those across it stay
+-- the steps in this direction from the first vertices keep the order: the coordinates along it grow, those across it stay
 pub record AreKeptTo (around : List ℕ) (d vertices : ℕ) (along across : List ℕ) : Type 0 where
   pub grows : (v : ℕ) → v < vertices → step around d v < length along → slice_index along v + 1 ≤ slice_index along (step around d v)
   pub level : (v : ℕ) → v < vertices → step around d v < length along → slice_index across (step around d v) ≡ slice_index across v
@@ -208,7 +208,7 @@ kept_next around d v to along across is grows level so_far =
       ];
     }
 
--- with all of them, the numbers are in the order of the darts
+-- with all of them, the coordinates are in the order of the darts
 pub kept_along : (w : DartMap) (k d : ℕ) (around x y : List ℕ) → IsSound w → length x ≡ w.vertices → length y ≡ w.vertices → k < 2 → k + d ≡ 1 →
     HasSteps w around w.darts → AreKeptTo around k w.vertices x y → AreKeptTo around d w.vertices y x → IsAlong w k (λ v. slice_index x v)
 kept_along w k d around x y sound x_all y_all k_in other has ahead beside =
@@ -216,7 +216,7 @@ kept_along w k d around x y sound x_all y_all k_in other has ahead beside =
     (λ v v_in real. ahead.grows v v_in (omega (arith, real, x_all)))
     (λ v v_in real. beside.level v v_in (omega (arith, real, y_all)))
 
--- zeros are nowhere above any numbers
+-- zeros are nowhere above any coordinates
 pub zeros_under : (xs : List ℕ) (m n : ℕ) (y : ℕ → ℕ) → xs ≡ replicate m 0 → length xs ≡ n → AreUnder n xs y
 zeros_under xs m n y made size v v_in =
     let zeros : All (λ x. x ≡ 0) xs = subst (λ (zs : List ℕ). All (λ x. x ≡ 0) zs) (sym made) (All-replicate (λ x. x ≡ 0) m 0 refl) in

@@ -1,4 +1,4 @@
--- Numbers in the order of the darts, along each axis, and what the faults say.
+-- Coordinates in the order of the darts, along each axis, and what the faults say.
 use Rattle.std.specs.Prelude.{◌≡◌, ◌≢◌, ℕ, ◌+◌, ◌<◌, ◌≤◌, List, [], ◌∷◌, length, map, slice_index, slice_index_or}
 use Rattle.ortho_rep.specs.declared.points.TheConstants.{MAX_COORDINATE}
 use Rattle.dissect.specs.DartMaps.{DartMap, IsSound}
@@ -24,7 +24,7 @@ abbrev pub IsAcross : ℕ → ℕ → Type 0
 IsAcross k d = (d ≢ k) × (d ≢ k + 2)
 
 -- along one axis, whose direction of growth has the number k: a dart that way has a constraint of 1 or more, and the ends of a
--- dart across have one number
+-- dart across have one coordinate
 pub record IsAlong (w : DartMap) (k : ℕ) (x : ℕ → ℕ) : Type 0 where
   pub forward : (a : ℕ) → a < w.darts → w.direction a ≡ k → x (tail w a) + 1 ≤ x (w.head a)
   pub across : (a : ℕ) → a < w.darts → w.direction a ≢ k → w.direction a ≢ k + 2 → x (tail w a) ≤ x (w.head a)
@@ -47,12 +47,12 @@ abbrev pub across : Axis → ℕ
 across X = 1
 across Y = 2
 
--- the least numbers of the vertices in the order of the darts along an axis, within the grid
-pub record AreLeast (b : BoxesModel) (k : ℕ) (numbers : List ℕ) : Type 0 where
-  pub along : IsAlong (dart_map b) k (λ v. slice_index numbers v)
-  pub least : (y : ℕ → ℕ) → IsAlong (dart_map b) k y → (v : ℕ) → v < b.vertices → slice_index numbers v ≤ y v
-  pub within : AreWithin b.vertices (λ v. slice_index numbers v)
-  pub count : length numbers ≡ b.vertices
+-- the least coordinates of the vertices in the order of the darts along an axis, within the grid
+pub record AreLeast (b : BoxesModel) (k : ℕ) (coordinates : List ℕ) : Type 0 where
+  pub along : IsAlong (dart_map b) k (λ v. slice_index coordinates v)
+  pub least : (y : ℕ → ℕ) → IsAlong (dart_map b) k y → (v : ℕ) → v < b.vertices → slice_index coordinates v ≤ y v
+  pub within : AreWithin b.vertices (λ v. slice_index coordinates v)
+  pub count : length coordinates ≡ b.vertices
 
 -- what a fault says of one axis
 abbrev pub IsAxisFault : BoxesModel → ℕ → CompactFault → Type 0

@@ -62,9 +62,9 @@ impl<'a> Steps<'a> {
 /// dissection.
 #[derive(Drop)]
 pub struct AxisSegments {
-    /// For each vertex the first one of its segment. A segment has one number, which stands there.
+    /// For each vertex the first one of its segment. A segment has one coordinate, which stands there.
     segments: Vec<u32>,
-    // Time alone rests on what follows: whatever it holds, numbers are raised along steps alone.
+    // Time alone rests on what follows: whatever it holds, coordinates are raised along steps alone.
     /// The first vertices of all segments, and others behind them.
     segment_firsts: Vec<u32>,
     /// How many segments there are.
@@ -262,7 +262,7 @@ pub fn find_segments(
     Ok(())
 }
 
-/// The segments in the order in which they come, while numbers are raised.
+/// The segments in the order in which they come, while coordinates are raised.
 #[derive(Drop)]
 struct ReadyQueue<'a> {
     /// How many steps to a segment are still to come, at the place of its first vertex.
@@ -310,86 +310,86 @@ impl ReadyQueue<'_> {
     }
 }
 
-/// Raises the number of the segment of the next vertex along the axis, if there is one, to that of the segment of a
-/// vertex and one more, and gives back the first vertex of that segment. No number passes 65,535.
+/// Raises the coordinate of the segment of the next vertex along the axis, if there is one, to that of the segment of a
+/// vertex and one more, and gives back the first vertex of that segment. No coordinate passes 65,535.
 fn raise(
     around: &[u32],
     ahead: u8,
     segments: &[u32],
     vertex: u32,
-    numbers: &mut [u16],
+    coordinates: &mut [u16],
 ) -> Option<u32>
     requires ahead { ahead < 4 }
-    requires vertex { vertex < length numbers.old }
-    requires count { length around.now ≡ 4 * length numbers.old }
-    requires segments { AreVertices (length numbers.old) segments.now }
-    ensures under { StayUnder (step around.now ahead) (length numbers.old) segments.now numbers.old numbers.new }
-    ensures count { length numbers.new ≡ length numbers.old }
+    requires vertex { vertex < length coordinates.old }
+    requires count { length around.now ≡ 4 * length coordinates.old }
+    requires segments { AreVertices (length coordinates.old) segments.now }
+    ensures under { StayUnder (step around.now ahead) (length coordinates.old) segments.now coordinates.old coordinates.new }
+    ensures count { length coordinates.new ≡ length coordinates.old }
 {
     let to = around[4 * vertex as usize + usize::from(ahead)];
-    if to as usize >= numbers.len() {
+    if to as usize >= coordinates.len() {
         return None;
     }
     let from = segments[vertex as usize];
     let segment = segments[to as usize];
-    let need = (u32::from(numbers[from as usize]) + 1).min(MAX_COORDINATE) as u16;
+    let need = (u32::from(coordinates[from as usize]) + 1).min(MAX_COORDINATE) as u16;
     // It is written in any case: whether it is raised cannot be foreseen, so no branch is to hang on it.
-    numbers[segment as usize] = numbers[segment as usize].max(need);
+    coordinates[segment as usize] = coordinates[segment as usize].max(need);
     Some(segment)
 }
 
-/// Walks along a segment from its first vertex, raises the numbers of the segments that come next along the
+/// Walks along a segment from its first vertex, raises the coordinates of the segments that come next along the
 /// axis, and counts off the steps to them.
 fn pass_segment(
     steps: Steps<'_>,
     first: u32,
     segments: &[u32],
     queue: &mut ReadyQueue<'_>,
-    numbers: &mut [u16],
+    coordinates: &mut [u16],
 )
     requires directions { (steps.ahead < 4) × (steps.left < 4) }
-    requires first { first < length numbers.old }
-    requires count { length steps.around.now ≡ 4 * length numbers.old }
-    requires segments { AreVertices (length numbers.old) segments.now }
-    ensures under { StayUnder (step steps.entry.around.now steps.entry.ahead) (length numbers.old) segments.now numbers.old numbers.new }
-    ensures count { length numbers.new ≡ length numbers.old }
+    requires first { first < length coordinates.old }
+    requires count { length steps.around.now ≡ 4 * length coordinates.old }
+    requires segments { AreVertices (length coordinates.old) segments.now }
+    ensures under { StayUnder (step steps.entry.around.now steps.entry.ahead) (length coordinates.old) segments.now coordinates.old coordinates.new }
+    ensures count { length coordinates.new ≡ length coordinates.old }
 {
     let mut vertex = first;
-    for _ in 0..numbers.len() {
-        if let Some(segment) = raise(steps.around, steps.ahead, segments, vertex, numbers) {
+    for _ in 0..coordinates.len() {
+        if let Some(segment) = raise(steps.around, steps.ahead, segments, vertex, coordinates) {
             queue.count_off(segment);
         }
         let next = steps.around[4 * vertex as usize + usize::from(steps.left)];
-        if next as usize >= numbers.len() {
+        if next as usize >= coordinates.len() {
             return;
         }
         vertex = next;
     }
 }
 
-/// Gives each vertex the number of its segment.
-fn spread(segments: &[u32], numbers: &mut [u16])
-    requires segments { AreVertices (length numbers.old) segments.now }
-    ensures under { (y : ℕ → ℕ) → AreLevelIn segments.now (length numbers.old) y → AreUnder (length numbers.old) numbers.old y → AreUnder (length numbers.old) numbers.new y }
-    ensures count { length numbers.new ≡ length numbers.old }
+/// Gives each vertex the coordinate of its segment.
+fn spread(segments: &[u32], coordinates: &mut [u16])
+    requires segments { AreVertices (length coordinates.old) segments.now }
+    ensures under { (y : ℕ → ℕ) → AreLevelIn segments.now (length coordinates.old) y → AreUnder (length coordinates.old) coordinates.old y → AreUnder (length coordinates.old) coordinates.new y }
+    ensures count { length coordinates.new ≡ length coordinates.old }
 {
-    for vertex in 0..numbers.len() {
-        numbers[vertex] = numbers[segments[vertex] as usize];
+    for vertex in 0..coordinates.len() {
+        coordinates[vertex] = coordinates[segments[vertex] as usize];
     }
 }
 
-/// Raises numbers to those of longest paths, segment by segment: a segment comes when the numbers of all segments that
+/// Raises coordinates to those of longest paths, segment by segment: a segment comes when the coordinates of all segments that
 /// have a step to it are known. Linear in the vertices.
 pub fn raise_to_longest_paths(
     axis_segments: &mut AxisSegments,
     steps: Steps<'_>,
-    numbers: &mut [u16],
+    coordinates: &mut [u16],
 )
     requires directions { (steps.ahead < 4) × (steps.left < 4) }
-    requires count { length steps.around.now ≡ 4 * length numbers.old }
-    requires segments { AreSegments (step steps.around.now steps.left) (length numbers.old) axis_segments.old.segments.items }
-    ensures under { StayUnderAll (length numbers.old) (step steps.entry.around.now steps.entry.ahead) (step steps.entry.around.now steps.entry.left) numbers.old numbers.new }
-    ensures count { length numbers.new ≡ length numbers.old }
+    requires count { length steps.around.now ≡ 4 * length coordinates.old }
+    requires segments { AreSegments (step steps.around.now steps.left) (length coordinates.old) axis_segments.old.segments.items }
+    ensures under { StayUnderAll (length coordinates.old) (step steps.entry.around.now steps.entry.ahead) (step steps.entry.around.now steps.entry.left) coordinates.old coordinates.new }
+    ensures count { length coordinates.new ≡ length coordinates.old }
 {
     let segments = axis_segments.segments.as_slice();
     let mut queue = ReadyQueue {
@@ -398,12 +398,12 @@ pub fn raise_to_longest_paths(
         count: 0,
     };
     queue.begin(axis_segments.segment_firsts.as_slice(), axis_segments.count);
-    for at in 0..numbers.len() {
+    for at in 0..coordinates.len() {
         let first = queue.segment_at(at);
-        if first as usize >= numbers.len() {
+        if first as usize >= coordinates.len() {
             break;
         }
-        pass_segment(steps, first, segments, &mut queue, numbers);
+        pass_segment(steps, first, segments, &mut queue, coordinates);
     }
-    spread(segments, numbers);
+    spread(segments, coordinates);
 }

@@ -5,7 +5,7 @@ ghost use Rattle.std.specs.List.{range_with_len};
 ghost use Rattle.ortho_rep.specs.Storage.{pieces_at, AreStarts};
 ghost use Rattle.compact.specs.Ordered.{AreLaidOut, AreCorners, IsCompactFault, point_at};
 
-use crate::axis::least_numbers;
+use crate::axis::least_coordinates;
 use crate::corners::{point_of, push_corners};
 use crate::fault::CompactFault;
 use crate::scratch::Scratch;
@@ -66,15 +66,15 @@ fn list_corners(
 /// x growing to the east and y to the north, the least there are. Edges run along the axes between their
 /// ends and corners.
 ///
-/// The numbers are the lengths of longest paths in the two constraint graphs of the dissection (Tamassia 1987).
+/// The coordinates are the lengths of longest paths in the two constraint graphs of the dissection (Tamassia 1987).
 /// They are found segment by segment, a segment being the vertices that darts across the axis join: a few steps
 /// for each dart. Where that does not keep all constraints, as in a drawing too wide for the grid, the end of
 /// each constraint that is not kept is raised, in rounds. The points stand in one list.
 ///
 /// # Errors
 ///
-/// `Wide` where no numbers in the order of the darts are all at most 65,535; `Memory` where there is
-/// none for the steps, the numbers, the segments, the constraints or the points.
+/// `Wide` where no coordinates in the order of the darts are all at most 65,535; `Memory` where there is
+/// none for the steps, the coordinates, the segments, the constraints or the points.
 pub fn compact(alloc: Global, boxes: &Boxes) -> Result<Points, CompactFault>
     ensures laid { IfOk result (AreLaidOut boxes.now) }
     ensures fault { IfErr result (IsCompactFault boxes.now) }
@@ -110,7 +110,7 @@ pub fn compact_in(
     let Ok(around) = steps_of(boxes, around) else {
         return Err(CompactFault::Memory);
     };
-    let (x, y) = match least_numbers(boxes, &around, x, y, &mut by_axis, &mut constraints) {
+    let (x, y) = match least_coordinates(boxes, &around, x, y, &mut by_axis, &mut constraints) {
         Ok(found) => found,
         Err(fault) => return Err(fault),
     };

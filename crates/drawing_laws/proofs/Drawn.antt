@@ -1,4 +1,4 @@
--- Points that are taken from numbers in order draw the shape.
+-- Points that are taken from coordinates in order draw the shape.
 use Rattle.std.proofs.Common.{◌≡◌, ℕ, zero, suc, ◌+◌, ◌-◌, ◌%◌, ◌<◌, ◌≤◌, ◌∙◌, List, [], ◌∷◌, ◌++◌, map, filter, length, length-append, get_or, slice_index, arith, subst, sym, ap, refl, inl, inr, true, cond, ltb, eqb, All, AllPairs, Contains}
 use Rattle.std.specs.List.{range_with_len, flat_map}
 use Rattle.std.proofs.lemmas.Bool.{cases_eq, cases_lt, cond-true, cond-false, lt-ltb, ltb-true, eq-eqb, ne_eqb}

@@ -25,7 +25,7 @@ pub mod CornerCounts
 pub mod Connecting
 pub mod Rotating
 pub mod Circling
-pub mod Numbers
+pub mod Coordinates
 pub mod Directed
 pub mod Raising
 pub mod Gaps

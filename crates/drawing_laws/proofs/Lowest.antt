@@ -1,4 +1,4 @@
--- The least numbers in the order of boxes.
+-- The least coordinates in the order of boxes.
 use Rattle.std.proofs.Common.{◌≡◌, ℕ, ◌<◌, ◌∙◌, List, [], ◌∷◌, All, length, map, get_or, arith, sym, ap, subst, eqb, inl, inr, eq-eqb, ne_eqb}
 use Rattle.std.proofs.lemmas.Bool.{cases_eq, cond-true, cond-false}
 use Rattle.std.proofs.lemmas.List.{get_or_default}
@@ -20,7 +20,7 @@ ends_of b boxes = record {
   head_in = boxes.sound.meeting.head_in;
 }
 
--- numbers in order along each axis, and both together
+-- coordinates in order along each axis, and both together
 x_follows : (b : BoxesModel) (x y : ℕ → ℕ) → IsOrdered (dart_map b) x y → Follow (dart_map b) 0 1 b.darts x
 x_follows b x y o = record { grow = λ a inside goes. (o.east a inside goes).0; stay = λ a inside across. (o.north a inside across).1 }
 

@@ -7,7 +7,7 @@ pub loop-at-init : goal.loop-at-init
 loop-at-init c = record {
   under = λ y grow level under. under;
   count = refl;
-  segments = subst (λ (segments : List ℕ). AreSegments (step c.args.steps.around.now c.args.steps.left) (length c.args.numbers.now) segments) (sym c.as_slice-segments.ensures.value) c.requires.segments;
+  segments = subst (λ (segments : List ℕ). AreSegments (step c.args.steps.around.now c.args.steps.left) (length c.args.coordinates.now) segments) (sym c.as_slice-segments.ensures.value) c.requires.segments;
 }
 
 pub loop-at-preserved : goal.loop-at-preserved
@@ -23,6 +23,6 @@ loop-at-preserved c =
 pub returns-clause-under : goal.returns-clause-under
 returns-clause-under c = λ y grow level under.
     let segments = c.as_slice-segments.result.now in
-    let spread : AreLevelIn segments (length c.args.numbers.now) y → AreUnder (length c.args.numbers.now) c.loop-at.numbers y → AreUnder (length c.args.numbers.now) c.spread.new.numbers y =
-    subst (λ (m : ℕ). AreLevelIn segments m y → AreUnder m c.loop-at.numbers y → AreUnder m c.spread.new.numbers y) c.loop-at.invariant.count (c.spread.ensures.under y) in
+    let spread : AreLevelIn segments (length c.args.coordinates.now) y → AreUnder (length c.args.coordinates.now) c.loop-at.coordinates y → AreUnder (length c.args.coordinates.now) c.spread.new.coordinates y =
+    subst (λ (m : ℕ). AreLevelIn segments m y → AreUnder m c.loop-at.coordinates y → AreUnder m c.spread.new.coordinates y) c.loop-at.invariant.count (c.spread.ensures.under y) in
     spread (c.loop-at.invariant.segments.level y level) (c.loop-at.invariant.under y grow level under)

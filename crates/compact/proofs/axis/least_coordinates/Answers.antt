@@ -1,5 +1,5 @@
 use Rattle.compact.proofs.Placing.{x_fault, y_fault, least_of}
-use Rattle.compact.proofs.axis.least_numbers.Goals as goal
+use Rattle.compact.proofs.axis.least_coordinates.Goals as goal
 
 pub returns-in-Err-clause-fault : goal.returns-in-Err-clause-fault
 returns-in-Err-clause-fault c = x_fault c.args.boxes.now c.in-Err.fault c.in-Err.ensures.fault

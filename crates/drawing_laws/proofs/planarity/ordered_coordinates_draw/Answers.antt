@@ -1,5 +1,5 @@
 use Rattle.drawing_laws.proofs.Drawn.{draws}
-use Rattle.drawing_laws.proofs.planarity.ordered_numbers_draw.Goals as goal
+use Rattle.drawing_laws.proofs.planarity.ordered_coordinates_draw.Goals as goal
 
 pub returns : goal.returns
 returns c p shape b x y points plane boxed ordered x_within y_within taken =

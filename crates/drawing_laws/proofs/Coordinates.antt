@@ -1,4 +1,4 @@
--- Numbers in the order of boxes: a vertex has as its number the count of darts to the east from whose ends it is reached without going to the west.
+-- Coordinates in the order of boxes: a vertex has as its coordinate the count of darts to the east from whose ends it is reached without going to the west.
 use Rattle.std.proofs.Common.{◌≡◌, ◌≢◌, ℕ, ◌+◌, ◌<◌, ◌≤◌, Bool, true, false, not, cond, eqb, arith, refl, sym, ap, ◌∙◌, subst}
 use Rattle.std.proofs.lemmas.Bool.{eq-eqb, ne_eqb, eqb-true, cond-true, cond-false, both_ways, not-true, not_from_false, false_from_ne_true}
 use Rattle.common.specs.Sums.{sum_below}
@@ -132,14 +132,14 @@ module _ (w : DartMap) (sound : IsSound w) (connected : IsConnected w) (cut : Is
         omega (arith, never_west a way t r, cond-false {A = ℕ} (eqb e a) 1 0 (ne_eqb e a other)))
         e e_in east (omega (arith, cond-true {A = ℕ} (eqb e e) 1 0 (eq-eqb e e refl)))
 
-  -- ---- the numbers
+  -- ---- the coordinates
 
   module _ (g : (e : ℕ) → Growth (forward w e)) where
     abbrev behind : ℕ → ℕ → ℕ
     behind v e = cond (eqb (w.direction e) 0) (cond ((g e).reached v) 1 0) 0
 
-    abbrev number : ℕ → ℕ
-    number v = sum_below w.darts (behind v)
+    abbrev coordinate : ℕ → ℕ
+    coordinate v = sum_below w.darts (behind v)
 
     onward : (a : ℕ) → a < w.darts → w.direction a ≢ 2 → (e : ℕ) → (g e).reached (w.head (w.reverse_dart a)) ≡ true → (g e).reached (w.head a) ≡ true
     onward a a_in ne e r = (g e).closed a a_in (not_from_false (eqb (w.direction a) 2) (ne_eqb (w.direction a) 2 ne)) r
@@ -153,7 +153,7 @@ module _ (w : DartMap) (sound : IsSound w) (connected : IsConnected w) (cut : Is
         less true true true h = omega arith
         less true true false h = absurd (both_ways false refl (h refl))
 
-    grows : (a : ℕ) → a < w.darts → w.direction a ≡ 0 → number (w.head (w.reverse_dart a)) < number (w.head a)
+    grows : (a : ℕ) → a < w.darts → w.direction a ≡ 0 → coordinate (w.head (w.reverse_dart a)) < coordinate (w.head a)
     grows a a_in east =
         sum_below-lt w.darts a (behind (w.head (w.reverse_dart a))) (behind (w.head a)) a_in
         (λ e e_in. no_less a a_in (λ two. omega (arith, east, two)) e)
@@ -167,7 +167,7 @@ module _ (w : DartMap) (sound : IsSound w) (connected : IsConnected w) (cut : Is
           cond-false {A = ℕ} ((g a).reached (w.head (w.reverse_dart a))) 1 0 start,
         ))
 
-    stays : (a : ℕ) → a < w.darts → w.direction a ≢ 0 → w.direction a ≢ 2 → number (w.head (w.reverse_dart a)) ≡ number (w.head a)
+    stays : (a : ℕ) → a < w.darts → w.direction a ≢ 0 → w.direction a ≢ 2 → coordinate (w.head (w.reverse_dart a)) ≡ coordinate (w.head a)
     stays a a_in not_east not_west =
         let b : ℕ = w.reverse_dart a in
         let b_in = sound.tied.reverse_dart_in a a_in in
@@ -177,17 +177,17 @@ module _ (w : DartMap) (sound : IsSound w) (connected : IsConnected w) (cut : Is
         (same_if ((g e).reached (w.head b)) ((g e).reached (w.head a)) (onward a a_in not_west e)
         (λ r. onward b b_in back_west e (ap (λ (d : ℕ). (g e).reached (w.head d)) (sound.tied.reverse_dart_back a a_in) ∙ r))))
 
-  -- numbers that grow along darts to the east, and stay along those to the north and south
-  pub numbers : (x : ℕ → ℕ) × ((a : ℕ) → a < w.darts → w.direction a ≡ 0 → x (w.head (w.reverse_dart a)) < x (w.head a))
+  -- coordinates that grow along darts to the east, and stay along those to the north and south
+  pub coordinates : (x : ℕ → ℕ) × ((a : ℕ) → a < w.darts → w.direction a ≡ 0 → x (w.head (w.reverse_dart a)) < x (w.head a))
       × ((a : ℕ) → a < w.darts → w.direction a ≢ 0 → w.direction a ≢ 2 → x (w.head (w.reverse_dart a)) ≡ x (w.head a))
-  numbers =
+  coordinates =
       let g : (e : ℕ) → Growth (forward w e) = λ e. growth (forward w e) sound.meeting.head_in in
-      (number g, grows g, stays g)
+      (coordinate g, grows g, stays g)
 
 pub ordered : (w : DartMap) → IsSound w → IsConnected w → IsCutUp w → (x : ℕ → ℕ) × (y : ℕ → ℕ) × IsOrdered w x y
 ordered w sound connected cut =
-    let (x, x_grows, x_stays) = numbers w sound connected cut in
-    let (y, y_grows, y_stays) = numbers (rotated w 3) (rotated_sound w 3 sound) connected (rotated_cut w 3 cut) in (
+    let (x, x_grows, x_stays) = coordinates w sound connected cut in
+    let (y, y_grows, y_stays) = coordinates (rotated w 3) (rotated_sound w 3 sound) connected (rotated_cut w 3 cut) in (
       x,
       y,
       record {
