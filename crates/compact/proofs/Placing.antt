@@ -4,7 +4,7 @@ use Rattle.std.proofs.lemmas.Bool.{cases_eq}
 use Rattle.std.proofs.lemmas.List.{length-map}
 use Rattle.std.proofs.lemmas.List.FromFn.{length-range_with_len}
 use Rattle.dissect.specs.DartMaps.{DartMap, IsSound, no_dart}
-use Rattle.dissect.specs.Paths.{turning_places}
+use Rattle.dissect.specs.Paths.{turning_vertices}
 use Rattle.ortho_rep.specs.declared.points.Point.{Point}
 use Rattle.dissect.specs.Boxes.{BoxesModel, HasEdge, dart_map}
 use Rattle.compact.specs.Ordered.{tail, point_at, IsOrdered, IsAlong, AreCorners, AreCornersOf, IsAxisFault, IsCompactFault, AreLaidOut, AreLeast, AreWithin}
@@ -68,14 +68,14 @@ keep_y w x y sound ordered = record {
 
 -- all paths of an edge turn at the same places
 pub one_corners : (b : BoxesModel) (x y : ℕ → ℕ) (e : ℕ) (points : List Point) (one : HasEdge b e) → b.darts ≤ no_dart →
-    points ≡ map (point_at x y) (turning_places (dart_map b) one.first one.rest) → AreCornersOf b x y e points
+    points ≡ map (point_at x y) (turning_vertices (dart_map b) one.first one.rest) → AreCornersOf b x y e points
 one_corners b x y e points one few is edge =
     is ∙ ap (map (point_at x y)) (one_turning (dart_map b) (slice_index b.edges e) one.first edge.first one.rest edge.rest few one.path edge.path)
 
 -- the points are those of the places where a path of the edge e turns
 pub record IsCornersOf (b : BoxesModel) (x y : ℕ → ℕ) (e : ℕ) (points : List Point) : Type 0 where
   pub edge : HasEdge b e
-  pub is : points ≡ map (point_at x y) (turning_places (dart_map b) edge.first edge.rest)
+  pub is : points ≡ map (point_at x y) (turning_vertices (dart_map b) edge.first edge.rest)
 
 -- what a fault of one axis says of both
 pub x_fault : (b : BoxesModel) (fault : CompactFault) → IsAxisFault b 0 fault → IsCompactFault b fault

@@ -9,7 +9,7 @@ use Rattle.common.proofs.Sums.{sum_below-lt}
 use Rattle.compact.specs.declared.constraint_graph.Constraint.{Constraint}
 use Rattle.compact.specs.declared.constraint_graph.Relaxation.{Relaxation}
 use Rattle.compact.specs.declared.constraint_graph.Relaxation.TheVariants.{Kept, Raised, Wide}
-use Rattle.compact.specs.Constraints.{Keeps, AreInside, IsLow, AreWide, IsRelaxed, AreRelaxed, slack}
+use Rattle.compact.specs.Constraints.{Keeps, AreInside, IsLow, AreWide, IsRelaxed, AreRelaxed, shortfall}
 
 abbrev pub at : List ℕ → ℕ → ℕ
 at xs v = slice_index xs v
@@ -17,7 +17,7 @@ at xs v = slice_index xs v
 -- what holds of the coordinates when the first constraints were relaxed
 abbrev pub Stands : List Constraint → List ℕ → List ℕ → Relaxation → Type 0
 Stands constraints old now Kept = (now ≡ old) × Keeps constraints (at now)
-Stands constraints old now Raised = slack now < slack old
+Stands constraints old now Raised = shortfall now < shortfall old
 Stands constraints old now Wide = ⊥
 
 pub record IsRelaxedUpTo (constraints : List Constraint) (i : ℕ) (old now : List ℕ) (found : Relaxation) : Type 0 where
@@ -42,9 +42,9 @@ low_raised constraints i d old new n size i_in to_in from_in low made y keeps v 
           omega (arith, here, low y keeps v v_in)
     ]
 
--- and the slack falls
-pub slack_falls : (old new : List ℕ) (to need : ℕ) → to < length old → new ≡ set old to need → at old to < need → need ≤ MAX_COORDINATE → slack new < slack old
-slack_falls old new to need to_in made less most =
+-- and the shortfall falls
+pub shortfall_falls : (old new : List ℕ) (to need : ℕ) → to < length old → new ≡ set old to need → at old to < need → need ≤ MAX_COORDINATE → shortfall new < shortfall old
+shortfall_falls old new to need to_in made less most =
     let size : length new ≡ length old = ap length made ∙ length-set old to need in
     subst (λ (n : ℕ). sum_below n (λ v. MAX_COORDINATE - at new v) < sum_below (length old) (λ v. MAX_COORDINATE - at old v)) (sym size)
     (sum_below-lt (length old) to (λ v. MAX_COORDINATE - at new v) (λ v. MAX_COORDINATE - at old v) to_in
@@ -95,20 +95,20 @@ goes_on constraints i d old now new found Kept i_in inside under relaxed size =
       subst (λ (xs : List ℕ). Keeps (take (i + 1) constraints) (at xs)) (sym relaxed.0)
           (All-more (λ constraint. at now constraint.from + constraint.least ≤ at now constraint.to) constraints i d i_in stands.1 relaxed.1),
     )
-    still constraints i d old now new Raised i_in stands relaxed = subst (λ (xs : List ℕ). slack xs < slack old) (sym relaxed.0) stands
+    still constraints i d old now new Raised i_in stands relaxed = subst (λ (xs : List ℕ). shortfall xs < shortfall old) (sym relaxed.0) stands
     still constraints i d old now new Wide i_in stands relaxed = stands
 goes_on constraints i d old now new found Raised i_in inside under relaxed size =
     let constraint = get_or constraints i d in
     let ends = inside i d i_in in
-    let falls : slack new < slack now = slack_falls now new constraint.to (at now constraint.from + constraint.least) (omega (arith, ends.1, under.size)) relaxed.0 relaxed.1 relaxed.2 in
+    let falls : shortfall new < shortfall now = shortfall_falls now new constraint.to (at now constraint.from + constraint.least) (omega (arith, ends.1, under.size)) relaxed.0 relaxed.1 relaxed.2 in
     record {
       size = size ∙ under.size;
       low = low_raised constraints i d now new (length old) under.size i_in ends.1 ends.0 under.low relaxed.0;
       stands = lower constraints i old now new found under.stands falls;
     }
   where
-    lower : (constraints : List Constraint) (i : ℕ) (old now new : List ℕ) (found : Relaxation) → Stands (take i constraints) old now found → slack new < slack now → slack new < slack old
-    lower constraints i old now new Kept stands falls = omega (arith, falls, ap slack stands.0)
+    lower : (constraints : List Constraint) (i : ℕ) (old now new : List ℕ) (found : Relaxation) → Stands (take i constraints) old now found → shortfall new < shortfall now → shortfall new < shortfall old
+    lower constraints i old now new Kept stands falls = omega (arith, falls, ap shortfall stands.0)
     lower constraints i old now new Raised stands falls = omega (arith, falls, stands)
     lower constraints i old now new Wide stands falls = absurd stands
 goes_on constraints i d old now new found Wide i_in inside under relaxed size =

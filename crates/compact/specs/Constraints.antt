@@ -23,8 +23,8 @@ abbrev pub AreWide : List Constraint → ℕ → Type 0
 AreWide constraints n = (y : ℕ → ℕ) → Keeps constraints y → (v : ℕ) × (v < n) × (MAX_COORDINATE < y v)
 
 -- how far all coordinates are below 65,535
-abbrev pub slack : List ℕ → ℕ
-slack xs = sum_below (length xs) (λ v. MAX_COORDINATE - slice_index xs v)
+abbrev pub shortfall : List ℕ → ℕ
+shortfall xs = sum_below (length xs) (λ v. MAX_COORDINATE - slice_index xs v)
 
 -- what the relaxation of one constraint has found and done
 abbrev pub IsRelaxed : Constraint → List ℕ → List ℕ → Relaxation → Type 0
@@ -37,5 +37,5 @@ IsRelaxed constraint old new Wide = (new ≡ old) × (MAX_COORDINATE < slice_ind
 -- what one relaxation of all constraints has found and done
 abbrev pub AreRelaxed : List Constraint → List ℕ → List ℕ → Relaxation → Type 0
 AreRelaxed constraints old new Kept = (new ≡ old) × Keeps constraints (λ v. slice_index new v)
-AreRelaxed constraints old new Raised = slack new < slack old
+AreRelaxed constraints old new Raised = shortfall new < shortfall old
 AreRelaxed constraints old new Wide = AreWide constraints (length old)

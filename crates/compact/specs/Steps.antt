@@ -21,21 +21,21 @@ abbrev pub Grow : (ℕ → ℕ) → ℕ → (ℕ → ℕ) → Type 0
 Grow next n y = (v : ℕ) → v < n → next v < n → y v + 1 ≤ y (next v)
 
 -- the coordinates y stay the same along each of the steps
-abbrev pub StayLevel : (ℕ → ℕ) → ℕ → (ℕ → ℕ) → Type 0
-StayLevel next n y = (v : ℕ) → v < n → next v < n → y (next v) ≡ y v
+abbrev pub StayEqual : (ℕ → ℕ) → ℕ → (ℕ → ℕ) → Type 0
+StayEqual next n y = (v : ℕ) → v < n → next v < n → y (next v) ≡ y v
 
 -- for each vertex below n the list has a vertex below n
 abbrev pub AreVertices : ℕ → List ℕ → Type 0
 AreVertices n segments = (length segments ≡ n) × ((v : ℕ) → v < n → slice_index segments v < n)
 
 -- y has one coordinate in each segment
-abbrev pub AreLevelIn : List ℕ → ℕ → (ℕ → ℕ) → Type 0
-AreLevelIn segments n y = (v : ℕ) → v < n → y (slice_index segments v) ≡ y v
+abbrev pub AreEqualIn : List ℕ → ℕ → (ℕ → ℕ) → Type 0
+AreEqualIn segments n y = (v : ℕ) → v < n → y (slice_index segments v) ≡ y v
 
 -- all coordinates that stay the same along the steps have one coordinate in each segment
 pub record AreSegments (next : ℕ → ℕ) (n : ℕ) (segments : List ℕ) : Type 0 where
   pub inside : AreVertices n segments
-  pub level : (y : ℕ → ℕ) → StayLevel next n y → AreLevelIn segments n y
+  pub equal : (y : ℕ → ℕ) → StayEqual next n y → AreEqualIn segments n y
 
 -- each vertex below n stands at its own place
 abbrev pub AreOwn : ℕ → List ℕ → Type 0
@@ -45,7 +45,7 @@ AreOwn n segments = (length segments ≡ n) × ((v : ℕ) → v < n → slice_in
 pub record IsOnSegment (next : ℕ → ℕ) (n first vertex : ℕ) : Type 0 where
   pub first_in : first < n
   pub vertex_in : vertex < n
-  pub connected : (y : ℕ → ℕ) → StayLevel next n y → y first ≡ y vertex
+  pub connected : (y : ℕ → ℕ) → StayEqual next n y → y first ≡ y vertex
 
 -- the first n coordinates are nowhere above y
 abbrev pub AreUnder : ℕ → List ℕ → (ℕ → ℕ) → Type 0
@@ -54,9 +54,9 @@ AreUnder n xs y = (v : ℕ) → v < n → slice_index xs v ≤ y v
 -- coordinates nowhere above any coordinates that grow along the steps and have one coordinate in each segment stay so
 abbrev pub StayUnder : (ℕ → ℕ) → ℕ → List ℕ → List ℕ → List ℕ → Type 0
 StayUnder ahead n segments old new =
-    (y : ℕ → ℕ) → Grow ahead n y → AreLevelIn segments n y → AreUnder n old y → AreUnder n new y
+    (y : ℕ → ℕ) → Grow ahead n y → AreEqualIn segments n y → AreUnder n old y → AreUnder n new y
 
 -- coordinates nowhere above any that grow along the steps ahead, and stay the same along those to the left, stay so
 abbrev pub StayUnderAll : ℕ → (ℕ → ℕ) → (ℕ → ℕ) → List ℕ → List ℕ → Type 0
 StayUnderAll n ahead left old new =
-    (y : ℕ → ℕ) → Grow ahead n y → StayLevel left n y → AreUnder n old y → AreUnder n new y
+    (y : ℕ → ℕ) → Grow ahead n y → StayEqual left n y → AreUnder n old y → AreUnder n new y

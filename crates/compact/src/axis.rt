@@ -71,7 +71,7 @@ fn is_step_kept(along: &[u16], across: &[u16], vertex: usize, to: u32) -> bool
     requires vertex { vertex < length along.now }
     requires count { length across.now ≡ length along.now }
     ensures grows { IsTrue result → to < length along.now → slice_index along.now vertex + 1 ≤ slice_index along.now to }
-    ensures level { IsTrue result → to < length along.now → slice_index across.now to ≡ slice_index across.now vertex }
+    ensures equal { IsTrue result → to < length along.now → slice_index across.now to ≡ slice_index across.now vertex }
 {
     let is_there = (to as usize) < along.len();
     let end = if is_there { to as usize } else { vertex };

@@ -1,7 +1,7 @@
 //! Lengths of longest paths (Tamassia 1987) over segments of vertices, which darts across an axis connect.
 
 ghost use Rattle.std.specs.Prelude.{◌≡◌, ◌*◌, ◌^◌, ◌<◌, ℕ, length, OnOk};
-ghost use Rattle.compact.specs.Steps.{step, AreVertices, AreLevelIn, AreSegments, AreOwn, IsOnSegment, AreUnder, StayUnder, StayUnderAll};
+ghost use Rattle.compact.specs.Steps.{step, AreVertices, AreEqualIn, AreSegments, AreOwn, IsOnSegment, AreUnder, StayUnder, StayUnderAll};
 
 use crate::steps::NO_VERTEX;
 use ortho_rep::MAX_COORDINATE;
@@ -370,7 +370,7 @@ fn pass_segment(
 /// Gives each vertex the coordinate of its segment.
 fn spread(segments: &[u32], coordinates: &mut [u16])
     requires segments { AreVertices (length coordinates.old) segments.now }
-    ensures under { (y : ℕ → ℕ) → AreLevelIn segments.now (length coordinates.old) y → AreUnder (length coordinates.old) coordinates.old y → AreUnder (length coordinates.old) coordinates.new y }
+    ensures under { (y : ℕ → ℕ) → AreEqualIn segments.now (length coordinates.old) y → AreUnder (length coordinates.old) coordinates.old y → AreUnder (length coordinates.old) coordinates.new y }
     ensures count { length coordinates.new ≡ length coordinates.old }
 {
     for vertex in 0..coordinates.len() {

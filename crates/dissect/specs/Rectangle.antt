@@ -11,7 +11,7 @@ pub record IsStraightChain (w : DartMap) (end back : ℕ) : Type 0 where
   pub again : HasPath w back end []
 
 -- the place where the dart `at` arrives lies on the chain that ends with the dart `end`, before its end
-pub record IsPlaceOn (w : DartMap) (end at : ℕ) : Type 0 where
+pub record IsInsideChain (w : DartMap) (end at : ℕ) : Type 0 where
   pub first : ℕ
   pub rest : List ℕ
   pub path : IsPath w end first rest
@@ -40,4 +40,4 @@ pub record IsConnectedAt (inner : DartMap) (right : ℕ) (w : DartMap) : Type 0 
   pub side_in : side < 4
   pub meets : (w.direction (inner.darts + 10) + 1) % 4 ≡ side
   pub to : w.head (inner.darts + 10) ≡ w.head (inner.darts + 8)
-  pub on_side : IsPlaceOn w (inner.darts + side) (inner.darts + 8)
+  pub on_side : IsInsideChain w (inner.darts + side) (inner.darts + 8)

@@ -49,10 +49,10 @@ opposite_is net first reverse forward i false l b = refl
 opposite_is net first reverse forward i true l b = l.undone i b
 
 -- what a push along residual arc k changes
-pub record IsPushed (reverse capacity room' : ℕ → ℕ) (k amount : ℕ) : Type 0 where
-  pub less : room' k + amount ≡ capacity k
-  pub more : room' (reverse k) ≡ capacity (reverse k) + amount
-  pub others : (j : ℕ) → j ≢ k → j ≢ reverse k → room' j ≡ capacity j
+pub record IsPushed (reverse capacity capacity' : ℕ → ℕ) (k amount : ℕ) : Type 0 where
+  pub less : capacity' k + amount ≡ capacity k
+  pub more : capacity' (reverse k) ≡ capacity (reverse k) + amount
+  pub others : (j : ℕ) → j ≢ k → j ≢ reverse k → capacity' j ≡ capacity j
 
 pub number_below : (net : NetworkModel) (first : List ℕ) (reverse : ℕ → ℕ) (forward : List ℕ) (v k : ℕ) → HasResidualArcs net first reverse forward → v < node_count net → StartsAt first v k → k < arc_count net + arc_count net
 number_below net first reverse forward v k l b s = omega (arith, s.below, l.inside v b)
@@ -127,7 +127,7 @@ is_paired net r v k n s b st =
     let low : k < arc_count net + arc_count net = number_below net first reverse forward v k l b st in
     let back : reverse k < arc_count net + arc_count net = reverse_below net first reverse forward v k n l b st in
     record {
-      sizes = s.room_size ∙ sym f.arc_size;
+      sizes = s.capacities_size ∙ sym f.arc_size;
       here = omega (arith, f.arc_size);
       there = omega (arith, f.arc_size);
       apart = not_reverse net first reverse forward v k l b st;
@@ -152,24 +152,24 @@ still_unit_cost r r' k units j s (z, low, high, costed) = (z, low, high, still_c
 moved_fits : (a b a' b' m k : ℕ) → a + b ≡ k → a' + m ≡ a → b' ≡ b + m → a' + b' ≡ k
 moved_fits a b a' b' m k h x y = omega arith
 
--- the rooms along and against an arc, in either order
+-- the capacities along and against an arc, in either order
 either_order : (reverse : ℕ → ℕ) (forward : List ℕ) (capacity : ℕ → ℕ) (i k : ℕ) (b : Bool) → capacity (number_of reverse forward i b) + capacity (number_of reverse forward i (opposite b)) ≡ k → capacity (number_of reverse forward i false) + capacity (number_of reverse forward i true) ≡ k
 unfolding opposite
 either_order reverse forward capacity i k false h = h
 either_order reverse forward capacity i k true h = omega arith
 
-pushed_fits : (net : NetworkModel) (first : List ℕ) (reverse : ℕ → ℕ) (forward : List ℕ) (capacity room' : ℕ → ℕ) (arcs : List ResidualArc) (i j : ℕ) (b : Bool) (k amount : ℕ) → HasResidualArcs net first reverse forward → AreResidualArcs net reverse forward capacity arcs → i < arc_count net → number_of reverse forward i b ≡ k → IsPushed reverse capacity room' k amount → j < arc_count net → room' (number_of reverse forward j false) + room' (number_of reverse forward j true) ≡ units_of (arc_at net j).cap
-pushed_fits net first reverse forward capacity room' arcs i j b k amount l f inside e s inside' =
+pushed_fits : (net : NetworkModel) (first : List ℕ) (reverse : ℕ → ℕ) (forward : List ℕ) (capacity capacity' : ℕ → ℕ) (arcs : List ResidualArc) (i j : ℕ) (b : Bool) (k amount : ℕ) → HasResidualArcs net first reverse forward → AreResidualArcs net reverse forward capacity arcs → i < arc_count net → number_of reverse forward i b ≡ k → IsPushed reverse capacity capacity' k amount → j < arc_count net → capacity' (number_of reverse forward j false) + capacity' (number_of reverse forward j true) ≡ units_of (arc_at net j).cap
+pushed_fits net first reverse forward capacity capacity' arcs i j b k amount l f inside e s inside' =
     let back = reverse_place net first reverse forward k i b l inside e in
     elim (cases_eq j i) [
       | inl q ↦
-          subst (λ (t : ℕ). room' (number_of reverse forward t false) + room' (number_of reverse forward t true) ≡ units_of (arc_at net t).cap) (sym q)
-          (either_order reverse forward room' i (units_of (arc_at net i).cap) b
-          (moved_fits (capacity (number_of reverse forward i b)) (capacity (number_of reverse forward i (opposite b))) (room' (number_of reverse forward i b)) (room' (number_of reverse forward i (opposite b))) amount (units_of (arc_at net i).cap) (both_fit net reverse forward capacity arcs i b f inside)
-          (subst (λ (t : ℕ). room' t + amount ≡ capacity t) (sym e) s.less)
-          (subst (λ (t : ℕ). room' t ≡ capacity t + amount) back s.more)))
+          subst (λ (t : ℕ). capacity' (number_of reverse forward t false) + capacity' (number_of reverse forward t true) ≡ units_of (arc_at net t).cap) (sym q)
+          (either_order reverse forward capacity' i (units_of (arc_at net i).cap) b
+          (moved_fits (capacity (number_of reverse forward i b)) (capacity (number_of reverse forward i (opposite b))) (capacity' (number_of reverse forward i b)) (capacity' (number_of reverse forward i (opposite b))) amount (units_of (arc_at net i).cap) (both_fit net reverse forward capacity arcs i b f inside)
+          (subst (λ (t : ℕ). capacity' t + amount ≡ capacity t) (sym e) s.less)
+          (subst (λ (t : ℕ). capacity' t ≡ capacity t + amount) back s.more)))
       | inr ne ↦
-          let same : (c : Bool) → room' (number_of reverse forward j c) ≡ capacity (number_of reverse forward j c) =
+          let same : (c : Bool) → capacity' (number_of reverse forward j c) ≡ capacity (number_of reverse forward j c) =
           λ c. s.others (number_of reverse forward j c) (λ h. ne (l.alone j i c b inside' inside (h ∙ sym e)).0) (λ h. ne (l.alone j i c (opposite b) inside' inside (h ∙ back)).0) in
           omega (arith, same false, same true, f.fits j inside')
     ]
@@ -182,7 +182,7 @@ pushed_along r r' r'' k amount less more ne one two le me =
       first = two.first ∙ one.first;
       forward = two.forward ∙ one.forward;
       arc_size = two.arc_size ∙ one.arc_size;
-      room_size = two.room_size ∙ one.room_size;
+      capacities_size = two.capacities_size ∙ one.capacities_size;
       ends = λ j. two.end j ∙ one.end j;
       reverse = λ j. two.reverse j ∙ one.reverse j;
       costs = λ j z h. still_costs r' r'' back more j z two (still_costs r r' k less j z one h);
@@ -209,7 +209,7 @@ pushed_network net r r' v k amount s b st p =
     record {
       arcs_built = rw (p.first, p.forward) (subst (λ (backward : ℕ → ℕ). HasResidualArcs net r.first.items backward r.forward.items) (sym (fun_ext p.reverse)) l);
       filled = rw p.forward (subst (λ (backward : ℕ → ℕ). AreResidualArcs net backward r.forward.items (capacity_at r'.capacities.items) r'.arcs.items) (sym (fun_ext p.reverse)) filled);
-      room_size = p.room_size ∙ s.room_size;
+      capacities_size = p.capacities_size ∙ s.capacities_size;
       limits = s.limits;
     }
 
@@ -361,21 +361,21 @@ tight_arc_of net first reverse forward capacity arcs p u k v n l f b t =
     }
 
 -- what a push does to the amount of its own arc, and to the others
-moved_by : (net : NetworkModel) (first : List ℕ) (reverse : ℕ → ℕ) (forward : List ℕ) (capacity room' : ℕ → ℕ) (i : ℕ) (b : Bool) (k amount : ℕ) → HasResidualArcs net first reverse forward → i < arc_count net → number_of reverse forward i b ≡ k → IsPushed reverse capacity room' k amount → IsMoved b (carried reverse forward capacity i) amount (carried reverse forward room' i)
+moved_by : (net : NetworkModel) (first : List ℕ) (reverse : ℕ → ℕ) (forward : List ℕ) (capacity capacity' : ℕ → ℕ) (i : ℕ) (b : Bool) (k amount : ℕ) → HasResidualArcs net first reverse forward → i < arc_count net → number_of reverse forward i b ≡ k → IsPushed reverse capacity capacity' k amount → IsMoved b (carried reverse forward capacity i) amount (carried reverse forward capacity' i)
 unfolding opposite
-moved_by net first reverse forward capacity room' i false k amount l b e s = subst (λ (t : ℕ). room' t ≡ capacity t + amount) (reverse_place net first reverse forward k i false l b e) s.more
-moved_by net first reverse forward capacity room' i true k amount l b e s = sym (subst (λ (t : ℕ). room' t + amount ≡ capacity t) (sym e) s.less)
+moved_by net first reverse forward capacity capacity' i false k amount l b e s = subst (λ (t : ℕ). capacity' t ≡ capacity t + amount) (reverse_place net first reverse forward k i false l b e) s.more
+moved_by net first reverse forward capacity capacity' i true k amount l b e s = sym (subst (λ (t : ℕ). capacity' t + amount ≡ capacity t) (sym e) s.less)
 
-kept_by : (net : NetworkModel) (first : List ℕ) (reverse : ℕ → ℕ) (forward : List ℕ) (capacity room' : ℕ → ℕ) (i : ℕ) (b : Bool) (k amount : ℕ) → HasResidualArcs net first reverse forward → i < arc_count net → number_of reverse forward i b ≡ k → IsPushed reverse capacity room' k amount → SameOthers net i (carried reverse forward capacity) (carried reverse forward room')
-kept_by net first reverse forward capacity room' i b k amount l inside e s j c ne =
+kept_by : (net : NetworkModel) (first : List ℕ) (reverse : ℕ → ℕ) (forward : List ℕ) (capacity capacity' : ℕ → ℕ) (i : ℕ) (b : Bool) (k amount : ℕ) → HasResidualArcs net first reverse forward → i < arc_count net → number_of reverse forward i b ≡ k → IsPushed reverse capacity capacity' k amount → SameOthers net i (carried reverse forward capacity) (carried reverse forward capacity')
+kept_by net first reverse forward capacity capacity' i b k amount l inside e s j c ne =
     s.others (number_of reverse forward j true)
     (λ h. ne (l.alone j i true b c inside (h ∙ sym e)).0)
     (λ h. ne (l.alone j i true (opposite b) c inside (h ∙ reverse_place net first reverse forward k i b l inside e)).0)
 
 -- where an arc carries what it carried, the same fits along it
-same_capacity : (net : NetworkModel) (reverse : ℕ → ℕ) (forward : List ℕ) (capacity room' : ℕ → ℕ) (arcs arcs' : List ResidualArc) (i : ℕ) (back : Bool) → AreResidualArcs net reverse forward capacity arcs → AreResidualArcs net reverse forward room' arcs' → i < arc_count net → carried reverse forward room' i ≡ carried reverse forward capacity i → room' (number_of reverse forward i back) ≡ capacity (number_of reverse forward i back)
-same_capacity net reverse forward capacity room' arcs arcs' i true f f' b h = h
-same_capacity net reverse forward capacity room' arcs arcs' i false f f' b h = omega (arith, f.fits i b, f'.fits i b)
+same_capacity : (net : NetworkModel) (reverse : ℕ → ℕ) (forward : List ℕ) (capacity capacity' : ℕ → ℕ) (arcs arcs' : List ResidualArc) (i : ℕ) (back : Bool) → AreResidualArcs net reverse forward capacity arcs → AreResidualArcs net reverse forward capacity' arcs' → i < arc_count net → carried reverse forward capacity' i ≡ carried reverse forward capacity i → capacity' (number_of reverse forward i back) ≡ capacity (number_of reverse forward i back)
+same_capacity net reverse forward capacity capacity' arcs arcs' i true f f' b h = h
+same_capacity net reverse forward capacity capacity' arcs arcs' i false f f' b h = omega (arith, f.fits i b, f'.fits i b)
 
 both_ends : (net : NetworkModel) (on : ℕ → Bool) (place : ℕ → ℕ) (x y : ℕ → ℕ) (i : ℕ) (back : Bool) (u v : ℕ) → start_of net i back ≡ u → end_of net i back ≡ v → on u ≡ true → on v ≡ true → place u < place v → (on (arc_at net i).from ≡ true → on (arc_at net i).to ≡ true → place (arc_at net i).from ≤ place v → place (arc_at net i).to ≤ place v → y i ≡ x i) → y i ≡ x i
 both_ends net on place x y i false u v s e a b less kept =
@@ -392,29 +392,29 @@ arc_kept net reverse forward capacity p e on place x y u k v amount most t a b l
     both_ends net on place x y t.arc t.back u v t.start t.end a b less (s.kept t.arc t.inside)
 
 -- what fitted along the next residual arc still does
-pub still_fits : (net : NetworkModel) (reverse : ℕ → ℕ) (forward : List ℕ) (capacity room' : ℕ → ℕ) (arcs arcs' : List ResidualArc) (p e : ℕ → ℤ) (on : ℕ → Bool) (place : ℕ → ℕ) (u k v amount most : ℕ) → AreResidualArcs net reverse forward capacity arcs → AreResidualArcs net reverse forward room' arcs' → IsTightArc net reverse forward capacity p u k v → on u ≡ true → on v ≡ true → place u < place v → IsSending net p e on place (carried reverse forward capacity) (carried reverse forward room') v amount most → amount ≤ capacity k → amount ≤ room' k
-still_fits net reverse forward capacity room' arcs arcs' p e on place u k v amount most f f' t a b less s fits =
-    let own = arc_kept net reverse forward capacity p e on place (carried reverse forward capacity) (carried reverse forward room') u k v amount most t a b less s in
-    let same : room' k ≡ capacity k = subst (λ (q : ℕ). room' q ≡ capacity q) t.place (same_capacity net reverse forward capacity room' arcs arcs' t.arc t.back f f' t.inside own) in
+pub still_fits : (net : NetworkModel) (reverse : ℕ → ℕ) (forward : List ℕ) (capacity capacity' : ℕ → ℕ) (arcs arcs' : List ResidualArc) (p e : ℕ → ℤ) (on : ℕ → Bool) (place : ℕ → ℕ) (u k v amount most : ℕ) → AreResidualArcs net reverse forward capacity arcs → AreResidualArcs net reverse forward capacity' arcs' → IsTightArc net reverse forward capacity p u k v → on u ≡ true → on v ≡ true → place u < place v → IsSending net p e on place (carried reverse forward capacity) (carried reverse forward capacity') v amount most → amount ≤ capacity k → amount ≤ capacity' k
+still_fits net reverse forward capacity capacity' arcs arcs' p e on place u k v amount most f f' t a b less s fits =
+    let own = arc_kept net reverse forward capacity p e on place (carried reverse forward capacity) (carried reverse forward capacity') u k v amount most t a b less s in
+    let same : capacity' k ≡ capacity k = subst (λ (q : ℕ). capacity' q ≡ capacity q) t.place (same_capacity net reverse forward capacity capacity' arcs arcs' t.arc t.back f f' t.inside own) in
     omega arith
 
 -- a push along the next residual arc
-pub sending_more : (net : NetworkModel) (first : List ℕ) (reverse : ℕ → ℕ) (forward : List ℕ) (capacity room' room'' : ℕ → ℕ) (p e : ℕ → ℤ) (on : ℕ → Bool) (place : ℕ → ℕ) (u k v amount most : ℕ) → HasResidualArcs net first reverse forward → IsTightArc net reverse forward capacity p u k v → on u ≡ true → on v ≡ true → place u < place v → IsSending net p e on place (carried reverse forward capacity) (carried reverse forward room') v amount most → IsPushed reverse room' room'' k amount → IsSending net p e on place (carried reverse forward capacity) (carried reverse forward room'') u amount most
-sending_more net first reverse forward capacity room' room'' p e on place u k v amount most l t a b less s pushed =
-    sent_on net p e on place (carried reverse forward capacity) (carried reverse forward room') (carried reverse forward room'') t.arc t.back u v amount most t.inside
-    (moved_by net first reverse forward room' room'' t.arc t.back k amount l t.inside t.place pushed)
-    (kept_by net first reverse forward room' room'' t.arc t.back k amount l t.inside t.place pushed)
+pub sending_more : (net : NetworkModel) (first : List ℕ) (reverse : ℕ → ℕ) (forward : List ℕ) (capacity capacity' capacity'' : ℕ → ℕ) (p e : ℕ → ℤ) (on : ℕ → Bool) (place : ℕ → ℕ) (u k v amount most : ℕ) → HasResidualArcs net first reverse forward → IsTightArc net reverse forward capacity p u k v → on u ≡ true → on v ≡ true → place u < place v → IsSending net p e on place (carried reverse forward capacity) (carried reverse forward capacity') v amount most → IsPushed reverse capacity' capacity'' k amount → IsSending net p e on place (carried reverse forward capacity) (carried reverse forward capacity'') u amount most
+sending_more net first reverse forward capacity capacity' capacity'' p e on place u k v amount most l t a b less s pushed =
+    sent_on net p e on place (carried reverse forward capacity) (carried reverse forward capacity') (carried reverse forward capacity'') t.arc t.back u v amount most t.inside
+    (moved_by net first reverse forward capacity' capacity'' t.arc t.back k amount l t.inside t.place pushed)
+    (kept_by net first reverse forward capacity' capacity'' t.arc t.back k amount l t.inside t.place pushed)
     t.free t.start t.end
-    (arc_kept net reverse forward capacity p e on place (carried reverse forward capacity) (carried reverse forward room') u k v amount most t a b less s)
+    (arc_kept net reverse forward capacity p e on place (carried reverse forward capacity) (carried reverse forward capacity') u k v amount most t a b less s)
     (λ _. less) (λ j c f g d h. s.kept j c f g (omega arith) (omega arith)) s.carries s.priced s.grown (omega (arith, s.few))
 
 -- the push along the last residual arc
-pub sending_first : (net : NetworkModel) (first : List ℕ) (reverse : ℕ → ℕ) (forward : List ℕ) (capacity room' : ℕ → ℕ) (p e : ℕ → ℤ) (on : ℕ → Bool) (place : ℕ → ℕ) (u k v amount : ℕ) → HasResidualArcs net first reverse forward → IsTightArc net reverse forward capacity p u k v → on v ≡ false → Carries net (carried reverse forward capacity) e v amount → HasPotentials net (carried reverse forward capacity) p → IsPushed reverse capacity room' k amount → IsSending net p e on place (carried reverse forward capacity) (carried reverse forward room') u amount (carrying net (carried reverse forward capacity) + place u + 1)
-sending_first net first reverse forward capacity room' p e on place u k v amount l t off carries priced pushed =
+pub sending_first : (net : NetworkModel) (first : List ℕ) (reverse : ℕ → ℕ) (forward : List ℕ) (capacity capacity' : ℕ → ℕ) (p e : ℕ → ℤ) (on : ℕ → Bool) (place : ℕ → ℕ) (u k v amount : ℕ) → HasResidualArcs net first reverse forward → IsTightArc net reverse forward capacity p u k v → on v ≡ false → Carries net (carried reverse forward capacity) e v amount → HasPotentials net (carried reverse forward capacity) p → IsPushed reverse capacity capacity' k amount → IsSending net p e on place (carried reverse forward capacity) (carried reverse forward capacity') u amount (carrying net (carried reverse forward capacity) + place u + 1)
+sending_first net first reverse forward capacity capacity' p e on place u k v amount l t off carries priced pushed =
     let x = carried reverse forward capacity in
-    sent_on net p e on place x x (carried reverse forward room') t.arc t.back u v amount (carrying net x + place u + 1) t.inside
-    (moved_by net first reverse forward capacity room' t.arc t.back k amount l t.inside t.place pushed)
-    (kept_by net first reverse forward capacity room' t.arc t.back k amount l t.inside t.place pushed)
+    sent_on net p e on place x x (carried reverse forward capacity') t.arc t.back u v amount (carrying net x + place u + 1) t.inside
+    (moved_by net first reverse forward capacity capacity' t.arc t.back k amount l t.inside t.place pushed)
+    (kept_by net first reverse forward capacity capacity' t.arc t.back k amount l t.inside t.place pushed)
     t.free t.start t.end refl
     (λ h. absurd (both_ways (on v) off h)) (λ j c f g d h. refl) carries priced (λ j c. omega arith) (omega arith)
 

@@ -155,10 +155,10 @@ pub can_read : (net : NetworkModel) (s : Solver) → IsReady net s → CanRead s
 can_read net s r =
     let l = r.residual.arcs_built in
     record {
-      forwards = λ i b. omega (arith, forward_in net _ _ _ i r.network l (omega (arith, l.forwards)), r.residual.room_size);
-      reverses = λ i b. omega (arith, reverse_in net _ _ _ i r.network l (omega (arith, l.forwards)), r.residual.room_size);
+      forwards = λ i b. omega (arith, forward_in net _ _ _ i r.network l (omega (arith, l.forwards)), r.residual.capacities_size);
+      reverses = λ i b. omega (arith, reverse_in net _ _ _ i r.network l (omega (arith, l.forwards)), r.residual.capacities_size);
       small = omega (arith, l.forwards, r.network.small);
-      size = omega (arith, r.residual.room_size, r.network.small);
+      size = omega (arith, r.residual.capacities_size, r.network.small);
     }
 
 -- ---- where nothing is left over or wanting, the flow is one of least cost
@@ -210,7 +210,7 @@ sized_moved net l l' f t k r fair re pe ee he =
         starts = rw re (omega (arith, w.starts));
         forwards = rw re w.forwards;
         arc_size = rw re r.residual.filled.arc_size;
-        room_size = rw re r.residual.room_size;
+        capacities_size = rw re r.residual.capacities_size;
       };
       potentials = omega (arith, r.potentials);
       excesses = rw ee (omega (arith, r.excesses));
@@ -238,7 +238,7 @@ ready_moved net l potential excess f t k st fair fb tb few base low capacity pe 
     let here : IsResidualNetwork (shifted net f t k) l.residual = record {
       arcs_built = laid;
       filled = record { arc_size = w.arc_size; end = λ i b c. w.end i b c; cost = λ i b c. w.cost i b c; fits = λ i b. w.fits i b };
-      room_size = r.residual.room_size;
+      capacities_size = r.residual.capacities_size;
       limits = λ i b. r.residual.limits i b;
     } in
     record {

@@ -32,7 +32,7 @@ use Rattle.networks.proofs.Signs.{plain_lt, fits_within, label_fits}
 use Rattle.min_cost_flow.proofs.Comparisons.{lt_true}
 use Rattle.networks.proofs.Reaching.{below_or_not, not_less}
 
--- ---- costs, rooms and residual arcs
+-- ---- costs, capacities and residual arcs
 
 unit_cost_low : (net : NetworkModel) (i : ℕ) (back : Bool) → HasUnitCosts net → i < arc_count net → (negsuc 0 ≤ℤ unit_cost net i back) × (unit_cost net i back ≤ℤ pos 1)
 unit_cost_low net i false costs b = (omega (arith, ints), omega (arith, ints, costs i b))
@@ -52,20 +52,20 @@ not_open c z h (a, b) o = omega (arith, ints)
 pub code_cases : (net : NetworkModel) (reverse : ℕ → ℕ) (forward : List ℕ) (capacity : ℕ → ℕ) (arcs : List ResidualArc) (i : ℕ) (back : Bool) → IsNetwork net → AreResidualArcs net reverse forward capacity arcs → i < arc_count net → ((capacity (number_of reverse forward i back) ≡ 0) × (cost_at arcs (number_of reverse forward i back) ≡ unit_cost net i back +ℤ SATURATED)) ⊎ ((0 < capacity (number_of reverse forward i back)) × (cost_at arcs (number_of reverse forward i back) ≡ unit_cost net i back))
 code_cases net reverse forward capacity arcs i back k f b = code_when (capacity (number_of reverse forward i back)) (unit_cost net i back) (cost_at arcs (number_of reverse forward i back)) (f.cost i back b) (unit_cost_low net i back k.costs b)
 
-room_open : (c : Cap) (r x : ℕ) → r + x ≡ units_of c → x ≤ 2097152 → IsUnsaturated c x → 0 < r
-room_open (AtMost k) r x h l o = omega arith
-room_open Any r x h l o = let big : units_of Any ≡ 1073741824 = refl in omega arith
+unsaturated_capacity : (c : Cap) (r x : ℕ) → r + x ≡ units_of c → x ≤ 2097152 → IsUnsaturated c x → 0 < r
+unsaturated_capacity (AtMost k) r x h l o = omega arith
+unsaturated_capacity Any r x h l o = let big : units_of Any ≡ 1073741824 = refl in omega arith
 
-open_room : (c : Cap) (r x : ℕ) → r + x ≡ units_of c → 0 < r → IsUnsaturated c x
-open_room (AtMost k) r x h o = omega arith
-open_room Any r x h o = tt
+capacity_unsaturated : (c : Cap) (r x : ℕ) → r + x ≡ units_of c → 0 < r → IsUnsaturated c x
+capacity_unsaturated (AtMost k) r x h o = omega arith
+capacity_unsaturated Any r x h o = tt
 
 pub has_residual : (net : NetworkModel) (reverse : ℕ → ℕ) (forward : List ℕ) (capacity : ℕ → ℕ) (arcs : List ResidualArc) (i : ℕ) (back : Bool) → AreResidualArcs net reverse forward capacity arcs → i < arc_count net → carried reverse forward capacity i ≤ 2097152 → IsResidual net (carried reverse forward capacity) i back → 0 < capacity (number_of reverse forward i back)
-has_residual net reverse forward capacity arcs i false f b l r = room_open (arc_at net i).cap (capacity (number_of reverse forward i false)) (carried reverse forward capacity i) (f.fits i b) l r
+has_residual net reverse forward capacity arcs i false f b l r = unsaturated_capacity (arc_at net i).cap (capacity (number_of reverse forward i false)) (carried reverse forward capacity i) (f.fits i b) l r
 has_residual net reverse forward capacity arcs i true f b l r = r
 
 pub with_capacity : (net : NetworkModel) (reverse : ℕ → ℕ) (forward : List ℕ) (capacity : ℕ → ℕ) (arcs : List ResidualArc) (i : ℕ) (back : Bool) → AreResidualArcs net reverse forward capacity arcs → i < arc_count net → 0 < capacity (number_of reverse forward i back) → IsResidual net (carried reverse forward capacity) i back
-with_capacity net reverse forward capacity arcs i false f b o = open_room (arc_at net i).cap (capacity (number_of reverse forward i false)) (carried reverse forward capacity i) (f.fits i b) o
+with_capacity net reverse forward capacity arcs i false f b o = capacity_unsaturated (arc_at net i).cap (capacity (number_of reverse forward i false)) (carried reverse forward capacity i) (f.fits i b) o
 with_capacity net reverse forward capacity arcs i true f b o = o
 
 -- a residual arc along which something fits has capacity, and its cost is what a unit costs

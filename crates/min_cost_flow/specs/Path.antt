@@ -49,5 +49,5 @@ pub record IsOnPath (next place : ℕ → ℕ) (v w : ℕ) : Type 0 where
 abbrev pub previous_of : List ResidualArc → List ResidualCapacity → (ℕ → ℕ) → ℕ → ℕ
 previous_of arcs capacities enter w = end_at arcs (reverse_at capacities (enter w))
 
-abbrev pub room_into : List ResidualCapacity → (ℕ → ℕ) → ℕ → ℕ
-room_into capacities enter w = capacity_at capacities (enter w)
+abbrev pub capacity_into : List ResidualCapacity → (ℕ → ℕ) → ℕ → ℕ
+capacity_into capacities enter w = capacity_at capacities (enter w)

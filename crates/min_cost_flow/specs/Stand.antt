@@ -12,7 +12,7 @@ use Rattle.networks.specs.declared.state.Search.{Search}
 use Rattle.networks.specs.declared.state.Visit.{Visit}
 use Rattle.networks.specs.Search.{far, label_at, enter_at, place_at, labels, enters, orders, places, IsWithinFar}
 use Rattle.min_cost_flow.specs.declared.state.Solver.{Solver}
-use Rattle.min_cost_flow.specs.Path.{HasPath, IsOnPath, previous_of, room_into}
+use Rattle.min_cost_flow.specs.Path.{HasPath, IsOnPath, previous_of, capacity_into}
 use Rattle.min_cost_flow.specs.Round.{IsRound, IsLess, IsWork, carrying}
 
 -- what is left over at a node, or below 0 is wanting there
@@ -115,7 +115,7 @@ pub record IsFitting (s : Solver) (root amount : ℕ) : Type 0 where
   pub found : amount ≤ capacity_at s.residual.capacities.items s.found
   pub remaining : pos amount ≤ℤ excess_at s root
   pub short : (excess_at s (end_at s.residual.arcs.items s.found) +ℤ pos amount) ≤ℤ pos 0
-  pub fits : (v : ℕ) → IsOnPath (previous_of s.residual.arcs.items s.residual.capacities.items (enters_in s)) (places_in s) (last_node s) v → 0 < places_in s v → amount ≤ room_into s.residual.capacities.items (enters_in s) v
+  pub fits : (v : ℕ) → IsOnPath (previous_of s.residual.arcs.items s.residual.capacities.items (enters_in s)) (places_in s) (last_node s) v → 0 < places_in s v → amount ≤ capacity_into s.residual.capacities.items (enters_in s) v
 
 -- so many units can go along the path, and no more
 pub record IsBottleneck (s : Solver) (root amount : ℕ) : Type 0 where
@@ -144,7 +144,7 @@ pub record IsPushedAlong (r r' : Residual) (k amount : ℕ) : Type 0 where
   pub first : r'.first ≡ r.first
   pub forward : r'.forward ≡ r.forward
   pub arc_size : length r'.arcs.items ≡ length r.arcs.items
-  pub room_size : length r'.capacities.items ≡ length r.capacities.items
+  pub capacities_size : length r'.capacities.items ≡ length r.capacities.items
   pub ends : (j : ℕ) → end_at r'.arcs.items j ≡ end_at r.arcs.items j
   pub reverse : (j : ℕ) → reverse_at r'.capacities.items j ≡ reverse_at r.capacities.items j
   pub costs : (j : ℕ) (z : ℤ) → IsCosted r.arcs.items r.capacities.items j z → IsCosted r'.arcs.items r'.capacities.items j z

@@ -68,7 +68,7 @@ fn most_between(excess: &[i32], root: usize, target: usize) -> u32
         .min(excess[target].unsigned_abs())
 }
 
-/// Sends along a residual arc, and so makes room for as much along its reverse.
+/// Sends along a residual arc, and so gives as much capacity to its reverse.
 fn push(residual: &mut Residual, number: usize, amount: u32)
     requires pair { IsPaired residual.old number }
     requires some { 0 < amount }

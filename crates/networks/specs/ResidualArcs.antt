@@ -15,8 +15,8 @@ numbers xs i = slice_index xs i
 abbrev pub no_residual_arc : ResidualArc
 no_residual_arc = record { end = 0; cost = pos 0 }
 
-abbrev pub no_residual_room : ResidualCapacity
-no_residual_room = record { reverse = 0; capacity = 0 }
+abbrev pub no_residual_capacity : ResidualCapacity
+no_residual_capacity = record { reverse = 0; capacity = 0 }
 
 abbrev pub end_at : List ResidualArc → ℕ → ℕ
 end_at arcs k = (slice_index_or arcs k no_residual_arc).end
@@ -26,11 +26,11 @@ cost_at arcs k = (slice_index_or arcs k no_residual_arc).cost
 
 -- the number of the residual arc the other way
 abbrev pub reverse_at : List ResidualCapacity → ℕ → ℕ
-reverse_at capacities k = (slice_index_or capacities k no_residual_room).reverse
+reverse_at capacities k = (slice_index_or capacities k no_residual_capacity).reverse
 
 -- how many more units fit
 abbrev pub capacity_at : List ResidualCapacity → ℕ → ℕ
-capacity_at capacities k = (slice_index_or capacities k no_residual_room).capacity
+capacity_at capacities k = (slice_index_or capacities k no_residual_capacity).capacity
 
 -- number k is one of the residual arcs that start at node v
 pub record StartsAt (first : List ℕ) (v k : ℕ) : Type 0 where

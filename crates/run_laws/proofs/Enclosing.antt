@@ -7,7 +7,7 @@ use Rattle.dissect.specs.Faces.{In, Below, last_of}
 use Rattle.dissect.specs.Boxes.{BoxesModel, dart_map}
 use Rattle.dissect.specs.Boxed.{IsBoxed, StandOn}
 use Rattle.dissect.specs.Ordered.{IsOrdered}
-use Rattle.dissect.specs.Rectangle.{HasRectangle, IsConnectedAt, IsPlaceOn}
+use Rattle.dissect.specs.Rectangle.{HasRectangle, IsConnectedAt, IsInsideChain}
 use Rattle.run_laws.specs.Outside.{RectangleCorners, AreRectangleCorners, LiesBefore, LooksOut}
 use Rattle.run_laws.proofs.Straight.{Goes, path_goes, path_passes}
 
@@ -60,11 +60,11 @@ module _ (inner w : DartMap) (x y : ℕ → ℕ) (sound : IsSound w) (narrow : w
         (path_goes w x y sound ordered k (inner.darts + 10) (inner.darts + 11) bridged.chain.there way few))
 
     -- and that place lies between the corners of the side
-    place_between : (k from : ℕ) → k < 4 → inner.vertices + (k + 3) % 4 ≡ from → k ≡ bridged.side
+    foot_between : (k from : ℕ) → k < 4 → inner.vertices + (k + 3) % 4 ≡ from → k ≡ bridged.side
         → Goes k x y from (w.head (inner.darts + 8)) × Goes k x y (w.head (inner.darts + 8)) (inner.vertices + k)
-    place_between k from few is at =
-        let on : IsPlaceOn w (inner.darts + k) (inner.darts + 8) =
-        subst (λ (j : ℕ). IsPlaceOn w (inner.darts + j) (inner.darts + 8)) (sym at) bridged.on_side in
+    foot_between k from few is at =
+        let on : IsInsideChain w (inner.darts + k) (inner.darts + 8) =
+        subst (λ (j : ℕ). IsInsideChain w (inner.darts + j) (inner.darts + 8)) (sym at) bridged.on_side in
         let (to, further) = path_passes w x y sound ordered k (inner.darts + k) (inner.darts + 4 + k) (inner.darts + 8) narrow (has.sides k few).there (has.directions k few) few on in (
           subst (λ (u : ℕ). Goes k x y u (w.head (inner.darts + 8))) (has.corners k few ∙ is) to,
           subst (λ (u : ℕ). Goes k x y (w.head (inner.darts + 8)) u) (has.inside k few) further,
@@ -81,19 +81,19 @@ module _ (inner w : DartMap) (x y : ℕ → ℕ) (sound : IsSound w) (narrow : w
         by_side : (side : ℕ) → side ≡ bridged.side → side < 4 → w.direction (inner.darts + 10) < 4
             → LiesBefore x y (corners_of inner.vertices) (w.head (inner.darts + 8)) (w.head right)
         by_side zero at few quarter =
-            let (to, on) = place_between 0 (inner.vertices + 3) (omega arith) refl at in
+            let (to, on) = foot_between 0 (inner.vertices + 3) (omega arith) refl at in
             let bridge = bridge_goes 3 (omega arith) (omega (arith, bridged.meets, at, quarter)) in
             inl ((to.0, on.0), sym to.1, sym bridge.1, bridge.0)
         by_side (suc zero) at few quarter =
-            let (to, on) = place_between 1 (inner.vertices + 0) (omega arith) refl at in
+            let (to, on) = foot_between 1 (inner.vertices + 0) (omega arith) refl at in
             let bridge = bridge_goes 0 (omega arith) (omega (arith, bridged.meets, at, quarter)) in
             inr (inl ((to.0, on.0), sym to.1, sym bridge.1, bridge.0))
         by_side (suc (suc zero)) at few quarter =
-            let (to, on) = place_between 2 (inner.vertices + 1) (omega arith) refl at in
+            let (to, on) = foot_between 2 (inner.vertices + 1) (omega arith) refl at in
             let bridge = bridge_goes 1 (omega arith) (omega (arith, bridged.meets, at, quarter)) in
             inr (inr (inl ((on.0, to.0), sym to.1, sym bridge.1, bridge.0)))
         by_side (suc (suc (suc zero))) at few quarter =
-            let (to, on) = place_between 3 (inner.vertices + 2) (omega arith) refl at in
+            let (to, on) = foot_between 3 (inner.vertices + 2) (omega arith) refl at in
             let bridge = bridge_goes 2 (omega arith) (omega (arith, bridged.meets, at, quarter)) in
             inr (inr (inr ((on.0, to.0), sym to.1, sym bridge.1, bridge.0)))
         by_side (suc (suc (suc (suc k)))) at few quarter = absurd (omega (arith, few))
@@ -125,7 +125,7 @@ looks_out p shape b boxed =
           e.of_shape.faces.turns.labels.least s closed e.right d e.right_in (omega (arith, d_in, e.of_shape.kept.few))
           (e.outer ∙ sym outer ∙ sym (e.of_shape.faces.faces d d_in)) here;
       corners = corners_of e.enclosed_map.vertices;
-      place = (dart_map b).head (n + 8);
+      foot = (dart_map b).head (n + 8);
       rectangle = λ x y ordered. are_corners e.enclosed_map (dart_map b) x y sound narrow ordered e.rectangle;
       before = λ x y ordered.
           subst (λ (u : ℕ). LiesBefore x y (corners_of e.enclosed_map.vertices) ((dart_map b).head (n + 8)) u) (e.heads e.right e.right_in)

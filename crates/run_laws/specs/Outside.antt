@@ -28,13 +28,13 @@ pub record AreRectangleCorners (x y : ℕ → ℕ) (c : RectangleCorners) : Type
 abbrev pub Between : (ℕ → ℕ) → ℕ → ℕ → ℕ → Type 0
 Between x u v t = (x u < x v) × (x v < x t)
 
--- a place on a side of the rectangle, between two corners, lies straight in front of the vertex v: to its south, east, north or west
+-- the foot, a vertex on a side of the rectangle between two corners, lies straight in front of the vertex v: to its south, east, north or west
 abbrev pub LiesBefore : (ℕ → ℕ) → (ℕ → ℕ) → RectangleCorners → ℕ → ℕ → Type 0
-LiesBefore x y c place v =
-    (Between x c.south_west place c.south_east × (y place ≡ y c.south_west) × (x place ≡ x v) × (y place < y v))
-    ⊎ ((Between y c.south_east place c.north_east × (x place ≡ x c.south_east) × (y place ≡ y v) × (x v < x place))
-    ⊎ ((Between x c.north_west place c.north_east × (y place ≡ y c.north_east) × (x place ≡ x v) × (y v < y place))
-    ⊎ (Between y c.south_west place c.north_west × (x place ≡ x c.north_west) × (y place ≡ y v) × (x place < x v))))
+LiesBefore x y c foot v =
+    (Between x c.south_west foot c.south_east × (y foot ≡ y c.south_west) × (x foot ≡ x v) × (y foot < y v))
+    ⊎ ((Between y c.south_east foot c.north_east × (x foot ≡ x c.south_east) × (y foot ≡ y v) × (x v < x foot))
+    ⊎ ((Between x c.north_west foot c.north_east × (y foot ≡ y c.north_east) × (x foot ≡ x v) × (y v < y foot))
+    ⊎ (Between y c.south_west foot c.north_west × (x foot ≡ x c.north_west) × (y foot ≡ y v) × (x foot < x v))))
 
 -- the walk round the face of the dart a comes to each dart of the plane's outer face: each set of darts that is closed under "next" and
 -- holds a holds them
@@ -56,8 +56,8 @@ pub record LooksOut (p : PlaneModel) (shape : ShapeModel) (b : BoxesModel) : Typ
   pub inside : right < enclosed_map.darts
   pub turns : 2 < enclosed_map.angle right
   pub on_outer : IsOnOuterFace p enclosed_map right
-  -- in whatever numbers, the corners are those of a rectangle, and a place on a side of it lies straight in front of that turn
+  -- in whatever coordinates, the corners are those of a rectangle, and the foot, on a side of it, lies straight in front of that turn
   pub corners : RectangleCorners
-  pub place : ℕ
+  pub foot : ℕ
   pub rectangle : (x y : ℕ → ℕ) → IsOrdered (dart_map b) x y → AreRectangleCorners x y corners
-  pub before : (x y : ℕ → ℕ) → IsOrdered (dart_map b) x y → LiesBefore x y corners place (enclosed_map.head right)
+  pub before : (x y : ℕ → ℕ) → IsOrdered (dart_map b) x y → LiesBefore x y corners foot (enclosed_map.head right)

@@ -3,7 +3,7 @@ use Rattle.std.proofs.lemmas.List.{take_at}
 use Rattle.dissect.specs.Boxes.{dart_map}
 use Rattle.compact.specs.Ordered.{IsAlong, growth}
 use Rattle.compact.specs.Steps.{step, AreUnder, StayUnderAll}
-use Rattle.compact.proofs.Stepping.{grow_ahead, level_across, growth_few, across_far, zeros_under}
+use Rattle.compact.proofs.Stepping.{grow_ahead, equal_across, growth_few, across_far, zeros_under}
 use Rattle.compact.proofs.axis.low_along.Goals as goal
 
 pub returns-clause-under : goal.returns-clause-under
@@ -28,5 +28,5 @@ returns-clause-under c = λ y along.
     (sym (take_at c.raise_to_longest_paths.new.coordinates _ c.in_ok-coordinates.coordinates.len (omega (arith, c.raise_to_longest_paths.ensures.count, c.deref_mut.ensures.len))))
     (raised y
     (grow_ahead w steps.ahead around n y told.ahead.0 are here)
-    (level_across w k steps.left around n y sound (growth_few c.args.axis) told.left.0 (λ e. far.0 (sym left ∙ e)) (λ e. far.1 (sym left ∙ e)) are along)
+    (equal_across w k steps.left around n y sound (growth_few c.args.axis) told.left.0 (λ e. far.0 (sym left ∙ e)) (λ e. far.1 (sym left ∙ e)) are along)
     (zeros_under c.deref_mut.result.now _ n y blank size))

@@ -1,5 +1,5 @@
 use Rattle.std.proofs.Common.{◌≡◌, length, slice_index}
-use Rattle.compact.specs.Constraints.{IsLow, slack}
+use Rattle.compact.specs.Constraints.{IsLow, shortfall}
 use Rattle.compact.proofs.constraint_graph.relax_in_rounds.Given as goal
 
 abbrev pub invariant-rounds : goal.invariant-rounds
@@ -9,4 +9,4 @@ invariant-rounds l = record {
 }
 
 abbrev pub decreases-rounds : goal.decreases-rounds
-decreases-rounds l = slack l.coordinates
+decreases-rounds l = shortfall l.coordinates

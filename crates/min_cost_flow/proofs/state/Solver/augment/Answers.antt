@@ -190,7 +190,7 @@ start-node-requires-in-along c =
     let n = step_pair net s c.args.root v h (i.on net h) some in
     let long : length c.push-in-along.new.residual.arcs.items ≡ length s.residual.arcs.items = omega (arith, r.residual.filled.arc_size, q.arc_size, (i.residual net h).filled.arc_size) in
     rw en (record {
-      number = omega (arith, n.here, long, r.residual.room_size, q.room_size, (i.residual net h).room_size, r.residual.filled.arc_size);
+      number = omega (arith, n.here, long, r.residual.capacities_size, q.capacities_size, (i.residual net h).capacities_size, r.residual.filled.arc_size);
       reverse = omega (arith, n.there, long, q.reverse (enter v) ∙ i.reverse (enter v));
     })
 

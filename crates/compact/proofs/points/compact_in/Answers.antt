@@ -1,6 +1,6 @@
 use Rattle.ortho_rep.specs.Storage.{pieces_at}
 use Rattle.compact.proofs.Placing.{laid_out}
-use Rattle.compact.proofs.place.compact_in.Goals as goal
+use Rattle.compact.proofs.points.compact_in.Goals as goal
 
 pub returns-clause-laid : goal.returns-clause-laid
 returns-clause-laid c =

@@ -1,12 +1,12 @@
 use Rattle.std.proofs.Common.{◌≡◌, ◌<◌, ◌∙◌, ◌++◌, ℕ, List, [], ◌∷◌, length, All, slice_index, map, subst, sym, ap, refl, arith}
-use Rattle.dissect.specs.Paths.{turning_places}
+use Rattle.dissect.specs.Paths.{turning_vertices}
 use Rattle.ortho_rep.specs.declared.points.Point.{Point}
 use Rattle.ortho_rep.proofs.PushedLists.{concatenated-starts, concatenated-pushed, concatenated-AreStarts, concatenated-pieces_at}
 use Rattle.dissect.specs.Boxes.{dart_map}
-use Rattle.compact.specs.Ordered.{point_at, places_along}
+use Rattle.compact.specs.Ordered.{point_at, vertices_along}
 use Rattle.compact.proofs.Walking.{path_below}
 use Rattle.compact.proofs.Placing.{IsCornersOf, one_corners}
-use Rattle.compact.proofs.place.list_corners.Goals as goal
+use Rattle.compact.proofs.points.list_corners.Goals as goal
 
 pub loop-edge-init : goal.loop-edge-init
 loop-edge-init c =
@@ -25,10 +25,10 @@ loop-edge-preserved c =
     let y : ℕ → ℕ = λ v. slice_index c.args.y.now v in
     let e = c.loop-edge.edge in
     let is = c.path.ensures.path in
-    let points = map (point_at x y) (turning_places (dart_map b) is.edge.first is.edge.rest) in
+    let points = map (point_at x y) (turning_vertices (dart_map b) is.edge.first is.edge.rest) in
     let old = c.loop-edge.corners.items in
     let pushed : c.push_corners.new.corners.items ≡ old ++ points =
-    c.in_ok-push_corners.ensures ∙ ap (λ (ds : List ℕ). old ++ map (point_at x y) (places_along (dart_map b) ds)) is.listed in
+    c.in_ok-push_corners.ensures ∙ ap (λ (ds : List ℕ). old ++ map (point_at x y) (vertices_along (dart_map b) ds)) is.listed in
     concatenated-pushed c.loop-edge.starts.items _ old c.push_corners.new.corners.items points e c.len.result (IsCornersOf b x y)
     c.loop-edge.invariant pushed
     (λ piece h. pushed ∙ ap (λ (ps : List Point). old ++ ps) (one_corners b x y e points is.edge c.edges.ensures.boxes.few_darts refl h.edge ∙ sym h.is))
@@ -45,5 +45,5 @@ returns c =
       places = concatenated-AreStarts _ _ _ _ c.loop-edge.invariant;
       count = pieces.0 ∙ all;
       corners = λ e e_in edge.
-          pieces.1 e (omega (arith, e_in, all)) (map (point_at x y) (turning_places (dart_map b) edge.first edge.rest)) (record { edge = edge; is = refl });
+          pieces.1 e (omega (arith, e_in, all)) (map (point_at x y) (turning_vertices (dart_map b) edge.first edge.rest)) (record { edge = edge; is = refl });
     }

@@ -3,7 +3,7 @@ use Rattle.std.specs.List.{range_with_len}
 use Rattle.std.proofs.lemmas.List.FromFn.{map-range_with_len_more}
 use Rattle.ortho_rep.specs.declared.points.Point.{Point}
 use Rattle.compact.specs.Ordered.{point_at}
-use Rattle.compact.proofs.place.vertex_points.Goals as goal
+use Rattle.compact.proofs.points.vertex_points.Goals as goal
 
 pub loop-vertex-preserved : goal.loop-vertex-preserved
 loop-vertex-preserved c =
