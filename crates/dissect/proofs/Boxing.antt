@@ -126,7 +126,7 @@ map_stands p shape w outside t old edges paths made =
       right = e.right;
       right_in = e.right_in;
       turns_right = omega (arith, e.bridge.right, e.surround.angle_old e.right e.right_in);
-      outer = e.same_face made.faces.label made.faces.turns.labels ∙ made.faces.faces outside made.outside_in ∙ made.outer;
+      outer = e.same_face made.faces.face_number made.faces.turns.face_numbers ∙ made.faces.faces outside made.outside_in ∙ made.outer;
       bridge = bridge w outside (dart_map_of t) made.sound.tied made.sound.meeting.quarter e;
     }
 

@@ -187,7 +187,7 @@ bridge_ready w surrounded right side way new sound j inner outer corners counts 
     (bridge_waits w surrounded right side way new j k k_in inner outer made.kept listed (sound.meeting.most right j.right_in) made.is_kept)
 
 pub enclosed_by : (w : DartMap) (outside : ℕ) (surrounded : DartMap) (right side way : ℕ) (new last : DartMap) →
-    ((label : ℕ → ℕ) → AreFaceNumbers w label → label right ≡ label outside) → IsConnecting w surrounded right side way new → Grows new last →
+    ((face_number : ℕ → ℕ) → AreFaceNumbers w face_number → face_number right ≡ face_number outside) → IsConnecting w surrounded right side way new → Grows new last →
     IsEnclosed w outside last
 enclosed_by w outside surrounded right side way new last same_face j grows = record {
   surrounded = surrounded;
@@ -203,12 +203,12 @@ enclosed_by w outside surrounded right side way new last same_face j grows = rec
   grows = grows;
 }
 
-pub enclosed_reaches : (w surrounded : DartMap) (right side way : ℕ) (new last : DartMap) (label : ℕ → ℕ) (outer : ℕ) → IsSound w → HasTurns w label outer →
+pub enclosed_reaches : (w surrounded : DartMap) (right side way : ℕ) (new last : DartMap) (face_number : ℕ → ℕ) (outer : ℕ) → IsSound w → HasTurns w face_number outer →
     IsConnecting w surrounded right side way new → Grows new last → ReachesCorners last
-enclosed_reaches w surrounded right side way new last label outer sound turns j grows =
+enclosed_reaches w surrounded right side way new last face_number outer sound turns j grows =
     grows_reaches new last (bridge_sound w surrounded right side way new sound j) grows
     (cut_reaches surrounded right (w.darts + side) way new (surround_tied w surrounded j.surround sound.tied) j.bridge
-    (surround_reaches w surrounded j.surround sound.tied (turns_reach w label outer sound.tied turns)))
+    (surround_reaches w surrounded j.surround sound.tied (turns_reach w face_number outer sound.tied turns)))
 
 pub enclosed_few : (w surrounded : DartMap) (right side way : ℕ) (new last : DartMap) → IsSound w → IsConnecting w surrounded right side way new → Grows new last →
     AreWaiting last (w.darts + 4) [] → last.vertices ≤ w.vertices + reflex_turns w + 4

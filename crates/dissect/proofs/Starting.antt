@@ -87,8 +87,8 @@ module _ (p : PlaneModel) (a : ℕ → ℕ) (s : ℕ → List Turn) (h : ℕ →
     whole = whole;
   }
 
-  labels : AreFaceNumbers w (face_at p)
-  labels = record {
+  face_numbers : AreFaceNumbers w (face_at p)
+  face_numbers = record {
     stays = λ x l. ap (face_at p) (bare.nexts x (in_plane x l)) ∙ plane.faces.closed x (in_plane x l);
     least = λ set closed x y x_in y_in same held. plane.faces.least set
         (λ d l here. subst (λ (k : ℕ). set k ≡ true) (bare.nexts d l) (closed d (omega (arith, l, bare.dart_count)) here))
@@ -141,7 +141,7 @@ module _ (p : PlaneModel) (a : ℕ → ℕ) (s : ℕ → List Turn) (h : ℕ →
             ap w.direction (bare.reverse_darts x b) ∙ bare.directions (reverse_dart p x) (ends.reverse_dart_inside x b) in
             ap (λ (k : ℕ). (k + 2 + lefts (s x)) % 4) there ∙ headings.strings x b
             ∙ sym (ap (λ (k : ℕ). (k + rights (s x)) % 4) (bare.directions x b));
-        labels = labels;
+        face_numbers = face_numbers;
         named = λ x l. ends.face_named x (in_plane x l);
         turns = turns;
         dart_count = omega (arith, total, bare.dart_count);

@@ -43,7 +43,7 @@ pub record IsEnclosedMap (p : PlaneModel) (shape : ShapeModel) (b : BoxesModel) 
   pub right : ℕ
   pub right_in : right < enclosed_map.darts
   pub turns_right : 2 < enclosed_map.angle right
-  pub outer : of_shape.faces.label right ≡ p.outer
+  pub outer : of_shape.faces.face_number right ≡ p.outer
   pub bridge : IsConnectedAt enclosed_map right (dart_map b)
 
 -- the paths of the plane's darts lie apart

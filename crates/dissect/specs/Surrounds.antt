@@ -40,7 +40,7 @@ pub record IsEnclosed (w : DartMap) (outside : ℕ) (new : DartMap) : Type 0 whe
   pub side : ℕ
   pub direction : ℕ
   pub right_in : right < w.darts
-  pub same_face : (label : ℕ → ℕ) → AreFaceNumbers w label → label right ≡ label outside
+  pub same_face : (face_number : ℕ → ℕ) → AreFaceNumbers w face_number → face_number right ≡ face_number outside
   pub side_in : side < 4
   pub bridge : IsCut surrounded right (w.darts + side) direction bridged
   pub grows : Grows bridged new

@@ -50,7 +50,7 @@ pub fn list_faces(table: &DartTable, right: u32, faces: Faces) -> Result<Faces, 
     requires tied { IsTied (dart_map_of table.now) }
     requires inside { right < table.now.darts }
     requires turn { 2 < (dart_map_of table.now).angle right }
-    requires turns { (label : ℕ → ℕ) × HasTurns (dart_map_of table.now) label (label right) }
+    requires turns { (face_number : ℕ → ℕ) × HasTurns (dart_map_of table.now) face_number (face_number right) }
     ensures listed { IfOk result (λ f. (inner : List (List ℕ)) × AreFlat f.corners.items f.counts.items inner
         × AreListed (dart_map_of table.now) right inner f.outer.items) }
 {

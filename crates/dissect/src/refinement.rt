@@ -41,7 +41,7 @@ fn facing_side(table: &DartTable, right: u32) -> u32
 /// that was lent is gone.
 pub fn refine_in(table: &mut DartTable, outside: u32, faces: Faces) -> Result<Faces, AllocError>
     requires sound { IsSound (dart_map_of table.old) }
-    requires turns { (label : ℕ → ℕ) × HasTurns (dart_map_of table.old) label (label outside) }
+    requires turns { (face_number : ℕ → ℕ) × HasTurns (dart_map_of table.old) face_number (face_number outside) }
     requires inside { outside < table.old.darts }
     requires space { table.old.darts + 4 * reflex_turns (dart_map_of table.old) + RECTANGLE_ROOM ≤ room table.old }
     ensures sound { OnOk result (IsSound (dart_map_of table.new)) }

@@ -10,7 +10,7 @@ use Rattle.dissect.specs.Ordered.{IsOrdered}
 use Rattle.dissect.proofs.Reordered.{sum_at, sum_at-add, sum_at-same}
 use Rattle.dissect.proofs.Trees.{Connections}
 use Rattle.drawing_laws.proofs.Growing.{Growth, growth, way_sum, way_root, way_step, by_growth}
-use Rattle.drawing_laws.proofs.Labels.{labels}
+use Rattle.drawing_laws.proofs.FaceNumbering.{face_numbers}
 use Rattle.drawing_laws.proofs.Rotating.{rotated, rotated_sound, rotated_cut}
 use Rattle.drawing_laws.proofs.Circling.{no_circling}
 
@@ -118,7 +118,7 @@ module _ (w : DartMap) (sound : IsSound w) (connected : IsConnected w) (cut : Is
     pub not_back : g.reached (w.head (w.reverse_dart e)) ≡ true → ⊥
     not_back r =
         let t : ℕ = w.head (w.reverse_dart e) in
-        no_circling w sound connected cut cut.outside (labels w sound cut) (labels w sound cut).out_held (λ d. taken t d + delta e d)
+        no_circling w sound connected cut cut.outside (face_numbers w sound cut) (face_numbers w sound cut).out_held (λ d. taken t d + delta e d)
         (λ u. omega (
           arith,
           flows t r u,

@@ -20,7 +20,7 @@ pub mod Parts
 pub mod Meeting
 pub mod Drawn
 pub mod Growing
-pub mod Labels
+pub mod FaceNumbering
 pub mod CornerCounts
 pub mod Connecting
 pub mod Rotating

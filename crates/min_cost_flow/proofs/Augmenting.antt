@@ -265,9 +265,9 @@ pushed_carries net x y e i k back b moved others c =
     (moved_carries net x z e i k back b (subst (λ (t : ℕ). IsMoved back (x i) k t) (sym (changed_here i (y i) x)) moved) (changed_others i (y i) x) c)
 
 pushed_priced : (net : NetworkModel) (x y : ℕ → ℕ) (p : ℕ → ℤ) (i : ℕ) (back : Bool) → SameOthers net i x y → reduced_cost net p i back ≡ pos 0 → HasPotentials net x p → HasPotentials net y p
-pushed_priced net x y p i back others free h =
+pushed_priced net x y p i back others at_zero h =
     let z = changed i (y i) x in
-    let stay : HasPotentials net z p = potentials_stay net x z p i back (changed_others i (y i) x) free h in
+    let stay : HasPotentials net z p = potentials_stay net x z p i back (changed_others i (y i) x) at_zero h in
     record { residual = λ j other b r. stay.residual j other b (residual_too net z y j other (is_changed net i x y others j b) r) }
 
 one_most : (b : Bool) → cond b 0 1 ≤ 1
@@ -305,9 +305,9 @@ end_beyond net on place i u v true e beyond a b c d =
     omega arith
 
 pub sent_on : (net : NetworkModel) (p e : ℕ → ℤ) (on : ℕ → Bool) (place : ℕ → ℕ) (x y z : ℕ → ℕ) (i : ℕ) (back : Bool) (u v amount most : ℕ) → i < arc_count net → IsMoved back (y i) amount (z i) → SameOthers net i y z → reduced_cost net p i back ≡ pos 0 → start_of net i back ≡ u → end_of net i back ≡ v → y i ≡ x i → (on v ≡ true → place u < place v) → ((j : ℕ) → j < arc_count net → on (arc_at net j).from ≡ true → on (arc_at net j).to ≡ true → place (arc_at net j).from ≤ place u → place (arc_at net j).to ≤ place u → y j ≡ x j) → Carries net y e v amount → HasPotentials net y p → ((j : ℕ) → j < arc_count net → y j ≤ x j + amount) → carrying net y + place u + 1 ≤ most → IsSending net p e on place x z u amount most
-sent_on net p e on place x y z i back u v amount most b moved others free start finish own beyond kept carries priced grown few = record {
+sent_on net p e on place x y z i back u v amount most b moved others at_zero start finish own beyond kept carries priced grown few = record {
   carries = subst (λ (t : ℕ). Carries net z e t amount) start (pushed_carries net y z e i amount back b moved others (subst (λ (t : ℕ). Carries net y e t amount) (sym finish) carries));
-  priced = pushed_priced net y z p i back others free priced;
+  priced = pushed_priced net y z p i back others at_zero priced;
   kept = λ j c f t d g. elim (cases_eq j i) [
     | inl q ↦ absurd (end_beyond net on place i u v back finish beyond (subst (λ (n : ℕ). on (arc_at net n).from ≡ true) q f) (subst (λ (n : ℕ). on (arc_at net n).to ≡ true) q t) (subst (λ (n : ℕ). place (arc_at net n).from ≤ place u) q d) (subst (λ (n : ℕ). place (arc_at net n).to ≤ place u) q g))
     | inr ne ↦ others j c ne ∙ kept j c f t d g
@@ -330,7 +330,7 @@ pub record IsTightArc (net : NetworkModel) (reverse : ℕ → ℕ) (forward : Li
   pub start : start_of net arc back ≡ u
   pub end : end_of net arc back ≡ v
   pub some : 0 < capacity k
-  pub free : reduced_cost net p arc back ≡ pos 0
+  pub at_zero : reduced_cost net p arc back ≡ pos 0
 
 some_coded : (z c : ℤ) (r : ℕ) → negsuc 0 ≤ℤ z → c ≡ coded z r → c ≤ℤ pos 1 → 0 < r
 some_coded z c r least e h =
@@ -339,8 +339,8 @@ some_coded z c r least e h =
       | inr ne ↦ omega arith
     ]
 
-free_cost : (c z a b a' b' : ℤ) → c +ℤ a -ℤ b ≡ pos 0 → c ≡ z → a' ≡ a → b' ≡ b → z +ℤ a' -ℤ b' ≡ pos 0
-free_cost c z a b a' b' h e f g = omega (arith, ints)
+zero_cost : (c z a b a' b' : ℤ) → c +ℤ a -ℤ b ≡ pos 0 → c ≡ z → a' ≡ a → b' ≡ b → z +ℤ a' -ℤ b' ≡ pos 0
+zero_cost c z a b a' b' h e f g = omega (arith, ints)
 
 pub tight_arc_of : (net : NetworkModel) (first : List ℕ) (reverse : ℕ → ℕ) (forward : List ℕ) (capacity : ℕ → ℕ) (arcs : List ResidualArc) (p : ℕ → ℤ) (u k v : ℕ) → IsNetwork net → HasResidualArcs net first reverse forward → AreResidualArcs net reverse forward capacity arcs → u < node_count net → IsTight first arcs p u k v → IsTightArc net reverse forward capacity p u k v
 tight_arc_of net first reverse forward capacity arcs p u k v n l f b t =
@@ -357,7 +357,7 @@ tight_arc_of net first reverse forward capacity arcs p u k v n l f b t =
       start = o.start;
       end = finish;
       some = some;
-      free = free_cost (cost_at arcs k) z (p u) (p v) (p (start_of net o.arc o.back)) (p (end_of net o.arc o.back)) t.free (cost ∙ coded_some z (capacity k) some) (ap p o.start) (ap p finish);
+      at_zero = zero_cost (cost_at arcs k) z (p u) (p v) (p (start_of net o.arc o.back)) (p (end_of net o.arc o.back)) t.at_zero (cost ∙ coded_some z (capacity k) some) (ap p o.start) (ap p finish);
     }
 
 -- what a push does to the amount of its own arc, and to the others
@@ -404,7 +404,7 @@ sending_more net first reverse forward capacity capacity' capacity'' p e on plac
     sent_on net p e on place (carried reverse forward capacity) (carried reverse forward capacity') (carried reverse forward capacity'') t.arc t.back u v amount most t.inside
     (moved_by net first reverse forward capacity' capacity'' t.arc t.back k amount l t.inside t.place pushed)
     (kept_by net first reverse forward capacity' capacity'' t.arc t.back k amount l t.inside t.place pushed)
-    t.free t.start t.end
+    t.at_zero t.start t.end
     (arc_kept net reverse forward capacity p e on place (carried reverse forward capacity) (carried reverse forward capacity') u k v amount most t a b less s)
     (λ _. less) (λ j c f g d h. s.kept j c f g (omega arith) (omega arith)) s.carries s.priced s.grown (omega (arith, s.few))
 
@@ -415,7 +415,7 @@ sending_first net first reverse forward capacity capacity' p e on place u k v am
     sent_on net p e on place x x (carried reverse forward capacity') t.arc t.back u v amount (carrying net x + place u + 1) t.inside
     (moved_by net first reverse forward capacity capacity' t.arc t.back k amount l t.inside t.place pushed)
     (kept_by net first reverse forward capacity capacity' t.arc t.back k amount l t.inside t.place pushed)
-    t.free t.start t.end refl
+    t.at_zero t.start t.end refl
     (λ h. absurd (both_ways (on v) off h)) (λ j c f g d h. refl) carries priced (λ j c. omega arith) (omega arith)
 
 -- ---- the way back along the path

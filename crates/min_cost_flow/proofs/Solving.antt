@@ -294,7 +294,7 @@ has_path n first arcs p p' e s q enter order place scanned ordered reached radiu
               leaves = x.leaves;
               unblocked = x.unblocked;
               arrives = x.arrives;
-              free = tight_step (cost_at arcs (enter v)) (p' x.start) (p' v) (q x.start) (q v) bound (m.are_scanned x.start x.node x.labelled xh) (m.are_scanned v vb vl vh) x.label;
+              at_zero = tight_step (cost_at arcs (enter v)) (p' x.start) (p' v) (q x.start) (q v) bound (m.are_scanned x.start x.node x.labelled xh) (m.are_scanned v vb vl vh) x.label;
             };
           };
       last = h.start;
@@ -307,7 +307,7 @@ has_path n first arcs p p' e s q enter order place scanned ordered reached radiu
         leaves = h.leaves;
         unblocked = h.unblocked;
         arrives = refl;
-        free = tight_end (cost_at arcs f) (p' h.start) (p' (end_at arcs f)) (q h.start) (p (end_at arcs f)) bound (m.are_scanned h.start h.node h.labelled h.are_scanned) (m.unlabelled (end_at arcs f) eb off) h.distance;
+        at_zero = tight_end (cost_at arcs f) (p' h.start) (p' (end_at arcs f)) (q h.start) (p (end_at arcs f)) bound (m.are_scanned h.start h.node h.labelled h.are_scanned) (m.unlabelled (end_at arcs f) eb off) h.distance;
       };
     }
 

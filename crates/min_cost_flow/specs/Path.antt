@@ -11,7 +11,7 @@ pub record IsTight (first : List ℕ) (arcs : List ResidualArc) (p : ℕ → ℤ
   pub leaves : StartsAt first u k
   pub unblocked : HasResidualCapacity arcs k
   pub arrives : end_at arcs k ≡ v
-  pub free : cost_at arcs k +ℤ p u -ℤ p v ≡ pos 0
+  pub at_zero : cost_at arcs k +ℤ p u -ℤ p v ≡ pos 0
 
 -- node v was entered along residual arc k, from a node of the set that has a lesser place
 pub record IsAfter (first : List ℕ) (arcs : List ResidualArc) (p : ℕ → ℤ) (on : ℕ → Bool) (place : ℕ → ℕ) (v k : ℕ) : Type 0 where

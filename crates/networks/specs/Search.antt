@@ -8,7 +8,7 @@ use Rattle.common.specs.Sums.{sum_below}
 use Rattle.networks.specs.declared.residual.ResidualArc.{ResidualArc}
 use Rattle.networks.specs.declared.state.SearchInput.{SearchInput}
 use Rattle.networks.specs.declared.state.Search.{Search}
-use Rattle.networks.specs.declared.state.Step.{Step}
+use Rattle.networks.specs.declared.state.Offer.{Offer}
 use Rattle.networks.specs.declared.state.Visit.{Visit}
 use Rattle.networks.specs.Flow.{at_nodes}
 use Rattle.networks.specs.ResidualArcs.{numbers, end_at, cost_at, StartsAt}
@@ -304,12 +304,12 @@ pub record IsOffer (n : ℕ) (first : List ℕ) (arcs : List ResidualArc) (p : �
   pub less : x <ℤ q v
 
 -- the step is such an offer in a search
-pub record IsOffered (g : SearchInput) (s : Search) (step : Step) : Type 0 where
+pub record IsOffered (g : SearchInput) (s : Search) (step : Offer) : Type 0 where
   pub search : IsSearch g s
   pub offer : IsOffer (nodes_of g) (first_of g) (arcs_of g) (potential_of g) g.root (labels s) (places s) s.scanned s.radius step.number step.end step.label
 
 -- the step ends at a node of the search
-pub record HasEnd (s : Search) (step : Step) : Type 0 where
+pub record HasEnd (s : Search) (step : Offer) : Type 0 where
   pub few : length s.visits.now ≤ MAX_NODES
   pub node : step.end < length s.visits.now
   pub number : step.number < MAX_RESIDUAL_ARCS
@@ -346,7 +346,7 @@ pub record IsSwapped (order place order' place' : ℕ → ℕ) (v from to : ℕ)
 
 -- a node has got a label and the residual arc on which it was entered, and where it had no label a place behind
 -- all others
-pub record IsLabelled (s s' : Search) (step : Step) : Type 0 where
+pub record IsLabelled (s s' : Search) (step : Offer) : Type 0 where
   pub label : IsPut (labels s) (labels s') step.end step.label
   pub enter : IsPut (enters s) (enters s') step.end step.number
   pub progress : SameProgress s s'

@@ -54,7 +54,7 @@ pub struct Search<'a> {
 
 /// A residual arc that was looked at, and the label that it offers to its end.
 #[derive(Clone, Copy, Debug, PartialEq, Eq)]
-pub(crate) struct Step {
+pub(crate) struct Offer {
     pub number: usize,
     pub end: usize,
     pub label: i16,

@@ -163,7 +163,7 @@ fn tour(plane: &mut Plane, moving: Moving, lead: &mut Lead, bounds: &mut [u64]) 
     let mut dart = plane.least_dart(outer);
     let mut moving = moving;
     for _step in 0..darts {
-        let (next, face) = step(plane, dart, &mut seen, &mut doors);
+        let (next, face) = next_of_tour(plane, dart, &mut seen, &mut doors);
         dart = next;
         if let Some(face) = face {
             moving = visit(plane, moving, lead, bounds, face);
@@ -174,7 +174,12 @@ fn tour(plane: &mut Plane, moving: Moving, lead: &mut Lead, bounds: &mut [u64]) 
 
 /// The dart to look at after one, and the face across if it has not been seen yet. Then the edge
 /// becomes a door: both of its darts lead on to what comes after their reverse.
-fn step(plane: &Plane, dart: u16, seen: &mut [bool], doors: &mut [bool]) -> (u16, Option<u16>)
+fn next_of_tour(
+    plane: &Plane,
+    dart: u16,
+    seen: &mut [bool],
+    doors: &mut [bool],
+) -> (u16, Option<u16>)
     requires dart { dart < darts plane.now }
     requires seen { plane.now.faces ≤ length seen.old }
     requires doors { darts plane.now ≤ length doors.old }

@@ -5,7 +5,7 @@ use Rattle.std.proofs.lemmas.Bool.{false≢true}
 use Rattle.planar_code.specs.declared.fault.FeedFault.{FeedFault}
 use Rattle.planar_code.specs.declared.fault.FeedFault.TheVariants as fault
 use Rattle.planar_code.specs.Place.{Place, Failed, Goes, IsRunning, LosesRecord, Feeds}
-use Rattle.planar_code.specs.Step.{Steps, HasRead, Runs}
+use Rattle.planar_code.specs.Step.{FramerSteps, HasRead, Runs}
 use Rattle.planar_code.proofs.LeadsTo.{goes_on, goes_nowhere, goes_failed}
 
 -- no step yet
@@ -25,7 +25,7 @@ module _ (old mid : Place) (piece text : List ℕ) (before after : List (List �
   parts-more front back e = h.parts ∙ ap (λ z. h.taken ++ z) e ∙ sym (append_assoc h.taken front back)
 
   -- one step more
-  pub has_read-more : (new : Place) (n : ℕ) (next : Option (List ℕ)) (later : List (List ℕ)) → Steps mid text new (Ok (n, next)) → later ≡ after ++ option_to_list next → HasRead old piece (drop n text) before later new
+  pub has_read-more : (new : Place) (n : ℕ) (next : Option (List ℕ)) (later : List (List ℕ)) → FramerSteps mid text new (Ok (n, next)) → later ≡ after ++ option_to_list next → HasRead old piece (drop n text) before later new
   has_read-more new n next later s e = record {
     taken = h.taken ++ take n text;
     added = h.added ++ option_to_list next;
@@ -64,7 +64,7 @@ module _ (old mid : Place) (piece text : List ℕ) (before after : List (List �
     goes = goes_on old mid next h.taken front h.added (lost ∷ []) h.goes g;
   }
 
-  pub runs-err : (p new : Place) (f : FeedFault) → Steps mid text p (Err f) → Runs old piece before after new (Err f)
+  pub runs-err : (p new : Place) (f : FeedFault) → FramerSteps mid text p (Err f) → Runs old piece before after new (Err f)
   runs-err p new fault.Header s = record { added = h.added; appended = h.appended; reads = goes-fault fault.Header s }
   runs-err p new fault.Large s = record { added = h.added; appended = h.appended; reads = goes-fault fault.Large s }
   runs-err p new fault.Oversize s = record { added = h.added; appended = h.appended; reads = goes-fault fault.Oversize s }
@@ -72,7 +72,7 @@ module _ (old mid : Place) (piece text : List ℕ) (before after : List (List �
   runs-err p new fault.Many s = record { added = h.added; appended = h.appended; reads = goes-fault fault.Many s }
 
   -- the list had no room for the next record
-  pub runs-memory : (next new : Place) (n : ℕ) (o : Option (List ℕ)) (later : List (List ℕ)) → Steps mid text next (Ok (n, o)) → IsSome o → later ≡ after → Runs old piece before later new (Err fault.Memory)
+  pub runs-memory : (next new : Place) (n : ℕ) (o : Option (List ℕ)) (later : List (List ℕ)) → FramerSteps mid text next (Ok (n, o)) → IsSome o → later ≡ after → Runs old piece before later new (Err fault.Memory)
   runs-memory next new n None later s some e = absurd (false≢true some)
   runs-memory next new n (Some lost) later s some e = record {
     added = h.added;

@@ -6,10 +6,10 @@ use Rattle.planar_code.specs.Place.{Place, Failed, Goes, IsRunning, LosesRecord}
 
 -- a step takes some bytes of a text and gives a record or none; where it fails, the place that the
 -- whole text leads to is the fault
-abbrev pub Steps : Place → List ℕ → Place → Result (ℕ × Option (List ℕ)) FeedFault → Type 0
-Steps old text new (Ok taken) = (0 < taken.0) × (taken.0 ≤ length text) × IsRunning new × Goes old (take taken.0 text) (option_to_list taken.1) new
-Steps old text new (Err fault.Memory) = LosesRecord old text []
-Steps old text new (Err f) = Goes old text [] (Failed f)
+abbrev pub FramerSteps : Place → List ℕ → Place → Result (ℕ × Option (List ℕ)) FeedFault → Type 0
+FramerSteps old text new (Ok taken) = (0 < taken.0) × (taken.0 ≤ length text) × IsRunning new × Goes old (take taken.0 text) (option_to_list taken.1) new
+FramerSteps old text new (Err fault.Memory) = LosesRecord old text []
+FramerSteps old text new (Err f) = Goes old text [] (Failed f)
 
 -- several steps have taken the piece up to a text that is left, and have put the added records after
 -- those that the list had before

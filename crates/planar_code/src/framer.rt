@@ -2,7 +2,7 @@ ghost use Rattle.std.specs.Prelude.{◌≡◌, ◌≢◌, ◌⊎◌, ℕ, ◌+�
 ghost use Rattle.planar_code.specs.declared.TheConstants.{MAX_RECORDS};
 ghost use Rattle.planar_code.specs.Split.{IsSplit, MayGoOn, ending_of};
 ghost use Rattle.planar_code.specs.Place.{Place, Early, After, Failed, StandsAt, IsRunning, Feeds, HasMore, beyond};
-ghost use Rattle.planar_code.specs.Step.{Steps, Runs};
+ghost use Rattle.planar_code.specs.Step.{FramerSteps, Runs};
 ghost use Rattle.planar_code.specs.declared.fault.FeedFault.{FeedFault};
 
 use crate::ending::Ending;
@@ -84,7 +84,7 @@ impl Framer {
     fn step(&mut self, alloc: Global, text: &[u8]) -> Result<(usize, Option<Record>), FeedFault>
         requires some { 0 < length text.now }
         requires running { IsRunning self.old }
-        ensures { Steps self.old text.now self.new result }
+        ensures { FramerSteps self.old text.now self.new result }
     {
         match self.part {
             Part::Failed(fault) => Err(fault),

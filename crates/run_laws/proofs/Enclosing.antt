@@ -122,7 +122,7 @@ looks_out p shape b boxed =
       inside = e.right_in;
       turns = e.turns_right;
       on_outer = λ s closed here d d_in outer.
-          e.of_shape.faces.turns.labels.least s closed e.right d e.right_in (omega (arith, d_in, e.of_shape.kept.few))
+          e.of_shape.faces.turns.face_numbers.least s closed e.right d e.right_in (omega (arith, d_in, e.of_shape.kept.few))
           (e.outer ∙ sym outer ∙ sym (e.of_shape.faces.faces d d_in)) here;
       corners = corners_of e.enclosed_map.vertices;
       foot = (dart_map b).head (n + 8);

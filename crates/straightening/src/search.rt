@@ -22,7 +22,7 @@ pub(crate) struct PathEnds {
 
 /// A step out of a face: the dart by which it leaves, where the way is to lead, and the price of the face.
 #[derive(Clone, Copy)]
-struct Step {
+struct FaceStep {
     dart: u16,
     goal: u16,
     price: i32,
@@ -108,15 +108,15 @@ impl FaceSearch {
         let price = prices.face(face);
         let mut dart = first;
         for _step in 0..plane.degree(face) {
-            let step = Step { dart, goal, price };
+            let step = FaceStep { dart, goal, price };
             self.step_across_edge(plane, prices, flow, step);
             self.step_at_vertex(plane, prices, flow, step);
             dart = plane.next(dart);
         }
     }
 
-    /// Takes the step across the edge of a dart, where that is free.
-    fn step_across_edge(&mut self, plane: &Plane, prices: &Prices, flow: &Flow, step: Step)
+    /// Takes the step across the edge of a dart, where that is tight.
+    fn step_across_edge(&mut self, plane: &Plane, prices: &Prices, flow: &Flow, step: FaceStep)
         requires prices { HasPrices plane.now prices.now }
         requires dart { step.dart < darts plane.now }
     {
@@ -127,9 +127,9 @@ impl FaceSearch {
         }
     }
 
-    /// Takes each step from the corner of a dart to others at the same vertex, where that is free and no vertex of degree
+    /// Takes each step from the corner of a dart to others at the same vertex, where that is tight and no vertex of degree
     /// 2 begins to turn.
-    fn step_at_vertex(&mut self, plane: &Plane, prices: &Prices, flow: &Flow, step: Step)
+    fn step_at_vertex(&mut self, plane: &Plane, prices: &Prices, flow: &Flow, step: FaceStep)
         requires prices { HasPrices plane.now prices.now }
         requires dart { step.dart < darts plane.now }
     {
@@ -148,8 +148,8 @@ impl FaceSearch {
         self.step_to_corner(plane, prices, step, third);
     }
 
-    /// Takes the step from the corner of its dart to this one, where that is another one and free.
-    fn step_to_corner(&mut self, plane: &Plane, prices: &Prices, step: Step, take: u16)
+    /// Takes the step from the corner of its dart to this one, where that is another one and tight.
+    fn step_to_corner(&mut self, plane: &Plane, prices: &Prices, step: FaceStep, take: u16)
         requires prices { HasPrices plane.now prices.now }
         requires take { take < darts plane.now }
     {
@@ -159,7 +159,7 @@ impl FaceSearch {
     }
 
     /// Enters the face of a dart by it, by a step, unless this search was there.
-    fn reach(&mut self, plane: &Plane, step: Step, take: u16)
+    fn reach(&mut self, plane: &Plane, step: FaceStep, take: u16)
         requires { take < darts plane.now }
     {
         // Only the proof needs this: `graph` says that there are few faces.

@@ -8,8 +8,8 @@ use Rattle.planar_code.specs.Place.{Place}
 use Rattle.planar_code.proofs.Splits.{split_same}
 use Rattle.streams.specs.declared.frames.Mark.{Mark}
 use Rattle.streams.specs.declared.frames.Mark.TheVariants.{Ended, Io}
-use Rattle.streams.specs.declared.reading.Step.{Step}
-use Rattle.streams.specs.declared.reading.Step.TheVariants as step
+use Rattle.streams.specs.declared.reading.PieceOutcome.{PieceOutcome}
+use Rattle.streams.specs.declared.reading.PieceOutcome.TheVariants as step
 use Rattle.streams.specs.Marks.{IsMarked, IsBeginningOf}
 use Rattle.streams.specs.Reading.{IsFoundIn, IsBeingRead, IsReadToItsEnd, LeadsTo}
 use Rattle.streams.specs.Placing.{IsAt, IsPlaced, EachAt, ArePlaced}
@@ -75,7 +75,7 @@ first_ended (Some told) told_fails records place r = λ all end split.
     beginning_stands r.read [] records place r.stands all end (subst (λ t. IsSplit t all end) (r.gave.0 ∙ sym (append-nil r.read)) split)
 
 -- the records that one more read led to
-pub first_step : (told : Option (List ℕ)) (told_fails : Bool) (rounds : ℕ) (to_come : Option (List ℕ)) (fails : Bool) (records : List (List ℕ)) (place : Place) (led : Step)
+pub first_step : (told : Option (List ℕ)) (told_fails : Bool) (rounds : ℕ) (to_come : Option (List ℕ)) (fails : Bool) (records : List (List ℕ)) (place : Place) (led : PieceOutcome)
     → LeadsTo told told_fails rounds to_come fails records place led → AreFirst told records
 first_step told told_fails rounds to_come fails records place step.More leads = first_read told told_fails (rounds + 1) to_come fails records place leads
 first_step told told_fails rounds to_come fails records place step.Ended leads = first_ended told told_fails records place leads

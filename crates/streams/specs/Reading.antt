@@ -5,8 +5,8 @@ use Rattle.planar_code.specs.Split.{ending_of}
 use Rattle.planar_code.specs.Place.{Place, StandsAt, IsRunning}
 use Rattle.streams.specs.declared.frames.Mark.{Mark}
 use Rattle.streams.specs.declared.frames.Mark.TheVariants as mark
-use Rattle.streams.specs.declared.reading.Step.{Step}
-use Rattle.streams.specs.declared.reading.Step.TheVariants.{More, Ended, Failed, Stopped}
+use Rattle.streams.specs.declared.reading.PieceOutcome.{PieceOutcome}
+use Rattle.streams.specs.declared.reading.PieceOutcome.TheVariants.{More, Ended, Failed, Stopped}
 use Rattle.streams.specs.Marks.{IsMarked}
 
 -- what a source told of itself is true of these bytes and of this failing; one that told nothing may have given any
@@ -38,14 +38,14 @@ pub record IsReadToItsEnd (told : Option (List ℕ)) (told_fails : Bool) (record
   pub stands : StandsAt read records place
 
 -- what one more read led to
-abbrev pub LeadsTo : Option (List ℕ) → Bool → ℕ → Option (List ℕ) → Bool → List (List ℕ) → Place → Step → Type 0
+abbrev pub LeadsTo : Option (List ℕ) → Bool → ℕ → Option (List ℕ) → Bool → List (List ℕ) → Place → PieceOutcome → Type 0
 LeadsTo told told_fails rounds to_come fails records place More = IsBeingRead told told_fails (rounds + 1) to_come fails records place
 LeadsTo told told_fails rounds to_come fails records place Ended = IsReadToItsEnd told told_fails records place
 LeadsTo told told_fails rounds to_come fails records place Failed = IsFoundIn told told_fails records mark.Io
 LeadsTo told told_fails rounds to_come fails records place (Stopped fault) = IsFoundIn told told_fails records (mark.Ended (ending_of fault))
 
 -- Whatever was read of the source before, and whatever records were taken out of the list by then.
-abbrev pub ReadsOn : Option (List ℕ) → Bool → List (List ℕ) → Place → Option (List ℕ) → Bool → List (List ℕ) → Place → Step → Type 0
+abbrev pub ReadsOn : Option (List ℕ) → Bool → List (List ℕ) → Place → Option (List ℕ) → Bool → List (List ℕ) → Place → PieceOutcome → Type 0
 ReadsOn to_come fails records place now now_fails now_records now_place step =
     (told : Option (List ℕ)) (told_fails : Bool) (rounds : ℕ) (earlier : List (List ℕ))
     → IsBeingRead told told_fails rounds to_come fails (earlier ++ records) place

@@ -6,7 +6,7 @@ use Rattle.planar_code.specs.declared.fault.FeedFault.TheVariants as fault
 use Rattle.planar_code.specs.Place.{After}
 use Rattle.planar_code.specs.Framer.{place_at, IsBefore}
 use Rattle.planar_code.specs.Scan.{TakesFrom}
-use Rattle.planar_code.specs.Step.{Steps}
+use Rattle.planar_code.specs.Step.{FramerSteps}
 use Rattle.planar_code.proofs.Stepping.{step-early, step-headed, step-many, step-whole, step-more, step-fault, at-records, at-header}
 use Rattle.planar_code.proofs.framer.Framer.step.Goals as goal
 use Rattle.planar_code.proofs.framer.Framer.step.Goals.{then-passed-eq15, else-passed-eq15}
@@ -24,11 +24,11 @@ returns-after-passed-eq15 c =
     = subst (λ s. IsBefore s f.records f.current) c.in-Header.is c.self.invariant in
     elim c.if-passed-eq15.branch [
       | then-passed-eq15 w ↦
-          subst (λ s. Steps c.args.self.now c.args.text.now (place_at s f.records f.current) (Ok (1, None))) (sym w.self-is)
+          subst (λ s. FramerSteps c.args.self.now c.args.text.now (place_at s f.records f.current) (Ok (1, None))) (sym w.self-is)
           (at-header f.part c.in-Header.passed f.records f.current c.args.text.now c.args.self.now (place_at part.Records f.records f.current) (Ok (1, None)) c.in-Header.is c.self.view_is
           (step-headed c.in-Header.passed f.records f.current c.args.text.now before c.requires.some w.if-passed-eq15.true c.if-text-passed.false))
       | else-passed-eq15 w ↦
-          subst (λ s. Steps c.args.self.now c.args.text.now (place_at s f.records f.current) (Ok (1, None))) (sym w.self-is)
+          subst (λ s. FramerSteps c.args.self.now c.args.text.now (place_at s f.records f.current) (Ok (1, None))) (sym w.self-is)
           (at-header f.part c.in-Header.passed f.records f.current c.args.text.now c.args.self.now (place_at (part.Header (c.in-Header.passed + 1)) f.records f.current) (Ok (1, None)) c.in-Header.is c.self.view_is
           (step-early c.in-Header.passed f.records f.current c.args.text.now before c.requires.some w.if-passed-eq15.false c.if-text-passed.false))
     ]

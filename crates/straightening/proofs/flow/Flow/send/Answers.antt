@@ -1,6 +1,6 @@
 use Rattle.std.proofs.Common.{◌<◌, length, inl, inr, refl, sym, subst, ◌∙◌, arith}
 use Rattle.std.specs.Prelude.{slice_set}
-use Rattle.straightening.proofs.Fitting.{IsTightAngle, IsFreeCrossing, moved, set-other, set-lower}
+use Rattle.straightening.proofs.Fitting.{IsTightAngle, IsTightCrossing, moved, set-other, set-lower}
 use Rattle.straightening.proofs.flow.Flow.send.Goals as goal
 
 pub returns-then-self-to-gt0 : goal.returns-then-self-to-gt0
@@ -14,19 +14,19 @@ returns-then-self-to-gt0 c =
     (λ d b. inl (set-lower turns to _ d within (omega arith)))
     c.requires.fit
 
-pub returns-then-is_free_crossing : goal.returns-then-is_free_crossing
-returns-then-is_free_crossing c =
+pub returns-then-is_tight_crossing : goal.returns-then-is_tight_crossing
+returns-then-is_tight_crossing c =
     let plane = c.args.plane.now in
     let prices = c.args.prices.now in
     let angles = c.args.self.now.angles in
     let turns = c.args.self.now.lefts in
     let from = c.from-from.result in
-    let free : IsFreeCrossing plane prices c.args.give = c.is_free_crossing.ensures c.if-is_free_crossing.true in
+    let tight : IsTightCrossing plane prices c.args.give = c.is_tight_crossing.ensures c.if-is_tight_crossing.true in
     moved plane angles angles turns _ prices
     (λ d b. inl refl)
     (λ d b. elim (set-other turns from c.saturating_add.result d) [
       | inl e ↦ inl (omega (arith, e))
-      | inr e ↦ inr (subst (IsFreeCrossing plane prices) (sym (e ∙ c.from-from.ensures)) free)
+      | inr e ↦ inr (subst (IsTightCrossing plane prices) (sym (e ∙ c.from-from.ensures)) tight)
     ])
     c.requires.fit
 

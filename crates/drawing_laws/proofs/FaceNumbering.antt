@@ -13,17 +13,17 @@ use Rattle.drawing_laws.proofs.Growing.{put-here, put-other}
 abbrev pub OfFaces : DartMap → (ℕ → Bool) → Type 0
 OfFaces w s = (a : ℕ) → a < w.darts → s (w.next a) ≡ s a
 
-pub record Labels (w : DartMap) (o : ℕ) : Type 0 where
-  pub label : ℕ → ℕ
-  pub inside : (a : ℕ) → a < w.darts → label a < w.darts
-  pub stays : (a : ℕ) → a < w.darts → label (w.next a) ≡ label a
-  pub held : (s : ℕ → Bool) → OfFaces w s → (a : ℕ) → a < w.darts → s a ≡ s (label a)
+pub record FaceNumbering (w : DartMap) (o : ℕ) : Type 0 where
+  pub face_number : ℕ → ℕ
+  pub inside : (a : ℕ) → a < w.darts → face_number a < w.darts
+  pub stays : (a : ℕ) → a < w.darts → face_number (w.next a) ≡ face_number a
+  pub held : (s : ℕ → Bool) → OfFaces w s → (a : ℕ) → a < w.darts → s a ≡ s (face_number a)
   -- the corner of a box at which the walk arrives to the north names it
-  pub own : (c : ℕ) → c < w.darts → w.direction c ≡ 1 → w.angle c ≡ 1 → label c ≡ c
+  pub own : (c : ℕ) → c < w.darts → w.direction c ≡ 1 → w.angle c ≡ 1 → face_number c ≡ c
   -- a corner of the outside names it
   pub out : ℕ
   pub out_in : out < w.darts
-  pub out_own : label out ≡ out
+  pub out_own : face_number out ≡ out
   pub out_angle : w.angle out ≡ 3
   pub out_held : (s : ℕ → Bool) → OfFaces w s → s o ≡ s out
   -- another one, at which the walk arrives to the west
@@ -223,18 +223,18 @@ module _ (w : DartMap) (sound : IsSound w) (faces : AreFaces w) where
         | inr out ↦ ap s (sym out) ∙ held_out s of faces.around faces.outside (w.direction o) (sound.meeting.quarter o o_in)
       ]
 
-  labels_of : (o : ℕ) → o < w.darts → w.angle o ≡ 3 → Labels w o
-  labels_of o o_in three =
-      let (label, of) = choose w.darts (IsOf w faces.around) face_of in
+  numbering_of : (o : ℕ) → o < w.darts → w.angle o ≡ 3 → FaceNumbering w o
+  numbering_of o o_in three =
+      let (face_number, of) = choose w.darts (IsOf w faces.around) face_of in
       record {
-        label = label;
-        inside = λ a a_in. inside_of a (label a) (of a a_in);
-        stays = λ a a_in. of_one (w.next a) (label (w.next a)) (label a) (of (w.next a) (sound.tied.next_in a a_in)) (of_next a (label a) (of a a_in));
-        held = λ s same a a_in. held_of s same a (label a) a_in (of a a_in);
-        own = λ c c_in way one. of_one c (label c) c (of c c_in) (own_of c c_in way one);
+        face_number = face_number;
+        inside = λ a a_in. inside_of a (face_number a) (of a a_in);
+        stays = λ a a_in. of_one (w.next a) (face_number (w.next a)) (face_number a) (of (w.next a) (sound.tied.next_in a a_in)) (of_next a (face_number a) (of a a_in));
+        held = λ s same a a_in. held_of s same a (face_number a) a_in (of a a_in);
+        own = λ c c_in way one. of_one c (face_number c) c (of c c_in) (own_of c c_in way one);
         out = faces.around 1;
         out_in = faces.outside.inside 1 (omega arith);
-        out_own = of_one (faces.around 1) (label (faces.around 1)) (faces.around 1) (of (faces.around 1) (faces.outside.inside 1 (omega arith))) out_of;
+        out_own = of_one (faces.around 1) (face_number (faces.around 1)) (faces.around 1) (of (faces.around 1) (faces.outside.inside 1 (omega arith))) out_of;
         out_angle = faces.outside.angles 1 (omega arith);
         out_held = right_out o o_in three;
         west = faces.around 2;
@@ -245,5 +245,5 @@ module _ (w : DartMap) (sound : IsSound w) (faces : AreFaces w) where
         angles = angles_of;
       }
 
-pub labels : (w : DartMap) → IsSound w → (cut : IsCutUp w) → Labels w cut.outside
-labels w sound cut = labels_of w sound (are_faces w sound cut) cut.outside cut.outside_in cut.around.angle_first
+pub face_numbers : (w : DartMap) → IsSound w → (cut : IsCutUp w) → FaceNumbering w cut.outside
+face_numbers w sound cut = numbering_of w sound (are_faces w sound cut) cut.outside cut.outside_in cut.around.angle_first

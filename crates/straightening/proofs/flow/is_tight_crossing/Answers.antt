@@ -4,7 +4,7 @@ use Rattle.faces.specs.Planes.{face_at, reverse_dart}
 use Rattle.ortho_rep.specs.Prices.{face_price}
 use mir.Val.{SFits}
 use Rattle.straightening.proofs.Fitting.{tight-alike}
-use Rattle.straightening.proofs.flow.is_free_crossing.Goals as goal
+use Rattle.straightening.proofs.flow.is_tight_crossing.Goals as goal
 
 pub returns : goal.returns
 returns c =
