@@ -77,7 +77,7 @@ are_edges p shape w outside t made =
     } in
     record {
       chains = enclosed_chains (vertices p) w outside (dart_map_of t) chains made.enclosed;
-      narrow = made.small;
+      darts_fit = made.small;
       paths = kept_paths p shape w outside t made;
       reverse_dart_in = ends.reverse_dart_inside;
       reverse_dart_apart = ends.reverse_dart_apart;

@@ -131,9 +131,9 @@ surround_reaches w new s tied reaches = λ a l.
     a (omega (arith, s.darts, l))
 
 -- the side that the right turn faces can be cut
-pub facing_can : (w surrounded : DartMap) (right side : ℕ) → IsSound w → IsSurrounded w surrounded → right < w.darts → 2 < w.angle right → side < 4 →
+pub cut_side_can : (w surrounded : DartMap) (right side : ℕ) → IsSound w → IsSurrounded w surrounded → right < w.darts → 2 < w.angle right → side < 4 →
     (side + w.angle right) % 4 ≡ w.direction right → CanCut surrounded right (w.darts + (side + 3) % 4)
-facing_can w surrounded right side sound s right_in turn side_in faces =
+cut_side_can w surrounded right side sound s right_in turn side_in faces =
     let behind : surrounded.next (w.darts + (side + 3) % 4) ≡ w.darts + side = omega (arith, s.next_inner ((side + 3) % 4) (omega arith)) in
     record {
       d_in = omega (arith, s.darts, right_in);

@@ -152,10 +152,10 @@ enclosed_through w outside new end held tied four e old =
 pub through : (w : DartMap) (outside : ℕ) (new : DartMap) → IsTied w → AreQuarters w → IsEnclosed w outside new → new.darts ≤ no_dart →
     (end first first' : ℕ) (rest rest' : List ℕ) → IsPath w end first rest → IsPath new end first' rest' →
     StandOn (first ∷ rest) (first' ∷ rest')
-through w outside new tied four e narrow end first first' rest rest' path path' =
+through w outside new tied four e darts_fit end first first' rest rest' path path' =
     let old : GoesThrough w end (first ∷ rest) =
     record { first = first; rest = rest; path = path; holds = stands_itself (first ∷ rest) } in
     let now = enclosed_through w outside new end (first ∷ rest) tied four e old in
-    let one = path_unique new end now.first first' now.rest rest' narrow now.path path' in
+    let one = path_unique new end now.first first' now.rest rest' darts_fit now.path path' in
     subst (λ (ys : List ℕ). StandOn (first ∷ rest) (first' ∷ ys)) one.rests
     (subst (λ (y : ℕ). StandOn (first ∷ rest) (y ∷ now.rest)) one.first now.holds)

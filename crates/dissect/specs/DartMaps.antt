@@ -132,8 +132,8 @@ pub record Fits (w : DartMap) (d f way : ℕ) : Type 0 where
   pub direction_quarter : way < 4
   pub from_d : (way + 1 + w.angle d) % 4 ≡ w.direction d
   pub to_f : (way + w.angle f) % 4 ≡ (w.direction f + 1) % 4
-  pub wide_d : 1 < w.angle d
-  pub wide_f : 1 < w.angle f
+  pub splits_d : 1 < w.angle d
+  pub splits_f : 1 < w.angle f
 
 -- a map whose edges are straight
 pub record IsSound (w : DartMap) : Type 0 where

@@ -21,7 +21,7 @@ use std::alloc::{AllocError, Global};
 
 /// The side of the rectangle that a cut from the right turn `right` goes to: 0 to 3 for that whose
 /// inside runs to the east, north, west and south.
-fn facing_side(table: &DartTable, right: u32) -> u32
+fn cut_side(table: &DartTable, right: u32) -> u32
     requires sound { IsSound (dart_map_of table.now) }
     requires inside { right < table.now.darts }
     ensures side { result < 4 }
@@ -54,7 +54,7 @@ pub fn refine_in(table: &mut DartTable, outside: u32, faces: Faces) -> Result<Fa
 {
     let right = find_right(table, outside);
     let mut faces = list_faces(table, right, faces)?;
-    let side = facing_side(table, right);
+    let side = cut_side(table, right);
     add_connected_face(table, right, side, &mut faces)?;
     let corner = table.darts + (side + 3) % 4;
     surround(table);

@@ -42,7 +42,7 @@ pub struct DartTable {
     ghost angle_room: { vec_len angle ≡ vec_len next },
     ghost darts_in: { darts ≤ vec_len next },
     ghost few: { vertices ≤ darts },
-    ghost narrow: { vec_len next < 2 ^ 32 },
+    ghost darts_fit: { vec_len next < 2 ^ 32 },
 }
 
 impl DartTable {

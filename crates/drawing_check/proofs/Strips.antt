@@ -11,7 +11,7 @@ use Rattle.ortho_rep.specs.declared.points.Point.{Point}
 use Rattle.drawing_check.specs.Walks.{step_from, distance, walk, inner, HasNoRepeat}
 use Rattle.drawing_check.specs.Paths.{point_of}
 use Rattle.drawing_check.specs.Draws.{IsAxis, IsOnAxes, AreOnAxes}
-use Rattle.drawing_check.specs.Shown.{rectangle_between, same_point, strips, Lists, Shows}
+use Rattle.drawing_check.specs.Shown.{rectangle_between, same_point, strips, Enumerates, Shows}
 use Rattle.drawing_check.proofs.Coverings.{point_is, shows_append, no_repeat_from_apart, apart_from_no_repeat}
 use Rattle.drawing_check.proofs.Segments.{toward_up, toward_down, toward_same, segment_lists}
 
@@ -111,7 +111,7 @@ shows_strips (a ∷ b ∷ []) h = last (h 0 (omega arith)) (cases_Bool (same_poi
           walk a b (distance a b - 1),
           [],
           sym (append-nil (walk a b (distance a b - 1))),
-          subst (λ (p : Point). Lists (rectangle_between (step_from a b 1) p) (walk a b (distance a b - 1))) (step_back a b axis) (segment_lists a b (distance a b - 1) axis (more_steps a b axis more) (omega arith)),
+          subst (λ (p : Point). Enumerates (rectangle_between (step_from a b 1) p) (walk a b (distance a b - 1))) (step_back a b axis) (segment_lists a b (distance a b - 1) axis (more_steps a b axis more) (omega arith)),
           refl,
         )
 shows_strips (a ∷ b ∷ c ∷ rest) h =
@@ -119,7 +119,7 @@ shows_strips (a ∷ b ∷ c ∷ rest) h =
       walk a b (distance a b),
       inner (b ∷ c ∷ rest),
       refl,
-      subst (λ (p : Point). Lists (rectangle_between (step_from a b 1) p) (walk a b (distance a b))) (all_steps a b axis) (segment_lists a b (distance a b) axis (steps_some a b axis) (omega arith)),
+      subst (λ (p : Point). Enumerates (rectangle_between (step_from a b 1) p) (walk a b (distance a b))) (all_steps a b axis) (segment_lists a b (distance a b) axis (steps_some a b axis) (omega arith)),
       shows_strips (b ∷ c ∷ rest) (axes_rest a (b ∷ c ∷ rest) h),
     )
 
@@ -129,7 +129,7 @@ shows_paths (path ∷ ps) h =
     shows_append (strips path) (flat_map strips ps) (inner path) (flat_map inner ps) (shows_strips path (All-head IsOnAxes path ps h)) (shows_paths ps (All-tail IsOnAxes path ps h))
 
 -- a vertex is a rectangle of one point
-point_lists : (p : Point) → Lists (rectangle_between p p) (p ∷ [])
+point_lists : (p : Point) → Enumerates (rectangle_between p p) (p ∷ [])
 point_lists p = record {
   once = λ i j d lt within. absurd (omega arith);
   covered = λ q. (

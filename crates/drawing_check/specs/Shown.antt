@@ -23,11 +23,11 @@ strips (a ∷ b ∷ []) =
 strips (a ∷ b ∷ c ∷ rest) = rectangle_between (step_from a b 1) b ∷ strips (b ∷ c ∷ rest)
 
 -- the list has each point of the rectangle once, and no other
-pub record Lists (r : Rectangle) (points : List Point) : Type 0 where
+pub record Enumerates (r : Rectangle) (points : List Point) : Type 0 where
   pub once : HasNoRepeat points
   pub covered : (p : Point) → Contains points p ↔ Covers r p.x p.y
 
 -- the list is a list for each of the rectangles, one after another
 abbrev pub Shows : List Rectangle → List Point → Type 0
 Shows [] points = points ≡ []
-Shows (r ∷ rs) points = (front : List Point) × (back : List Point) × (points ≡ front ++ back) × Lists r front × Shows rs back
+Shows (r ∷ rs) points = (front : List Point) × (back : List Point) × (points ≡ front ++ back) × Enumerates r front × Shows rs back

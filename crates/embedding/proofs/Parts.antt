@@ -5,7 +5,7 @@ use Rattle.std.proofs.lemmas.List.{length-append, take_at, drop_at, drop-drop, e
 use Rattle.std.proofs.lemmas.List.FromFn.{get_or-map-range_with_len, length-map-range_with_len}
 use Rattle.embedding.specs.Lists.{list_of}
 use Rattle.embedding.specs.Darts.{heads, dart_count, first_dart, next_of}
-use Rattle.embedding.specs.Walk.{IsFaced, next_in}
+use Rattle.embedding.specs.Walk.{HasFaceTable, next_in}
 use Rattle.embedding.proofs.Faced.{tied, next_is, same_faces, same_degree}
 use Rattle.embedding.specs.Rules.{KeepsBefore}
 use Rattle.embedding.specs.Tables.{parts_at, IsTable, AreTies, AreTables}
@@ -84,7 +84,7 @@ parts_whole g starts ends table same =
 
 -- the table in which links, faces and degrees stand before the starts
 pub kept_whole : (g : List (List ℕ)) (ends ties front starts table : List ℕ) (count : ℕ) → KeepsBefore g 8 → length g < 256 → ends ≡ heads g
-    → AreTies g (dart_count g) ties → IsFaced (dart_count g) ties count front → IsTable (length g + 1) (first_dart g) starts → table ≡ front ++ starts
+    → AreTies g (dart_count g) ties → HasFaceTable (dart_count g) ties count front → IsTable (length g + 1) (first_dart g) starts → table ≡ front ++ starts
     → (parts_at (drop (3 * length ends + count) table) ends ≡ g) × AreTables g ends count table
 kept_whole g ends ties front starts table count rules order same l f s is =
     let n = dart_count g in

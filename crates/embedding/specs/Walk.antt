@@ -36,7 +36,7 @@ pub record HasDegrees (front : List ℕ) (n : ℕ) (face : ℕ → ℕ) (count :
   pub degrees_are : (k : ℕ) → k < count → slice_index table (length front + k) ≡ degree_in n face k
 
 -- the links stand in the table, behind them the faces of n darts, and behind these the degrees of so many faces
-pub record IsFaced (n : ℕ) (ties : List ℕ) (count : ℕ) (table : List ℕ) : Type 0 where
+pub record HasFaceTable (n : ℕ) (ties : List ℕ) (count : ℕ) (table : List ℕ) : Type 0 where
   pub size : length table ≡ 3 * n + count
   pub ties_are : (i : ℕ) → i < 2 * n → slice_index table i ≡ slice_index ties i
   pub faces_are : HasFaces n (next_in ties) (λ d. slice_index table (2 * n + d)) count

@@ -10,7 +10,7 @@ use Rattle.networks.specs.declared.arc.Cap.{Cap}
 use Rattle.networks.specs.declared.arc.Cap.TheVariants.{AtMost, Any}
 use Rattle.networks.specs.declared.residual.ResidualArc.{ResidualArc}
 use Rattle.networks.specs.Networks.{NetworkModel, node_count, arc_count, arc_at, HasUnitCosts, IsNetwork}
-use Rattle.networks.specs.Flow.{leaves, enters, IsWithin, IsUnsaturated, IsResidual, HasPotentials, start_of, end_of, unit_cost, reduced_cost}
+use Rattle.networks.specs.Flow.{leaves, enters, IsWithinCap, IsUnsaturated, IsResidual, HasPotentials, start_of, end_of, unit_cost, reduced_cost}
 use Rattle.networks.specs.declared.state.Visit.{Visit}
 use Rattle.networks.specs.Search.{enter_at, place_at, no_visit}
 use Rattle.std.proofs.lemmas.List.{get_or_read}
@@ -20,7 +20,7 @@ use Rattle.min_cost_flow.specs.Residual.{IsMoved}
 use Rattle.networks.specs.declared.residual.Residual.{Residual}
 use Rattle.networks.specs.ResidualArcs.{end_at, cost_at, reverse_at, capacity_at, StartsAt, number_of, HasResidualArcs, units_of, IsCosted, AreResidualArcs, carried}
 use Rattle.networks.specs.Residuals.{IsResidualNetwork, IsSetTo, flow_of}
-use Rattle.min_cost_flow.specs.Path.{IsTight, HasPath, path_node, IsOnPath}
+use Rattle.min_cost_flow.specs.Path.{IsTight, HasTightPath, path_node, IsOnPath}
 use Rattle.min_cost_flow.specs.Round.{IsLess, carrying}
 use Rattle.min_cost_flow.specs.declared.state.Solver.{Solver}
 use Rattle.min_cost_flow.specs.Stand.{potential_at, enters_in, places_in, CanAugment, HasUnitCost, IsPaired, IsPushedAlong}
@@ -67,7 +67,7 @@ reverse_place net first reverse forward k i back l b e = ap reverse (sym e) ∙ 
 -- the reverse of one of a node's residual arcs has a number too
 pub reverse_below : (net : NetworkModel) (first : List ℕ) (reverse : ℕ → ℕ) (forward : List ℕ) (v k : ℕ) → IsNetwork net → HasResidualArcs net first reverse forward → v < node_count net → StartsAt first v k → reverse k < arc_count net + arc_count net
 reverse_below net first reverse forward v k n l b s =
-    let o = l.cover v k b s in
+    let o = l.origins v k b s in
     let e : reverse k ≡ number_of reverse forward o.arc (opposite o.back) = reverse_place net first reverse forward k o.arc o.back l o.inside o.place in
     omega (arith, e, place_below net first reverse forward o.arc (opposite o.back) n l o.inside)
 
@@ -79,7 +79,7 @@ not_other_way false h = cc
 -- no residual arc is its own reverse
 pub not_reverse : (net : NetworkModel) (first : List ℕ) (reverse : ℕ → ℕ) (forward : List ℕ) (v k : ℕ) → HasResidualArcs net first reverse forward → v < node_count net → StartsAt first v k → k ≢ reverse k
 not_reverse net first reverse forward v k l b s h =
-    let o = l.cover v k b s in
+    let o = l.origins v k b s in
     let e : reverse k ≡ number_of reverse forward o.arc (opposite o.back) = reverse_place net first reverse forward k o.arc o.back l o.inside o.place in
     not_other_way o.back (l.alone o.arc o.arc o.back (opposite o.back) o.inside o.inside (o.place ∙ h ∙ e)).1
 
@@ -120,7 +120,7 @@ is_paired net r v k n s b st =
     let first = r.first.items in
     let reverse = reverse_at r.capacities.items in
     let forward = r.forward.items in
-    let o = l.cover v k b st in
+    let o = l.origins v k b st in
     let e : reverse k ≡ number_of reverse forward o.arc (opposite o.back) = reverse_place net first reverse forward k o.arc o.back l o.inside o.place in
     let there : capacity_at r.capacities.items (reverse k) ≡ capacity_at r.capacities.items (number_of reverse forward o.arc (opposite o.back)) = ap (capacity_at r.capacities.items) e in
     let here : capacity_at r.capacities.items (number_of reverse forward o.arc o.back) ≡ capacity_at r.capacities.items k = ap (capacity_at r.capacities.items) o.place in
@@ -199,7 +199,7 @@ pub pushed_network : (net : NetworkModel) (r r' : Residual) (v k amount : ℕ) �
 pushed_network net r r' v k amount s b st p =
     let l = s.arcs_built in
     let f = s.filled in
-    let o = l.cover v k b st in
+    let o = l.origins v k b st in
     let filled : AreResidualArcs net (reverse_at r.capacities.items) r.forward.items (capacity_at r'.capacities.items) r'.arcs.items = record {
       arc_size = p.arc_size ∙ f.arc_size;
       end = λ j c h. p.ends (number_of (reverse_at r.capacities.items) r.forward.items j c) ∙ f.end j c h;
@@ -344,10 +344,10 @@ zero_cost c z a b a' b' h e f g = omega (arith, ints)
 
 pub tight_arc_of : (net : NetworkModel) (first : List ℕ) (reverse : ℕ → ℕ) (forward : List ℕ) (capacity : ℕ → ℕ) (arcs : List ResidualArc) (p : ℕ → ℤ) (u k v : ℕ) → IsNetwork net → HasResidualArcs net first reverse forward → AreResidualArcs net reverse forward capacity arcs → u < node_count net → IsTight first arcs p u k v → IsTightArc net reverse forward capacity p u k v
 tight_arc_of net first reverse forward capacity arcs p u k v n l f b t =
-    let o = l.cover u k b t.leaves in
+    let o = l.origins u k b t.leaves in
     let z = unit_cost net o.arc o.back in
     let cost : cost_at arcs k ≡ coded z (capacity k) = subst (λ (q : ℕ). cost_at arcs q ≡ coded z (capacity q)) o.place (code_is net reverse forward capacity arcs o.arc o.back f o.inside) in
-    let some : 0 < capacity k = some_coded z (cost_at arcs k) (capacity k) (unit_cost_least net o.arc o.back n.costs o.inside) cost t.unblocked in
+    let some : 0 < capacity k = some_coded z (cost_at arcs k) (capacity k) (unit_cost_least net o.arc o.back n.costs o.inside) cost t.has_capacity in
     let finish : end_of net o.arc o.back ≡ v = sym (f.end o.arc o.back o.inside) ∙ ap (end_at arcs) o.place ∙ t.arrives in
     record {
       arc = o.arc;
@@ -477,7 +477,7 @@ narrowed_all next place capacity v w amount h none u on some =
 
 -- ---- the end
 
-within_limit : (c : Cap) (a b : ℕ) → a + b ≡ units_of c → IsWithin c b
+within_limit : (c : Cap) (a b : ℕ) → a + b ≡ units_of c → IsWithinCap c b
 within_limit (AtMost k) a b h = omega arith
 within_limit Any a b h = tt
 
@@ -539,7 +539,7 @@ pub record IsStep (net : NetworkModel) (first : List ℕ) (reverse : ℕ → ℕ
   pub leaves : StartsAt first (end_at arcs (reverse k)) k
   pub tight_arc : IsTightArc net reverse forward capacity p (end_at arcs (reverse k)) k v
 
-pub path_step : (net : NetworkModel) (first : List ℕ) (reverse : ℕ → ℕ) (forward : List ℕ) (capacity : ℕ → ℕ) (arcs : List ResidualArc) (p : ℕ → ℤ) (enter place : ℕ → ℕ) (root found : ℕ) → IsNetwork net → HasResidualArcs net first reverse forward → AreResidualArcs net reverse forward capacity arcs → (h : HasPath (node_count net) first arcs p enter place root found) → (v : ℕ) → h.on v ≡ true → 0 < place v → IsStep net first reverse forward capacity arcs p h.on place v (enter v)
+pub path_step : (net : NetworkModel) (first : List ℕ) (reverse : ℕ → ℕ) (forward : List ℕ) (capacity : ℕ → ℕ) (arcs : List ResidualArc) (p : ℕ → ℤ) (enter place : ℕ → ℕ) (root found : ℕ) → IsNetwork net → HasResidualArcs net first reverse forward → AreResidualArcs net reverse forward capacity arcs → (h : HasTightPath (node_count net) first arcs p enter place root found) → (v : ℕ) → h.on v ≡ true → 0 < place v → IsStep net first reverse forward capacity arcs p h.on place v (enter v)
 path_step net first reverse forward capacity arcs p enter place root found n l f h v on some =
     let a = h.after v on some in
     let b : a.start < node_count net = h.node a.start a.member in
@@ -559,7 +559,7 @@ pub record IsLast (net : NetworkModel) (first : List ℕ) (reverse : ℕ → ℕ
   pub leaves : StartsAt first (end_at arcs (reverse k)) k
   pub tight_arc : IsTightArc net reverse forward capacity p (end_at arcs (reverse k)) k (end_at arcs k)
 
-pub path_last : (net : NetworkModel) (first : List ℕ) (reverse : ℕ → ℕ) (forward : List ℕ) (capacity : ℕ → ℕ) (arcs : List ResidualArc) (p : ℕ → ℤ) (enter place : ℕ → ℕ) (root found : ℕ) → IsNetwork net → HasResidualArcs net first reverse forward → AreResidualArcs net reverse forward capacity arcs → (h : HasPath (node_count net) first arcs p enter place root found) → IsLast net first reverse forward capacity arcs p h.on found
+pub path_last : (net : NetworkModel) (first : List ℕ) (reverse : ℕ → ℕ) (forward : List ℕ) (capacity : ℕ → ℕ) (arcs : List ResidualArc) (p : ℕ → ℤ) (enter place : ℕ → ℕ) (root found : ℕ) → IsNetwork net → HasResidualArcs net first reverse forward → AreResidualArcs net reverse forward capacity arcs → (h : HasTightPath (node_count net) first arcs p enter place root found) → IsLast net first reverse forward capacity arcs p h.on found
 path_last net first reverse forward capacity arcs p enter place root found n l f h =
     let b : h.last < node_count net = h.node h.last h.member in
     let s : end_at arcs (reverse found) ≡ h.last = start_is net first reverse forward capacity arcs h.last found l f b h.step.leaves in

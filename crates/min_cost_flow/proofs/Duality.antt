@@ -10,7 +10,7 @@ use Rattle.common.proofs.Sums.{sum_below-same, sum_below-le, sum_below-add, exch
 use Rattle.networks.specs.declared.arc.Cap.{Cap}
 use Rattle.networks.specs.declared.arc.Cap.TheVariants.{AtMost, Any}
 use Rattle.networks.specs.Networks.{NetworkModel, node_count, arc_count, arc_at, supply_at, HasEnds}
-use Rattle.networks.specs.Flow.{leaves, enters, balance, cost_of, IsWithin, IsUnsaturated, Flow, IsLeastCost, HasPotentials}
+use Rattle.networks.specs.Flow.{leaves, enters, balance, cost_of, IsWithinCap, IsUnsaturated, Flow, IsLeastCost, HasPotentials}
 
 -- amounts weighed by the numbers of the arcs' starts, and of their ends
 abbrev pub at_starts : NetworkModel → (ℕ → ℕ) → (ℕ → ℕ) → ℕ
@@ -68,7 +68,7 @@ arc_part x y a b more less =
     ]
 
 -- a larger amount within the capacity shows room for one unit more
-pub unsaturated_below : (c : Cap) (x y : ℕ) → IsWithin c y → x < y → IsUnsaturated c x
+pub unsaturated_below : (c : Cap) (x y : ℕ) → IsWithinCap c y → x < y → IsUnsaturated c x
 unsaturated_below (AtMost k) x y h l = omega arith
 unsaturated_below Any x y h l = tt
 

@@ -130,7 +130,7 @@ laid_still net first reverse forward f t k l =
       rising = λ v b. l.rising v (omega arith);
       inside = λ v b. l.inside v (omega arith);
       block = λ i back b. l.block i back b;
-      cover = λ v j b st. let o = l.cover v j (omega arith) st in record { arc = o.arc; back = o.back; inside = o.inside; place = o.place; start = o.start };
+      origins = λ v j b st. let o = l.origins v j (omega arith) st in record { arc = o.arc; back = o.back; inside = o.inside; place = o.place; start = o.start };
       alone = λ i j b c ib jb e. l.alone i j b c ib jb e;
       undone = λ i b. l.undone i b;
     }
@@ -218,7 +218,7 @@ sized_moved net l l' f t k r fair re pe ee he =
       blank = λ v b. rw he (r.blank v (omega (arith, long, b)));
     }
 
--- potentials in reach can be lowered by one of them
+-- confined potentials can be lowered by one of them
 pub low_bounds : (n : ℕ) (z : ℤ) → n ≤ 1024 → (pos 0 ≤ℤ (z +ℤ pos (2 * n))) × (z ≤ℤ pos (2 * n)) → (negsuc 2047 ≤ℤ z) × (z ≤ℤ pos 2048)
 low_bounds n z s (a, b) = (grind (arith, ints), grind (arith, ints))
 

@@ -1,10 +1,10 @@
 -- Amounts on the way to a flow: what each node still has to send out, or still wants.
 use Rattle.std.specs.Prelude.{ℕ, zero, suc, ◌<◌, ◌==◌, ◌≡◌, ℤ, pos, ◌+ℤ◌, ◌<ℤ◌, Bool, true, if◌then◌else◌}
 use Rattle.networks.specs.Networks.{NetworkModel, node_count, arc_count, arc_at, supply_at}
-use Rattle.networks.specs.Flow.{balance, IsWithin, IsResidual, start_of, end_of}
+use Rattle.networks.specs.Flow.{balance, IsWithinCap, IsResidual, start_of, end_of}
 
 abbrev pub KeepsCaps : NetworkModel → (ℕ → ℕ) → Type 0
-KeepsCaps net x = (i : ℕ) → i < arc_count net → IsWithin (arc_at net i).cap (x i)
+KeepsCaps net x = (i : ℕ) → i < arc_count net → IsWithinCap (arc_at net i).cap (x i)
 
 -- x leaves each node v the excess e v: above 0 it is left over there, below 0 it is wanting
 pub record Leaves (net : NetworkModel) (x : ℕ → ℕ) (e : ℕ → ℤ) : Type 0 where

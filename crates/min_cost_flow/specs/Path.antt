@@ -9,7 +9,7 @@ use Rattle.networks.specs.Search.{HasResidualCapacity}
 -- residual arc k leads from node u to node v, has capacity, and its reduced cost is 0
 pub record IsTight (first : List ℕ) (arcs : List ResidualArc) (p : ℕ → ℤ) (u k v : ℕ) : Type 0 where
   pub leaves : StartsAt first u k
-  pub unblocked : HasResidualCapacity arcs k
+  pub has_capacity : HasResidualCapacity arcs k
   pub arrives : end_at arcs k ≡ v
   pub at_zero : cost_at arcs k +ℤ p u -ℤ p v ≡ pos 0
 
@@ -22,7 +22,7 @@ pub record IsAfter (first : List ℕ) (arcs : List ResidualArc) (p : ℕ → ℤ
 
 -- residual arc `found` leads from node `last` to a node off the path, and each node of the path was
 -- entered along `enter`, back to the root at place 0
-pub record HasPath (n : ℕ) (first : List ℕ) (arcs : List ResidualArc) (p : ℕ → ℤ) (enter place : ℕ → ℕ) (root found : ℕ) : Type 0 where
+pub record HasTightPath (n : ℕ) (first : List ℕ) (arcs : List ResidualArc) (p : ℕ → ℤ) (enter place : ℕ → ℕ) (root found : ℕ) : Type 0 where
   pub on : ℕ → Bool
   pub node : (v : ℕ) → on v ≡ true → v < n
   pub root_is : (v : ℕ) → on v ≡ true → place v ≡ 0 → v ≡ root

@@ -55,14 +55,14 @@ pub record IsTaken (g : SearchInput) (s s' : Search) (step : Offer) : Type 0 whe
   pub place : s.ordered ≤ places s' step.end
 
 pub taken : (g : SearchInput) (s s' : Search) (step : Offer) → IsOffered g s step → pos 0 ≤ℤ excess_of g step.end → IsLabelled s s' step → IsTaken g s s' step
-taken g s s' step o plain m =
+taken g s s' step o nonnegative m =
     let h = o.search in
     let b : step.end < nodes_of g = offer_end _ _ _ _ _ _ _ _ _ _ _ _ h.input.graph o.offer in
     let q = m.progress in
     elim (below_or_not (labels s step.end) far) [
       | inl l ↦
           let e = m.again l in
-          let all = relabelled _ _ _ _ _ _ _ _ _ _ _ _ _ _ _ _ _ _ _ h.reached o.offer b l plain m.label m.enter in
+          let all = relabelled _ _ _ _ _ _ _ _ _ _ _ _ _ _ _ _ _ _ _ h.reached o.offer b l nonnegative m.label m.enter in
           record {
             reached = rw (fun_ext e.order, fun_ext e.place, q.scanned, q.ordered, e.reached, q.radius) all.0;
             kept = rw (fun_ext e.place) all.1;
@@ -71,7 +71,7 @@ taken g s s' step o plain m =
       | inr l ↦
           let e = m.anew l in
           let d : s.reached < nodes_of g = order_room _ _ _ _ _ _ _ _ _ _ _ _ _ _ step.end h.reached b l in
-          let all = enlisted _ _ _ _ _ _ _ _ _ _ _ _ _ _ _ _ _ _ _ _ _ h.reached o.offer b l plain d m.label m.enter e.0 e.1 in
+          let all = enlisted _ _ _ _ _ _ _ _ _ _ _ _ _ _ _ _ _ _ _ _ _ h.reached o.offer b l nonnegative d m.label m.enter e.0 e.1 in
           let at : places s' step.end ≡ s.reached = e.1.here in
           record {
             reached = rw (q.scanned, q.ordered, e.2, q.radius) all.0;
@@ -110,10 +110,10 @@ offered g s s' step away o wants at a bound either =
 
 -- the end has got its label, further off than the radius
 pub node_labelled_behind : (g : SearchInput) (s t : Search) (step : Offer) → IsOffered g s step → pos 0 ≤ℤ excess_of g step.end → IsLabelled s t step → IsRelaxed g s t
-node_labelled_behind g s t step o plain m =
+node_labelled_behind g s t step o nonnegative m =
     let h = o.search in
     let p = m.progress in
-    let k = taken g s t step o plain m in
+    let k = taken g s t step o nonnegative m in
     record {
       search = record {
         input = h.input;
@@ -140,11 +140,11 @@ pub record IsListed (g : SearchInput) (t : Search) (v : ℕ) : Type 0 where
   pub at : places t (orders t t.ordered) ≡ t.ordered
 
 pub listed : (g : SearchInput) (s t : Search) (step : Offer) → IsOffered g s step → pos 0 ≤ℤ excess_of g step.end → IsLabelled s t step → IsListed g t step.end
-listed g s t step o plain m =
+listed g s t step o nonnegative m =
     let h = o.search in
     let v = step.end in
     let b : v < nodes_of g = end_in g s step o in
-    let k = taken g s t step o plain m in
+    let k = taken g s t step o nonnegative m in
     let r = k.reached in
     let l : labels t v <ℤ far = subst (λ (z : ℤ). z <ℤ far) (sym m.label.here) (offer_below _ _ _ _ _ _ _ _ _ _ _ _ _ _ _ _ _ h.reached o.offer b) in
     let (inside, back) = r.listed v b l in
@@ -163,13 +163,13 @@ listed g s t step o plain m =
 
 -- the same at the radius, where it was put behind those that are ordered
 pub node_labelled : (g : SearchInput) (s t u : Search) (step : Offer) (away : ℤ) → IsOffered g s step → pos 0 ≤ℤ excess_of g step.end → IsLabelled s t step → away ≡ step.label -ℤ potential_of g step.end → away ≡ t.radius → IsSwapped (orders t) (places t) (orders u) (places u) step.end (places t step.end) t.ordered → SameBesideOrder t u → u.ordered ≡ t.ordered + 1 → IsRelaxed g s u
-node_labelled g s t u step away o plain m at same swap z up =
+node_labelled g s t u step away o nonnegative m at same swap z up =
     let h = o.search in
     let v = step.end in
     let b : v < nodes_of g = end_in g s step o in
     let p = m.progress in
-    let k = taken g s t step o plain m in
-    let w = listed g s t step o plain m in
+    let k = taken g s t step o nonnegative m in
+    let w = listed g s t step o nonnegative m in
     let near : (labels t v -ℤ potential_of g v) ≤ℤ t.radius = at_radius (labels t v) (potential_of g v) step.label away t.radius m.label.here at same in
     let (moved, kept) = swapped _ _ _ _ _ _ _ _ _ _ _ _ _ _ _ _ v (places t v) k.reached b w.labelled refl w.ordered near swap in
     let both = kept_then _ _ _ _ _ _ _ _ k.kept (subst (λ (i : ℕ). AreLowered (nodes_of g) i (labels t) (places t) (labels t) (places u)) p.scanned kept) in

@@ -23,13 +23,13 @@ abbrev pub cost_of : NetworkModel → (ℕ → ℕ) → ℕ
 cost_of net x = sum_below (arc_count net) (λ i. (arc_at net i).cost * x i)
 
 -- the amount is within the capacity
-abbrev pub IsWithin : Cap → ℕ → Type 0
-IsWithin (AtMost k) amount = amount ≤ k
-IsWithin Any amount = Unit {0}
+abbrev pub IsWithinCap : Cap → ℕ → Type 0
+IsWithinCap (AtMost k) amount = amount ≤ k
+IsWithinCap Any amount = Unit {0}
 
 -- x is a flow: it keeps the capacities, and each node sends out its supply
 pub record Flow (net : NetworkModel) (x : ℕ → ℕ) : Type 0 where
-  pub within : (i : ℕ) → i < arc_count net → IsWithin (arc_at net i).cap (x i)
+  pub within : (i : ℕ) → i < arc_count net → IsWithinCap (arc_at net i).cap (x i)
   pub meets : (v : ℕ) → v < node_count net → balance net x v ≡ supply_at net v
 
 abbrev pub HasNoFlow : NetworkModel → Type 0

@@ -57,7 +57,7 @@ pub record IsEntered (n : ℕ) (first : List ℕ) (arcs : List ResidualArc) (q :
   pub are_scanned : place start < scanned
   pub before : place start < place v
   pub leaves : StartsAt first start k
-  pub unblocked : HasResidualCapacity arcs k
+  pub has_capacity : HasResidualCapacity arcs k
   pub arrives : end_at arcs k ≡ v
   pub label : q v ≡ q start +ℤ cost_at arcs k
 
@@ -75,7 +75,7 @@ pub record IsReached (n : ℕ) (first : List ℕ) (arcs : List ResidualArc) (p e
   pub here : (v : ℕ) → v < n → q v <ℤ far → scanned ≤ place v → radius ≤ℤ (q v -ℤ p v)
   pub near : (v : ℕ) → v < n → q v <ℤ far → IsNear (p s) scanned (q v)
   pub root : (s < n) × (q s <ℤ far) × (place s ≡ 0)
-  pub plain : (v : ℕ) → v < n → q v <ℤ far → pos 0 ≤ℤ e v
+  pub nonnegative : (v : ℕ) → v < n → q v <ℤ far → pos 0 ≤ℤ e v
   pub entered : (v : ℕ) → v < n → q v <ℤ far → v ≢ s → IsEntered n first arcs q place scanned v (enter v)
 
 -- residual arc k leads from a scanned node to one where units are wanting, at distance `bound`
@@ -85,7 +85,7 @@ pub record IsHit (n : ℕ) (first : List ℕ) (arcs : List ResidualArc) (p e : �
   pub labelled : q start <ℤ far
   pub are_scanned : place start < scanned
   pub leaves : StartsAt first start k
-  pub unblocked : HasResidualCapacity arcs k
+  pub has_capacity : HasResidualCapacity arcs k
   pub wanting : e (end_at arcs k) <ℤ pos 0
   pub distance : bound ≡ q start +ℤ cost_at arcs k -ℤ p (end_at arcs k)
   pub near : IsNear (p s) scanned bound
@@ -296,7 +296,7 @@ pub record IsOffer (n : ℕ) (first : List ℕ) (arcs : List ResidualArc) (p : �
   pub labelled : q start <ℤ far
   pub are_scanned : place start < scanned
   pub leaves : StartsAt first start k
-  pub unblocked : HasResidualCapacity arcs k
+  pub has_capacity : HasResidualCapacity arcs k
   pub arrives : end_at arcs k ≡ v
   pub label : x ≡ q start +ℤ cost_at arcs k
   pub near : IsNear (p s) scanned x

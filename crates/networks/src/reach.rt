@@ -30,7 +30,7 @@ impl Search<'_> {
     /// the radius.
     fn label_node(&mut self, input: SearchInput<'_>, step: Offer)
         requires offer { IsOffered input self.old step }
-        requires plain { pos 0 ≤ℤ excess_of input step.end }
+        requires nonnegative { pos 0 ≤ℤ excess_of input step.end }
         ensures relaxed { IsRelaxed input.entry self.old self.new }
         ensures label { labels self.new step.end ≡ step.label }
     {

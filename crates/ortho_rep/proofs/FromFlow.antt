@@ -9,7 +9,7 @@ use Rattle.common.proofs.Sums.{sum_below-same, sum_below-add, sum_below-none, su
 use Rattle.faces.specs.Planes.{PlaneModel, HasEnds, darts, vertices, head, reverse_dart, face_at, degree}
 use Rattle.networks.specs.declared.arc.Arc.{Arc}
 use Rattle.networks.specs.Networks.{NetworkModel, arc_count, arc_at}
-use Rattle.networks.specs.Flow.{Flow, HasPotentials, IsWithin, IsUnsaturated, leaves, enters, balance}
+use Rattle.networks.specs.Flow.{Flow, HasPotentials, IsWithinCap, IsUnsaturated, leaves, enters, balance}
 use Rattle.ortho_rep.specs.declared.turn.Turn.{Turn}
 use Rattle.ortho_rep.specs.declared.turn.Turn.TheVariants.{Left, Right}
 use Rattle.flow_network.specs.FaceNet.{IsFaceNet, arrivals}
@@ -176,7 +176,7 @@ rep_of_flow p net x ends is flow = record {
   where
     angle_within : (d : ℕ) → d < darts p → x d + 1 ≤ 4
     angle_within d b =
-        let within : x d ≤ 3 = subst (λ (arc : Arc). IsWithin arc.cap (x d)) (is.corner d b) (flow.within d (omega (arith, is.arcs))) in
+        let within : x d ≤ 3 = subst (λ (arc : Arc). IsWithinCap arc.cap (x d)) (is.corner d b) (flow.within d (omega (arith, is.arcs))) in
         omega arith
 
 -- the potentials fit an arc that carries an amount
@@ -201,7 +201,7 @@ prove_of_potentials p net x q ends is fit = λ d b.
 -- a corner carries at most three units
 pub corner_few : (p : PlaneModel) (net : NetworkModel) (x : ℕ → ℕ) (d : ℕ) → IsFaceNet p net → Flow net x → d < darts p → x d ≤ 3
 corner_few p net x d is flow b =
-    subst (λ (arc : Arc). IsWithin arc.cap (x d)) (is.corner d b) (flow.within d (omega (arith, is.arcs)))
+    subst (λ (arc : Arc). IsWithinCap arc.cap (x d)) (is.corner d b) (flow.within d (omega (arith, is.arcs)))
 
 -- a least-cost flow crosses no edge both ways: each crossing that is used gains what the bend costs
 pub one_sided_of_flow : (p : PlaneModel) (net : NetworkModel) (x : ℕ → ℕ) (q : ℕ → ℤ) → HasEnds p → IsFaceNet p net → HasPotentials net x q → (d : ℕ) → d < darts p → 0 < x (darts p + d) → x (darts p + reverse_dart p d) ≡ 0

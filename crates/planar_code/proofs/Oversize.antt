@@ -69,7 +69,7 @@ long_list-oversize stream records bytes (inl h) = absurd (let e = h.ends in (cc)
 long_list-oversize stream records bytes (inr h) = go h.rest refl
   where
     whole : stream ≡ (HEADER ++ concat records) ++ h.rest
-    whole = h.headed ∙ ap (λ z. HEADER ++ z) h.divided.concatenated ∙ sym (append_assoc HEADER (concat records) h.rest)
+    whole = h.with_header ∙ ap (λ z. HEADER ++ z) h.divided.concatenated ∙ sym (append_assoc HEADER (concat records) h.rest)
 
     stops : NoRecordFirst h.rest
     stops = elim (stuck-divided h.body records h.rest h.divided) [ inl full ↦ absurd (h.ends.3 full) | inr none ↦ none ]

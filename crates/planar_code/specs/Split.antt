@@ -34,7 +34,7 @@ EndsAs count rest ending.Memory = ⊥
 pub record IsSplitAfterHeader (stream : List ℕ) (records : List (List ℕ)) (end : Ending) : Type 0 where
   pub body : List ℕ
   pub rest : List ℕ
-  pub headed : stream ≡ HEADER ++ body
+  pub with_header : stream ≡ HEADER ++ body
   pub divided : IsDivided body records rest
   pub ends : EndsAs (length records) rest end
 

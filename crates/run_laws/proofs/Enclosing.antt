@@ -23,7 +23,7 @@ in_stands a (x ∷ xs) (y ∷ ys) (inr on) here = inr (in_stands a (x ∷ xs) ys
 abbrev corners_of : ℕ → RectangleCorners
 corners_of v = record { south_west = v + 3; south_east = v + 0; north_east = v + 1; north_west = v + 2 }
 
-module _ (inner w : DartMap) (x y : ℕ → ℕ) (sound : IsSound w) (narrow : w.darts ≤ no_dart) (ordered : IsOrdered w x y) (has : HasRectangle inner w) where
+module _ (inner w : DartMap) (x y : ℕ → ℕ) (sound : IsSound w) (darts_fit : w.darts ≤ no_dart) (ordered : IsOrdered w x y) (has : HasRectangle inner w) where
   -- side k goes from the corner before it to its own
   side_goes : (k from : ℕ) → k < 4 → inner.vertices + (k + 3) % 4 ≡ from → Goes k x y from (inner.vertices + k)
   side_goes k from few is =
@@ -43,8 +43,8 @@ module _ (inner w : DartMap) (x y : ℕ → ℕ) (sound : IsSound w) (narrow : w
         east = sym right.1;
         south = sym bottom.1;
         north = sym top.1;
-        wide = bottom.0;
-        high = left.0;
+        has_width = bottom.0;
+        has_height = left.0;
       }
 
   last_in : (n a : ℕ) (rest : List ℕ) → a < n → Below n rest → last_of a rest < n
@@ -65,7 +65,7 @@ module _ (inner w : DartMap) (x y : ℕ → ℕ) (sound : IsSound w) (narrow : w
     foot_between k from few is at =
         let on : IsInsideChain w (inner.darts + k) (inner.darts + 8) =
         subst (λ (j : ℕ). IsInsideChain w (inner.darts + j) (inner.darts + 8)) (sym at) bridged.on_side in
-        let (to, further) = path_passes w x y sound ordered k (inner.darts + k) (inner.darts + 4 + k) (inner.darts + 8) narrow (has.sides k few).there (has.directions k few) few on in (
+        let (to, further) = path_passes w x y sound ordered k (inner.darts + k) (inner.darts + 4 + k) (inner.darts + 8) darts_fit (has.sides k few).there (has.directions k few) few on in (
           subst (λ (u : ℕ). Goes k x y u (w.head (inner.darts + 8))) (has.corners k few ∙ is) to,
           subst (λ (u : ℕ). Goes k x y (w.head (inner.darts + 8)) u) (has.inside k few) further,
         )
@@ -103,7 +103,7 @@ looks_out p shape b boxed =
     let e = boxed.enclosed in
     let n : ℕ = e.enclosed_map.darts in
     let sound = boxed.boxes.sound in
-    let narrow = boxed.boxes.few_darts in
+    let darts_fit = boxed.boxes.few_darts in
     record {
       enclosed_map = e.enclosed_map;
       of_shape = e.of_shape;
@@ -126,8 +126,8 @@ looks_out p shape b boxed =
           (e.outer ∙ sym outer ∙ sym (e.of_shape.faces.faces d d_in)) here;
       corners = corners_of e.enclosed_map.vertices;
       foot = (dart_map b).head (n + 8);
-      rectangle = λ x y ordered. are_corners e.enclosed_map (dart_map b) x y sound narrow ordered e.rectangle;
+      rectangle = λ x y ordered. are_corners e.enclosed_map (dart_map b) x y sound darts_fit ordered e.rectangle;
       before = λ x y ordered.
           subst (λ (u : ℕ). LiesBefore x y (corners_of e.enclosed_map.vertices) ((dart_map b).head (n + 8)) u) (e.heads e.right e.right_in)
-          (looks e.enclosed_map (dart_map b) x y sound narrow ordered e.rectangle e.right e.bridge e.bridge.side refl e.bridge.side_in);
+          (looks e.enclosed_map (dart_map b) x y sound darts_fit ordered e.rectangle e.right e.bridge e.bridge.side refl e.bridge.side_in);
     }

@@ -21,8 +21,8 @@ pub record AreRectangleCorners (x y : ℕ → ℕ) (c : RectangleCorners) : Type
   pub east : x c.north_east ≡ x c.south_east
   pub south : y c.south_east ≡ y c.south_west
   pub north : y c.north_west ≡ y c.north_east
-  pub wide : x c.south_west < x c.south_east
-  pub high : y c.south_west < y c.north_west
+  pub has_width : x c.south_west < x c.south_east
+  pub has_height : y c.south_west < y c.north_west
 
 -- the number of v lies strictly between those of u and t
 abbrev pub Between : (ℕ → ℕ) → ℕ → ℕ → ℕ → Type 0

@@ -18,15 +18,15 @@ use std::alloc::{AllocError, Global};
 /// The angle of each dart, and how often it turns to the left: a corner carries its angle less one, and a unit across
 /// an edge is a left turn. Once units were moved it may be no representation, but prices that proved it least fit it still.
 #[derive(Drop)]
-pub(crate) struct Flow {
+pub(crate) struct ShapeFlow {
     angles: [u8; MAX_DARTS],
     lefts: [u16; MAX_DARTS],
 }
 
-impl Flow {
+impl ShapeFlow {
     /// That of no shape.
-    pub(crate) fn new() -> Flow {
-        Flow {
+    pub(crate) fn new() -> ShapeFlow {
+        ShapeFlow {
             angles: [0; MAX_DARTS],
             lefts: [0; MAX_DARTS],
         }

@@ -6,14 +6,14 @@ ghost use Rattle.faces.specs.declared.plane.TheConstants.{MAX_FACES};
 ghost use Rattle.ortho_rep.specs.Representation.{Rep, angles_around, turning_around, whole_turn};
 ghost use Rattle.straightening.specs.Flows.{angle_in, string_in};
 
-use crate::flow::Flow;
+use crate::flow::ShapeFlow;
 use faces::{MAX_FACES, Plane};
 
 /// Whether a flow is a representation of the plane with its outer face.
 ///
 /// The cost is a step for each dart, each vertex and each face. Strings are not looked at: those of a flow mirror each
 /// other.
-pub(crate) fn is_rep(plane: &Plane, flow: &Flow) -> bool
+pub(crate) fn is_rep(plane: &Plane, flow: &ShapeFlow) -> bool
     ensures { IsTrue result → Rep plane.now (angle_in flow.now.angles) (string_in plane.now flow.now.lefts) }
 {
     // Only the proof needs this: `graph` says where darts end.
@@ -22,7 +22,7 @@ pub(crate) fn is_rep(plane: &Plane, flow: &Flow) -> bool
 }
 
 /// Whether all angles are 1 to 4, and those round each vertex sum to 4.
-fn angles_sum_to_four(plane: &Plane, flow: &Flow) -> bool
+fn angles_sum_to_four(plane: &Plane, flow: &ShapeFlow) -> bool
     ensures angles { IsTrue result → (d : ℕ) → d < darts plane.now
         → (1 ≤ angle_in flow.now.angles d) × (angle_in flow.now.angles d ≤ 4) }
     ensures around { IsTrue result → (v : ℕ) → 1 ≤ v → v ≤ vertices plane.now
@@ -42,7 +42,7 @@ fn angles_sum_to_four(plane: &Plane, flow: &Flow) -> bool
 }
 
 /// Sums the angles that arrive at each vertex, and answers whether all are 1 to 4.
-fn add_angles(plane: &Plane, flow: &Flow, sums: &mut [u32]) -> bool
+fn add_angles(plane: &Plane, flow: &ShapeFlow, sums: &mut [u32]) -> bool
     requires room { vertices plane.now < length sums.old }
     requires clear { sums.old ≡ replicate (length sums.old) 0 }
     ensures angles { IsTrue result → (d : ℕ) → d < darts plane.now
@@ -62,7 +62,7 @@ fn add_angles(plane: &Plane, flow: &Flow, sums: &mut [u32]) -> bool
 }
 
 /// Whether the darts of each inner face turn once to the left, and those of the outer face to the right.
-fn turns_faces(plane: &Plane, flow: &Flow) -> bool
+fn turns_faces(plane: &Plane, flow: &ShapeFlow) -> bool
     ensures { IsTrue result → (f : ℕ) → f < plane.now.faces
         → turning_around plane.now (angle_in flow.now.angles) (string_in plane.now flow.now.lefts) f
         ≡ whole_turn plane.now f }
@@ -92,7 +92,7 @@ fn turns_once(gain: u32, loss: u32, is_outer: bool) -> bool
 }
 
 /// Sums round each face what its darts turn to the left, and what they turn to the right.
-fn add_turns(plane: &Plane, flow: &Flow, gains: &mut [u32], losses: &mut [u32])
+fn add_turns(plane: &Plane, flow: &ShapeFlow, gains: &mut [u32], losses: &mut [u32])
     requires gain_room { plane.now.faces ≤ length gains.old }
     requires loss_room { plane.now.faces ≤ length losses.old }
     requires clear_gains { gains.old ≡ replicate (length gains.old) 0 }

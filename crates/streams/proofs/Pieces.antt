@@ -7,7 +7,7 @@ use Rattle.planar_code.specs.declared.ending.Ending.TheVariants as ending
 use Rattle.planar_code.specs.declared.fault.FeedFault.{FeedFault}
 use Rattle.planar_code.specs.declared.fault.FeedFault.TheVariants as fault
 use Rattle.planar_code.specs.Split.{IsSplit, ending_of}
-use Rattle.planar_code.specs.Place.{Place, Early, Failed, StandsAt, Goes, LosesRecord, Feeds}
+use Rattle.planar_code.specs.FramerState.{FramerState, Early, Failed, StandsAt, Goes, LosesRecord, Feeds}
 use Rattle.planar_code.proofs.Splits.{split_same}
 use Rattle.streams.specs.declared.frames.Mark.{Mark}
 use Rattle.streams.specs.declared.frames.Mark.TheVariants as mark
@@ -63,7 +63,7 @@ marked_split bytes fails records ending.Many whole split = (whole, split)
 marked_split bytes fails records ending.Memory whole split = λ all end other. ([], (split_same bytes all records end _ other split).0 ∙ sym (append-nil records))
 
 -- the source ended
-pub read_to_its_end : (told to_come : Option (List ℕ)) (told_fails fails : Bool) (rounds : ℕ) (records : List (List ℕ)) (place : Place)
+pub read_to_its_end : (told to_come : Option (List ℕ)) (told_fails fails : Bool) (rounds : ℕ) (records : List (List ℕ)) (place : FramerState)
     → IsBeingRead told told_fails rounds to_come fails records place → IsAtItsEnd to_come fails → IsReadToItsEnd told told_fails records place
 read_to_its_end told to_come told_fails fails rounds records place r at = record {
   read = r.read;
@@ -72,7 +72,7 @@ read_to_its_end told to_come told_fails fails rounds records place r at = record
 }
 
 -- the source failed
-pub found_failed : (told to_come : Option (List ℕ)) (told_fails fails : Bool) (rounds : ℕ) (records : List (List ℕ)) (place : Place)
+pub found_failed : (told to_come : Option (List ℕ)) (told_fails fails : Bool) (rounds : ℕ) (records : List (List ℕ)) (place : FramerState)
     → IsBeingRead told told_fails rounds to_come fails records place → IsAtItsFailure to_come fails → IsFoundIn told told_fails records mark.Io
 found_failed told to_come told_fails fails rounds records place r at = record {
   bytes = r.read;
@@ -82,7 +82,7 @@ found_failed told to_come told_fails fails rounds records place r at = record {
 }
 
 -- the framer took the piece
-pub read_more : (told before after : Option (List ℕ)) (told_fails fails now_fails : Bool) (rounds : ℕ) (earlier old new : List (List ℕ)) (place now_place : Place) (piece : List ℕ)
+pub read_more : (told before after : Option (List ℕ)) (told_fails fails now_fails : Bool) (rounds : ℕ) (earlier old new : List (List ℕ)) (place now_place : FramerState) (piece : List ℕ)
     → 0 < length piece → IsBeingRead told told_fails rounds before fails (earlier ++ old) place → Consumes before after piece → now_fails ≡ fails
     → Feeds place piece old new now_place (Ok tt) → IsBeingRead told told_fails (rounds + 1) after now_fails (earlier ++ new) now_place
 read_more told before after told_fails fails now_fails rounds earlier old new place now_place piece some r took same f = record {
@@ -96,7 +96,7 @@ read_more told before after told_fails fails now_fails rounds earlier old new pl
 }
 
 -- a fault of the bytes, however they go on
-found_faulted : (told before after : Option (List ℕ)) (told_fails fails : Bool) (rounds : ℕ) (earlier old new : List (List ℕ)) (place : Place) (piece : List ℕ) (f : FeedFault)
+found_faulted : (told before after : Option (List ℕ)) (told_fails fails : Bool) (rounds : ℕ) (earlier old new : List (List ℕ)) (place : FramerState) (piece : List ℕ) (f : FeedFault)
     → IsBeingRead told told_fails rounds before fails (earlier ++ old) place → Consumes before after piece
     → (added : List (List ℕ)) → new ≡ old ++ added → Goes place piece added (Failed f)
     → IsFoundIn told told_fails (earlier ++ new) (mark.Ended (ending_of f))
@@ -113,7 +113,7 @@ found_faulted told before after told_fails fails rounds earlier old new place pi
     }
 
 -- want of memory for one more record
-found_wanting : (told before after : Option (List ℕ)) (told_fails fails : Bool) (rounds : ℕ) (earlier old new : List (List ℕ)) (place : Place) (piece : List ℕ)
+found_wanting : (told before after : Option (List ℕ)) (told_fails fails : Bool) (rounds : ℕ) (earlier old new : List (List ℕ)) (place : FramerState) (piece : List ℕ)
     → IsBeingRead told told_fails rounds before fails (earlier ++ old) place → Consumes before after piece
     → (added : List (List ℕ)) → new ≡ old ++ added → LosesRecord place piece added
     → IsFoundIn told told_fails (earlier ++ new) (mark.Ended ending.Memory)
@@ -133,7 +133,7 @@ found_wanting told before after told_fails fails rounds earlier old new place pi
     }
 
 -- the framer read no further
-pub found_stopped : (told before after : Option (List ℕ)) (told_fails fails : Bool) (rounds : ℕ) (earlier old new : List (List ℕ)) (place now_place : Place) (piece : List ℕ) (f : FeedFault)
+pub found_stopped : (told before after : Option (List ℕ)) (told_fails fails : Bool) (rounds : ℕ) (earlier old new : List (List ℕ)) (place now_place : FramerState) (piece : List ℕ) (f : FeedFault)
     → IsBeingRead told told_fails rounds before fails (earlier ++ old) place → Consumes before after piece
     → Feeds place piece old new now_place (Err f) → IsFoundIn told told_fails (earlier ++ new) (mark.Ended (ending_of f))
 found_stopped told before after told_fails fails rounds earlier old new place now_place piece fault.Memory r took feeds =
@@ -162,7 +162,7 @@ found_nothing told told_fails records none =
     }
 
 -- the framer's ending is the source's
-pub found_ended : (told : Option (List ℕ)) (told_fails : Bool) (records : List (List ℕ)) (place : Place) (end : Ending) → IsReadToItsEnd told told_fails records place
+pub found_ended : (told : Option (List ℕ)) (told_fails : Bool) (records : List (List ℕ)) (place : FramerState) (end : Ending) → IsReadToItsEnd told told_fails records place
     → ((stream : List ℕ) (rs : List (List ℕ)) → StandsAt stream rs place → IsSplit stream rs end) → IsFoundIn told told_fails records (mark.Ended end)
 found_ended told told_fails records place end r finish = record {
   bytes = r.read;
@@ -172,7 +172,7 @@ found_ended told told_fails records place end r finish = record {
 }
 
 -- before the first read
-pub nothing_read : (told : Option (List ℕ)) (told_fails : Bool) (records : List (List ℕ)) (place : Place) → records ≡ [] → place ≡ Early []
+pub nothing_read : (told : Option (List ℕ)) (told_fails : Bool) (records : List (List ℕ)) (place : FramerState) → records ≡ [] → place ≡ Early []
     → IsBeingRead told told_fails 0 told told_fails records place
 nothing_read told told_fails records place none is =
     let some : HEADER ≢ [] = λ e. cc in
@@ -199,7 +199,7 @@ pub found_untold : (told : Option (List ℕ)) (told_fails : Bool) (records : Lis
 found_untold told told_fails records found f = (f.bytes, (f.fails, f.marked))
 
 -- no new records yet
-pub nothing_new : (told to_come : Option (List ℕ)) (told_fails fails : Bool) (rounds : ℕ) (records new : List (List ℕ)) (place : Place) → new ≡ []
+pub nothing_new : (told to_come : Option (List ℕ)) (told_fails fails : Bool) (rounds : ℕ) (records new : List (List ℕ)) (place : FramerState) → new ≡ []
     → IsBeingRead told told_fails rounds to_come fails records place → IsBeingRead told told_fails rounds to_come fails (records ++ new) place
 nothing_new told to_come told_fails fails rounds records new place none r =
     subst (λ rs. IsBeingRead told told_fails rounds to_come fails rs place) (sym (ap (λ l. records ++ l) none ∙ append-nil records)) r

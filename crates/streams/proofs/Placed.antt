@@ -4,7 +4,7 @@ use Rattle.std.specs.Prelude.{⊤}
 use Rattle.planar_code.specs.declared.ending.Ending.{Ending}
 use Rattle.planar_code.specs.declared.ending.Ending.TheVariants as ending
 use Rattle.planar_code.specs.Split.{IsSplit}
-use Rattle.planar_code.specs.Place.{Place}
+use Rattle.planar_code.specs.FramerState.{FramerState}
 use Rattle.planar_code.proofs.Splits.{split_same}
 use Rattle.streams.specs.declared.frames.Mark.{Mark}
 use Rattle.streams.specs.declared.frames.Mark.TheVariants.{Ended, Io}
@@ -62,20 +62,20 @@ first_found None fails records mark f = tt
 first_found (Some told) fails records mark f = λ all end split.
     marked_first f.bytes f.fails records mark f.marked all end (subst (λ t. IsSplit t all end) f.gave.0 split)
 
-first_read : (told : Option (List ℕ)) (told_fails : Bool) (rounds : ℕ) (to_come : Option (List ℕ)) (fails : Bool) (records : List (List ℕ)) (place : Place)
+first_read : (told : Option (List ℕ)) (told_fails : Bool) (rounds : ℕ) (to_come : Option (List ℕ)) (fails : Bool) (records : List (List ℕ)) (place : FramerState)
     → IsBeingRead told told_fails rounds to_come fails records place → AreFirst told records
 first_read None told_fails rounds to_come fails records place r = tt
 first_read (Some told) told_fails rounds None fails records place r = absurd r.took
 first_read (Some told) told_fails rounds (Some left) fails records place r = λ all end split.
     beginning_stands r.read left records place r.stands all end (subst (λ t. IsSplit t all end) r.took split)
 
-first_ended : (told : Option (List ℕ)) (told_fails : Bool) (records : List (List ℕ)) (place : Place) → IsReadToItsEnd told told_fails records place → AreFirst told records
+first_ended : (told : Option (List ℕ)) (told_fails : Bool) (records : List (List ℕ)) (place : FramerState) → IsReadToItsEnd told told_fails records place → AreFirst told records
 first_ended None told_fails records place r = tt
 first_ended (Some told) told_fails records place r = λ all end split.
     beginning_stands r.read [] records place r.stands all end (subst (λ t. IsSplit t all end) (r.gave.0 ∙ sym (append-nil r.read)) split)
 
 -- the records that one more read led to
-pub first_step : (told : Option (List ℕ)) (told_fails : Bool) (rounds : ℕ) (to_come : Option (List ℕ)) (fails : Bool) (records : List (List ℕ)) (place : Place) (led : PieceOutcome)
+pub first_step : (told : Option (List ℕ)) (told_fails : Bool) (rounds : ℕ) (to_come : Option (List ℕ)) (fails : Bool) (records : List (List ℕ)) (place : FramerState) (led : PieceOutcome)
     → LeadsTo told told_fails rounds to_come fails records place led → AreFirst told records
 first_step told told_fails rounds to_come fails records place step.More leads = first_read told told_fails (rounds + 1) to_come fails records place leads
 first_step told told_fails rounds to_come fails records place step.Ended leads = first_ended told told_fails records place leads

@@ -1,7 +1,7 @@
 //! How a source is read into records and a mark.
 ghost use Rattle.std.specs.Prelude.{◌≡◌, ◌+◌, ◌<◌, ◌≤◌, ℕ, List, length, vec_len, IfOk};
 ghost use Rattle.planar_code.specs.declared.TheConstants.{MAX_RECORDS};
-ghost use Rattle.planar_code.specs.Place.{StandsAt};
+ghost use Rattle.planar_code.specs.FramerState.{StandsAt};
 ghost use Rattle.streams.specs.Reading.{ReadsOn, IsFoundIn};
 ghost use Rattle.streams.specs.Placing.{ArePlaced};
 ghost use Rattle.streams.specs.declared.reading.TheConstants.{PIECE};

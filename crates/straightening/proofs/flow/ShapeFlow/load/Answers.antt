@@ -3,7 +3,7 @@ use Rattle.std.specs.Prelude.{slice_index, slice_set}
 use Rattle.std.proofs.lemmas.List.{get_or-set_same, get_or-set_other}
 use Rattle.ortho_rep.specs.Turns.{lefts}
 use Rattle.ortho_rep.specs.Shapes.{angle_at, turns_at}
-use Rattle.straightening.proofs.flow.Flow.load.Goals as goal
+use Rattle.straightening.proofs.flow.ShapeFlow.load.Goals as goal
 
 pub loop-dart-preserved : goal.loop-dart-preserved
 loop-dart-preserved c =

@@ -4,10 +4,10 @@ use Rattle.entries.specs.Abouts.{about_of}
 use Rattle.entries.specs.Books.{IsBook, AreBooks}
 use Rattle.entries.proofs.KeptBooks.{books_more}
 use Rattle.entries.proofs.Ready.{ready_some, book_ready}
-use Rattle.entries.proofs.binding.bind.Goals as goal
+use Rattle.entries.proofs.books.books_of.Goals as goal
 
-pub bound-requires : goal.bound-requires
-bound-requires c =
+pub book_of-requires : goal.book_of-requires
+book_of-requires c =
     let some = c.loop-draft.invariant.some in
     ready_some _ _ _ c.in-Some.draft (subst (AreReady about_of some.0 some.1 (vec_len c.loop-draft.books)) c.in-Some.ensures.steps.0 some.2).0
 
@@ -25,12 +25,12 @@ loop-draft-preserved c =
         subst (λ k. AreReady about_of some.0 some.1 k c.next.new.self.rest.items) next
             (subst (AreReady about_of some.0 some.1 (vec_len c.loop-draft.books)) c.in-Some.ensures.steps.0 some.2).1,
       );
-      bound = λ choice meaning ready.
-          let both = c.loop-draft.invariant.bound choice meaning ready in
+      book_of = λ choice meaning ready.
+          let both = c.loop-draft.invariant.book_of choice meaning ready in
           let rest = subst (AreReady about_of choice meaning (vec_len c.loop-draft.books)) c.in-Some.ensures.steps.0 both.1 in (
             subst (AreBooks choice meaning 0) (sym c.in_ok-push.ensures.items)
-                (books_more choice meaning 0 books c.bound.result both.0
-                (subst (λ k. IsBook choice (meaning k) k c.bound.result) here (book_ready _ _ _ c.in-Some.draft c.bound.result rest.0 c.bound.ensures))),
+                (books_more choice meaning 0 books c.book_of.result both.0
+                (subst (λ k. IsBook choice (meaning k) k c.book_of.result) here (book_ready _ _ _ c.in-Some.draft c.book_of.result rest.0 c.book_of.ensures))),
             subst (λ k. AreReady about_of choice meaning k c.next.new.self.rest.items) next rest.1,
           );
     }

@@ -1,7 +1,7 @@
 use Rattle.std.proofs.Common.{◌<◌, length, inl, inr, refl, sym, subst, ◌∙◌, arith}
 use Rattle.std.specs.Prelude.{slice_set}
 use Rattle.straightening.proofs.Fitting.{IsTightAngle, IsTightCrossing, moved, set-other, set-lower}
-use Rattle.straightening.proofs.flow.Flow.send.Goals as goal
+use Rattle.straightening.proofs.flow.ShapeFlow.send.Goals as goal
 
 pub returns-then-self-to-gt0 : goal.returns-then-self-to-gt0
 returns-then-self-to-gt0 c =

@@ -10,7 +10,7 @@ use Rattle.ortho_rep.proofs.OneSided.{shapes-more, repeats-more}
 use Rattle.ortho_rep.proofs.SameAtDarts.{rep-alike, prove-alike}
 use Rattle.ortho_rep.proofs.WeakDuality.{least_by_prices}
 use Rattle.straightening.specs.Flows.{angle_in, string_in}
-use Rattle.straightening.proofs.flow.Flow.shape.Goals as goal
+use Rattle.straightening.proofs.flow.ShapeFlow.shape.Goals as goal
 
 pub loop-dart-preserved : goal.loop-dart-preserved
 loop-dart-preserved c =

@@ -6,7 +6,7 @@ use Rattle.faces.specs.Planes.{reverse_dart}
 use Rattle.ortho_rep.specs.declared.turn.Turn.TheVariants.{Left}
 use Rattle.ortho_rep.specs.OfFlow.{lefts_then_rights}
 use Rattle.straightening.proofs.OneWay.{one_way, few}
-use Rattle.straightening.proofs.flow.Flow.dart_shape.Goals as goal
+use Rattle.straightening.proofs.flow.ShapeFlow.dart_shape.Goals as goal
 
 pub returns-then-lefts-gt0-clause-turns : goal.returns-then-lefts-gt0-clause-turns
 returns-then-lefts-gt0-clause-turns c =

@@ -18,7 +18,7 @@ use std::alloc::{AllocError, Global};
 /// # Errors
 ///
 /// `AllocError` where there is no memory for the list of books.
-pub fn bind(alloc: Global, drafts: Vec<Draft<Entry>>) -> Result<Batch, AllocError>
+pub fn books_of(alloc: Global, drafts: Vec<Draft<Entry>>) -> Result<Batch, AllocError>
     requires few { vec_len drafts ≤ MAX_FILES }
     requires ready { (choice : Choice) × (meaning : ℕ → Meaning) × AreReady about_of choice meaning 0 drafts.items }
     ensures count { IfOk result (λ books. length books ≡ vec_len drafts) }
@@ -27,13 +27,13 @@ pub fn bind(alloc: Global, drafts: Vec<Draft<Entry>>) -> Result<Batch, AllocErro
 {
     let mut books = Vec::with_capacity(alloc, drafts.len())?;
     for draft in drafts {
-        books.push(bound(draft))?;
+        books.push(book_of(draft))?;
     }
     Ok(Batch::new(books))
 }
 
 /// The book of a draft with a mark.
-fn bound(draft: Draft<Entry>) -> Book
+fn book_of(draft: Draft<Entry>) -> Book
     requires { IsSome draft.mark }
     ensures { (mark : Mark) → draft.mark ≡ Some mark → result ≡ record { entries = draft.entries.items; mark = mark } }
 {

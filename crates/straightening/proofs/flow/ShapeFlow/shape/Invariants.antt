@@ -4,7 +4,7 @@ use Rattle.ortho_rep.specs.declared.turn.TheConstants.{MAX_REPEATS}
 use Rattle.ortho_rep.specs.declared.repeats.DartShape.{DartShape}
 use Rattle.ortho_rep.specs.Repeats.{HaveShapes}
 use Rattle.straightening.specs.Flows.{angle_in, string_in}
-use Rattle.straightening.proofs.flow.Flow.shape.Given as goal
+use Rattle.straightening.proofs.flow.ShapeFlow.shape.Given as goal
 
 abbrev pub invariant-loop-dart : goal.invariant-loop-dart
 invariant-loop-dart l =

@@ -9,10 +9,10 @@ use Rattle.planar_code.specs.Split.{IsDivided, IsSplit, ending_of}
 
 -- all that a framer keeps of its stream: a beginning of the header; after the header how many records
 -- there were and the bytes of the record that is open; or its fault
-pub data Place : Type 0 where
-  Early : List ℕ → Place
-  After : ℕ → List ℕ → Place
-  Failed : FeedFault → Place
+pub data FramerState : Type 0 where
+  Early : List ℕ → FramerState
+  After : ℕ → List ℕ → FramerState
+  Failed : FeedFault → FramerState
 
 -- so far the stream is a beginning of the header, not the whole of it
 pub record StandsEarly (stream : List ℕ) (records : List (List ℕ)) (front : List ℕ) : Type 0 where
@@ -26,47 +26,47 @@ pub record StandsEarly (stream : List ℕ) (records : List (List ℕ)) (front : 
 -- 1,000,000 records has nothing after it
 pub record StandsAfter (stream : List ℕ) (records : List (List ℕ)) (count : ℕ) (rest : List ℕ) : Type 0 where
   pub body : List ℕ
-  pub headed : stream ≡ HEADER ++ body
+  pub with_header : stream ≡ HEADER ++ body
   pub divided : IsDivided body records rest
   pub counted : length records ≡ count
   pub open_record : IsUnfinished rest
   pub full : count ≡ MAX_RECORDS → rest ≡ []
 
--- a stream that has these records so far has led to the place; to a fault where, however the stream
+-- a stream that has these records so far has led to the state; to a fault where, however the stream
 -- goes on, it has just these records and ends as the fault says
-abbrev pub StandsAt : List ℕ → List (List ℕ) → Place → Type 0
+abbrev pub StandsAt : List ℕ → List (List ℕ) → FramerState → Type 0
 StandsAt stream records (Early front) = StandsEarly stream records front
 StandsAt stream records (After count rest) = StandsAfter stream records count rest
 StandsAt stream records (Failed f) = (more : List ℕ) → IsSplit (stream ++ more) records (ending_of f)
 
--- whatever stream led to the old place: with the piece after it, it leads to the new place, and has
+-- whatever stream led to the old state: with the piece after it, it leads to the new state, and has
 -- the added records beyond those that it had
-abbrev pub Goes : Place → List ℕ → List (List ℕ) → Place → Type 0
+abbrev pub Goes : FramerState → List ℕ → List (List ℕ) → FramerState → Type 0
 Goes old piece added new = (stream : List ℕ) (records : List (List ℕ)) → StandsAt stream records old → StandsAt (stream ++ piece) (records ++ added) new
 
 -- the framer has not failed
-abbrev pub IsRunning : Place → Type 0
-IsRunning place = (f : FeedFault) → place ≢ Failed f
+abbrev pub HasNotFailed : FramerState → Type 0
+HasNotFailed state = (f : FeedFault) → state ≢ Failed f
 
 -- a beginning of the piece has the added records and one more, for which there was no memory
-pub record LosesRecord (old : Place) (piece : List ℕ) (added : List (List ℕ)) : Type 0 where
+pub record LosesRecord (old : FramerState) (piece : List ℕ) (added : List (List ℕ)) : Type 0 where
   pub front : List ℕ
   pub back : List ℕ
   pub parts : piece ≡ front ++ back
   pub lost : List ℕ
-  pub next : Place
+  pub next : FramerState
   pub goes : Goes old front (added ++ lost ∷ []) next
 
 -- what a piece leads to: the added records are those that it has beyond the earlier ones, and where
 -- it gives a fault, that of the stream. Where memory is wanted, it is for one more record, or was
 -- wanted before
-abbrev pub Reads : Place → List ℕ → List (List ℕ) → Place → Result Unit FeedFault → Type 0
-Reads old piece added new (Ok _) = IsRunning new × Goes old piece added new
+abbrev pub Reads : FramerState → List ℕ → List (List ℕ) → FramerState → Result Unit FeedFault → Type 0
+Reads old piece added new (Ok _) = HasNotFailed new × Goes old piece added new
 Reads old piece added new (Err fault.Memory) = (new ≡ Failed fault.Memory) × (((old ≡ Failed fault.Memory) × (added ≡ [])) ⊎ LosesRecord old piece added)
 Reads old piece added new (Err f) = (new ≡ Failed f) × Goes old piece added new
 
 -- a framer is fed a piece: the records that are added stand after those that the list had before
-pub record Feeds (old : Place) (piece : List ℕ) (before after : List (List ℕ)) (new : Place) (result : Result Unit FeedFault) : Type 0 where
+pub record Feeds (old : FramerState) (piece : List ℕ) (before after : List (List ℕ)) (new : FramerState) (result : Result Unit FeedFault) : Type 0 where
   pub added : List (List ℕ)
   pub appended : after ≡ before ++ added
   pub reads : Reads old piece added new result
