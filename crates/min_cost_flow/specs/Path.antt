@@ -1,4 +1,4 @@
--- A path of residual arcs with capacity of reduced cost 0, from a node where units are left over to one where
+-- A path of unsaturated residual arcs of reduced cost 0, from a node where units are left over to one where
 -- units are wanting.
 use Rattle.std.specs.Prelude.{ℕ, zero, suc, ◌<◌, ◌≡◌, ℤ, pos, ◌+ℤ◌, ◌-ℤ◌, Bool, true, false, List}
 use Rattle.networks.specs.declared.residual.ResidualArc.{ResidualArc}

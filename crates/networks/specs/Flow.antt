@@ -68,7 +68,7 @@ unit_cost net i true = pos 0 -ℤ pos (arc_at net i).cost
 abbrev pub reduced_cost : NetworkModel → (ℕ → ℤ) → ℕ → Bool → ℤ
 reduced_cost net p i back = unit_cost net i back +ℤ p (start_of net i back) -ℤ p (end_of net i back)
 
--- each residual arc with capacity has a reduced cost of at least 0
+-- each unsaturated residual arc has a reduced cost of at least 0
 pub record HasPotentials (net : NetworkModel) (x : ℕ → ℕ) (p : ℕ → ℤ) : Type 0 where
   pub residual : (i : ℕ) (back : Bool) → i < arc_count net → IsResidual net x i back → pos 0 ≤ℤ reduced_cost net p i back
 

@@ -39,7 +39,7 @@ pub record IsGraph (n : ℕ) (first : List ℕ) (arcs : List ResidualArc) : Type
 abbrev pub HasResidualCapacity : List ResidualArc → ℕ → Type 0
 HasResidualCapacity arcs k = cost_at arcs k ≤ℤ pos 1
 
--- potentials with which a search can begin: under them no residual arc with capacity has a reduced cost below 0
+-- potentials with which a search can begin: under them no unsaturated residual arc has a reduced cost below 0
 pub record AreFeasiblePotentials (n : ℕ) (first : List ℕ) (arcs : List ResidualArc) (p e : ℕ → ℤ) : Type 0 where
   pub reduced : (v k : ℕ) → v < n → StartsAt first v k → HasResidualCapacity arcs k → pos 0 ≤ℤ (cost_at arcs k +ℤ p v -ℤ p (end_at arcs k))
   pub low : (v : ℕ) → v < n → (pos 0 ≤ℤ (p v +ℤ pos (2 * n))) × (p v ≤ℤ pos (2 * n))

@@ -15,7 +15,7 @@ impl<'a> Search<'a> {
     /// where units are wanting.
     ///
     /// Then `bound` is the distance of that node, and `found` the last residual arc on the way there;
-    /// where residual arcs with capacity lead to no such node, `bound` is `FAR`. A node's label is the root's
+    /// where unsaturated residual arcs lead to no such node, `bound` is `FAR`. A node's label is the root's
     /// potential and the costs of the residual arcs on the way; less its own potential it is its distance.
     /// Each node that was reached has the residual arc on which it was entered, and a place in the order,
     /// the root the first. Those at its first `scanned` places were scanned, and the others that were reached

@@ -73,9 +73,9 @@ line_more : (line : List ℕ) (u v w : Waiting) → IsCountedOne u v → GetsLin
 line_more line u v w p q = (q.lines ∙ ap (λ l. l ++ line) p.lines, q.count ∙ p.count, q.mark ∙ p.mark)
 
 -- what has come of the current file stays
-front_same : (form : Form) (file current : ℕ) (came next : ℕ → Came) → current < file → ((other : ℕ) → other ≢ file → next other ≡ came other)
+current_same : (form : Form) (file current : ℕ) (came next : ℕ → Came) → current < file → ((other : ℕ) → other ≢ file → next other ≡ came other)
     → ended_texts form came current ++ begun form current (came current) ≡ ended_texts form next current ++ begun form current (next current)
-front_same form file current came next before others =
+current_same form file current came next before others =
     ap (λ t. t ++ begun form current (came current)) (texts_same form came next current (λ k lt. others k (λ e. absurd (omega (arith, lt, before, e)))))
     ∙ ap (λ c. ended_texts form next current ++ begun form current c) (sym (others current (λ e. absurd (omega (arith, before, e)))))
 
@@ -93,7 +93,7 @@ written_behind form start now buffer file current waiting mid after came next en
       lines = after_change (λ w c. w.lines ≡ lines_in form c.entries) (λ k. current < k) file waiting after came next (HasLineMore line) changed more.others below
           (λ _ w w' c same. c.0 ∙ ap (λ l. l ++ line) same ∙ ap (λ l. lines_in form (came file).entries ++ l) (sym is) ∙ sym (lines-more form (came file).entries entry)
           ∙ ap (λ (c : Came). lines_in form c.entries) (sym more.here)) was.lines;
-      going = λ lt. subst (IsInTransit start now buffer) (front_same form file current came next before more.others) (was.going (omega (arith, lt, changed.count)));
+      going = λ lt. subst (IsInTransit start now buffer) (current_same form file current came next before more.others) (was.going (omega (arith, lt, changed.count)));
       over = λ past. absurd (omega (arith, past, changed.count, below, before));
     }
 

@@ -111,7 +111,7 @@ up_to choice meaning form ns came (suc n) told have =
       );
     }
 
--- the current is past the last file
+-- the current file is past the last one
 past_last : (choice held_choice : Choice) (meaning known : ℕ → Meaning) (form : Form) (start now : Option (List ℕ)) (buffer : List ℕ) (current : ℕ) (waiting : List Waiting) (whole : Bool) (ns : List Note)
     → HaveFiles choice meaning (length waiting) ns → HoldsNotes held_choice known form start now buffer current waiting whole ns → length waiting ≤ current
 past_last choice held_choice meaning known form start now buffer current waiting whole ns have holds =

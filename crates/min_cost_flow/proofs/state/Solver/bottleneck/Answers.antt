@@ -55,7 +55,7 @@ narrow-init c =
     record {
       node = λ net' g. subst (λ (t : ℕ). t < node_count net') (sym at) (own_last net' s c.args.root g).node;
       narrowed = subst (λ (t : ℕ). IsNarrowed next (places_in s) capacities (last_node s) t c.min-amount.result) (sym at) (narrowed_first next (places_in s) capacities (last_node s) c.min-amount.result);
-      some = lesser_some c.most_between-most.result c.index-2.result.now.capacity c.min-amount.result least m.some (omega (arith, l.link.some));
+      some = lesser_some c.most_between-most.result c.index-2.result.now.capacity c.min-amount.result least m.some (omega (arith, l.tight_arc.some));
       found = omega (arith, least);
       remaining = lesser_remaining c.most_between-most.result c.min-amount.result (excess_at s c.args.root) (omega (arith, least)) (rw d at m.remaining);
       short = lesser_short c.most_between-most.result c.min-amount.result (excess_at s (end_at s.residual.arcs.items s.found)) (omega (arith, least)) (rw (d, target) at m.wanting);
@@ -130,7 +130,7 @@ narrow-preserved c =
     record {
       node = λ net' g. subst (λ (t : ℕ). t < node_count net') (sym at) (own_step net' s c.args.root g v (i.on net' g) some).node;
       narrowed = subst (λ (t : ℕ). IsNarrowed next (places_in s) capacities (last_node s) t k') (sym at) (narrowed_more next (places_in s) capacities (last_node s) v c.narrow.amount k' i.narrowed some less (omega (arith, least)));
-      some = lesser_some c.narrow.amount c.index-in-narrow-3.result.now.capacity k' least i.some (omega (arith, st.link.some));
+      some = lesser_some c.narrow.amount c.index-in-narrow-3.result.now.capacity k' least i.some (omega (arith, st.tight_arc.some));
       found = omega (arith, less, i.found);
       remaining = lesser_remaining c.narrow.amount k' (excess_at s c.args.root) less i.remaining;
       short = lesser_short c.narrow.amount k' (excess_at s (end_at s.residual.arcs.items s.found)) less i.short;
