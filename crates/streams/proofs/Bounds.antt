@@ -21,7 +21,7 @@ length-unfinished : (bytes : List ℕ) → IsUnfinished bytes → length bytes �
 length-unfinished bytes u = omega (arith, length-append bytes u.missing, length-record _ u.whole)
 
 -- the header, 1,000,000 records and one more that is begun
-pub length-running : (read : List ℕ) (records : List (List ℕ)) (place : FramerState) → StandsAt read records place → HasNotFailed place
+pub length-running : (read : List ℕ) (records : List (List ℕ)) (state : FramerState) → StandsAt read records state → HasNotFailed state
     → length read ≤ 15 + 65026 * 1000001
 length-running read records (Early front) s running =
     omega (arith, ap length s.same, length-append front s.missing, ap length s.whole)
@@ -39,15 +39,15 @@ length-running read records (After count rest) s running =
 length-running read records (Failed f) s running = absurd (running f refl)
 
 -- so no source is read in more rounds
-pub few_rounds : (told : Option (List ℕ)) (told_fails : Bool) (rounds : ℕ) (to_come : Option (List ℕ)) (fails : Bool) (records : List (List ℕ)) (place : FramerState)
-    → IsBeingRead told told_fails rounds to_come fails records place → rounds ≤ 15 + 65026 * 1000001
-few_rounds told told_fails rounds to_come fails records place r =
-    let went = r.went in omega (arith, length-running r.read records place r.stands r.running)
+pub few_rounds : (told : Option (List ℕ)) (told_fails : Bool) (rounds : ℕ) (to_come : Option (List ℕ)) (fails : Bool) (records : List (List ℕ)) (state : FramerState)
+    → IsBeingRead told told_fails rounds to_come fails records state → rounds ≤ 15 + 65026 * 1000001
+few_rounds told told_fails rounds to_come fails records state r =
+    let went = r.went in omega (arith, length-running r.read records state r.stands r.running)
 
--- at no place are there more than 1,000,000 records
-pub few_stand : (read : List ℕ) (records : List (List ℕ)) (place : FramerState) → StandsAt read records place → length records ≤ MAX_RECORDS
-few_stand read records place s = let split = split_stands read records place s in length-split read records split.0 split.1
+-- at no state are there more than 1,000,000 records
+pub few_stand : (read : List ℕ) (records : List (List ℕ)) (state : FramerState) → StandsAt read records state → length records ≤ MAX_RECORDS
+few_stand read records state s = let split = split_stands read records state s in length-split read records split.0 split.1
 
 -- where nothing is added, there are as few
-pub few_stay : (read : List ℕ) (records : List (List ℕ)) (place : FramerState) (count : ℕ) → StandsAt read records place → length records + count ≤ MAX_RECORDS + count
-few_stay read records place count s = omega (arith, few_stand read records place s)
+pub few_stay : (read : List ℕ) (records : List (List ℕ)) (state : FramerState) (count : ℕ) → StandsAt read records state → length records + count ≤ MAX_RECORDS + count
+few_stay read records state count s = omega (arith, few_stand read records state s)

@@ -1,4 +1,4 @@
--- What a framer's place says of the marks of a source.
+-- What a framer's state says of the marks of a source.
 use Rattle.std.proofs.Common.{◌≡◌, ◌≢◌, ◌⊎◌, ℕ, List, [], ◌∷◌, ◌++◌, inl, inr, length, refl, sym, ap, subst, ◌∙◌, append_assoc, append-nil}
 use Rattle.planar_code.specs.declared.TheConstants.{HEADER}
 use Rattle.planar_code.specs.declared.ending.Ending.{Ending}
@@ -38,14 +38,14 @@ after_ends text records count (x ∷ rest) s =
     }))
 
 -- the stream so far has the records that it led to
-pub split_stands : (text : List ℕ) (records : List (List ℕ)) (place : FramerState) → StandsAt text records place → (end : Ending) × IsSplit text records end
+pub split_stands : (text : List ℕ) (records : List (List ℕ)) (state : FramerState) → StandsAt text records state → (end : Ending) × IsSplit text records end
 split_stands text records (Early front) s = (ending.Header, inl (early_headerless text records front s))
 split_stands text records (After count rest) s =
     elim (after_ends text records count rest s) [ inl h ↦ (ending.Complete, h) | inr h ↦ (ending.Truncated, h) ]
 split_stands text records (Failed f) s = (ending_of f, subst (λ t. IsSplit t records (ending_of f)) (append-nil text) (s []))
 
 -- where the framer has not failed, more bytes may come
-pub open_stands : (text : List ℕ) (records : List (List ℕ)) (place : FramerState) → StandsAt text records place → HasNotFailed place → MayGoOn text
+pub open_stands : (text : List ℕ) (records : List (List ℕ)) (state : FramerState) → StandsAt text records state → HasNotFailed state → MayGoOn text
 open_stands text records (Early front) s running = inl (s.missing, ap (λ l. l ++ s.missing) s.same ∙ s.whole)
 open_stands text records (After count rest) s running =
     elim (after_ends text records count rest s) [ inl h ↦ inr (inl (records, h)) | inr h ↦ inr (inr (records, h)) ]
@@ -90,7 +90,7 @@ failed_not_open text more records f s (inr (inl (others, h))) = not_complete f (
 failed_not_open text more records f s (inr (inr (others, h))) = not_truncated f (split_same (text ++ more) records others _ _ (s more) h).1
 
 -- however a stream goes on, its records begin with those that it led to
-pub beginning_stands : (text more : List ℕ) (records : List (List ℕ)) (place : FramerState) → StandsAt text records place
+pub beginning_stands : (text more : List ℕ) (records : List (List ℕ)) (state : FramerState) → StandsAt text records state
     → (all : List (List ℕ)) (end : Ending) → IsSplit (text ++ more) all end → IsBeginningOf records all
 beginning_stands text more records (Early front) s all end split = (all, ap (λ l. l ++ all) (sym s.none))
 beginning_stands text more records (After count rest) s all end (inl h) =
