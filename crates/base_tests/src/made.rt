@@ -11,8 +11,8 @@ pub(crate) struct Drawn<'a> {
     pub(crate) wires: &'a [(u16, u16)],
 }
 
-/// Whether these weights of pairs of segments show that a drawing is shortest with these coordinates; no where they are too
-/// many, or not one a segment.
+/// Whether these weights of pairs of segments show that a drawing is shortest with these coordinates; no where they
+/// are too many, or not one a segment.
 pub(crate) fn is_certified(
     alloc: Global,
     drawn: Drawn<'_>,

@@ -378,8 +378,8 @@ fn spread(segments: &[u32], coordinates: &mut [u16])
     }
 }
 
-/// Raises coordinates to those of longest paths, segment by segment: a segment comes when the coordinates of all segments that
-/// have a step to it are known. Linear in the vertices.
+/// Raises coordinates to those of longest paths, segment by segment: a segment comes when the coordinates of all
+/// segments that have a step to it are known. Linear in the vertices.
 pub fn raise_to_longest_paths(
     axis_segments: &mut AxisSegments,
     steps: Steps<'_>,

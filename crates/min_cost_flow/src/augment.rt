@@ -2,8 +2,8 @@
 //! many units as fit along it, but no more than are left over where it starts or are wanting where it ends.
 //!
 //! It goes over the residual arcs of the path twice, and takes no memory. Potentials stay: along the path reduced
-//! costs are 0, so the residual arcs back, which it gives capacity, have reduced costs of 0 too. Amounts are at most 2,048
-//! units.
+//! costs are 0, so the residual arcs back, which it gives capacity, have reduced costs of 0 too. Amounts are at
+//! most 2,048 units.
 ghost use Rattle.std.specs.Prelude.{◌≡◌, ◌<◌, ◌≤◌, ℕ, length, pos, ◌≤ℤ◌, ◌<ℤ◌, ◌+ℤ◌};
 ghost use Rattle.networks.specs.Networks.{NetworkModel};
 ghost use Rattle.networks.specs.Flow.{at_nodes};

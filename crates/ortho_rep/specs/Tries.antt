@@ -17,7 +17,7 @@ pub record IsIncumbent (p : PlaneModel) (incumbent : Incumbent) : Type 0 where
   pub some : HasRep (with_outer p incumbent.face) incumbent.bends
   pub needs : NeedsBends (with_outer p incumbent.face) incumbent.bends
 
--- a lead is another one, or better: fewer bends, or as many and a lesser number
+-- an incumbent is another one, or better: fewer bends, or as many and a lesser number
 pub record IsAhead (incumbent other : Incumbent) : Type 0 where
   pub fewer : incumbent.bends ≤ other.bends
   pub first : incumbent.bends ≡ other.bends → incumbent.face ≤ other.face

@@ -3,8 +3,8 @@
 use crate::run_lines::Lines;
 use lanes::Pauses;
 
-/// The part of what may wait from which on the next file that has not ended alone goes on beside the current file. So two
-/// lanes are at work for most of a run, where a whole bound for all would let one run alone.
+/// The part of what may wait from which on the next file that has not ended alone goes on beside the current file.
+/// So two lanes are at work for most of a run, where a whole bound for all would let one run alone.
 const PART: usize = 4;
 
 /// How much may wait of files that are not current yet, and where it is written that their reading pauses.
@@ -16,8 +16,8 @@ pub struct Pace<'p> {
 }
 
 impl Pace<'_> {
-    /// Lets the files behind the current file pause where as much waits of them as may, those behind the next one where a
-    /// part of it waits, and else none.
+    /// Lets the files behind the current file pause where as much waits of them as may, those behind the next one
+    /// where a part of it waits, and else none.
     pub(crate) fn keep(&self, lines: &Lines) {
         if lines.waits() >= self.most {
             self.pauses.pause_behind(lines.current());
