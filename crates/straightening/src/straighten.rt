@@ -41,7 +41,7 @@ const REFLEX: u8 = 3;
 /// At a vertex of degree 2 that turns, one corner has three right angles and the other has one. Such vertices are
 /// made straight one after another: a unit goes from the reflex corner to the right angle, and back from the face of
 /// the right angle to that of the reflex corner, where there is a path of residual arcs whose reduced cost is 0 by the
-/// prices (a flow of least cost stays one along a cycle of such arcs, by complementary slackness). On that way no
+/// prices (a flow of least cost stays one along a cycle of such arcs, by complementary slackness). On that path no
 /// vertex of degree 2 begins to turn. Each unit is moved only where the prices
 /// stay a proof. What comes of these moves is handed out only where it has fewer reflex angles and is tested to be a
 /// representation; else the given shape comes back: after one look at each angle where no vertex can be made straight so.
