@@ -11,7 +11,7 @@ use Rattle.dissect.proofs.Splitting.{by_place, part, part_here, part_elsewhere, 
 use Rattle.dissect.specs.Steps.{angle_of, start_direction}
 use Rattle.dissect.proofs.SumsAndMaps.{sum_below-two_more}
 use Rattle.dissect.proofs.Mirroring.{mirrored-mirrored, rights-mirrored, turn_counts}
-use Rattle.dissect.proofs.OwedTurns.{owing, gained, lost, IsOwedNext, IsNumberedNext}
+use Rattle.dissect.proofs.OwedTurns.{owing, left_sumed, lost, IsOwedNext, IsNumberedNext}
 
 module _ (w : DartMap) (e way : ℕ) (turn : Turn) (turns : List Turn) (new : DartMap) (face_number face_number' : ℕ → ℕ) (owed owed' : ℕ → List Turn)
     (tied : IsTied w) (e_in : e < w.darts) (s : IsSubdivided w e way (angle_of turn) new)
@@ -62,11 +62,11 @@ module _ (w : DartMap) (e way : ℕ) (turn : Turn) (turns : List Turn) (new : Da
           three b some most off other = let e : b ≡ 3 = omega arith in omega (arith, e)
 
   -- what e and the new dart in front of it turn, against what e turned
-  side_e : (f : ℕ) → let gain = part face_number (λ x. 2 + lefts (owed x)) f in
-      let loss = part face_number (λ x. w.angle x + rights (owed x)) f in
-      let gain' = part face_number' (λ x. 2 + lefts (owed' x)) f in
-      let loss' = part face_number' (λ x. new.angle x + rights (owed' x)) f in
-      gain' e + gain' w.darts + loss e ≡ loss' e + loss' w.darts + gain e
+  side_e : (f : ℕ) → let left_sum = part face_number (λ x. 2 + lefts (owed x)) f in
+      let right_sum = part face_number (λ x. w.angle x + rights (owed x)) f in
+      let left_sum' = part face_number' (λ x. 2 + lefts (owed' x)) f in
+      let right_sum' = part face_number' (λ x. new.angle x + rights (owed' x)) f in
+      left_sum' e + left_sum' w.darts + right_sum e ≡ right_sum' e + right_sum' w.darts + left_sum e
   side_e f =
       let n : ℕ = w.darts in
       let counts = turn_counts turn turns in
@@ -115,11 +115,11 @@ module _ (w : DartMap) (e way : ℕ) (turn : Turn) (turns : List Turn) (new : Da
       ]
 
   -- the same on the other side of the edge
-  side_reverse_dart : (f : ℕ) → let gain = part face_number (λ x. 2 + lefts (owed x)) f in
-      let loss = part face_number (λ x. w.angle x + rights (owed x)) f in
-      let gain' = part face_number' (λ x. 2 + lefts (owed' x)) f in
-      let loss' = part face_number' (λ x. new.angle x + rights (owed' x)) f in
-      gain' (w.reverse_dart e) + gain' (w.darts + 1) + loss (w.reverse_dart e) ≡ loss' (w.reverse_dart e) + loss' (w.darts + 1) + gain (w.reverse_dart e)
+  side_reverse_dart : (f : ℕ) → let left_sum = part face_number (λ x. 2 + lefts (owed x)) f in
+      let right_sum = part face_number (λ x. w.angle x + rights (owed x)) f in
+      let left_sum' = part face_number' (λ x. 2 + lefts (owed' x)) f in
+      let right_sum' = part face_number' (λ x. new.angle x + rights (owed' x)) f in
+      left_sum' (w.reverse_dart e) + left_sum' (w.darts + 1) + right_sum (w.reverse_dart e) ≡ right_sum' (w.reverse_dart e) + right_sum' (w.darts + 1) + left_sum (w.reverse_dart e)
   side_reverse_dart f =
       let n : ℕ = w.darts in
       let t : ℕ = w.reverse_dart e in
@@ -171,26 +171,26 @@ module _ (w : DartMap) (e way : ℕ) (turn : Turn) (turns : List Turn) (new : Da
       ]
 
   -- round each face left and right turns grow alike
-  pub turned_alike : (f : ℕ) → gained new face_number' owed' f + lost w face_number owed f ≡ gained w face_number owed f + lost new face_number' owed' f
+  pub turned_alike : (f : ℕ) → left_sumed new face_number' owed' f + lost w face_number owed f ≡ left_sumed w face_number owed f + lost new face_number' owed' f
   turned_alike f =
       let n : ℕ = w.darts in
       let t : ℕ = w.reverse_dart e in
       let t_in : t < n = tied.reverse_dart_in e e_in in
-      let gain : ℕ → ℕ = part face_number (λ x. 2 + lefts (owed x)) f in
-      let loss : ℕ → ℕ = part face_number (λ x. w.angle x + rights (owed x)) f in
-      let gain' : ℕ → ℕ = part face_number' (λ x. 2 + lefts (owed' x)) f in
-      let loss' : ℕ → ℕ = part face_number' (λ x. new.angle x + rights (owed' x)) f in
-      let gains : sum_below (n + 2) gain' + (gain e + gain t) ≡ sum_below n gain + (gain' e + gain' t) + (gain' n + gain' (n + 1)) =
-      sum_below-two_more n e t gain gain' e_in t_in (tied.reverse_dart_apart e e_in)
+      let left_sum : ℕ → ℕ = part face_number (λ x. 2 + lefts (owed x)) f in
+      let right_sum : ℕ → ℕ = part face_number (λ x. w.angle x + rights (owed x)) f in
+      let left_sum' : ℕ → ℕ = part face_number' (λ x. 2 + lefts (owed' x)) f in
+      let right_sum' : ℕ → ℕ = part face_number' (λ x. new.angle x + rights (owed' x)) f in
+      let left_sums : sum_below (n + 2) left_sum' + (left_sum e + left_sum t) ≡ sum_below n left_sum + (left_sum' e + left_sum' t) + (left_sum' n + left_sum' (n + 1)) =
+      sum_below-two_more n e t left_sum left_sum' e_in t_in (tied.reverse_dart_apart e e_in)
       (λ x l not_e not_t. part_same face_number face_number' (λ x. 2 + lefts (owed x)) (λ x. 2 + lefts (owed' x)) f x (named.old x l)
       (ap (λ (ts : List Turn). 2 + lefts ts) (next.others x l not_e not_t))) in
-      let losses : sum_below (n + 2) loss' + (loss e + loss t) ≡ sum_below n loss + (loss' e + loss' t) + (loss' n + loss' (n + 1)) =
-      sum_below-two_more n e t loss loss' e_in t_in (tied.reverse_dart_apart e e_in)
+      let right_sums : sum_below (n + 2) right_sum' + (right_sum e + right_sum t) ≡ sum_below n right_sum + (right_sum' e + right_sum' t) + (right_sum' n + right_sum' (n + 1)) =
+      sum_below-two_more n e t right_sum right_sum' e_in t_in (tied.reverse_dart_apart e e_in)
       (λ x l not_e not_t. part_same face_number face_number' (λ x. w.angle x + rights (owed x)) (λ x. new.angle x + rights (owed' x)) f x (named.old x l)
       (ap (λ (k : ℕ). k + rights (owed' x)) (s.angle_old x l) ∙ ap (λ (ts : List Turn). w.angle x + rights ts) (next.others x l not_e not_t))) in
-      let all_gains : gained new face_number' owed' f ≡ sum_below (n + 2) gain' = ap (λ (k : ℕ). sum_below k gain') s.darts in
-      let all_losses : lost new face_number' owed' f ≡ sum_below (n + 2) loss' = ap (λ (k : ℕ). sum_below k loss') s.darts in
-      omega (arith, gains, losses, all_gains, all_losses, side_e f, side_reverse_dart f)
+      let all_left_sums : left_sumed new face_number' owed' f ≡ sum_below (n + 2) left_sum' = ap (λ (k : ℕ). sum_below k left_sum') s.darts in
+      let all_right_sums : lost new face_number' owed' f ≡ sum_below (n + 2) right_sum' = ap (λ (k : ℕ). sum_below k right_sum') s.darts in
+      omega (arith, left_sums, right_sums, all_left_sums, all_right_sums, side_e f, side_reverse_dart f)
 
   -- what the new map's darts owe mirrors what their reverses owe
   pub mirrors_on : ((x : ℕ) → x < w.darts → owed (w.reverse_dart x) ≡ mirrored (owed x)) →

@@ -20,7 +20,7 @@ use Rattle.ortho_rep.specs.Prices.{PricesModel, Prove, IsProof, vertex_price, fa
 use Rattle.ortho_rep.specs.Shapes.{ShapeModel, angle_at, turns_at}
 use Rattle.ortho_rep.proofs.FewTurns.{few_turns}
 use Rattle.ortho_rep.proofs.TurnCounts.{lefts-cons, rights-cons}
-use Rattle.ortho_rep.proofs.WeakDuality.{part_at, gains, losses, turning-split, least_by_prices}
+use Rattle.ortho_rep.proofs.WeakDuality.{part_at, left_sums, right_sums, turning-split, least_by_prices}
 use Rattle.ortho_rep.proofs.SameAtDarts.{rep-alike, prove-alike}
 
 pub lefts-lefts_then_rights : (l r : ℕ) → lefts (lefts_then_rights l r) ≡ l
@@ -135,14 +135,14 @@ around_face p net x f ends is flow below =
     (λ d b. ap (λ (e : ℕ). cond (eqb (face (reverse_dart p d)) f) (x (n + e)) 0) (sym (ends.reverse_dart_back d b)))
     ∙ sum_below-turned n (reverse_dart p) (λ d. cond (eqb (face d) f) (right d) 0) ends.reverse_dart_inside ends.reverse_dart_back in
     let meets : balance net x k ≡ whole_turn p f -ℤ pos (degree p f) = flow.meets k (omega (arith, is.nodes)) ∙ is.at_face f below in
-    let gain : gains p (angles_of x) (strings_of p x) f ≡ part_at n face (λ d. 1) f + part_at n face (λ d. 1) f + part_at n face left f =
+    let left_sum : left_sums p (angles_of x) (strings_of p x) f ≡ part_at n face (λ d. 1) f + part_at n face (λ d. 1) f + part_at n face left f =
     omega (
       arith,
       part-same n face (λ d. 2 + lefts (strings_of p x d)) (λ d. 1 + 1 + left d) f (λ d. omega (arith, lefts-lefts_then_rights (left d) (right d))),
       part-add n face (λ d. 1) (λ d. 1) f,
       part-add n face (λ d. 1 + 1) left f,
     ) in
-    let loss : losses p (angles_of x) (strings_of p x) f ≡ part_at n face x f + part_at n face (λ d. 1) f + part_at n face right f =
+    let right_sum : right_sums p (angles_of x) (strings_of p x) f ≡ part_at n face x f + part_at n face (λ d. 1) f + part_at n face right f =
     omega (
       arith,
       part-same n face (λ d. angles_of x d + rights (strings_of p x d)) (λ d. x d + 1 + right d) f (λ d. omega (arith, rights-lefts_then_rights (left d) (right d))),
@@ -159,8 +159,8 @@ around_face p net x f ends is flow below =
       out_corner,
       back,
       meets,
-      gain,
-      loss,
+      left_sum,
+      right_sum,
       leaves-parts p net x k is,
       enters-parts p net x k is,
     )

@@ -68,12 +68,12 @@ fn turns_faces(plane: &Plane, flow: &ShapeFlow) -> bool
         ≡ whole_turn plane.now f }
 {
     let faces = plane.face_count();
-    let mut gains = [0; MAX_FACES];
-    let mut losses = [0; MAX_FACES];
-    add_turns(plane, flow, &mut gains, &mut losses);
+    let mut left_sums = [0; MAX_FACES];
+    let mut right_sums = [0; MAX_FACES];
+    add_turns(plane, flow, &mut left_sums, &mut right_sums);
     for face in 0..faces {
         let place = usize::from(face);
-        if !turns_once(gains[place], losses[place], face == plane.outer()) {
+        if !turns_once(left_sums[place], right_sums[place], face == plane.outer()) {
             return false;
         }
     }
@@ -81,31 +81,31 @@ fn turns_faces(plane: &Plane, flow: &ShapeFlow) -> bool
 }
 
 /// Whether so many turns to the left, and so many to the right, are one turn round a face.
-fn turns_once(gain: u32, loss: u32, is_outer: bool) -> bool
-    ensures { IsTrue result → (pos gain -ℤ pos loss) ≡ (if is_outer then negsuc 3 else pos 4) }
+fn turns_once(left_sum: u32, right_sum: u32, is_outer: bool) -> bool
+    ensures { IsTrue result → (pos left_sum -ℤ pos right_sum) ≡ (if is_outer then negsuc 3 else pos 4) }
 {
     if is_outer {
-        loss >= 4 && loss - 4 == gain
+        right_sum >= 4 && right_sum - 4 == left_sum
     } else {
-        gain >= 4 && gain - 4 == loss
+        left_sum >= 4 && left_sum - 4 == right_sum
     }
 }
 
 /// Sums round each face what its darts turn to the left, and what they turn to the right.
-fn add_turns(plane: &Plane, flow: &ShapeFlow, gains: &mut [u32], losses: &mut [u32])
-    requires gain_room { plane.now.faces ≤ length gains.old }
-    requires loss_room { plane.now.faces ≤ length losses.old }
-    requires clear_gains { gains.old ≡ replicate (length gains.old) 0 }
-    requires clear_losses { losses.old ≡ replicate (length losses.old) 0 }
+fn add_turns(plane: &Plane, flow: &ShapeFlow, left_sums: &mut [u32], right_sums: &mut [u32])
+    requires left_sum_room { plane.now.faces ≤ length left_sums.old }
+    requires right_sum_room { plane.now.faces ≤ length right_sums.old }
+    requires clear_left_sums { left_sums.old ≡ replicate (length left_sums.old) 0 }
+    requires clear_right_sums { right_sums.old ≡ replicate (length right_sums.old) 0 }
     ensures { (f : ℕ) → f < plane.now.faces
         → turning_around plane.now (angle_in flow.now.angles) (string_in plane.now flow.now.lefts) f
-        ≡ (pos (slice_index gains.new f) -ℤ pos (slice_index losses.new f)) }
+        ≡ (pos (slice_index left_sums.new f) -ℤ pos (slice_index right_sums.new f)) }
 {
     for dart in 0..plane.graph().darts() {
         let face = usize::from(plane.face_of(dart));
         let lefts = flow.left_turns(dart);
         let rights = flow.left_turns(plane.graph().reverse(dart));
-        gains[face] += 2 + u32::from(lefts);
-        losses[face] += u32::from(flow.angle(dart)) + u32::from(rights);
+        left_sums[face] += 2 + u32::from(lefts);
+        right_sums[face] += u32::from(flow.angle(dart)) + u32::from(rights);
     }
 }
