@@ -11,7 +11,7 @@ use Rattle.dissect.proofs.Splitting.{by_place, part, part_here, part_elsewhere, 
 use Rattle.dissect.specs.Steps.{angle_of, start_direction}
 use Rattle.dissect.proofs.SumsAndMaps.{sum_below-two_more}
 use Rattle.dissect.proofs.Mirroring.{mirrored-mirrored, rights-mirrored, turn_counts}
-use Rattle.dissect.proofs.OwedTurns.{owing, left_sumed, lost, IsOwedNext, IsNumberedNext}
+use Rattle.dissect.proofs.OwedTurns.{owing, gained, lost, IsOwedNext, IsNumberedNext}
 
 module _ (w : DartMap) (e way : ℕ) (turn : Turn) (turns : List Turn) (new : DartMap) (face_number face_number' : ℕ → ℕ) (owed owed' : ℕ → List Turn)
     (tied : IsTied w) (e_in : e < w.darts) (s : IsSubdivided w e way (angle_of turn) new)
@@ -171,7 +171,7 @@ module _ (w : DartMap) (e way : ℕ) (turn : Turn) (turns : List Turn) (new : Da
       ]
 
   -- round each face left and right turns grow alike
-  pub turned_alike : (f : ℕ) → left_sumed new face_number' owed' f + lost w face_number owed f ≡ left_sumed w face_number owed f + lost new face_number' owed' f
+  pub turned_alike : (f : ℕ) → gained new face_number' owed' f + lost w face_number owed f ≡ gained w face_number owed f + lost new face_number' owed' f
   turned_alike f =
       let n : ℕ = w.darts in
       let t : ℕ = w.reverse_dart e in
@@ -188,7 +188,7 @@ module _ (w : DartMap) (e way : ℕ) (turn : Turn) (turns : List Turn) (new : Da
       sum_below-two_more n e t right_sum right_sum' e_in t_in (tied.reverse_dart_apart e e_in)
       (λ x l not_e not_t. part_same face_number face_number' (λ x. w.angle x + rights (owed x)) (λ x. new.angle x + rights (owed' x)) f x (named.old x l)
       (ap (λ (k : ℕ). k + rights (owed' x)) (s.angle_old x l) ∙ ap (λ (ts : List Turn). w.angle x + rights ts) (next.others x l not_e not_t))) in
-      let all_left_sums : left_sumed new face_number' owed' f ≡ sum_below (n + 2) left_sum' = ap (λ (k : ℕ). sum_below k left_sum') s.darts in
+      let all_left_sums : gained new face_number' owed' f ≡ sum_below (n + 2) left_sum' = ap (λ (k : ℕ). sum_below k left_sum') s.darts in
       let all_right_sums : lost new face_number' owed' f ≡ sum_below (n + 2) right_sum' = ap (λ (k : ℕ). sum_below k right_sum') s.darts in
       omega (arith, left_sums, right_sums, all_left_sums, all_right_sums, side_e f, side_reverse_dart f)
 
