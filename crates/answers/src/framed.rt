@@ -1,4 +1,4 @@
-//! Records that were cut out of a file.
+//! Records that were read from a file.
 
 use crate::carried::Carried;
 use crate::embedded::Embedded;

@@ -1,23 +1,23 @@
 //! Segments whose least length is known by hand.
 use crate::compared::same;
-use crate::made::{Drawn, edges_of, segments_of};
-use least_length::{Edge, least_numbers};
+use crate::made::{Drawn, segments_of, wires_of};
+use least_length::{Wire, shortest_coordinates};
 use std::alloc::{AllocError, Global};
 
-/// Drawings, segments in the order of their numbers, and the least length of each.
+/// Drawings, segments in the order of their coordinates, and the least length of each.
 const DRAWINGS: [(Drawn<'static>, Option<u32>); 10] = [
     // nothing, and a segment alone
     (
         Drawn {
             segments: &[],
-            edges: &[],
+            wires: &[],
         },
         Some(0),
     ),
     (
         Drawn {
             segments: &[(7, 0, 3)],
-            edges: &[],
+            wires: &[],
         },
         Some(0),
     ),
@@ -25,7 +25,7 @@ const DRAWINGS: [(Drawn<'static>, Option<u32>); 10] = [
     (
         Drawn {
             segments: &[(0, 3, 3), (5, 3, 3), (9, 3, 3)],
-            edges: &[(0, 1), (1, 2)],
+            wires: &[(0, 1), (1, 2)],
         },
         Some(2),
     ),
@@ -33,14 +33,14 @@ const DRAWINGS: [(Drawn<'static>, Option<u32>); 10] = [
     (
         Drawn {
             segments: &[(0, 0, 4), (5, 0, 0), (7, 2, 2), (9, 4, 4)],
-            edges: &[(0, 1), (0, 2), (0, 3)],
+            wires: &[(0, 1), (0, 2), (0, 3)],
         },
         Some(3),
     ),
     (
         Drawn {
             segments: &[(0, 0, 0), (1, 2, 2), (2, 4, 4), (9, 0, 4)],
-            edges: &[(0, 3), (1, 3), (2, 3)],
+            wires: &[(0, 3), (1, 3), (2, 3)],
         },
         Some(3),
     ),
@@ -48,7 +48,7 @@ const DRAWINGS: [(Drawn<'static>, Option<u32>); 10] = [
     (
         Drawn {
             segments: &[(0, 0, 4), (1, 0, 0), (1, 2, 2), (3, 0, 0), (4, 0, 4)],
-            edges: &[(0, 1), (1, 3), (3, 4), (2, 4), (0, 4)],
+            wires: &[(0, 1), (1, 3), (3, 4), (2, 4), (0, 4)],
         },
         Some(7),
     ),
@@ -63,11 +63,11 @@ const DRAWINGS: [(Drawn<'static>, Option<u32>); 10] = [
                 (3, 2, 2),
                 (9, 0, 6),
             ],
-            edges: &[(0, 1), (1, 3), (3, 5), (2, 5), (0, 4), (0, 5)],
+            wires: &[(0, 1), (1, 3), (3, 5), (2, 5), (0, 4), (0, 5)],
         },
         Some(8),
     ),
-    // a box of width 5, and in it a line with two edges to its left and one to its right: 5 + 1 + 1 + 4
+    // a box of width 5, and in it a line with two wires to its left and one to its right: 5 + 1 + 1 + 4
     (
         Drawn {
             segments: &[
@@ -79,7 +79,7 @@ const DRAWINGS: [(Drawn<'static>, Option<u32>); 10] = [
                 (4, 0, 0),
                 (5, 0, 4),
             ],
-            edges: &[
+            wires: &[
                 (0, 1),
                 (1, 2),
                 (2, 3),
@@ -92,7 +92,7 @@ const DRAWINGS: [(Drawn<'static>, Option<u32>); 10] = [
         },
         Some(11),
     ),
-    // one edge to its left and two to its right: 5 + 4 + 1 + 1
+    // one wire to its left and two to its right: 5 + 4 + 1 + 1
     (
         Drawn {
             segments: &[
@@ -104,7 +104,7 @@ const DRAWINGS: [(Drawn<'static>, Option<u32>); 10] = [
                 (4, 0, 0),
                 (5, 0, 4),
             ],
-            edges: &[
+            wires: &[
                 (0, 1),
                 (1, 3),
                 (3, 4),
@@ -117,32 +117,35 @@ const DRAWINGS: [(Drawn<'static>, Option<u32>); 10] = [
         },
         Some(11),
     ),
-    // not in the order of their numbers
+    // not in the order of their coordinates
     (
         Drawn {
             segments: &[(5, 3, 3), (0, 3, 3)],
-            edges: &[(1, 0)],
+            wires: &[(1, 0)],
         },
         None,
     ),
 ];
 
-/// The total length of the edges with the numbers found, or none where none are found.
+/// The total length of the wires with the coordinates found, or none where none are found.
 fn least_length_of(alloc: Global, drawn: Drawn<'_>) -> Result<Option<u32>, AllocError> {
     let segments = segments_of(alloc, drawn.segments)?;
-    let edges = edges_of(alloc, &segments, drawn.edges)?;
-    let Some(numbers) = least_numbers(alloc, &segments, &edges)? else {
+    let wires = wires_of(alloc, &segments, drawn.wires)?;
+    let Some(coordinates) = shortest_coordinates(alloc, &segments, &wires)? else {
         return Ok(None);
     };
-    Ok(Some(length_of(&edges, &numbers)))
+    Ok(Some(length_of(&wires, &coordinates)))
 }
 
-/// The total length of edges.
-pub(crate) fn length_of(edges: &[Edge], numbers: &[u16]) -> u32 {
+/// The total length of wires.
+pub(crate) fn length_of(wires: &[Wire], coordinates: &[u16]) -> u32 {
     let mut total: u32 = 0;
-    for edge in edges {
-        let from = numbers.get(usize::from(edge.from)).copied().unwrap_or(0);
-        let to = numbers.get(usize::from(edge.to)).copied().unwrap_or(0);
+    for wire in wires {
+        let from = coordinates
+            .get(usize::from(wire.from))
+            .copied()
+            .unwrap_or(0);
+        let to = coordinates.get(usize::from(wire.to)).copied().unwrap_or(0);
         total = total.saturating_add(u32::from(from.abs_diff(to)));
     }
     total

@@ -1,32 +1,35 @@
-//! Segments, edges and weights made from short lists.
+//! Segments, wires and weights made from short lists.
 ghost use Rattle.std.specs.Prelude.{◌≡◌, ◌≤◌, length, IfOk};
 
-use least_length::{Edge, MAX_EDGES, MAX_SIGHTS, Scratch, Segment, Sight, certify_lengths};
+use least_length::{MAX_SIGHTS, MAX_WIRES, Scratch, Segment, Sight, Wire, certify_lengths};
 use std::alloc::{AllocError, Global};
 
-/// A drawing along one axis: of each segment its number and its levels, and of each edge its segments.
+/// A drawing along one axis: of each segment its coordinate and its levels, and of each wire its segments.
 #[derive(Clone, Copy)]
 pub(crate) struct Drawn<'a> {
     pub(crate) segments: &'a [(u16, u16, u16)],
-    pub(crate) edges: &'a [(u16, u16)],
+    pub(crate) wires: &'a [(u16, u16)],
 }
 
-/// Whether these weights of pairs of segments show that a drawing is shortest with these numbers; no where they are too
-/// many, or not one a segment.
+/// Whether these weights of pairs of segments show that a drawing is shortest with these coordinates; no where they
+/// are too many, or not one a segment.
 pub(crate) fn is_certified(
     alloc: Global,
     drawn: Drawn<'_>,
-    numbers: &[u16],
+    coordinates: &[u16],
     sights: &[(u16, u16, u32)],
 ) -> Result<bool, AllocError> {
     let segments = segments_of(alloc, drawn.segments)?;
-    let edges = edges_of(alloc, &segments, drawn.edges)?;
+    let wires = wires_of(alloc, &segments, drawn.wires)?;
     let weighed = sights_of(alloc, sights)?;
     let mut scratch = Scratch::empty(alloc);
-    if numbers.len() != segments.len() || edges.len() > MAX_EDGES || weighed.len() > MAX_SIGHTS {
+    if coordinates.len() != segments.len()
+        || wires.len() > MAX_WIRES
+        || weighed.len() > MAX_SIGHTS
+    {
         return Ok(false);
     }
-    certify_lengths(&mut scratch, &segments, &edges, numbers, &weighed)
+    certify_lengths(&mut scratch, &segments, &wires, coordinates, &weighed)
 }
 
 pub(crate) fn segments_of(
@@ -34,9 +37,9 @@ pub(crate) fn segments_of(
     segments: &[(u16, u16, u16)],
 ) -> Result<Vec<Segment>, AllocError> {
     let mut made = Vec::new(alloc);
-    for (number, low, high) in segments {
+    for (coordinate, low, high) in segments {
         made.push(Segment {
-            number: *number,
+            coordinate: *coordinate,
             low: *low,
             high: *high,
         })?;
@@ -45,14 +48,14 @@ pub(crate) fn segments_of(
 }
 
 /// Edges between segments, each on the lowest level that both its segments cross.
-pub(crate) fn edges_of(
+pub(crate) fn wires_of(
     alloc: Global,
     segments: &[Segment],
-    edges: &[(u16, u16)],
-) -> Result<Vec<Edge>, AllocError> {
+    wires: &[(u16, u16)],
+) -> Result<Vec<Wire>, AllocError> {
     let mut made = Vec::new(alloc);
-    for (from, to) in edges {
-        made.push(Edge {
+    for (from, to) in wires {
+        made.push(Wire {
             from: *from,
             to: *to,
             level: low_of(segments, *from).max(low_of(segments, *to)),

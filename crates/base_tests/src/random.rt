@@ -1,7 +1,7 @@
 //! A thousand random drawings, whose least lengths LEMON found by its network simplex (`checks/least-lengths`).
 use crate::compared::same;
 use crate::least::length_of;
-use least_length::{Edge, Scratch, Segment, find_least};
+use least_length::{Scratch, Segment, Wire, find_shortest};
 use std::alloc::{AllocError, Global};
 
 /// The least lengths of each hundred of drawings, added up.
@@ -27,13 +27,13 @@ impl Random {
     }
 }
 
-/// Memory that is lent to each drawing, with its segments, its edges and the numbers found.
+/// Memory that is lent to each drawing, with its segments, its wires and the coordinates found.
 #[derive(Drop)]
 struct Lent {
     scratch: Scratch,
     segments: Vec<Segment>,
-    edges: Vec<Edge>,
-    numbers: Vec<u16>,
+    wires: Vec<Wire>,
+    coordinates: Vec<u16>,
 }
 
 impl Lent {
@@ -42,27 +42,31 @@ impl Lent {
         Lent {
             scratch: Scratch::empty(alloc),
             segments: Vec::new(alloc),
-            edges: Vec::new(alloc),
-            numbers: Vec::new(alloc),
+            wires: Vec::new(alloc),
+            coordinates: Vec::new(alloc),
         }
     }
 
-    /// Makes the drawing with this number: up to 31 segments on up to 12 levels, and edges between segments
+    /// Makes the drawing with this number: up to 31 segments on up to 12 levels, and wires between segments
     /// that share one.
     fn make(&mut self, drawing: u64) -> Result<(), AllocError> {
         let mut random = Random { state: drawing };
         let count = random.below(30).saturating_add(2);
         let levels = random.below(12).saturating_add(1);
         self.segments.clear();
-        let mut number: u16 = 0;
+        let mut coordinate: u16 = 0;
         for _ in 0..count {
-            number = number.saturating_add(random.below(3)).saturating_add(1);
+            coordinate = coordinate.saturating_add(random.below(3)).saturating_add(1);
             let low = random.below(levels);
             let high = low.saturating_add(random.below(levels));
             let high = high.min(levels.saturating_sub(1));
-            self.segments.push(Segment { number, low, high })?;
+            self.segments.push(Segment {
+                coordinate,
+                low,
+                high,
+            })?;
         }
-        self.edges.clear();
+        self.wires.clear();
         for _ in 0..count.saturating_mul(2) {
             let one = random.below(count);
             let other = random.below(count);
@@ -71,7 +75,7 @@ impl Lent {
         Ok(())
     }
 
-    /// Adds an edge between two segments, if there are two that share a level.
+    /// Adds a wire between two segments, if there are two that share a level.
     fn join(&mut self, from: u16, to: u16) -> Result<(), AllocError> {
         let first = self.segments.get(usize::from(from)).copied();
         let second = self.segments.get(usize::from(to)).copied();
@@ -80,18 +84,18 @@ impl Lent {
         };
         let level = first.low.max(second.low);
         if from != to && level <= first.high.min(second.high) {
-            self.edges.push(Edge { from, to, level })?;
+            self.wires.push(Wire { from, to, level })?;
         }
         Ok(())
     }
 
-    /// The length of the edges of a drawing with the numbers found, and 0 where there are none.
+    /// The length of the wires of a drawing with the coordinates found, and 0 where there are none.
     fn least_length(&mut self, drawing: u64) -> Result<u32, AllocError> {
         self.make(drawing)?;
         let segments = self.segments.as_slice();
-        let edges = self.edges.as_slice();
-        if find_least(&mut self.scratch, segments, edges, &mut self.numbers)? {
-            Ok(length_of(edges, self.numbers.as_slice()))
+        let wires = self.wires.as_slice();
+        if find_shortest(&mut self.scratch, segments, wires, &mut self.coordinates)? {
+            Ok(length_of(wires, self.coordinates.as_slice()))
         } else {
             Ok(0)
         }

@@ -7,7 +7,7 @@ ghost use Rattle.printing.specs.DrawnBooks.{AreDrawnBooks};
 
 use crate::answering::Answering;
 use common::Choice;
-use entries::{Batch, Entry, MAX_FILES, bind};
+use entries::{Batch, Entry, MAX_FILES, books_of};
 use lane_runs::{Run, RunFault, run_lanes};
 use lanes::{Drafts, Gate, Opener};
 use ruled_lanes::LANES;
@@ -84,7 +84,7 @@ pub fn run_batch<R: Threads + Wait + Sync, O: Opener, G: Gate>(
         Err(RunFault::LaneLost) => return Err(BatchFault::LaneLost),
         Err(RunFault::Thread) => return Err(BatchFault::Thread),
     }
-    match bind(alloc, drafts.into_ready()) {
+    match books_of(alloc, drafts.into_ready()) {
         Ok(batch) => Ok(batch),
         Err(_) => Err(BatchFault::Memory),
     }

@@ -73,20 +73,20 @@ impl<R: Clock, E: io::Write + IsTerminal + Copy> Console for ErrorConsole<R, E> 
 
 /// How lines stand on a console.
 #[derive(Clone, Copy, Debug, PartialEq, Eq)]
-enum Style {
+enum LineStyle {
     Hidden,
     WrittenOver,
     Apart,
 }
 
-impl Style {
+impl LineStyle {
     /// How lines stand on this console.
-    fn of<C: Console>(progress: Progress, console: &C) -> Style {
+    fn of<C: Console>(progress: Progress, console: &C) -> LineStyle {
         match progress {
-            Progress::Nowhere => Style::Hidden,
-            _ if console.is_terminal() => Style::WrittenOver,
-            Progress::OnTerminal => Style::Hidden,
-            Progress::Everywhere => Style::Apart,
+            Progress::Nowhere => LineStyle::Hidden,
+            _ if console.is_terminal() => LineStyle::WrittenOver,
+            Progress::OnTerminal => LineStyle::Hidden,
+            Progress::Everywhere => LineStyle::Apart,
         }
     }
 }
@@ -96,7 +96,7 @@ impl Style {
 #[derive(Drop)]
 pub struct Meter<'c, C> {
     console: &'c C,
-    style: Style,
+    style: LineStyle,
     files: usize,
     /// When the run began, by the console's clock.
     start: u64,
@@ -113,7 +113,7 @@ impl<'c, C: Console> Meter<'c, C> {
     pub fn new(console: &'c C, progress: Progress, files: usize) -> Meter<'c, C> {
         Meter {
             console,
-            style: Style::of(progress, console),
+            style: LineStyle::of(progress, console),
             files,
             start: console.time(),
             begun: AtomicU64::new(0),
@@ -129,7 +129,7 @@ impl<'c, C: Console> Meter<'c, C> {
 
     /// Tells how far the run came, where it began a file, and ends the line.
     pub fn finish(&self) {
-        if self.style != Style::Hidden && self.begun.load(Ordering::SeqCst) > 0 {
+        if self.style != LineStyle::Hidden && self.begun.load(Ordering::SeqCst) > 0 {
             self.tell(self.time(), "\n");
         }
     }
@@ -146,11 +146,18 @@ impl<'c, C: Console> Meter<'c, C> {
         if time < last_told.saturating_add(PAUSE) {
             return;
         }
-        let turn = self
+        let stored_time = self
             .last_told
             .compare_exchange(last_told, time, Ordering::SeqCst, Ordering::SeqCst);
-        if turn.is_ok() {
-            self.tell(time, if self.style == Style::Apart { "\n" } else { "" });
+        if stored_time.is_ok() {
+            self.tell(
+                time,
+                if self.style == LineStyle::Apart {
+                    "\n"
+                } else {
+                    ""
+                },
+            );
         }
     }
 
@@ -161,7 +168,7 @@ impl<'c, C: Console> Meter<'c, C> {
         let rate = graphs.saturating_mul(1000) / time.max(1);
         // The spaces cover what is left of a longer line.
         let (front, back) = match self.style {
-            Style::WrittenOver => ("\r", "   "),
+            LineStyle::WrittenOver => ("\r", "   "),
             _ => ("", ""),
         };
         let mut line = ShortLine::new();
@@ -176,7 +183,7 @@ impl<'c, C: Console> Meter<'c, C> {
 
 impl<C: Console + Sync> Gate for Meter<'_, C> {
     fn pass(&self, _lane: u32, stage: Stage, _ordinal: u32) {
-        if stage == Stage::Draw && self.style != Style::Hidden {
+        if stage == Stage::Draw && self.style != LineStyle::Hidden {
             self.graphs.fetch_add(1, Ordering::SeqCst);
             self.tell_in_time();
         }

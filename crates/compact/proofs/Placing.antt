@@ -1,10 +1,10 @@
--- Numbers in order, axis by axis, and the points that are taken from them.
+-- Coordinates in order, axis by axis, and the points that are taken from them.
 use Rattle.std.proofs.Common.{◌≡◌, ℕ, ◌+◌, ◌%◌, ◌<◌, ◌≤◌, ◌∙◌, List, length, map, slice_index, arith, subst, ap, inl, inr}
 use Rattle.std.proofs.lemmas.Bool.{cases_eq}
 use Rattle.std.proofs.lemmas.List.{length-map}
 use Rattle.std.proofs.lemmas.List.FromFn.{length-range_with_len}
 use Rattle.dissect.specs.DartMaps.{DartMap, IsSound, no_dart}
-use Rattle.dissect.specs.Paths.{turning_places}
+use Rattle.dissect.specs.Paths.{turning_vertices}
 use Rattle.ortho_rep.specs.declared.points.Point.{Point}
 use Rattle.dissect.specs.Boxes.{BoxesModel, HasEdge, dart_map}
 use Rattle.compact.specs.Ordered.{tail, point_at, IsOrdered, IsAlong, AreCorners, AreCornersOf, IsAxisFault, IsCompactFault, AreLaidOut, AreLeast, AreWithin}
@@ -19,7 +19,7 @@ use Rattle.compact.specs.declared.fault.CompactFault.TheVariants.{Wide, Memory}
 pub turned_round : (w : DartMap) (a : ℕ) → IsSound w → a < w.darts → tail w (w.reverse_dart a) ≡ w.head a
 turned_round w a sound a_in = ap w.head (sound.tied.reverse_dart_back a a_in)
 
--- numbers that keep both axes are in order
+-- coordinates that keep both axes are in order
 pub in_order : (w : DartMap) (x y : ℕ → ℕ) → IsSound w → IsAlong w 0 x → IsAlong w 1 y → IsOrdered w x y
 in_order w x y sound along_x along_y = record {
   east = λ a a_in way.
@@ -38,7 +38,7 @@ in_order w x y sound along_x along_y = record {
       (omega (arith, along_y.forward a a_in way), omega (arith, there, home, same));
 }
 
--- numbers in order keep the axis x
+-- coordinates in order keep the axis x
 pub keep_x : (w : DartMap) (x y : ℕ → ℕ) → IsSound w → IsOrdered w x y → IsAlong w 0 x
 keep_x w x y sound ordered = record {
   forward = λ a a_in way. omega (arith, (ordered.east a a_in way).0);
@@ -68,14 +68,14 @@ keep_y w x y sound ordered = record {
 
 -- all paths of an edge turn at the same places
 pub one_corners : (b : BoxesModel) (x y : ℕ → ℕ) (e : ℕ) (points : List Point) (one : HasEdge b e) → b.darts ≤ no_dart →
-    points ≡ map (point_at x y) (turning_places (dart_map b) one.first one.rest) → AreCornersOf b x y e points
+    points ≡ map (point_at x y) (turning_vertices (dart_map b) one.first one.rest) → AreCornersOf b x y e points
 one_corners b x y e points one few is edge =
     is ∙ ap (map (point_at x y)) (one_turning (dart_map b) (slice_index b.edges e) one.first edge.first one.rest edge.rest few one.path edge.path)
 
 -- the points are those of the places where a path of the edge e turns
 pub record IsCornersOf (b : BoxesModel) (x y : ℕ → ℕ) (e : ℕ) (points : List Point) : Type 0 where
   pub edge : HasEdge b e
-  pub is : points ≡ map (point_at x y) (turning_places (dart_map b) edge.first edge.rest)
+  pub is : points ≡ map (point_at x y) (turning_vertices (dart_map b) edge.first edge.rest)
 
 -- what a fault of one axis says of both
 pub x_fault : (b : BoxesModel) (fault : CompactFault) → IsAxisFault b 0 fault → IsCompactFault b fault
@@ -90,7 +90,7 @@ y_fault b Wide wide = λ x y ordered.
     (v, v_in, inr far)
 y_fault b Memory fault = tt
 
--- points that are taken from numbers in order
+-- points that are taken from coordinates in order
 pub laid_out : (b : BoxesModel) (x y x1 y1 x2 y2 : List ℕ) (vertices : List Point) (corners : List (List Point)) →
     x1 ≡ x → y1 ≡ y → x2 ≡ x → y2 ≡ y → IsSound (dart_map b) → IsAlong (dart_map b) 0 (λ v. slice_index x v) → IsAlong (dart_map b) 1 (λ v. slice_index y v) →
     ((z : ℕ → ℕ) → IsAlong (dart_map b) 0 z → (v : ℕ) → v < b.vertices → slice_index x v ≤ z v) →
@@ -119,7 +119,7 @@ laid_out b x y x1 y1 x2 y2 vertices corners sx1 sy1 sx2 sy2 sound along_x along_
       };
     }
 
--- numbers in the order of the darts along an axis that are nowhere above any such are the least, in a list or in a slice of it
+-- coordinates in the order of the darts along an axis that are nowhere above any such are the least, in a list or in a slice of it
 pub least_of : (b : BoxesModel) (k : ℕ) (xs zs : List ℕ) → zs ≡ xs → IsAlong (dart_map b) k (λ v. slice_index zs v) →
     ((y : ℕ → ℕ) → IsAlong (dart_map b) k y → AreUnder b.vertices xs y) → ((v : ℕ) → v < length zs → slice_index zs v ≤ MAX_COORDINATE) →
     length xs ≡ b.vertices → AreLeast b k xs

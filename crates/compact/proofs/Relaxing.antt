@@ -1,4 +1,4 @@
--- How relaxing one constraint, and then all constraints, keeps the numbers low.
+-- How relaxing one constraint, and then all constraints, keeps the coordinates low.
 use Rattle.std.proofs.Common.{◌≡◌, ℕ, ◌+◌, ◌-◌, ◌<◌, ◌≤◌, ◌∙◌, List, length, slice_index, get_or, set, take, arith, subst, sym, ap, inl, inr, get_or-set_same, get_or-set_other}
 use Rattle.std.proofs.lemmas.Bool.{cases_eq}
 use Rattle.std.proofs.lemmas.List.{length-set, take_all}
@@ -9,15 +9,15 @@ use Rattle.common.proofs.Sums.{sum_below-lt}
 use Rattle.compact.specs.declared.constraint_graph.Constraint.{Constraint}
 use Rattle.compact.specs.declared.constraint_graph.Relaxation.{Relaxation}
 use Rattle.compact.specs.declared.constraint_graph.Relaxation.TheVariants.{Kept, Raised, Wide}
-use Rattle.compact.specs.Constraints.{Keeps, AreInside, IsLow, AreWide, IsRelaxed, AreRelaxed, slack}
+use Rattle.compact.specs.Constraints.{Keeps, AreInside, IsLow, AreWide, IsRelaxed, AreRelaxed, shortfall}
 
 abbrev pub at : List ℕ → ℕ → ℕ
 at xs v = slice_index xs v
 
--- what holds of the numbers when the first constraints were relaxed
+-- what holds of the coordinates when the first constraints were relaxed
 abbrev pub Stands : List Constraint → List ℕ → List ℕ → Relaxation → Type 0
 Stands constraints old now Kept = (now ≡ old) × Keeps constraints (at now)
-Stands constraints old now Raised = slack now < slack old
+Stands constraints old now Raised = shortfall now < shortfall old
 Stands constraints old now Wide = ⊥
 
 pub record IsRelaxedUpTo (constraints : List Constraint) (i : ℕ) (old now : List ℕ) (found : Relaxation) : Type 0 where
@@ -25,7 +25,7 @@ pub record IsRelaxedUpTo (constraints : List Constraint) (i : ℕ) (old now : Li
   pub low : IsLow constraints (length old) (at now)
   pub stands : Stands (take i constraints) old now found
 
--- a number raised to keep a constraint is still low
+-- a coordinate raised to keep a constraint is still low
 pub low_raised : (constraints : List Constraint) (i : ℕ) (d : Constraint) (old new : List ℕ) (n : ℕ) → length old ≡ n → i < length constraints →
     (get_or constraints i d).to < n → (get_or constraints i d).from < n → IsLow constraints n (at old) → new ≡ set old (get_or constraints i d).to (at old (get_or constraints i d).from + (get_or constraints i d).least) → IsLow constraints n (at new)
 low_raised constraints i d old new n size i_in to_in from_in low made y keeps v v_in =
@@ -42,9 +42,9 @@ low_raised constraints i d old new n size i_in to_in from_in low made y keeps v 
           omega (arith, here, low y keeps v v_in)
     ]
 
--- and the slack falls
-pub slack_falls : (old new : List ℕ) (to need : ℕ) → to < length old → new ≡ set old to need → at old to < need → need ≤ MAX_COORDINATE → slack new < slack old
-slack_falls old new to need to_in made less most =
+-- and the shortfall falls
+pub shortfall_falls : (old new : List ℕ) (to need : ℕ) → to < length old → new ≡ set old to need → at old to < need → need ≤ MAX_COORDINATE → shortfall new < shortfall old
+shortfall_falls old new to need to_in made less most =
     let size : length new ≡ length old = ap length made ∙ length-set old to need in
     subst (λ (n : ℕ). sum_below n (λ v. MAX_COORDINATE - at new v) < sum_below (length old) (λ v. MAX_COORDINATE - at old v)) (sym size)
     (sum_below-lt (length old) to (λ v. MAX_COORDINATE - at new v) (λ v. MAX_COORDINATE - at old v) to_in
@@ -59,7 +59,7 @@ slack_falls old new to need to_in made less most =
     ])
     (let here : at new to ≡ need = ap (λ xs. at xs to) made ∙ get_or-set_same old to need 0 to_in in omega (arith, here, less, most)))
 
--- where a number would pass 65,535, all numbers that keep the constraints do
+-- where a coordinate would pass 65,535, all coordinates that keep the constraints do
 pub is_wide : (constraints : List Constraint) (i : ℕ) (d : Constraint) (now : List ℕ) (n : ℕ) → i < length constraints → (get_or constraints i d).to < n → (get_or constraints i d).from < n →
     IsLow constraints n (at now) → MAX_COORDINATE < at now (get_or constraints i d).from + (get_or constraints i d).least → AreWide constraints n
 is_wide constraints i d now n i_in to_in from_in low wide y keeps =
@@ -77,7 +77,7 @@ IsWideOr constraints i old new found Kept = IsRelaxedUpTo constraints (i + 1) ol
 IsWideOr constraints i old new found Raised = IsRelaxedUpTo constraints (i + 1) old new Raised
 IsWideOr constraints i old new found Wide = IsLow constraints (length old) (at new) × AreWide constraints (length old)
 
--- relaxing the constraint at place i takes the numbers one constraint further
+-- relaxing the constraint at place i takes the coordinates one constraint further
 pub goes_on : (constraints : List Constraint) (i : ℕ) (d : Constraint) (old now new : List ℕ) (found one : Relaxation) → i < length constraints → AreInside (length old) constraints →
     IsRelaxedUpTo constraints i old now found → IsRelaxed (get_or constraints i d) now new one → length new ≡ length now →
     IsWideOr constraints i old new found one
@@ -95,20 +95,20 @@ goes_on constraints i d old now new found Kept i_in inside under relaxed size =
       subst (λ (xs : List ℕ). Keeps (take (i + 1) constraints) (at xs)) (sym relaxed.0)
           (All-more (λ constraint. at now constraint.from + constraint.least ≤ at now constraint.to) constraints i d i_in stands.1 relaxed.1),
     )
-    still constraints i d old now new Raised i_in stands relaxed = subst (λ (xs : List ℕ). slack xs < slack old) (sym relaxed.0) stands
+    still constraints i d old now new Raised i_in stands relaxed = subst (λ (xs : List ℕ). shortfall xs < shortfall old) (sym relaxed.0) stands
     still constraints i d old now new Wide i_in stands relaxed = stands
 goes_on constraints i d old now new found Raised i_in inside under relaxed size =
     let constraint = get_or constraints i d in
     let ends = inside i d i_in in
-    let falls : slack new < slack now = slack_falls now new constraint.to (at now constraint.from + constraint.least) (omega (arith, ends.1, under.size)) relaxed.0 relaxed.1 relaxed.2 in
+    let falls : shortfall new < shortfall now = shortfall_falls now new constraint.to (at now constraint.from + constraint.least) (omega (arith, ends.1, under.size)) relaxed.0 relaxed.1 relaxed.2 in
     record {
       size = size ∙ under.size;
       low = low_raised constraints i d now new (length old) under.size i_in ends.1 ends.0 under.low relaxed.0;
       stands = lower constraints i old now new found under.stands falls;
     }
   where
-    lower : (constraints : List Constraint) (i : ℕ) (old now new : List ℕ) (found : Relaxation) → Stands (take i constraints) old now found → slack new < slack now → slack new < slack old
-    lower constraints i old now new Kept stands falls = omega (arith, falls, ap slack stands.0)
+    lower : (constraints : List Constraint) (i : ℕ) (old now new : List ℕ) (found : Relaxation) → Stands (take i constraints) old now found → shortfall new < shortfall now → shortfall new < shortfall old
+    lower constraints i old now new Kept stands falls = omega (arith, falls, ap shortfall stands.0)
     lower constraints i old now new Raised stands falls = omega (arith, falls, stands)
     lower constraints i old now new Wide stands falls = absurd stands
 goes_on constraints i d old now new found Wide i_in inside under relaxed size =

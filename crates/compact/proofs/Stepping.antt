@@ -1,4 +1,4 @@
--- Numbers that are raised along steps, and what the steps are.
+-- Coordinates that are raised along steps, and what the steps are.
 use Rattle.std.proofs.Common.{◌≡◌, ◌≢◌, ℕ, ◌+◌, ◌*◌, ◌%◌, ◌<◌, ◌≤◌, ◌⊎◌, ◌∙◌, List, length, slice_index, set, replicate, All, arith, subst, sym, ap, refl, inl, inr, get_or-set_same, get_or-set_other}
 use Rattle.std.proofs.lemmas.Bool.{cases_eq}
 use Rattle.std.proofs.lemmas.List.{length-set}
@@ -7,10 +7,10 @@ use Rattle.dissect.specs.DartMaps.{DartMap, IsSound}
 use Rattle.compact.specs.declared.axis.Axis.{Axis}
 use Rattle.compact.specs.declared.axis.Axis.TheVariants.{X, Y}
 use Rattle.compact.specs.Ordered.{tail, growth, across, IsAcross, IsAlong}
-use Rattle.compact.specs.Steps.{step, AreSteps, HasSteps, Grow, StayLevel, AreVertices, AreLevelIn, AreSegments, IsOnSegment, AreUnder, StayUnder}
+use Rattle.compact.specs.Steps.{step, AreSteps, HasSteps, Grow, StayEqual, AreVertices, AreEqualIn, AreSegments, IsOnSegment, AreUnder, StayUnder}
 use Rattle.compact.proofs.OneWay.{one_leaves}
 
--- a number raised to one that is not above y stays under y
+-- a coordinate raised to one that is not above y stays under y
 pub raised_under : (xs new : List ℕ) (n to need : ℕ) (y : ℕ → ℕ) → to < length xs → new ≡ set xs to need → need ≤ y to → AreUnder n xs y → AreUnder n new y
 raised_under xs new n to need y to_in made enough under v v_in =
     elim (cases_eq to v) [
@@ -41,24 +41,24 @@ vertices_set n segments new v first v_in first_in made are = (
   ],
 )
 
--- and one number in each segment stays one where a vertex gets a first one with its number
-pub level_set : (n : ℕ) (segments new : List ℕ) (v first : ℕ) (y : ℕ → ℕ) → v < length segments → y first ≡ y v → new ≡ set segments v first → AreLevelIn segments n y → AreLevelIn new n y
-level_set n segments new v first y v_in same_number made level u u_in =
+-- and one coordinate in each segment stays one where a vertex gets a first one with its coordinate
+pub equal_set : (n : ℕ) (segments new : List ℕ) (v first : ℕ) (y : ℕ → ℕ) → v < length segments → y first ≡ y v → new ≡ set segments v first → AreEqualIn segments n y → AreEqualIn new n y
+equal_set n segments new v first y v_in same_coordinate made equal u u_in =
     elim (cases_eq v u) [
       | inl same ↦
           let here : slice_index new u ≡ first = ap (λ (zs : List ℕ). slice_index zs u) made ∙ subst (λ (k : ℕ). slice_index (set segments v first) k ≡ first) same (get_or-set_same segments v first 0 v_in) in
-          ap y here ∙ same_number ∙ ap y same
+          ap y here ∙ same_coordinate ∙ ap y same
       | inr other ↦
           let here : slice_index new u ≡ slice_index segments u = ap (λ (zs : List ℕ). slice_index zs u) made ∙ get_or-set_other segments v u first 0 (λ e. other (sym e)) in
-          ap y here ∙ level u u_in
+          ap y here ∙ equal u u_in
     ]
 
--- a vertex of a segment may be written where all numbers that stay the same along the steps are there as at its first one
-pub segments_set : (next : ℕ → ℕ) (n : ℕ) (segments new : List ℕ) (v first : ℕ) → v < n → first < n → ((y : ℕ → ℕ) → StayLevel next n y → y first ≡ y v) →
+-- a vertex of a segment may be written where all coordinates that stay the same along the steps are there as at its first one
+pub segments_set : (next : ℕ → ℕ) (n : ℕ) (segments new : List ℕ) (v first : ℕ) → v < n → first < n → ((y : ℕ → ℕ) → StayEqual next n y → y first ≡ y v) →
     new ≡ set segments v first → AreSegments next n segments → AreSegments next n new
 segments_set next n segments new v first v_in first_in connected made are = record {
   inside = vertices_set n segments new v first v_in first_in made are.inside;
-  level = λ y level. level_set n segments new v first y (omega (arith, v_in, are.inside.0)) (connected y level) made (are.level y level);
+  equal = λ y equal. equal_set n segments new v first y (omega (arith, v_in, are.inside.0)) (connected y equal) made (are.equal y equal);
 }
 
 -- segments stay segments under other names of the steps and of the number of vertices
@@ -76,28 +76,28 @@ pub on_own_segment : (next : ℕ → ℕ) (n : ℕ) (segment_firsts : List ℕ) 
 on_own_segment next n segment_firsts first vertex some are first_is vertex_is = record {
   first_in = omega (arith, first_is, are.1 0 some);
   vertex_in = omega (arith, vertex_is, are.1 0 some);
-  connected = λ y level. ap y (first_is ∙ sym vertex_is);
+  connected = λ y equal. ap y (first_is ∙ sym vertex_is);
 }
 
--- a number is raised to one more than that of a segment which has a step to its segment
+-- a coordinate is raised to one more than that of a segment which has a step to its segment
 pub raised_segment : (ahead : ℕ → ℕ) (n : ℕ) (segments xs new : List ℕ) (v need : ℕ) → v < n → ahead v < n → length xs ≡ n → AreVertices n segments →
     need ≤ slice_index xs (slice_index segments v) + 1 ⊎ need ≤ slice_index xs (slice_index segments (ahead v)) →
     new ≡ set xs (slice_index segments (ahead v)) need → StayUnder ahead n segments xs new
-raised_segment ahead n segments xs new v need v_in to_in size are enough made y grow level under =
+raised_segment ahead n segments xs new v need v_in to_in size are enough made y grow equal under =
     let from = slice_index segments v in
     let to = slice_index segments (ahead v) in
     let to_segment : to < n = are.1 (ahead v) to_in in
     let small : need ≤ y to = elim enough [
-      | inl more ↦ omega (arith, more, under from (are.1 v v_in), level v v_in, level (ahead v) to_in, grow v v_in to_in)
+      | inl more ↦ omega (arith, more, under from (are.1 v v_in), equal v v_in, equal (ahead v) to_in, grow v v_in to_in)
       | inr kept ↦ omega (arith, kept, under to to_segment)
     ] in
     raised_under xs new n to need y (omega (arith, to_segment, size)) made small under
 
--- each vertex gets the number of its segment
+-- each vertex gets the coordinate of its segment
 pub spread_one : (n : ℕ) (segments xs new : List ℕ) (v x : ℕ) → v < n → length xs ≡ n → AreVertices n segments → x ≡ slice_index xs (slice_index segments v) → new ≡ set xs v x →
-    (y : ℕ → ℕ) → AreLevelIn segments n y → AreUnder n xs y → AreUnder n new y
-spread_one n segments xs new v x v_in size are is made y level under =
-    raised_under xs new n v x y (omega (arith, v_in, size)) made (omega (arith, is, under (slice_index segments v) (are.1 v v_in), level v v_in)) under
+    (y : ℕ → ℕ) → AreEqualIn segments n y → AreUnder n xs y → AreUnder n new y
+spread_one n segments xs new v x v_in size are is made y equal under =
+    raised_under xs new n v x y (omega (arith, v_in, size)) made (omega (arith, is, under (slice_index segments v) (are.1 v v_in), equal v v_in)) under
 
 -- each dart writes its step
 pub step_written : (w : DartMap) (a : ℕ) (around new : List ℕ) (n place to : ℕ) → a < w.darts → w.direction a < 4 → place ≡ 4 * tail w a + w.direction a →
@@ -131,15 +131,15 @@ step_kept w a around new place to sound a_in here there is made has b below =
           ap (λ (zs : List ℕ). slice_index zs at) made ∙ get_or-set_other around place at to 0 apart ∙ has b (omega (arith, below, other))
     ]
 
--- numbers in the order of the darts along an axis grow by 1 along its direction
+-- coordinates in the order of the darts along an axis grow by 1 along its direction
 pub grow_ahead : (w : DartMap) (k : ℕ) (around : List ℕ) (n : ℕ) (y : ℕ → ℕ) → k < 4 → AreSteps w around n → IsAlong w k y → Grow (step around k) n y
 grow_ahead w k around n y k_in are along v v_in real =
     let (a, a_in, way, from, to) = are v k v_in k_in real in
     omega (arith, along.forward a a_in way, ap y from, ap y to)
 
 -- and stay the same across it, as the two darts of each edge say
-pub level_across : (w : DartMap) (k d : ℕ) (around : List ℕ) (n : ℕ) (y : ℕ → ℕ) → IsSound w → k < 2 → d < 4 → d ≢ k → d ≢ k + 2 → AreSteps w around n → IsAlong w k y → StayLevel (step around d) n y
-level_across w k d around n y sound k_in d_in one two are along v v_in real =
+pub equal_across : (w : DartMap) (k d : ℕ) (around : List ℕ) (n : ℕ) (y : ℕ → ℕ) → IsSound w → k < 2 → d < 4 → d ≢ k → d ≢ k + 2 → AreSteps w around n → IsAlong w k y → StayEqual (step around d) n y
+equal_across w k d around n y sound k_in d_in one two are along v v_in real =
     let (a, a_in, way, from, to) = are v d v_in d_in real in
     let b = w.reverse_dart a in
     let b_in : b < w.darts = sound.tied.reverse_dart_in a a_in in
@@ -158,11 +158,11 @@ pub across_far : (axis : Axis) → IsAcross (growth axis) (across axis)
 across_far X = (λ e. omega (arith, e), λ e. omega (arith, e))
 across_far Y = (λ e. omega (arith, e), λ e. omega (arith, e))
 
--- numbers that grow along the steps in one direction of an axis, and stay the same along those across it, are in
+-- coordinates that grow along the steps in one direction of an axis, and stay the same along those across it, are in
 -- the order of all darts: the other darts go back along these steps
 pub along_steps : (w : DartMap) (k d : ℕ) (around : List ℕ) (x : ℕ → ℕ) → IsSound w → k < 2 → k + d ≡ 1 →
-    HasSteps w around w.darts → Grow (step around k) w.vertices x → StayLevel (step around d) w.vertices x → IsAlong w k x
-along_steps w k d around x sound k_in other has grow level =
+    HasSteps w around w.darts → Grow (step around k) w.vertices x → StayEqual (step around d) w.vertices x → IsAlong w k x
+along_steps w k d around x sound k_in other has grow equal =
     let head_in = sound.meeting.head_in in
     let reverse_in = sound.tied.reverse_dart_in in
     let to : (e a : ℕ) → a < w.darts → w.direction a ≡ e → step around e (tail w a) ≡ w.head a =
@@ -171,7 +171,7 @@ along_steps w k d around x sound k_in other has grow level =
     let to_in : (e a : ℕ) → a < w.darts → w.direction a ≡ e → step around e (tail w a) < w.vertices =
     λ e a a_in way. omega (arith, to e a a_in way, head_in a a_in) in
     let beside : (a : ℕ) → a < w.darts → w.direction a ≡ d → x (w.head a) ≡ x (tail w a) =
-    λ a a_in way. ap x (sym (to d a a_in way)) ∙ level (tail w a) (from_in a a_in) (to_in d a a_in way) in
+    λ a a_in way. ap x (sym (to d a a_in way)) ∙ equal (tail w a) (from_in a a_in) (to_in d a a_in way) in
     record {
       forward = λ a a_in way. omega (arith, grow (tail w a) (from_in a a_in) (to_in k a a_in way), ap x (to k a a_in way));
       across = λ a a_in one two. elim (cases_eq (w.direction a) d) [
@@ -185,38 +185,38 @@ along_steps w k d around x sound k_in other has grow level =
       ];
     }
 
--- the steps in this direction from the first vertices keep the order: the numbers along it grow, those across it stay
+-- the steps in this direction from the first vertices keep the order: the coordinates along it grow, those across it stay
 pub record AreKeptTo (around : List ℕ) (d vertices : ℕ) (along across : List ℕ) : Type 0 where
   pub grows : (v : ℕ) → v < vertices → step around d v < length along → slice_index along v + 1 ≤ slice_index along (step around d v)
-  pub level : (v : ℕ) → v < vertices → step around d v < length along → slice_index across (step around d v) ≡ slice_index across v
+  pub equal : (v : ℕ) → v < vertices → step around d v < length along → slice_index across (step around d v) ≡ slice_index across v
 
 -- with one vertex more
 pub kept_next : (around : List ℕ) (d v to : ℕ) (along across : List ℕ) → to ≡ step around d v →
     (to < length along → slice_index along v + 1 ≤ slice_index along to) → (to < length along → slice_index across to ≡ slice_index across v) →
     AreKeptTo around d v along across → AreKeptTo around d (v + 1) along across
-kept_next around d v to along across is grows level so_far =
+kept_next around d v to along across is grows equal so_far =
     let grows_here = subst (λ (u : ℕ). u < length along → slice_index along v + 1 ≤ slice_index along u) is grows in
-    let level_here = subst (λ (u : ℕ). u < length along → slice_index across u ≡ slice_index across v) is level in
+    let equal_here = subst (λ (u : ℕ). u < length along → slice_index across u ≡ slice_index across v) is equal in
     record {
       grows = λ u below. elim (cases_eq u v) [
         | inl same ↦ subst (λ (t : ℕ). step around d t < length along → slice_index along t + 1 ≤ slice_index along (step around d t)) (sym same) grows_here
         | inr other ↦ so_far.grows u (omega (arith, below, other))
       ];
-      level = λ u below. elim (cases_eq u v) [
-        | inl same ↦ subst (λ (t : ℕ). step around d t < length along → slice_index across (step around d t) ≡ slice_index across t) (sym same) level_here
-        | inr other ↦ so_far.level u (omega (arith, below, other))
+      equal = λ u below. elim (cases_eq u v) [
+        | inl same ↦ subst (λ (t : ℕ). step around d t < length along → slice_index across (step around d t) ≡ slice_index across t) (sym same) equal_here
+        | inr other ↦ so_far.equal u (omega (arith, below, other))
       ];
     }
 
--- with all of them, the numbers are in the order of the darts
+-- with all of them, the coordinates are in the order of the darts
 pub kept_along : (w : DartMap) (k d : ℕ) (around x y : List ℕ) → IsSound w → length x ≡ w.vertices → length y ≡ w.vertices → k < 2 → k + d ≡ 1 →
     HasSteps w around w.darts → AreKeptTo around k w.vertices x y → AreKeptTo around d w.vertices y x → IsAlong w k (λ v. slice_index x v)
 kept_along w k d around x y sound x_all y_all k_in other has ahead beside =
     along_steps w k d around (λ v. slice_index x v) sound k_in other has
     (λ v v_in real. ahead.grows v v_in (omega (arith, real, x_all)))
-    (λ v v_in real. beside.level v v_in (omega (arith, real, y_all)))
+    (λ v v_in real. beside.equal v v_in (omega (arith, real, y_all)))
 
--- zeros are nowhere above any numbers
+-- zeros are nowhere above any coordinates
 pub zeros_under : (xs : List ℕ) (m n : ℕ) (y : ℕ → ℕ) → xs ≡ replicate m 0 → length xs ≡ n → AreUnder n xs y
 zeros_under xs m n y made size v v_in =
     let zeros : All (λ x. x ≡ 0) xs = subst (λ (zs : List ℕ). All (λ x. x ≡ 0) zs) (sym made) (All-replicate (λ x. x ≡ 0) m 0 refl) in

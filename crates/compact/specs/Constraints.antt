@@ -1,4 +1,4 @@
--- Constraints on numbers: the lengths of longest paths are the least numbers that keep them.
+-- Constraints on coordinates: the lengths of longest paths are the least coordinates that keep them.
 use Rattle.std.specs.Prelude.{◌≡◌, ℕ, ◌+◌, ◌-◌, ◌<◌, ◌≤◌, List, All, length, slice_index, slice_set}
 use Rattle.ortho_rep.specs.declared.points.TheConstants.{MAX_COORDINATE}
 use Rattle.common.specs.Sums.{sum_below}
@@ -6,7 +6,7 @@ use Rattle.compact.specs.declared.constraint_graph.Constraint.{Constraint}
 use Rattle.compact.specs.declared.constraint_graph.Relaxation.{Relaxation}
 use Rattle.compact.specs.declared.constraint_graph.Relaxation.TheVariants.{Kept, Raised, Wide}
 
--- the numbers x keep each constraint: the number at its end is that at its start and `least` more, or greater
+-- the coordinates x keep each constraint: the coordinate at its end is that at its start and `least` more, or greater
 abbrev pub Keeps : List Constraint → (ℕ → ℕ) → Type 0
 Keeps constraints x = All (λ constraint. x constraint.from + constraint.least ≤ x constraint.to) constraints
 
@@ -14,17 +14,17 @@ Keeps constraints x = All (λ constraint. x constraint.from + constraint.least �
 abbrev pub AreInside : ℕ → List Constraint → Type 0
 AreInside n constraints = All (λ constraint. (constraint.from < n) × (constraint.to < n) × (constraint.least ≤ 1)) constraints
 
--- no numbers that keep the constraints are below the numbers x anywhere
+-- no coordinates that keep the constraints are below the coordinates x anywhere
 abbrev pub IsLow : List Constraint → ℕ → (ℕ → ℕ) → Type 0
 IsLow constraints n x = (y : ℕ → ℕ) → Keeps constraints y → (v : ℕ) → v < n → x v ≤ y v
 
--- all numbers that keep the constraints pass 65,535 somewhere
+-- all coordinates that keep the constraints pass 65,535 somewhere
 abbrev pub AreWide : List Constraint → ℕ → Type 0
 AreWide constraints n = (y : ℕ → ℕ) → Keeps constraints y → (v : ℕ) × (v < n) × (MAX_COORDINATE < y v)
 
--- how far all numbers are below 65,535
-abbrev pub slack : List ℕ → ℕ
-slack xs = sum_below (length xs) (λ v. MAX_COORDINATE - slice_index xs v)
+-- how far all coordinates are below 65,535
+abbrev pub shortfall : List ℕ → ℕ
+shortfall xs = sum_below (length xs) (λ v. MAX_COORDINATE - slice_index xs v)
 
 -- what the relaxation of one constraint has found and done
 abbrev pub IsRelaxed : Constraint → List ℕ → List ℕ → Relaxation → Type 0
@@ -37,5 +37,5 @@ IsRelaxed constraint old new Wide = (new ≡ old) × (MAX_COORDINATE < slice_ind
 -- what one relaxation of all constraints has found and done
 abbrev pub AreRelaxed : List Constraint → List ℕ → List ℕ → Relaxation → Type 0
 AreRelaxed constraints old new Kept = (new ≡ old) × Keeps constraints (λ v. slice_index new v)
-AreRelaxed constraints old new Raised = slack new < slack old
+AreRelaxed constraints old new Raised = shortfall new < shortfall old
 AreRelaxed constraints old new Wide = AreWide constraints (length old)

@@ -1,12 +1,12 @@
--- Numbers in the order of the darts, along each axis, and what the faults say.
+-- Coordinates in the order of the darts, along each axis, and what the faults say.
 use Rattle.std.specs.Prelude.{◌≡◌, ◌≢◌, ℕ, ◌+◌, ◌<◌, ◌≤◌, List, [], ◌∷◌, length, map, slice_index, slice_index_or}
 use Rattle.ortho_rep.specs.declared.points.TheConstants.{MAX_COORDINATE}
 use Rattle.dissect.specs.DartMaps.{DartMap, IsSound}
-use Rattle.dissect.specs.Paths.{turning_places}
+use Rattle.dissect.specs.Paths.{turning_vertices}
 use Rattle.ortho_rep.specs.declared.points.Point.{Point}
 use Rattle.dissect.specs.Boxes.{BoxesModel, HasEdge, dart_map}
 pub use Rattle.dissect.specs.Headed.{AreHeadingsOf}
-pub use Rattle.dissect.specs.Ordered.{tail, IsOrdered, AreWithin, point_at, AreTaken, AreLaidOut, HasNoPlace}
+pub use Rattle.dissect.specs.Ordered.{tail, IsOrdered, AreWithin, point_at, AreTaken, AreLaidOut, FitsNoGrid}
 use Rattle.compact.specs.declared.axis.Axis.{Axis}
 use Rattle.compact.specs.declared.axis.Axis.TheVariants.{X, Y}
 use Rattle.compact.specs.declared.constraint_graph.Constraint.{Constraint}
@@ -16,7 +16,7 @@ use Rattle.compact.specs.declared.fault.CompactFault.TheVariants.{Wide, Memory}
 
 -- what a fault says
 abbrev pub IsCompactFault : BoxesModel → CompactFault → Type 0
-IsCompactFault b Wide = HasNoPlace b
+IsCompactFault b Wide = FitsNoGrid b
 IsCompactFault b Memory = Unit {0}
 
 -- a direction runs neither along the axis of growth k nor against it
@@ -24,7 +24,7 @@ abbrev pub IsAcross : ℕ → ℕ → Type 0
 IsAcross k d = (d ≢ k) × (d ≢ k + 2)
 
 -- along one axis, whose direction of growth has the number k: a dart that way has a constraint of 1 or more, and the ends of a
--- dart across have one number
+-- dart across have one coordinate
 pub record IsAlong (w : DartMap) (k : ℕ) (x : ℕ → ℕ) : Type 0 where
   pub forward : (a : ℕ) → a < w.darts → w.direction a ≡ k → x (tail w a) + 1 ≤ x (w.head a)
   pub across : (a : ℕ) → a < w.darts → w.direction a ≢ k → w.direction a ≢ k + 2 → x (tail w a) ≤ x (w.head a)
@@ -47,12 +47,12 @@ abbrev pub across : Axis → ℕ
 across X = 1
 across Y = 2
 
--- the least numbers of the vertices in the order of the darts along an axis, within the grid
-pub record AreLeast (b : BoxesModel) (k : ℕ) (numbers : List ℕ) : Type 0 where
-  pub along : IsAlong (dart_map b) k (λ v. slice_index numbers v)
-  pub least : (y : ℕ → ℕ) → IsAlong (dart_map b) k y → (v : ℕ) → v < b.vertices → slice_index numbers v ≤ y v
-  pub within : AreWithin b.vertices (λ v. slice_index numbers v)
-  pub count : length numbers ≡ b.vertices
+-- the least coordinates of the vertices in the order of the darts along an axis, within the grid
+pub record AreLeast (b : BoxesModel) (k : ℕ) (coordinates : List ℕ) : Type 0 where
+  pub along : IsAlong (dart_map b) k (λ v. slice_index coordinates v)
+  pub least : (y : ℕ → ℕ) → IsAlong (dart_map b) k y → (v : ℕ) → v < b.vertices → slice_index coordinates v ≤ y v
+  pub within : AreWithin b.vertices (λ v. slice_index coordinates v)
+  pub count : length coordinates ≡ b.vertices
 
 -- what a fault says of one axis
 abbrev pub IsAxisFault : BoxesModel → ℕ → CompactFault → Type 0
@@ -60,13 +60,13 @@ IsAxisFault b k Wide = IsSound (dart_map b) × ((x : ℕ → ℕ) → IsAlong (d
 IsAxisFault b k Memory = Unit {0}
 
 -- the vertices at which the walk along these darts turns, in order
-abbrev pub places_along : DartMap → List ℕ → List ℕ
-places_along w [] = []
-places_along w (a ∷ bs) = turning_places w a bs
+abbrev pub vertices_along : DartMap → List ℕ → List ℕ
+vertices_along w [] = []
+vertices_along w (a ∷ bs) = turning_vertices w a bs
 
 -- the points are the corners of the edge e, in order
 abbrev pub AreCornersOf : BoxesModel → (ℕ → ℕ) → (ℕ → ℕ) → ℕ → List Point → Type 0
-AreCornersOf b x y e points = (edge : HasEdge b e) → points ≡ map (point_at x y) (turning_places (dart_map b) edge.first edge.rest)
+AreCornersOf b x y e points = (edge : HasEdge b e) → points ≡ map (point_at x y) (turning_vertices (dart_map b) edge.first edge.rest)
 
 -- the lists have the corners of the first n edges, in order
 abbrev pub AreCorners : BoxesModel → (ℕ → ℕ) → (ℕ → ℕ) → ℕ → List (List Point) → Type 0

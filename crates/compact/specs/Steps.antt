@@ -1,4 +1,4 @@
--- Steps from vertex to vertex along one direction, and numbers that are raised along them.
+-- Steps from vertex to vertex along one direction, and coordinates that are raised along them.
 use Rattle.std.specs.Prelude.{◌≡◌, ℕ, ◌+◌, ◌*◌, ◌<◌, ◌≤◌, List, length, slice_index}
 use Rattle.dissect.specs.DartMaps.{DartMap}
 use Rattle.compact.specs.Ordered.{tail}
@@ -16,47 +16,47 @@ AreSteps w around n = (v d : ℕ) → v < n → d < 4 → step around d v < n
 abbrev pub HasSteps : DartMap → List ℕ → ℕ → Type 0
 HasSteps w around darts = (a : ℕ) → a < darts → step around (w.direction a) (tail w a) ≡ w.head a
 
--- the numbers y grow by 1 or more along each of the steps
+-- the coordinates y grow by 1 or more along each of the steps
 abbrev pub Grow : (ℕ → ℕ) → ℕ → (ℕ → ℕ) → Type 0
 Grow next n y = (v : ℕ) → v < n → next v < n → y v + 1 ≤ y (next v)
 
--- the numbers y stay the same along each of the steps
-abbrev pub StayLevel : (ℕ → ℕ) → ℕ → (ℕ → ℕ) → Type 0
-StayLevel next n y = (v : ℕ) → v < n → next v < n → y (next v) ≡ y v
+-- the coordinates y stay the same along each of the steps
+abbrev pub StayEqual : (ℕ → ℕ) → ℕ → (ℕ → ℕ) → Type 0
+StayEqual next n y = (v : ℕ) → v < n → next v < n → y (next v) ≡ y v
 
 -- for each vertex below n the list has a vertex below n
 abbrev pub AreVertices : ℕ → List ℕ → Type 0
 AreVertices n segments = (length segments ≡ n) × ((v : ℕ) → v < n → slice_index segments v < n)
 
--- y has one number in each segment
-abbrev pub AreLevelIn : List ℕ → ℕ → (ℕ → ℕ) → Type 0
-AreLevelIn segments n y = (v : ℕ) → v < n → y (slice_index segments v) ≡ y v
+-- y has one coordinate in each segment
+abbrev pub AreEqualIn : List ℕ → ℕ → (ℕ → ℕ) → Type 0
+AreEqualIn segments n y = (v : ℕ) → v < n → y (slice_index segments v) ≡ y v
 
--- all numbers that stay the same along the steps have one number in each segment
+-- all coordinates that stay the same along the steps have one coordinate in each segment
 pub record AreSegments (next : ℕ → ℕ) (n : ℕ) (segments : List ℕ) : Type 0 where
   pub inside : AreVertices n segments
-  pub level : (y : ℕ → ℕ) → StayLevel next n y → AreLevelIn segments n y
+  pub equal : (y : ℕ → ℕ) → StayEqual next n y → AreEqualIn segments n y
 
 -- each vertex below n stands at its own place
 abbrev pub AreOwn : ℕ → List ℕ → Type 0
 AreOwn n segments = (length segments ≡ n) × ((v : ℕ) → v < n → slice_index segments v ≡ v)
 
--- a vertex below n is on a segment with this first vertex: all numbers that stay the same along the steps are the same at both
+-- a vertex below n is on a segment with this first vertex: all coordinates that stay the same along the steps are the same at both
 pub record IsOnSegment (next : ℕ → ℕ) (n first vertex : ℕ) : Type 0 where
   pub first_in : first < n
   pub vertex_in : vertex < n
-  pub connected : (y : ℕ → ℕ) → StayLevel next n y → y first ≡ y vertex
+  pub connected : (y : ℕ → ℕ) → StayEqual next n y → y first ≡ y vertex
 
--- the first n numbers are nowhere above y
+-- the first n coordinates are nowhere above y
 abbrev pub AreUnder : ℕ → List ℕ → (ℕ → ℕ) → Type 0
 AreUnder n xs y = (v : ℕ) → v < n → slice_index xs v ≤ y v
 
--- numbers nowhere above any numbers that grow along the steps and have one number in each segment stay so
+-- coordinates nowhere above any coordinates that grow along the steps and have one coordinate in each segment stay so
 abbrev pub StayUnder : (ℕ → ℕ) → ℕ → List ℕ → List ℕ → List ℕ → Type 0
 StayUnder ahead n segments old new =
-    (y : ℕ → ℕ) → Grow ahead n y → AreLevelIn segments n y → AreUnder n old y → AreUnder n new y
+    (y : ℕ → ℕ) → Grow ahead n y → AreEqualIn segments n y → AreUnder n old y → AreUnder n new y
 
--- numbers nowhere above any that grow along the steps ahead, and stay the same along those to the left, stay so
+-- coordinates nowhere above any that grow along the steps ahead, and stay the same along those to the left, stay so
 abbrev pub StayUnderAll : ℕ → (ℕ → ℕ) → (ℕ → ℕ) → List ℕ → List ℕ → Type 0
 StayUnderAll n ahead left old new =
-    (y : ℕ → ℕ) → Grow ahead n y → StayLevel left n y → AreUnder n old y → AreUnder n new y
+    (y : ℕ → ℕ) → Grow ahead n y → StayEqual left n y → AreUnder n old y → AreUnder n new y

@@ -1,4 +1,4 @@
-//! The constraints of a dissection along an axis, and the least numbers of its vertices.
+//! The constraints of a dissection along an axis, and the least coordinates of its vertices.
 
 ghost use Rattle.std.specs.Prelude.{◌≡◌, ◌≢◌, ◌+◌, ◌*◌, length, slice_index, Some, None, IsTrue, IfOk, IfErr, OnOk, ℕ, ◌<◌, ◌≤◌};
 ghost use Rattle.ortho_rep.specs.declared.points.TheConstants.{MAX_COORDINATE};
@@ -18,7 +18,7 @@ use dissect::Boxes;
 use geometry::Direction;
 use std::alloc::AllocError;
 
-/// An axis, by the direction in which its numbers grow.
+/// An axis, by the direction in which its coordinates grow.
 #[derive(Clone, Copy, Debug)]
 pub enum Axis {
     /// x, which grows to the east.
@@ -27,7 +27,7 @@ pub enum Axis {
     Y,
 }
 
-/// How much the number of a dart's head is at least above that of its tail, for darts of this direction.
+/// How much the coordinate of a dart's head is at least above that of its tail, for darts of this direction.
 /// None for darts against the axis: their reverses say it.
 fn least_difference(axis: Axis, direction: Direction) -> Option<u8>
     ensures forward { quarters direction ≡ growth axis → result ≡ Some 1 }
@@ -62,7 +62,7 @@ fn constraints_along(
     Ok(())
 }
 
-/// Whether a step from a vertex keeps the order: the numbers along it grow, and those across it stay the
+/// Whether a step from a vertex keeps the order: the coordinates along it grow, and those across it stay the
 /// same. So it does where it leads to no vertex.
 ///
 /// The vertex itself then stands in the place of the next one, so that no branch hangs on whether there is
@@ -71,7 +71,7 @@ fn is_step_kept(along: &[u16], across: &[u16], vertex: usize, to: u32) -> bool
     requires vertex { vertex < length along.now }
     requires count { length across.now ≡ length along.now }
     ensures grows { IsTrue result → to < length along.now → slice_index along.now vertex + 1 ≤ slice_index along.now to }
-    ensures level { IsTrue result → to < length along.now → slice_index across.now to ≡ slice_index across.now vertex }
+    ensures equal { IsTrue result → to < length along.now → slice_index across.now to ≡ slice_index across.now vertex }
 {
     let is_there = (to as usize) < along.len();
     let end = if is_there { to as usize } else { vertex };
@@ -80,7 +80,7 @@ fn is_step_kept(along: &[u16], across: &[u16], vertex: usize, to: u32) -> bool
     grows & (across[vertex] == across[end])
 }
 
-/// Whether numbers are in the order of the darts along both axes. `around` has the steps from each vertex:
+/// Whether coordinates are in the order of the darts along both axes. `around` has the steps from each vertex:
 /// those to the east and to the north say it of all darts, since the others go back along them.
 fn are_along(boxes: &Boxes, around: &[u32], x: &[u16], y: &[u16]) -> bool
     requires all_steps { HasSteps (dart_map boxes.now) around.now boxes.now.darts }
@@ -114,55 +114,55 @@ fn steps_along(around: &[u32], axis: Axis) -> Steps<'_>
     }
 }
 
-/// Numbers that are nowhere above any in the order of the darts along an axis: the lengths of longest
+/// Coordinates that are nowhere above any in the order of the darts along an axis: the lengths of longest
 /// paths, found segment by segment, in the memory of the list that is lent. `around` has the steps from each
 /// vertex. Linear in the darts.
 fn low_along(
     boxes: &Boxes,
     around: &[u32],
     axis: Axis,
-    numbers: Vec<u16>,
+    coordinates: Vec<u16>,
     axis_segments: &mut AxisSegments,
 ) -> Result<Vec<u16>, AllocError>
     requires steps { AreSteps (dart_map boxes.now) around.now boxes.now.vertices }
     requires around { length around.now ≡ 4 * boxes.now.vertices }
     requires segments { AreSegments (step around.now (across axis)) boxes.now.vertices axis_segments.old.segments.items }
     ensures sound { IfOk result (λ _. IsSound (dart_map boxes.now)) }
-    ensures count { IfOk result (λ numbers. length numbers.items ≡ boxes.now.vertices) }
-    ensures under { IfOk result (λ numbers. (y : ℕ → ℕ) → IsAlong (dart_map boxes.now) (growth axis) y → AreUnder boxes.now.vertices numbers.items y) }
+    ensures count { IfOk result (λ coordinates. length coordinates.items ≡ boxes.now.vertices) }
+    ensures under { IfOk result (λ coordinates. (y : ℕ → ℕ) → IsAlong (dart_map boxes.now) (growth axis) y → AreUnder boxes.now.vertices coordinates.items y) }
 {
-    let mut numbers = filled(numbers, boxes.vertices() as usize, 0)?;
-    raise_to_longest_paths(axis_segments, steps_along(around, axis), &mut numbers);
-    Ok(numbers)
+    let mut coordinates = filled(coordinates, boxes.vertices() as usize, 0)?;
+    raise_to_longest_paths(axis_segments, steps_along(around, axis), &mut coordinates);
+    Ok(coordinates)
 }
 
-/// Raises numbers that are nowhere above any in the order of the darts along an axis, until they are in that
+/// Raises coordinates that are nowhere above any in the order of the darts along an axis, until they are in that
 /// order: then they are the least.
 fn relaxed_along(
     boxes: &Boxes,
     axis: Axis,
-    mut numbers: Vec<u16>,
+    mut coordinates: Vec<u16>,
     constraints: &mut Vec<Constraint>,
 ) -> Result<Vec<u16>, CompactFault>
     requires sound { IsSound (dart_map boxes.now) }
-    requires count { length numbers.items ≡ boxes.now.vertices }
-    requires under { (y : ℕ → ℕ) → IsAlong (dart_map boxes.now) (growth axis) y → AreUnder boxes.now.vertices numbers.items y }
-    ensures along { IfOk result (λ numbers. AreLeast boxes.now (growth axis) numbers.items) }
+    requires count { length coordinates.items ≡ boxes.now.vertices }
+    requires under { (y : ℕ → ℕ) → IsAlong (dart_map boxes.now) (growth axis) y → AreUnder boxes.now.vertices coordinates.items y }
+    ensures along { IfOk result (λ coordinates. AreLeast boxes.now (growth axis) coordinates.items) }
     ensures fault { IfErr result (IsAxisFault boxes.now (growth axis)) }
 {
     let Ok(()) = constraints_along(boxes, axis, constraints) else {
         return Err(CompactFault::Memory);
     };
-    let all_kept = relax_in_rounds(constraints, &mut numbers);
+    let all_kept = relax_in_rounds(constraints, &mut coordinates);
     if !all_kept {
         return Err(CompactFault::Wide);
     }
-    Ok(numbers)
+    Ok(coordinates)
 }
 
-/// The least numbers of the vertices in the order of the darts along x and along y, in the memory of the
+/// The least coordinates of the vertices in the order of the darts along x and along y, in the memory of the
 /// lists that are lent. `around` has the steps from each vertex.
-pub fn least_numbers(
+pub fn least_coordinates(
     boxes: &Boxes,
     around: &[u32],
     x: Vec<u16>,

@@ -3,7 +3,7 @@
 ghost use Rattle.std.specs.Prelude.{◌≡◌, ◌≢◌, ◌<◌, ◌↔◌, ◌++◌, IsTrue, All, length, map, slice_index, OnOk};
 ghost use Rattle.dissect.specs.Paths.{turn_to};
 ghost use Rattle.dissect.specs.Boxes.{dart_map};
-ghost use Rattle.compact.specs.Ordered.{point_at, places_along};
+ghost use Rattle.compact.specs.Ordered.{point_at, vertices_along};
 
 use dissect::Boxes;
 use ortho_rep::Point;
@@ -43,7 +43,7 @@ pub fn push_corners(
     requires y_in { length y.now ≡ boxes.now.vertices }
     requires inside { All (λ dart. dart < boxes.now.darts) path.now }
     ensures { OnOk result (corners.new.items
-        ≡ corners.old.items ++ map (point_at (λ v. slice_index x.now v) (λ v. slice_index y.now v)) (places_along (dart_map boxes.now) path.now)) }
+        ≡ corners.old.items ++ map (point_at (λ v. slice_index x.now v) (λ v. slice_index y.now v)) (vertices_along (dart_map boxes.now) path.now)) }
 {
     for k in 1..path.len() {
         let front = path[k - 1];

@@ -6,7 +6,7 @@ mod constraint_graph;
 mod corners;
 mod fault;
 mod longest_paths;
-mod place;
+mod points;
 mod scratch;
 mod steps;
 
@@ -14,5 +14,5 @@ pub use dissect::{
     HeadingSearch, Scratch as BoxesScratch, dissect, dissect_along, dissect_in, headings_in,
 };
 pub use fault::CompactFault;
-pub use place::{compact, compact_in};
+pub use points::{compact, compact_in};
 pub use scratch::Scratch;

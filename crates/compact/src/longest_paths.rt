@@ -1,7 +1,7 @@
 //! Lengths of longest paths (Tamassia 1987) over segments of vertices, which darts across an axis connect.
 
 ghost use Rattle.std.specs.Prelude.{◌≡◌, ◌*◌, ◌^◌, ◌<◌, ℕ, length, OnOk};
-ghost use Rattle.compact.specs.Steps.{step, AreVertices, AreLevelIn, AreSegments, AreOwn, IsOnSegment, AreUnder, StayUnder, StayUnderAll};
+ghost use Rattle.compact.specs.Steps.{step, AreVertices, AreEqualIn, AreSegments, AreOwn, IsOnSegment, AreUnder, StayUnder, StayUnderAll};
 
 use crate::steps::NO_VERTEX;
 use ortho_rep::MAX_COORDINATE;
@@ -15,7 +15,7 @@ pub struct Steps<'a> {
     /// The direction along the axis.
     pub ahead: u8,
     /// The direction against it.
-    pub behind: u8,
+    pub back: u8,
     /// The direction a quarter turn to the left of `ahead`.
     pub left: u8,
     /// The direction a quarter turn to the right of `ahead`.
@@ -28,14 +28,14 @@ impl<'a> Steps<'a> {
         ensures around { result.around.now ≡ around.now }
         ensures ahead { result.ahead ≡ 0 }
         ensures left { result.left ≡ 1 }
-        ensures behind { result.behind ≡ 2 }
+        ensures back { result.back ≡ 2 }
         ensures right { result.right ≡ 3 }
     {
         Steps {
             around,
             ahead: 0,
             left: 1,
-            behind: 2,
+            back: 2,
             right: 3,
         }
     }
@@ -45,14 +45,14 @@ impl<'a> Steps<'a> {
         ensures around { result.around.now ≡ around.now }
         ensures ahead { result.ahead ≡ 1 }
         ensures left { result.left ≡ 2 }
-        ensures behind { result.behind ≡ 3 }
+        ensures back { result.back ≡ 3 }
         ensures right { result.right ≡ 0 }
     {
         Steps {
             around,
             ahead: 1,
             left: 2,
-            behind: 3,
+            back: 3,
             right: 0,
         }
     }
@@ -62,9 +62,9 @@ impl<'a> Steps<'a> {
 /// dissection.
 #[derive(Drop)]
 pub struct AxisSegments {
-    /// For each vertex the first one of its segment. A segment has one number, which stands there.
+    /// For each vertex the first one of its segment. A segment has one coordinate, which stands there.
     segments: Vec<u32>,
-    // Time alone rests on what follows: whatever it holds, numbers are raised along steps alone.
+    // Time alone rests on what follows: whatever it holds, coordinates are raised along steps alone.
     /// The first vertices of all segments, and others behind them.
     segment_firsts: Vec<u32>,
     /// How many segments there are.
@@ -135,8 +135,8 @@ fn list_segments(steps: Steps<'_>, segments: &mut [u32], segment_firsts: &mut [u
 /// A walk along segments, one after another: where it is.
 #[derive(Clone, Copy, Debug)]
 struct SegmentWalk {
-    /// The segment behind this one, by its place among all.
-    behind: usize,
+    /// The next segment, by its place among all.
+    next_place: usize,
     /// The first vertex of the segment.
     first: u32,
     vertex: u32,
@@ -149,7 +149,7 @@ impl SegmentWalk {
         ensures vertex { result.vertex ≡ first }
     {
         SegmentWalk {
-            behind: 1,
+            next_place: 1,
             first,
             vertex: first,
         }
@@ -157,7 +157,7 @@ impl SegmentWalk {
 }
 
 /// Writes the first vertex of the segment at the vertex where the walk is, counts the step that leads to it
-/// from behind, and goes on: to the next vertex of the segment, or to the first one of the segment behind it.
+/// along the axis, and goes on: to the next vertex of the segment, or to the first one of the next segment.
 /// No branch hangs on where segments end, which cannot be foreseen.
 fn write_next(
     steps: Steps<'_>,
@@ -166,7 +166,7 @@ fn write_next(
     segments: &mut [u32],
     in_degrees: &mut [u32],
 ) -> SegmentWalk
-    requires directions { (steps.left < 4) × (steps.behind < 4) }
+    requires directions { (steps.left < 4) × (steps.back < 4) }
     requires count { length steps.around.now ≡ 4 * length segments.old }
     requires segment_firsts { AreVertices (length segments.old) segment_firsts.now }
     requires in_degrees { length in_degrees.old ≡ length segments.old }
@@ -177,19 +177,19 @@ fn write_next(
     ensures in_degrees { length in_degrees.new ≡ length in_degrees.old }
 {
     let SegmentWalk {
-        behind,
+        next_place,
         first,
         vertex,
     } = walk;
     segments[vertex as usize] = first;
     let at = 4 * vertex as usize;
-    let is_led_to = (steps.around[at + usize::from(steps.behind)] as usize) < segments.len();
+    let is_led_to = (steps.around[at + usize::from(steps.back)] as usize) < segments.len();
     in_degrees[first as usize] = in_degrees[first as usize].wrapping_add(u32::from(is_led_to));
     let next = steps.around[at + usize::from(steps.left)];
     let ends = next as usize >= segments.len();
-    let after = segment_firsts.get(behind).copied().unwrap_or(first);
+    let after = segment_firsts.get(next_place).copied().unwrap_or(first);
     SegmentWalk {
-        behind: behind.wrapping_add(usize::from(ends)),
+        next_place: next_place.wrapping_add(usize::from(ends)),
         first: if ends { after } else { first },
         vertex: if ends { after } else { next },
     }
@@ -262,7 +262,7 @@ pub fn find_segments(
     Ok(())
 }
 
-/// The segments in the order in which they come, while numbers are raised.
+/// The segments in the order in which they come, while coordinates are raised.
 #[derive(Drop)]
 struct ReadyQueue<'a> {
     /// How many steps to a segment are still to come, at the place of its first vertex.
@@ -310,86 +310,86 @@ impl ReadyQueue<'_> {
     }
 }
 
-/// Raises the number of the segment of the next vertex along the axis, if there is one, to that of the segment of a
-/// vertex and one more, and gives back the first vertex of that segment. No number passes 65,535.
+/// Raises the coordinate of the segment of the next vertex along the axis, if there is one, to that of the segment of a
+/// vertex and one more, and gives back the first vertex of that segment. No coordinate passes 65,535.
 fn raise(
     around: &[u32],
     ahead: u8,
     segments: &[u32],
     vertex: u32,
-    numbers: &mut [u16],
+    coordinates: &mut [u16],
 ) -> Option<u32>
     requires ahead { ahead < 4 }
-    requires vertex { vertex < length numbers.old }
-    requires count { length around.now ≡ 4 * length numbers.old }
-    requires segments { AreVertices (length numbers.old) segments.now }
-    ensures under { StayUnder (step around.now ahead) (length numbers.old) segments.now numbers.old numbers.new }
-    ensures count { length numbers.new ≡ length numbers.old }
+    requires vertex { vertex < length coordinates.old }
+    requires count { length around.now ≡ 4 * length coordinates.old }
+    requires segments { AreVertices (length coordinates.old) segments.now }
+    ensures under { StayUnder (step around.now ahead) (length coordinates.old) segments.now coordinates.old coordinates.new }
+    ensures count { length coordinates.new ≡ length coordinates.old }
 {
     let to = around[4 * vertex as usize + usize::from(ahead)];
-    if to as usize >= numbers.len() {
+    if to as usize >= coordinates.len() {
         return None;
     }
     let from = segments[vertex as usize];
     let segment = segments[to as usize];
-    let need = (u32::from(numbers[from as usize]) + 1).min(MAX_COORDINATE) as u16;
+    let need = (u32::from(coordinates[from as usize]) + 1).min(MAX_COORDINATE) as u16;
     // It is written in any case: whether it is raised cannot be foreseen, so no branch is to hang on it.
-    numbers[segment as usize] = numbers[segment as usize].max(need);
+    coordinates[segment as usize] = coordinates[segment as usize].max(need);
     Some(segment)
 }
 
-/// Walks along a segment from its first vertex, raises the numbers of the segments that come next along the
+/// Walks along a segment from its first vertex, raises the coordinates of the segments that come next along the
 /// axis, and counts off the steps to them.
 fn pass_segment(
     steps: Steps<'_>,
     first: u32,
     segments: &[u32],
     queue: &mut ReadyQueue<'_>,
-    numbers: &mut [u16],
+    coordinates: &mut [u16],
 )
     requires directions { (steps.ahead < 4) × (steps.left < 4) }
-    requires first { first < length numbers.old }
-    requires count { length steps.around.now ≡ 4 * length numbers.old }
-    requires segments { AreVertices (length numbers.old) segments.now }
-    ensures under { StayUnder (step steps.entry.around.now steps.entry.ahead) (length numbers.old) segments.now numbers.old numbers.new }
-    ensures count { length numbers.new ≡ length numbers.old }
+    requires first { first < length coordinates.old }
+    requires count { length steps.around.now ≡ 4 * length coordinates.old }
+    requires segments { AreVertices (length coordinates.old) segments.now }
+    ensures under { StayUnder (step steps.entry.around.now steps.entry.ahead) (length coordinates.old) segments.now coordinates.old coordinates.new }
+    ensures count { length coordinates.new ≡ length coordinates.old }
 {
     let mut vertex = first;
-    for _ in 0..numbers.len() {
-        if let Some(segment) = raise(steps.around, steps.ahead, segments, vertex, numbers) {
+    for _ in 0..coordinates.len() {
+        if let Some(segment) = raise(steps.around, steps.ahead, segments, vertex, coordinates) {
             queue.count_off(segment);
         }
         let next = steps.around[4 * vertex as usize + usize::from(steps.left)];
-        if next as usize >= numbers.len() {
+        if next as usize >= coordinates.len() {
             return;
         }
         vertex = next;
     }
 }
 
-/// Gives each vertex the number of its segment.
-fn spread(segments: &[u32], numbers: &mut [u16])
-    requires segments { AreVertices (length numbers.old) segments.now }
-    ensures under { (y : ℕ → ℕ) → AreLevelIn segments.now (length numbers.old) y → AreUnder (length numbers.old) numbers.old y → AreUnder (length numbers.old) numbers.new y }
-    ensures count { length numbers.new ≡ length numbers.old }
+/// Gives each vertex the coordinate of its segment.
+fn spread(segments: &[u32], coordinates: &mut [u16])
+    requires segments { AreVertices (length coordinates.old) segments.now }
+    ensures under { (y : ℕ → ℕ) → AreEqualIn segments.now (length coordinates.old) y → AreUnder (length coordinates.old) coordinates.old y → AreUnder (length coordinates.old) coordinates.new y }
+    ensures count { length coordinates.new ≡ length coordinates.old }
 {
-    for vertex in 0..numbers.len() {
-        numbers[vertex] = numbers[segments[vertex] as usize];
+    for vertex in 0..coordinates.len() {
+        coordinates[vertex] = coordinates[segments[vertex] as usize];
     }
 }
 
-/// Raises numbers to those of longest paths, segment by segment: a segment comes when the numbers of all segments that
-/// have a step to it are known. Linear in the vertices.
+/// Raises coordinates to those of longest paths, segment by segment: a segment comes when the coordinates of all
+/// segments that have a step to it are known. Linear in the vertices.
 pub fn raise_to_longest_paths(
     axis_segments: &mut AxisSegments,
     steps: Steps<'_>,
-    numbers: &mut [u16],
+    coordinates: &mut [u16],
 )
     requires directions { (steps.ahead < 4) × (steps.left < 4) }
-    requires count { length steps.around.now ≡ 4 * length numbers.old }
-    requires segments { AreSegments (step steps.around.now steps.left) (length numbers.old) axis_segments.old.segments.items }
-    ensures under { StayUnderAll (length numbers.old) (step steps.entry.around.now steps.entry.ahead) (step steps.entry.around.now steps.entry.left) numbers.old numbers.new }
-    ensures count { length numbers.new ≡ length numbers.old }
+    requires count { length steps.around.now ≡ 4 * length coordinates.old }
+    requires segments { AreSegments (step steps.around.now steps.left) (length coordinates.old) axis_segments.old.segments.items }
+    ensures under { StayUnderAll (length coordinates.old) (step steps.entry.around.now steps.entry.ahead) (step steps.entry.around.now steps.entry.left) coordinates.old coordinates.new }
+    ensures count { length coordinates.new ≡ length coordinates.old }
 {
     let segments = axis_segments.segments.as_slice();
     let mut queue = ReadyQueue {
@@ -398,12 +398,12 @@ pub fn raise_to_longest_paths(
         count: 0,
     };
     queue.begin(axis_segments.segment_firsts.as_slice(), axis_segments.count);
-    for at in 0..numbers.len() {
+    for at in 0..coordinates.len() {
         let first = queue.segment_at(at);
-        if first as usize >= numbers.len() {
+        if first as usize >= coordinates.len() {
             break;
         }
-        pass_segment(steps, first, segments, &mut queue, numbers);
+        pass_segment(steps, first, segments, &mut queue, coordinates);
     }
-    spread(segments, numbers);
+    spread(segments, coordinates);
 }

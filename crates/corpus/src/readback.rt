@@ -68,7 +68,7 @@ fn test_points(alloc: Global, plane: &Plane, shape: &Shape, points: Points) -> R
 fn shape_of(alloc: Global, value: &Value) -> Option<Shape> {
     let angles = angles_of(alloc, value.get("angles")?)?;
     let strings = strings_of(alloc, value.get("turns")?)?;
-    if Shape::are_short(&strings) {
+    if Shape::have_few_turns(&strings) {
         Some(Shape::new(angles, strings))
     } else {
         None

@@ -95,7 +95,7 @@ in_reverse y (x ∷ xs) here =
 -- a map whose chains are the edges of a plane of v vertices and n darts, without loops
 pub record AreEdges (v : ℕ) (w : DartMap) (n : ℕ) (reverse_dart : ℕ → ℕ) (quarters : ℕ → List ℕ) : Type 0 where
   pub chains : HasChains v w
-  pub narrow : w.darts ≤ no_dart
+  pub darts_fit : w.darts ≤ no_dart
   pub paths : HasPaths w n reverse_dart quarters
   pub reverse_dart_in : (d : ℕ) → d < n → reverse_dart d < n
   pub reverse_dart_apart : (d : ℕ) → d < n → reverse_dart d ≢ d
@@ -110,12 +110,12 @@ module _ (v : ℕ) (w : DartMap) (n : ℕ) (reverse_dart : ℕ → ℕ) (quarter
   ends_there : (b d : ℕ) → b < w.darts → d < n → w.before b ≢ d
   ends_there b d b_in d_in at =
       elim (are.paths.ends b b_in) [
-        | inl none ↦ let narrow = are.narrow in let inside = dart_in d d_in in omega (arith, at, none, narrow, inside)
+        | inl none ↦ let darts_fit = are.darts_fit in let inside = dart_in d d_in in omega (arith, at, none, darts_fit, inside)
         | inr late ↦ omega (arith, at, late.0, d_in)
       ]
 
   some : (a b : ℕ) → w.before b ≡ a → a < w.darts → w.before b ≢ no_dart
-  some a b at a_in none = let narrow = are.narrow in omega (arith, at, none, narrow, a_in)
+  some a b at a_in none = let darts_fit = are.darts_fit in omega (arith, at, none, darts_fit, a_in)
 
   -- before two darts there never stands the same one
   before_apart : (a b c : ℕ) → a < w.darts → b < w.darts → c < w.darts → w.before b ≡ a → w.before c ≡ a → b ≡ c
@@ -172,7 +172,7 @@ module _ (v : ℕ) (w : DartMap) (n : ℕ) (reverse_dart : ℕ → ℕ) (quarter
   path_first : (d first : ℕ) (rest : List ℕ) → d < n → IsPath w d first rest → w.reverse_dart first ≡ reverse_dart d
   path_first d first rest d_in path =
       let has = are.paths.paths d d_in in
-      ap w.reverse_dart (path_unique w d first has.first rest has.rest are.narrow path has.path).first ∙ has.back
+      ap w.reverse_dart (path_unique w d first has.first rest has.rest are.darts_fit path has.path).first ∙ has.back
 
   -- the way back along the edge of a dart
   way_back : (d first : ℕ) (rest : List ℕ) → d < n → IsPath w d first rest → IsPath w (reverse_dart d) (w.reverse_dart d) (backs w first rest)
@@ -198,7 +198,7 @@ module _ (v : ℕ) (w : DartMap) (n : ℕ) (reverse_dart : ℕ → ℕ) (quarter
   pub paths_back : (d first first' : ℕ) (rest rest' : List ℕ) → d < n → IsPath w d first rest → IsPath w (reverse_dart d) first' rest' →
       first' ∷ rest' ≡ map w.reverse_dart (reverse (first ∷ rest))
   paths_back d first first' rest rest' d_in path path' =
-      let same = path_unique w (reverse_dart d) first' (w.reverse_dart d) rest' (backs w first rest) are.narrow path' (way_back d first rest d_in path) in
+      let same = path_unique w (reverse_dart d) first' (w.reverse_dart d) rest' (backs w first rest) are.darts_fit path' (way_back d first rest d_in path) in
       ap (λ (k : ℕ). k ∷ rest') same.first ∙ ap (λ (xs : List ℕ). w.reverse_dart d ∷ xs) same.rests
       ∙ ap (λ (k : ℕ). w.reverse_dart k ∷ backs w first rest) (sym path.ends) ∙ backs_reverse first rest
 
@@ -256,5 +256,5 @@ module _ (v : ℕ) (w : DartMap) (n : ℕ) (reverse_dart : ℕ → ℕ) (quarter
                   omega (arith, fresh, ap w.head before, at, start, low)
             ]),
         heads_distinct d first first rest rest d_in path path.first_in path.rest_in path.follows path.ends
-            (path_distinct w d first rest are.narrow path) (λ y here. here),
+            (path_distinct w d first rest are.darts_fit path) (λ y here. here),
       )

@@ -37,7 +37,7 @@ back_inside w n a (b ∷ bs) k follows a_in below few =
 -- of two paths to the same dart, one is no longer than the other that starts with nothing before it
 pub path_no_longer : (w : DartMap) (a b : ℕ) (rest others : List ℕ) → w.darts ≤ no_dart → w.before a ≡ no_dart → b < w.darts →
     Below w.darts others → Follows w a rest → Follows w b others → last_of a rest ≡ last_of b others → length others ≤ length rest
-path_no_longer w a b rest others narrow start b_in below follows follows' same =
+path_no_longer w a b rest others darts_fit start b_in below follows follows' same =
     elim (cases_lt (length rest) (length others)) [
       | inl less ↦
           let first : back w (length rest) (last_of b others) ≡ a =
@@ -45,7 +45,7 @@ path_no_longer w a b rest others narrow start b_in below follows follows' same =
           let none : back w (suc (length rest)) (last_of b others) ≡ no_dart = ap w.before first ∙ start in
           let inside : back w (suc (length rest)) (last_of b others) < w.darts =
           back_inside w w.darts b others (suc (length rest)) follows' b_in below (omega (arith, less)) in
-          absurd (omega (arith, none, inside, narrow))
+          absurd (omega (arith, none, inside, darts_fit))
       | inr done ↦ done
     ]
 
@@ -68,10 +68,10 @@ walks_same w a b (c ∷ cs) (d ∷ ds) long follows follows' last =
 -- there is one path to a dart
 pub path_unique : (w : DartMap) (end first first' : ℕ) (rest rest' : List ℕ) → w.darts ≤ no_dart → IsPath w end first rest →
     IsPath w end first' rest' → AreSame first first' rest rest'
-path_unique w end first first' rest rest' narrow path path' =
-    let more = path_no_longer w first first' rest rest' narrow path.start path'.first_in path'.rest_in path.follows path'.follows
+path_unique w end first first' rest rest' darts_fit path path' =
+    let more = path_no_longer w first first' rest rest' darts_fit path.start path'.first_in path'.rest_in path.follows path'.follows
     (path.ends ∙ sym path'.ends) in
-    let less = path_no_longer w first' first rest' rest narrow path'.start path.first_in path.rest_in path'.follows path.follows
+    let less = path_no_longer w first' first rest' rest darts_fit path'.start path.first_in path.rest_in path'.follows path.follows
     (path'.ends ∙ sym path.ends) in
     walks_same w first first' rest rest' (omega (arith, more, less)) path.follows path'.follows (path.ends ∙ sym path'.ends)
 
@@ -89,13 +89,13 @@ walk_distinct w a (b ∷ bs) follows out =
     (out, walk_distinct w b bs follows.2 out_b)
 
 pub path_distinct : (w : DartMap) (end first : ℕ) (rest : List ℕ) → w.darts ≤ no_dart → IsPath w end first rest → Distinct (first ∷ rest)
-path_distinct w end first rest narrow path =
+path_distinct w end first rest darts_fit path =
     walk_distinct w first rest path.follows
     (λ again.
     let inside : w.before first < w.darts =
     in_below w.darts (w.before first) (first ∷ rest) (path.first_in, path.rest_in) (before_in w first first rest path.follows again) in
     let start : w.before first ≡ no_dart = path.start in
-    omega (arith, inside, start, narrow))
+    omega (arith, inside, start, darts_fit))
 
 -- how often a number is on a list
 abbrev pub times_in : List ℕ → ℕ → ℕ
@@ -143,7 +143,7 @@ distinct_few n xs below distinct =
 
 -- a path has no more darts than the map
 pub path_short : (w : DartMap) (end first : ℕ) (rest : List ℕ) → w.darts ≤ no_dart → IsPath w end first rest → length rest < w.darts
-path_short w end first rest narrow path =
+path_short w end first rest darts_fit path =
     let few : length (first ∷ rest) ≤ w.darts =
-    distinct_few w.darts (first ∷ rest) (path.first_in, path.rest_in) (path_distinct w end first rest narrow path) in
+    distinct_few w.darts (first ∷ rest) (path.first_in, path.rest_in) (path_distinct w end first rest darts_fit path) in
     omega (arith, few)

@@ -24,7 +24,7 @@ use Rattle.dissect.proofs.Splits.{split_keeps, split_kept, split_doubled, split_
 pub record IsBent (w : DartMap) (e way bend : ℕ) (new : DartMap) : Type 0 where
   pub tied : IsTied w
   pub e_in : e < w.darts
-  pub narrow : w.darts ≤ no_dart
+  pub darts_fit : w.darts ≤ no_dart
   pub quarter : way < 4
   pub turn : (bend ≡ 1) ⊎ (bend ≡ 3)
   pub split : IsSubdivided w e way bend new
@@ -69,8 +69,8 @@ pub not_first : (w : DartMap) (e way bend : ℕ) (new : DartMap) → IsBent w e 
     b ≢ w.reverse_dart e
 not_first w e way bend new bent a b l before at =
     let none : w.before b ≡ no_dart = ap w.before at ∙ bent.first in
-    let narrow = bent.narrow in
-    omega (arith, before, none, l, narrow)
+    let darts_fit = bent.darts_fit in
+    omega (arith, before, none, l, darts_fit)
 
 -- nothing follows e
 pub after_last : (w : DartMap) (e way bend : ℕ) (new : DartMap) → IsBent w e way bend new → (a : ℕ) (rest : List ℕ) → a ≡ e →
@@ -178,7 +178,7 @@ pub bend_paths : (w : DartMap) (e way bend : ℕ) (new : DartMap) (n : ℕ) (rev
     quarters' e ≡ quarters e ++ (bend ∷ []) → quarters' (reverse_dart e) ≡ (4 - bend) ∷ quarters (reverse_dart e) →
     ((d : ℕ) → d < n → d ≢ e → d ≢ reverse_dart e → quarters' d ≡ quarters d) →
     HasPaths w n reverse_dart quarters → HasPaths new n reverse_dart quarters'
-bend_paths w e way bend new n reverse_dart quarters quarters' tied e_in narrow quarter turn split reverse_dart_in reverse_dart_back apart at_e at_reverse_dart at_other has =
+bend_paths w e way bend new n reverse_dart quarters quarters' tied e_in darts_fit quarter turn split reverse_dart_in reverse_dart_back apart at_e at_reverse_dart at_other has =
     let e_old : e < w.darts = omega (arith, e_in, has.few) in
     let back : HasPath w (reverse_dart e) (reverse_dart (reverse_dart e)) (quarters (reverse_dart e)) = has.paths (reverse_dart e) (reverse_dart_in e e_in) in
     let start : back.first ≡ w.reverse_dart e =
@@ -186,7 +186,7 @@ bend_paths w e way bend new n reverse_dart quarters quarters' tied e_in narrow q
     let bent : IsBent w e way bend new = record {
       tied = tied;
       e_in = e_old;
-      narrow = narrow;
+      darts_fit = darts_fit;
       quarter = quarter;
       turn = turn;
       split = split;
@@ -214,5 +214,5 @@ bend_paths w e way bend new n reverse_dart quarters quarters' tied e_in narrow q
     }
   where
     last : (b : ℕ) → w.before b ≡ e → (w.before b ≡ no_dart) ⊎ ((n ≤ w.before b) × (w.before b < w.darts)) → ⊥
-    last b at (inl none) = omega (arith, at, none, e_in, narrow, has.few)
+    last b at (inl none) = omega (arith, at, none, e_in, darts_fit, has.few)
     last b at (inr inside) = omega (arith, at, inside.0, e_in)

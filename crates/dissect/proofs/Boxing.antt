@@ -24,7 +24,7 @@ use Rattle.dissect.proofs.Apart.{AreEdges, paths_back, paths_once, paths_apart}
 use Rattle.dissect.specs.Boxes.{AreBoxes, HasEdge, parts_of}
 use Rattle.dissect.specs.Boxed.{IsBoxed, IsEnclosedMap, ArePathsApart}
 use Rattle.dissect.proofs.Keeping.{Keeps, enclosed_keeps}
-use Rattle.dissect.proofs.Rectangles.{rectangle, join}
+use Rattle.dissect.proofs.Rectangles.{rectangle, bridge}
 use Rattle.dissect.proofs.Through.{through}
 
 -- what is known of the map w and of the table t that was made of it
@@ -77,7 +77,7 @@ are_edges p shape w outside t made =
     } in
     record {
       chains = enclosed_chains (vertices p) w outside (dart_map_of t) chains made.enclosed;
-      narrow = made.small;
+      darts_fit = made.small;
       paths = kept_paths p shape w outside t made;
       reverse_dart_in = ends.reverse_dart_inside;
       reverse_dart_apart = ends.reverse_dart_apart;
@@ -125,9 +125,9 @@ map_stands p shape w outside t old edges paths made =
       rectangle = rectangle w outside (dart_map_of t) made.sound.tied made.sound.meeting.quarter e made.done;
       right = e.right;
       right_in = e.right_in;
-      turns_right = omega (arith, e.join.right, e.surround.angle_old e.right e.right_in);
-      outer = e.same_face made.faces.label made.faces.turns.labels ∙ made.faces.faces outside made.outside_in ∙ made.outer;
-      join = join w outside (dart_map_of t) made.sound.tied made.sound.meeting.quarter e;
+      turns_right = omega (arith, e.bridge.right, e.surround.angle_old e.right e.right_in);
+      outer = e.same_face made.faces.face_number made.faces.turns.face_numbers ∙ made.faces.faces outside made.outside_in ∙ made.outer;
+      bridge = bridge w outside (dart_map_of t) made.sound.tied made.sound.meeting.quarter e;
     }
 
 -- each edge has its path

@@ -264,11 +264,11 @@ surround_chains v w new has f =
     (λ k l. omega (arith, f.head_inner k l, f.vertices)) (λ k l. omega (arith, f.head_outer k l, f.vertices))
     a (omega (arith, f.darts)))
 
--- and so do its join and the cuts after it
+-- and so do its bridge and the cuts after it
 pub enclosed_chains : (v : ℕ) (w : DartMap) (outside : ℕ) (new : DartMap) → HasChains v w → IsEnclosed w outside new → HasChains v new
 enclosed_chains v w outside new has e =
-    grows_chains v e.joined new
-    (cut_chains v e.surrounded e.right (w.darts + e.side) e.direction e.joined (surround_chains v w e.surrounded has e.surround) e.join) e.grows
+    grows_chains v e.bridged new
+    (cut_chains v e.surrounded e.right (w.darts + e.side) e.direction e.bridged (surround_chains v w e.surrounded has e.surround) e.bridge) e.grows
 
 -- where no dart stands before another, there are no chains
 pub plain_chains : (v : ℕ) (w : DartMap) → IsTied w → ((a : ℕ) → a < w.darts → w.head a < w.vertices) → v ≤ w.vertices →

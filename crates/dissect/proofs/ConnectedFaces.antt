@@ -1,4 +1,4 @@
--- The map joined with its rectangle: what becomes of the faces.
+-- The map connected with its rectangle: what becomes of the faces.
 use Rattle.std.proofs.Common.{◌≡◌, ◌≢◌, ℕ, zero, suc, ◌+◌, ◌%◌, ◌<◌, ◌∙◌, List, [], ◌∷◌, map, arith, subst, sym, ap, refl, inl, inr}
 use Rattle.std.proofs.lemmas.Bool.{cases_eq}
 use Rattle.dissect.specs.DartMaps.{DartMap, IsTied, IsCut}
@@ -32,56 +32,56 @@ pub surround_ring : (w new : DartMap) → IsSurrounded w new → IsTied w → (c
 surround_ring w new s tied [] l ring = ring
 surround_ring w new s tied (c ∷ cs) l ring = surround_trail w new s tied (last_of c cs) (c ∷ cs) l ring
 
--- the map w in its rectangle, joined by a cut from `right` to one of the rectangle's sides
+-- the map w in its rectangle, connected by a cut from `right` to one of the rectangle's sides
 pub record IsConnecting (w surrounded : DartMap) (right side way : ℕ) (new : DartMap) : Type 0 where
   pub tied : IsTied w
   pub surround : IsSurrounded w surrounded
   pub right_in : right < w.darts
   pub side_in : side < 4
-  pub join : IsCut surrounded right (w.darts + side) way new
+  pub bridge : IsCut surrounded right (w.darts + side) way new
 
 -- the inner dart in front of that side
 abbrev pub corner_of : DartMap → ℕ → ℕ
 corner_of w side = w.darts + (side + 3) % 4
 
-pub middle_of : (w surrounded : DartMap) (right side way : ℕ) (new : DartMap) → (j : IsConnecting w surrounded right side way new) → IsTied j.join.middle
+pub middle_of : (w surrounded : DartMap) (right side way : ℕ) (new : DartMap) → (j : IsConnecting w surrounded right side way new) → IsTied j.bridge.middle
 middle_of w surrounded right side way new j =
-    split_tied surrounded (w.darts + side) (surrounded.direction (w.darts + side)) 2 j.join.middle
-    (surround_tied w surrounded j.surround j.tied) j.join.e_in j.join.split
+    split_tied surrounded (w.darts + side) (surrounded.direction (w.darts + side)) 2 j.bridge.middle
+    (surround_tied w surrounded j.surround j.tied) j.bridge.e_in j.bridge.split
 
 pub cutting_of : (w surrounded : DartMap) (right side way : ℕ) (new : DartMap) → (j : IsConnecting w surrounded right side way new) →
-    IsCutting j.join.middle right (corner_of w side) surrounded.darts
+    IsCutting j.bridge.middle right (corner_of w side) surrounded.darts
 cutting_of w surrounded right side way new j =
-    let s = j.join.split in
+    let s = j.bridge.split in
     let c_in : corner_of w side < surrounded.darts = omega (arith, j.surround.darts) in
     record {
-      d_in = omega (arith, s.darts, j.join.d_in);
+      d_in = omega (arith, s.darts, j.bridge.d_in);
       c_in = omega (arith, s.darts, c_in);
       f_in = omega (arith, s.darts);
-      right = omega (arith, s.angle_old right j.join.d_in, j.join.right);
+      right = omega (arith, s.angle_old right j.bridge.d_in, j.bridge.right);
       left = s.angle_old (corner_of w side) c_in ∙ j.surround.angle_inner ((side + 3) % 4) (omega arith);
       straight = s.angle_first;
-      behind = ap j.join.middle.next (sym (j.surround.prev_inner side j.side_in)) ∙ s.next_before;
+      behind = ap j.bridge.middle.next (sym (j.surround.prev_inner side j.side_in)) ∙ s.next_before;
     }
 
--- angles after the join
+-- angles after the bridge
 pub old_angle : (w surrounded : DartMap) (right side way : ℕ) (new : DartMap) → IsConnecting w surrounded right side way new → (a : ℕ) → a < w.darts →
     a ≢ right → new.angle a ≡ w.angle a
 old_angle w surrounded right side way new j a l ne =
-    let s = j.join.split in
+    let s = j.bridge.split in
     let a_in : a < surrounded.darts = omega (arith, j.surround.darts, l) in
-    j.join.chord.angle_other a (omega (arith, s.darts, a_in)) ne (λ h. omega (arith, h, a_in)) ∙ s.angle_old a a_in ∙ j.surround.angle_old a l
+    j.bridge.chord.angle_other a (omega (arith, s.darts, a_in)) ne (λ h. omega (arith, h, a_in)) ∙ s.angle_old a a_in ∙ j.surround.angle_old a l
 
 pub right_angle : (w surrounded : DartMap) (right side way : ℕ) (new : DartMap) → IsConnecting w surrounded right side way new → new.angle right + 1 ≡ w.angle right
 right_angle w surrounded right side way new j =
-    j.join.chord.angle_d ∙ j.join.split.angle_old right j.join.d_in ∙ j.surround.angle_old right j.right_in
+    j.bridge.chord.angle_d ∙ j.bridge.split.angle_old right j.bridge.d_in ∙ j.surround.angle_old right j.right_in
 
 pub surround_angle : (w surrounded : DartMap) (right side way : ℕ) (new : DartMap) → IsConnecting w surrounded right side way new → (i : ℕ) → i < 8 →
     new.angle (w.darts + i) ≡ surrounded.angle (w.darts + i)
 surround_angle w surrounded right side way new j i l =
-    let s = j.join.split in
+    let s = j.bridge.split in
     let a_in : w.darts + i < surrounded.darts = omega (arith, j.surround.darts, l) in
-    j.join.chord.angle_other (w.darts + i) (omega (arith, s.darts, a_in)) (λ h. omega (arith, h, j.right_in)) (λ h. omega (arith, h, a_in))
+    j.bridge.chord.angle_other (w.darts + i) (omega (arith, s.darts, a_in)) (λ h. omega (arith, h, j.right_in)) (λ h. omega (arith, h, a_in))
     ∙ s.angle_old (w.darts + i) a_in
 
 pub inner_angle : (w surrounded : DartMap) (right side way : ℕ) (new : DartMap) → IsConnecting w surrounded right side way new → (k : ℕ) → k < 4 →
@@ -98,15 +98,15 @@ pub new_angles : (w surrounded : DartMap) (right side way : ℕ) (new : DartMap)
     (new.angle (w.darts + 8) ≡ 1) × (new.angle (w.darts + 9) ≡ 2) × (new.angle (w.darts + 10) ≡ 1) × (new.angle (w.darts + 11) ≡ 1)
 new_angles w surrounded right side way new j =
     let n : ℕ = w.darts in
-    let s = j.join.split in
-    let t = j.join.chord in
+    let s = j.bridge.split in
+    let t = j.bridge.chord in
     let d8 : n + 8 ≡ surrounded.darts = sym j.surround.darts in
     let d9 : n + 9 ≡ surrounded.darts + 1 = omega (arith, d8) in
-    let d10 : n + 10 ≡ j.join.middle.darts = omega (arith, d8, s.darts) in
-    let d11 : n + 11 ≡ j.join.middle.darts + 1 = omega (arith, d10) in (
+    let d10 : n + 10 ≡ j.bridge.middle.darts = omega (arith, d8, s.darts) in
+    let d11 : n + 11 ≡ j.bridge.middle.darts + 1 = omega (arith, d10) in (
       omega (arith, ap new.angle d8, t.angle_f, s.angle_first),
       ap new.angle d9
-          ∙ t.angle_other (surrounded.darts + 1) (omega (arith, s.darts)) (λ h. omega (arith, h, j.join.d_in)) (λ h. omega (arith, h))
+          ∙ t.angle_other (surrounded.darts + 1) (omega (arith, s.darts)) (λ h. omega (arith, h, j.bridge.d_in)) (λ h. omega (arith, h))
           ∙ s.angle_second,
       ap new.angle d10 ∙ t.angle_there,
       ap new.angle d11 ∙ t.angle_back,
@@ -117,13 +117,13 @@ pub inside_stretch : (w surrounded : DartMap) (right side way : ℕ) (new : Dart
     surrounded.next (w.darts + i) ≡ w.darts + m → surrounded.angle (w.darts + m) ≢ 2 → surrounded.angle (w.darts + i) ≢ 2 →
     i ≢ (side + 3) % 4 → Stretches new (w.darts + i) (w.darts + m)
 inside_stretch w surrounded right side way new j i m il ml to corner here ne =
-    let s = j.join.split in
+    let s = j.bridge.split in
     let tied = surround_tied w surrounded j.surround j.tied in
     let i_in : w.darts + i < surrounded.darts = omega (arith, j.surround.darts, il) in
-    let stretches : Stretches j.join.middle (w.darts + i) (w.darts + m) =
-    split_stretches surrounded (w.darts + side) (surrounded.direction (w.darts + side)) (w.darts + i) (w.darts + m) j.join.middle s tied j.join.e_in
+    let stretches : Stretches j.bridge.middle (w.darts + i) (w.darts + m) =
+    split_stretches surrounded (w.darts + side) (surrounded.direction (w.darts + side)) (w.darts + i) (w.darts + m) j.bridge.middle s tied j.bridge.e_in
     i_in (stretch_direct surrounded (w.darts + i) (w.darts + m) to corner) in
-    chord_stretches j.join.middle right (corner_of w side) surrounded.darts way (w.darts + i) (w.darts + m) new j.join.chord
+    chord_stretches j.bridge.middle right (corner_of w side) surrounded.darts way (w.darts + i) (w.darts + m) new j.bridge.chord
     (middle_of w surrounded right side way new j) (cutting_of w surrounded right side way new j) (omega (arith, s.darts, i_in))
     (λ h. here (sym (s.angle_old (w.darts + i) i_in) ∙ h)) (λ h. omega (arith, h, j.right_in)) (λ h. ne (omega (arith, h)))
     (λ h. omega (arith, h, j.right_in)) stretches
@@ -180,15 +180,15 @@ outside_four w surrounded right side way new j o o_in k l = record {
 pub other_ring : (w surrounded : DartMap) (right side way : ℕ) (new : DartMap) → IsConnecting w surrounded right side way new → (r : List ℕ) →
     Below w.darts r → (In right r → ⊥) → Ring w r → Ring new r
 other_ring w surrounded right side way new j r below out ring =
-    let s = j.join.split in
+    let s = j.bridge.split in
     let n : ℕ = w.darts in
     let end : last_of 0 r < n = ring_last w r ring below in
     let in_surround : Ring surrounded r = surround_ring w surrounded j.surround j.tied r end ring in
-    let in_middle : Ring j.join.middle r = split_ring surrounded (n + side) (surrounded.direction (n + side)) j.join.middle s
-    (surround_tied w surrounded j.surround j.tied) j.join.e_in r (omega (arith, j.surround.darts, end)) in_surround in
-    chord_ring j.join.middle right (corner_of w side) surrounded.darts way new j.join.chord (middle_of w surrounded right side way new j)
+    let in_middle : Ring j.bridge.middle r = split_ring surrounded (n + side) (surrounded.direction (n + side)) j.bridge.middle s
+    (surround_tied w surrounded j.surround j.tied) j.bridge.e_in r (omega (arith, j.surround.darts, end)) in_surround in
+    chord_ring j.bridge.middle right (corner_of w side) surrounded.darts way new j.bridge.chord (middle_of w surrounded right side way new j)
     (cutting_of w surrounded right side way new j) r
-    (clear_of n j.join.middle.darts right (corner_of w side) r (omega (arith, s.darts, j.surround.darts)) below out
+    (clear_of n j.bridge.middle.darts right (corner_of w side) r (omega (arith, s.darts, j.surround.darts)) below out
     (λ h. omega (arith, in_below n (corner_of w side) r below h))) in_middle
 
 pub totals_same : (w surrounded : DartMap) (right side way : ℕ) (new : DartMap) → IsConnecting w surrounded right side way new → (r : List ℕ) →

@@ -1,4 +1,4 @@
--- The faces of a plane are joined by the darts off a tree on its vertices.
+-- The faces of a plane are connected by the darts off a tree on its vertices.
 use Rattle.std.proofs.Common.{◌≡◌, ◌<◌, ℕ, ◌+◌, ◌-◌, ◌*◌, ◌%◌, Bool, true, false, not, cond, refl, sym, ap, ◌∙◌, subst, inl, inr, arith}
 use Rattle.std.proofs.lemmas.Bool.{cases_Bool, both_ways, not_from_false, or_parts, or_from}
 use Rattle.embedding.specs.Darts.{IsOneToOne}
@@ -9,7 +9,7 @@ use Rattle.dissect.proofs.Reordered.{sum_at, sum_at-add, sum_at-times, sum_at-sa
 use Rattle.dissect.proofs.Trees.{IsTree, Connects}
 use Rattle.dissect.proofs.Peeling.{IsBalanced, nothing}
 use Rattle.dissect.proofs.TreeCounts.{is_up, in_tree, tree_from}
-use Rattle.dissect.proofs.Vertices.{vertex_joins, face_joins, vertices_paired}
+use Rattle.dissect.proofs.Vertices.{vertex_connections, face_connections, vertices_paired}
 
 -- the dart that arrives next clockwise at the same vertex
 abbrev pub arrives_next : PlaneModel → ℕ → ℕ
@@ -28,9 +28,9 @@ arrives_there p ends d l = ends.reverse_dart_head (next p d) (ends.next_one.insi
 
 -- the reverse of a dart off the tree is off the tree
 off_back : (p : PlaneModel) (parent : ℕ → ℕ) → HasEnds p → (d : ℕ) → d < darts p
-    → in_tree (vertex_joins p) (reverse_dart p) parent d ≡ false → in_tree (vertex_joins p) (reverse_dart p) parent (reverse_dart p d) ≡ false
+    → in_tree (vertex_connections p) (reverse_dart p) parent d ≡ false → in_tree (vertex_connections p) (reverse_dart p) parent (reverse_dart p d) ≡ false
 off_back p parent ends d l off =
-    let j = vertex_joins p in
+    let j = vertex_connections p in
     let both = or_parts (is_up j parent d) (is_up j parent (reverse_dart p d)) off in
     or_from (is_up j parent (reverse_dart p d)) (is_up j parent (reverse_dart p (reverse_dart p d))) both.1 (ap (is_up j parent) (ends.reverse_dart_back d l) ∙ both.0)
 
@@ -68,12 +68,12 @@ gained_round p plane ends s v =
 
 -- and off the tree, where the set is closed across the darts
 gained_off : (p : PlaneModel) → HasEnds p → (parent : ℕ → ℕ) (s : ℕ → Bool)
-    → ((d : ℕ) → d < darts p → not (in_tree (vertex_joins p) (reverse_dart p) parent d) ≡ true → s (face_at p (reverse_dart p d)) ≡ true → s (face_at p d) ≡ true)
-    → (d : ℕ) → d < darts p → in_tree (vertex_joins p) (reverse_dart p) parent d ≡ false → gained p s d ≡ 0
+    → ((d : ℕ) → d < darts p → not (in_tree (vertex_connections p) (reverse_dart p) parent d) ≡ true → s (face_at p (reverse_dart p d)) ≡ true → s (face_at p d) ≡ true)
+    → (d : ℕ) → d < darts p → in_tree (vertex_connections p) (reverse_dart p) parent d ≡ false → gained p s d ≡ 0
 gained_off p ends parent s shut d l off =
     none (s (face_at p (reverse_dart p d))) (s (face_at p d))
-    (λ h. shut d l (not_from_false (in_tree (vertex_joins p) (reverse_dart p) parent d) off) h)
-    (λ h. shut (reverse_dart p d) (ends.reverse_dart_inside d l) (not_from_false (in_tree (vertex_joins p) (reverse_dart p) parent (reverse_dart p d)) (off_back p parent ends d l off))
+    (λ h. shut d l (not_from_false (in_tree (vertex_connections p) (reverse_dart p) parent d) off) h)
+    (λ h. shut (reverse_dart p d) (ends.reverse_dart_inside d l) (not_from_false (in_tree (vertex_connections p) (reverse_dart p) parent (reverse_dart p d)) (off_back p parent ends d l off))
     (subst (λ (e : ℕ). s (face_at p e) ≡ true) (sym (ends.reverse_dart_back d l)) h))
   where
     none : (a b : Bool) → (a ≡ true → b ≡ true) → (b ≡ true → a ≡ true) → (cond a 1 0 + 3 * cond b 1 0) % 4 ≡ 0
@@ -83,14 +83,14 @@ gained_off p ends parent s shut d l off =
     none false false h k = refl
 
 balanced : (p : PlaneModel) → IsPlane p → HasEnds p → (parent : ℕ → ℕ) (s : ℕ → Bool)
-    → ((d : ℕ) → d < darts p → not (in_tree (vertex_joins p) (reverse_dart p) parent d) ≡ true → s (face_at p (reverse_dart p d)) ≡ true → s (face_at p d) ≡ true)
-    → IsBalanced (vertex_joins p) (reverse_dart p) parent (gained p s)
+    → ((d : ℕ) → d < darts p → not (in_tree (vertex_connections p) (reverse_dart p) parent d) ≡ true → s (face_at p (reverse_dart p d)) ≡ true → s (face_at p d) ≡ true)
+    → IsBalanced (vertex_connections p) (reverse_dart p) parent (gained p s)
 balanced p plane ends parent s shut = record {
   small = λ d l. omega arith;
   pairs = λ d l. close (held p s (reverse_dart p d)) (held p s d) (held p s (reverse_dart p (reverse_dart p d))) (ap (held p s) (ends.reverse_dart_back d l));
   round = λ v l. gained_round p plane ends s v;
-  only = λ d l. elim (cases_Bool (in_tree (vertex_joins p) (reverse_dart p) parent d)) [
-    | inl on ↦ inr (tree_from (vertex_joins p) (reverse_dart p) parent d on)
+  only = λ d l. elim (cases_Bool (in_tree (vertex_connections p) (reverse_dart p) parent d)) [
+    | inl on ↦ inr (tree_from (vertex_connections p) (reverse_dart p) parent d on)
     | inr off ↦ inl (gained_off p ends parent s shut d l off)
   ];
 }
@@ -99,10 +99,10 @@ balanced p plane ends parent s shut = record {
     close x y z e = omega arith
 
 -- so it is closed across all darts, and holds all faces
-pub faces_connect : (p : PlaneModel) → IsPlane p → (g rank parent base : ℕ → ℕ) → IsTree (vertex_joins p) g rank parent base → Connects (face_joins p parent)
+pub faces_connect : (p : PlaneModel) → IsPlane p → (g rank parent base : ℕ → ℕ) → IsTree (vertex_connections p) g rank parent base → Connects (face_connections p parent)
 faces_connect p plane g rank parent base tree s root shut f l =
     let ends = plane_ends p plane in
-    let none = nothing (vertex_joins p) (reverse_dart p) g rank parent base (gained p s) (vertices_paired p ends) tree (balanced p plane ends parent s shut) in
+    let none = nothing (vertex_connections p) (reverse_dart p) g rank parent base (gained p s) (vertices_paired p ends) tree (balanced p plane ends parent s shut) in
     faces_connected p plane s (λ d h here. across (s (face_at p (reverse_dart p d))) (s (face_at p d)) (none d h) here) 0 f (omega arith) l root
   where
     across : (a b : Bool) → (cond a 1 0 + 3 * cond b 1 0) % 4 ≡ 0 → b ≡ true → a ≡ true

@@ -19,8 +19,8 @@ use Rattle.dissect.proofs.OwedTurns.{IsOwing, owing, gained, lost}
 use Rattle.dissect.proofs.Stepping.{edges_on}
 use Rattle.dissect.proofs.Starting.{owing_begins, behind_begins}
 
-module _ (p : PlaneModel) (a h : ℕ → ℕ) (total : ℕ) (w : DartMap) (label : ℕ → ℕ) (owed : ℕ → List Turn)
-    (owing_w : IsOwing p a h total w label owed) (paid : (x : ℕ) → x < w.darts → owed x ≡ []) where
+module _ (p : PlaneModel) (a h : ℕ → ℕ) (total : ℕ) (w : DartMap) (face_number : ℕ → ℕ) (owed : ℕ → List Turn)
+    (owing_w : IsOwing p a h total w face_number owed) (paid : (x : ℕ) → x < w.darts → owed x ≡ []) where
   pub sound_ends : IsSound w
   sound_ends = record {
     tied = owing_w.tied;
@@ -40,33 +40,33 @@ module _ (p : PlaneModel) (a h : ℕ → ℕ) (total : ℕ) (w : DartMap) (label
   none_owed : owing w owed ≡ 0
   none_owed = sum_below-none w.darts (λ x. length (owed x)) (λ x l. ap (length {A = Turn}) (paid x l))
 
-  gained_is : (f : ℕ) → gained w label owed f ≡ 2 * darts_round w label f
+  gained_is : (f : ℕ) → gained w face_number owed f ≡ 2 * darts_round w face_number f
   gained_is f =
-      sum_below-same w.darts (part label (λ x. 2 + lefts (owed x)) f) (λ x. 2 * part label (λ _. 1) f x) (λ x l. same x l)
-      ∙ sum_below-times w.darts 2 (part label (λ _. 1) f)
+      sum_below-same w.darts (part face_number (λ x. 2 + lefts (owed x)) f) (λ x. 2 * part face_number (λ _. 1) f x) (λ x l. same x l)
+      ∙ sum_below-times w.darts 2 (part face_number (λ _. 1) f)
     where
-      same : (x : ℕ) → x < w.darts → part label (λ x. 2 + lefts (owed x)) f x ≡ 2 * part label (λ _. 1) f x
+      same : (x : ℕ) → x < w.darts → part face_number (λ x. 2 + lefts (owed x)) f x ≡ 2 * part face_number (λ _. 1) f x
       same x l =
-          elim (cases_eq (label x) f) [
-            | inl at ↦ omega (arith, part_here label (λ x. 2 + lefts (owed x)) f x at, part_here label (λ _. 1) f x at, ap lefts (paid x l))
-            | inr off ↦ omega (arith, part_elsewhere label (λ x. 2 + lefts (owed x)) f x off, part_elsewhere label (λ _. 1) f x off)
+          elim (cases_eq (face_number x) f) [
+            | inl at ↦ omega (arith, part_here face_number (λ x. 2 + lefts (owed x)) f x at, part_here face_number (λ _. 1) f x at, ap lefts (paid x l))
+            | inr off ↦ omega (arith, part_elsewhere face_number (λ x. 2 + lefts (owed x)) f x off, part_elsewhere face_number (λ _. 1) f x off)
           ]
 
-  lost_is : (f : ℕ) → lost w label owed f ≡ angles_round w label f
-  lost_is f = sum_below-same w.darts (part label (λ x. w.angle x + rights (owed x)) f) (part label w.angle f) (λ x l. same x l)
+  lost_is : (f : ℕ) → lost w face_number owed f ≡ angles_round w face_number f
+  lost_is f = sum_below-same w.darts (part face_number (λ x. w.angle x + rights (owed x)) f) (part face_number w.angle f) (λ x l. same x l)
     where
-      same : (x : ℕ) → x < w.darts → part label (λ x. w.angle x + rights (owed x)) f x ≡ part label w.angle f x
+      same : (x : ℕ) → x < w.darts → part face_number (λ x. w.angle x + rights (owed x)) f x ≡ part face_number w.angle f x
       same x l =
-          elim (cases_eq (label x) f) [
-            | inl at ↦ omega (arith, part_here label (λ x. w.angle x + rights (owed x)) f x at, part_here label w.angle f x at, ap rights (paid x l))
-            | inr off ↦ omega (arith, part_elsewhere label (λ x. w.angle x + rights (owed x)) f x off, part_elsewhere label w.angle f x off)
+          elim (cases_eq (face_number x) f) [
+            | inl at ↦ omega (arith, part_here face_number (λ x. w.angle x + rights (owed x)) f x at, part_here face_number w.angle f x at, ap rights (paid x l))
+            | inr off ↦ omega (arith, part_elsewhere face_number (λ x. w.angle x + rights (owed x)) f x off, part_elsewhere face_number w.angle f x off)
           ]
 
-  pub turns_end : p.outer < p.faces → HasTurns w label p.outer
+  pub turns_end : p.outer < p.faces → HasTurns w face_number p.outer
   turns_end outer_in = record {
-    labels = owing_w.labels;
+    face_numbers = owing_w.face_numbers;
     inner = λ x l off.
-        let f : ℕ = label x in
+        let f : ℕ = face_number x in
         let test = ne_eqb f p.outer off in
         omega (
           arith,
@@ -116,11 +116,11 @@ pub all_bends : (p : PlaneModel) (a : ℕ → ℕ) (s : ℕ → List Turn) (h : 
     AreHeadings p a s h → IsBare p a h w → AreBent p s 0 w new → HasBends p a s new
 all_bends p a s h w new plane ends rep headings bare steps =
     let total : ℕ = sum_below (darts p) (λ d. length (s d)) in
-    let (label, owed, owing_new, paid) = edges_on p a h total s 0 w new ends steps (face_at p) s
+    let (face_number, owed, owing_new, paid) = edges_on p a h total s 0 w new ends steps (face_at p) s
     (owing_begins p a s h w plane ends rep headings bare) (behind_begins p a s h w plane ends rep headings bare) in
     record {
-      sound = sound_ends p a h total new label owed owing_new paid;
-      darts = darts_end p a h total new label owed owing_new paid;
+      sound = sound_ends p a h total new face_number owed owing_new paid;
+      darts = darts_end p a h total new face_number owed owing_new paid;
       directions = record {
         quarter = λ d l. omega (arith, owing_new.directions d l, headings.quarter d l);
         angles = λ d l.
@@ -131,9 +131,9 @@ all_bends p a s h w new plane ends rep headings bare steps =
             ∙ sym (ap (λ (k : ℕ). (k + rights (s d)) % 4) (owing_new.directions d l));
       };
       faces = record {
-        label = label;
-        turns = turns_end p a h total new label owed owing_new paid plane.outer;
+        face_number = face_number;
+        turns = turns_end p a h total new face_number owed owing_new paid plane.outer;
         faces = owing_new.faces;
       };
-      counts = counts_end p a h total new label owed owing_new paid s ends rep refl;
+      counts = counts_end p a h total new face_number owed owing_new paid s ends rep refl;
     }

@@ -11,7 +11,7 @@ use Rattle.dissect.proofs.Reordered.{sum_at, sum_at-add, sum_at-times, sum_at-sa
 use Rattle.dissect.proofs.Trees.{IsTree, Tree, tree}
 use Rattle.dissect.proofs.Peeling.{IsUp, nothing}
 use Rattle.dissect.proofs.TreeCounts.{in_tree, tree_from, spanned}
-use Rattle.dissect.proofs.Vertices.{vertex_joins, face_joins, vertices_paired, faces_paired, vertices_connect}
+use Rattle.dissect.proofs.Vertices.{vertex_connections, face_connections, vertices_paired, faces_paired, vertices_connect}
 use Rattle.dissect.proofs.Crossings.{faces_connect, arrives_next, arrives_there}
 use Rattle.dissect.proofs.Corners.{lacks, lacks_next}
 use Rattle.dissect.proofs.Potential.{gap, gap_pairs, gap_round}
@@ -57,8 +57,8 @@ over_round p a s base plane ends rep f l =
     close t u c e x g y e1 e2 e3 e4 e5 e6 = omega arith
 
 -- it is 0 along the darts of the tree that gives the values
-over_up : (p : PlaneModel) (a : ℕ → ℕ) (s : ℕ → List Turn) (rank parent base : ℕ → ℕ) → HasEnds p → IsTree (vertex_joins p) (gap p a s) rank parent base
-    → (d : ℕ) → d < darts p → IsUp (vertex_joins p) parent d → over p a s base d ≡ 0
+over_up : (p : PlaneModel) (a : ℕ → ℕ) (s : ℕ → List Turn) (rank parent base : ℕ → ℕ) → HasEnds p → IsTree (vertex_connections p) (gap p a s) rank parent base
+    → (d : ℕ) → d < darts p → IsUp (vertex_connections p) parent d → over p a s base d ≡ 0
 over_up p a s rank parent base ends tree d l up =
     let v : ℕ = head p d - 1 in
     let along : base v % 4 ≡ (base (tail p (parent v) - 1) + gap p a s (parent v)) % 4 =
@@ -70,10 +70,10 @@ over_up p a s rank parent base ends tree d l up =
     close : (x g y : ℕ) → y % 4 ≡ (x + g) % 4 → (x + g + 3 * y) % 4 ≡ 0
     close x g y e = omega arith
 
-over_tree : (p : PlaneModel) (a : ℕ → ℕ) (s : ℕ → List Turn) (rank parent base : ℕ → ℕ) → HasEnds p → Rep p a s → IsTree (vertex_joins p) (gap p a s) rank parent base
-    → (d : ℕ) → d < darts p → in_tree (vertex_joins p) (reverse_dart p) parent d ≡ true → over p a s base d ≡ 0
+over_tree : (p : PlaneModel) (a : ℕ → ℕ) (s : ℕ → List Turn) (rank parent base : ℕ → ℕ) → HasEnds p → Rep p a s → IsTree (vertex_connections p) (gap p a s) rank parent base
+    → (d : ℕ) → d < darts p → in_tree (vertex_connections p) (reverse_dart p) parent d ≡ true → over p a s base d ≡ 0
 over_tree p a s rank parent base ends rep tree d l on =
-    elim (tree_from (vertex_joins p) (reverse_dart p) parent d on) [
+    elim (tree_from (vertex_connections p) (reverse_dart p) parent d on) [
       | inl up ↦ over_up p a s rank parent base ends tree d l up
       | inr up ↦
           let none : over p a s base (reverse_dart p d) ≡ 0 = over_up p a s rank parent base ends tree (reverse_dart p d) (ends.reverse_dart_inside d l) up in
@@ -84,11 +84,11 @@ over_tree p a s rank parent base ends rep tree d l on =
     close x y e h = omega arith
 
 -- so it is 0 for each dart: the darts off the tree on the vertices are a tree on the faces
-over_none : (p : PlaneModel) (a : ℕ → ℕ) (s : ℕ → List Turn) (rank parent base : ℕ → ℕ) → IsPlane p → HasEnds p → Rep p a s → IsTree (vertex_joins p) (gap p a s) rank parent base
-    → Tree (face_joins p parent) (λ _. 0) → (d : ℕ) → d < darts p → over p a s base d ≡ 0
+over_none : (p : PlaneModel) (a : ℕ → ℕ) (s : ℕ → List Turn) (rank parent base : ℕ → ℕ) → IsPlane p → HasEnds p → Rep p a s → IsTree (vertex_connections p) (gap p a s) rank parent base
+    → Tree (face_connections p parent) (λ _. 0) → (d : ℕ) → d < darts p → over p a s base d ≡ 0
 over_none p a s rank parent base plane ends rep first (rank', parent', base', second) =
-    let j = vertex_joins p in
-    let k = face_joins p parent in
+    let j = vertex_connections p in
+    let k = face_connections p parent in
     let some_vertices : 0 < vertices p = omega (arith, ends.head_from 0 ends.some_darts, ends.head_to 0 ends.some_darts) in
     let some_faces : 0 < p.faces = omega (arith, plane.outer) in
     let each = spanned j k (reverse_dart p) (gap p a s) rank parent base (λ _. 0) rank' parent' base' refl (vertices_paired p ends) first some_vertices (faces_paired p parent ends) second some_faces
@@ -135,6 +135,6 @@ heads_so p a s base ends rep none = record {
 pub directions : (p : PlaneModel) (a : ℕ → ℕ) (s : ℕ → List Turn) → IsPlane p → Rep p a s → (h : ℕ → ℕ) × AreHeadings p a s h
 directions p a s plane rep =
     let ends = plane_ends p plane in
-    let (rank, parent, base, first) = tree (vertex_joins p) (gap p a s) (vertices_paired p ends).node (vertices_connect p plane) in
-    let second = tree (face_joins p parent) (λ _. 0) (faces_paired p parent ends).node (faces_connect p plane (gap p a s) rank parent base first) in
+    let (rank, parent, base, first) = tree (vertex_connections p) (gap p a s) (vertices_paired p ends).node (vertices_connect p plane) in
+    let second = tree (face_connections p parent) (λ _. 0) (faces_paired p parent ends).node (faces_connect p plane (gap p a s) rank parent base first) in
     (heading p a base, heads_so p a s base ends rep (over_none p a s rank parent base plane ends rep first second))

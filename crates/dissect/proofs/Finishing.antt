@@ -1,6 +1,6 @@
 -- How a scan begins and how it ends.
 use Rattle.std.proofs.Common.{◌≡◌, ℕ, suc, ◌+◌, ◌*◌, ◌<◌, ◌∙◌, List, [], ◌∷◌, ◌++◌, length, length-append, map, append-nil, arith, subst, sym, ap, refl, inl, inr}
-use Rattle.dissect.specs.Turning.{total, Reduced, AreTurns, AreLefts}
+use Rattle.dissect.specs.Turning.{total, HasNoHook, AreTurns, AreLefts}
 use Rattle.dissect.specs.DartMaps.{DartMap, IsSound}
 use Rattle.dissect.specs.Faces.{IsCorner, Trail, last_of, Ring, IsRectangle, In, concatenated, AreWaiting}
 use Rattle.dissect.specs.Scan.{down, IsScan}
@@ -95,17 +95,17 @@ four_done w a b c d o rs left_a left_b left_c left_d waiting =
           ];
     }
 
--- with nothing unread and a reduced stack, the face is done
-pub scan_done : (w0 : DartMap) (face : List ℕ) (w : DartMap) (st : List ℕ) → IsScan w0 face w st [] → Reduced 0 (map w.angle st) →
+-- with nothing unread and a hookless stack, the face is done
+pub scan_done : (w0 : DartMap) (face : List ℕ) (w : DartMap) (st : List ℕ) → IsScan w0 face w st [] → HasNoHook 0 (map w.angle st) →
     (o : ℕ) (rs : List (List ℕ)) → AreWaiting w0 o (face ∷ rs) → AreWaiting w o rs
-scan_done w0 face w st scan reduced o rs wait =
+scan_done w0 face w st scan hookless o rs wait =
     let waiting = scan.waiting o rs wait in
     let each : (a : ℕ) → In a st → (a < w.darts) × IsCorner w a = λ a h.
     let there : In a (down st []) = in_down_back a st [] h in (
       in_below w.darts a (down st []) (below_left w.darts (down st []) (concatenated rs) waiting.below) there,
       ring_corners w a (down st []) waiting.rings.0.0 there,
     ) in
-    let lefts : AreLefts (map w.angle st) = all_left 0 (map w.angle st) (turns_of w st scan.sound each) scan.hopeful reduced in
+    let lefts : AreLefts (map w.angle st) = all_left 0 (map w.angle st) (turns_of w st scan.sound each) scan.hopeful hookless in
     let once : total (map w.angle st) + 4 ≡ 2 * length (map w.angle st) =
     omega (arith, waiting.rings.0.1, total-down w.angle st [], length-down st [], length-map_angle w.angle st) in
     let four : length (map w.angle st) ≡ 4 = four_lefts (map w.angle st) lefts once in

@@ -45,6 +45,6 @@ surround_keeps w new surround = record {
 
 pub enclosed_keeps : (w : DartMap) (outside : ℕ) (new : DartMap) → IsEnclosed w outside new → Keeps w new
 enclosed_keeps w outside new e =
-    keeps_on w e.joined new
-    (keeps_on w e.surrounded e.joined (surround_keeps w e.surrounded e.surround) (cut_keeps e.surrounded e.right (w.darts + e.side) e.direction e.joined e.join))
-    (grows_keeps e.joined new e.grows)
+    keeps_on w e.bridged new
+    (keeps_on w e.surrounded e.bridged (surround_keeps w e.surrounded e.surround) (cut_keeps e.surrounded e.right (w.darts + e.side) e.direction e.bridged e.bridge))
+    (grows_keeps e.bridged new e.grows)

@@ -1,7 +1,7 @@
 -- Why a scan that cuts at each right turn followed by two left turns ends with four left turns.
 use Rattle.std.proofs.Common.{◌≡◌, ◌⊎◌, ℕ, ◌+◌, ◌*◌, ◌<◌, ◌≤◌, List, [], ◌∷◌, length, arith, subst, refl, inl, inr}
 use Rattle.std.proofs.lemmas.Bool.{cases_eq, cases_lt}
-use Rattle.dissect.specs.Turning.{total, Rising, Hopeful, Reduced, AreTurns, AreLefts}
+use Rattle.dissect.specs.Turning.{total, Rising, Hopeful, HasNoHook, AreTurns, AreLefts}
 
 -- a corner turns left or right
 pub left_or_right : (x : ℕ) → 1 ≤ x → x ≤ 4 → (x ≡ 2 → ⊥) → (x ≡ 1) ⊎ (2 < x)
@@ -12,16 +12,16 @@ left_or_right x some most turns =
     pick x some turns low = elim (cases_eq x 2) [ inl two ↦ absurd (turns two) | inr other ↦ omega arith ]
 
 -- with nothing unread, a stack whose rights are made good for and hardly covered has only lefts
-pub all_left : (lefts : ℕ) (st : List ℕ) → AreTurns st → Hopeful lefts lefts st → Reduced lefts st → AreLefts st
-all_left lefts [] turns hopeful reduced = tt
-all_left lefts (x ∷ st) turns hopeful reduced =
+pub all_left : (lefts : ℕ) (st : List ℕ) → AreTurns st → Hopeful lefts lefts st → HasNoHook lefts st → AreLefts st
+all_left lefts [] turns hopeful hookless = tt
+all_left lefts (x ∷ st) turns hopeful hookless =
     elim (left_or_right x turns.0 turns.1 turns.2) [
       | inl left ↦ (
         left,
         all_left (lefts + 1) st turns.3
-            (subst (λ (k : ℕ). Hopeful (lefts + k) (lefts + 1) st) left hopeful.1) (reduced.1 left),
+            (subst (λ (k : ℕ). Hopeful (lefts + k) (lefts + 1) st) left hopeful.1) (hookless.1 left),
       )
-      | inr right ↦ absurd (omega (arith, hopeful.0 right, (reduced.0 right).0, right))
+      | inr right ↦ absurd (omega (arith, hopeful.0 right, (hookless.0 right).0, right))
     ]
 
 pub lefts_total : (st : List ℕ) → AreLefts st → total st ≡ length st
@@ -41,31 +41,31 @@ hopeful_shift sum count sum' count' (x ∷ st) same hopeful = (
   hopeful_shift (sum + x) (count + 1) (sum' + x) (count' + 1) st (omega (arith, same)) hopeful.1,
 )
 
--- two lefts above a reduced list cover no right, so a third does no harm
-pub reduced_more : (lefts : ℕ) (st : List ℕ) → 2 ≤ lefts → AreTurns st → Reduced lefts st → Reduced (lefts + 1) st
-reduced_more lefts [] two turns reduced = tt
-reduced_more lefts (x ∷ st) two turns reduced = (
-  λ right. absurd (omega (arith, (reduced.0 right).0, two)),
-  λ left. reduced_more (lefts + 1) st (omega (arith, two)) turns.3 (reduced.1 left),
+-- two lefts above a hookless list cover no right, so a third does no harm
+pub hookless_more : (lefts : ℕ) (st : List ℕ) → 2 ≤ lefts → AreTurns st → HasNoHook lefts st → HasNoHook (lefts + 1) st
+hookless_more lefts [] two turns hookless = tt
+hookless_more lefts (x ∷ st) two turns hookless = (
+  λ right. absurd (omega (arith, (hookless.0 right).0, two)),
+  λ left. hookless_more (lefts + 1) st (omega (arith, two)) turns.3 (hookless.1 left),
 )
 
--- a right on a reduced stack leaves it reduced
-pub reduced_right : (x : ℕ) (st : List ℕ) → 2 < x → Reduced 0 st → Reduced 0 (x ∷ st)
-reduced_right x st right reduced = (λ _. (omega arith, reduced), λ left. absurd (omega (arith, left, right)))
+-- a right on a hookless stack leaves it hookless
+pub hookless_right : (x : ℕ) (st : List ℕ) → 2 < x → HasNoHook 0 st → HasNoHook 0 (x ∷ st)
+hookless_right x st right hookless = (λ _. (omega arith, hookless), λ left. absurd (omega (arith, left, right)))
 
 -- and so does a left, unless a left on a right is below it
-pub reduced_left : (x : ℕ) (st : List ℕ) → x ≡ 1 → AreTurns st → Reduced 0 st →
-    ((y z : ℕ) (rest : List ℕ) → st ≡ y ∷ z ∷ rest → y ≡ 1 → 2 < z → ⊥) → Reduced 0 (x ∷ st)
-reduced_left x [] left turns reduced no_hook = (λ right. absurd (omega (arith, left, right)), λ _. tt)
-reduced_left x (y ∷ []) left turns reduced no_hook =
+pub hookless_left : (x : ℕ) (st : List ℕ) → x ≡ 1 → AreTurns st → HasNoHook 0 st →
+    ((y z : ℕ) (rest : List ℕ) → st ≡ y ∷ z ∷ rest → y ≡ 1 → 2 < z → ⊥) → HasNoHook 0 (x ∷ st)
+hookless_left x [] left turns hookless no_hook = (λ right. absurd (omega (arith, left, right)), λ _. tt)
+hookless_left x (y ∷ []) left turns hookless no_hook =
     (λ right. absurd (omega (arith, left, right)), λ _. (λ right. (omega arith, tt), λ _. tt))
-reduced_left x (y ∷ z ∷ rest) left turns reduced no_hook = (
+hookless_left x (y ∷ z ∷ rest) left turns hookless no_hook = (
   λ right. absurd (omega (arith, left, right)),
   λ _. (
-    λ right. (omega arith, (reduced.0 right).1),
+    λ right. (omega arith, (hookless.0 right).1),
     λ left_y. (
       λ right_z. absurd (no_hook y z rest refl left_y right_z),
-      λ left_z. reduced_more 2 rest (omega arith) turns.3.3 ((reduced.1 left_y).1 left_z),
+      λ left_z. hookless_more 2 rest (omega arith) turns.3.3 ((hookless.1 left_y).1 left_z),
     ),
   ),
 )

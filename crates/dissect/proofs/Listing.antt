@@ -62,7 +62,7 @@ distinct_append (x ∷ xs) ys first second apart = (
   distinct_append xs ys first.1 second (λ a left right. apart a (inr left) right),
 )
 
--- one list of a join, turned
+-- one list of a bridge, turned
 pub distinct_turned : (xs ys zs : List ℕ) → Distinct ((xs ++ ys) ++ zs) → Distinct ((ys ++ xs) ++ zs)
 distinct_turned xs ys zs all =
     let front : Distinct (xs ++ ys) = distinct_left (xs ++ ys) zs all in

@@ -18,9 +18,9 @@ pub detour_trail : (w surrounded : DartMap) (right side way : ℕ) (new : DartMa
     Trail new right (detour w.darts side)
 detour_trail w surrounded right side way new j =
     let n : ℕ = w.darts in
-    let s = j.join.split in
-    let t = j.join.chord in
-    let middle = j.join.middle in
+    let s = j.bridge.split in
+    let t = j.bridge.chord in
+    let middle = j.bridge.middle in
     let c : ℕ = corner_of w side in
     let d8 : surrounded.darts ≡ n + 8 = j.surround.darts in
     let d10 : middle.darts ≡ n + 10 = omega (arith, d8, s.darts) in
@@ -31,7 +31,7 @@ detour_trail w surrounded right side way new j =
     let c_right : c ≢ right = λ h. omega (arith, h, j.right_in) in
     let e_in : n + side < middle.darts = omega (arith, d10, j.side_in) in
     let e_corner : IsCorner middle (n + side) =
-    λ h. omega (arith, h, s.angle_old (n + side) j.join.e_in, j.surround.angle_inner side j.side_in) in
+    λ h. omega (arith, h, s.angle_old (n + side) j.bridge.e_in, j.surround.angle_inner side j.side_in) in
     let along : new.next right ≡ n + 10 = t.next_d ∙ d10 in
     let to_side : Stretches new middle.darts (n + side) =
     chord_stretch_there middle right c surrounded.darts way new t (middle_of w surrounded right side way new j) (cutting_of w surrounded right side way new j)
@@ -61,7 +61,7 @@ detour_trail w surrounded right side way new j =
         inside_stretch w surrounded right side way new j k m (omega arith) (omega (arith, e)) (j.surround.next_inner k l ∙ ap (λ (i : ℕ). w.darts + i) (sym e))
         (λ h. omega (arith, h, j.surround.angle_inner m (omega (arith, e)))) (λ h. omega (arith, h, j.surround.angle_inner k l)) ne
 
--- what the join makes of the trail round the outer face
+-- what the bridge makes of the trail round the outer face
 pub record IsRound (w : DartMap) (right : ℕ) (new : DartMap) (b : ℕ) (bs : List ℕ) : Type 0 where
   pub back : Stretches new (w.darts + 11) b
   pub trail : Trail new b bs
@@ -72,9 +72,9 @@ pub outer_round : (w surrounded : DartMap) (right side way : ℕ) (new : DartMap
     Ring w (b ∷ (bs ++ (right ∷ []))) → Below w.darts (b ∷ bs) → (In right (b ∷ bs) → ⊥) → IsRound w right new b bs
 outer_round w surrounded right side way new j b bs ring below out =
     let n : ℕ = w.darts in
-    let s = j.join.split in
-    let t = j.join.chord in
-    let middle = j.join.middle in
+    let s = j.bridge.split in
+    let t = j.bridge.chord in
+    let middle = j.bridge.middle in
     let c : ℕ = corner_of w side in
     let cs : List ℕ = b ∷ (bs ++ (right ∷ [])) in
     let end_is : last_of b (bs ++ (right ∷ [])) ≡ right = last_of-append b bs (right ∷ []) in
@@ -83,7 +83,7 @@ outer_round w surrounded right side way new j b bs ring below out =
     let d10 : middle.darts ≡ n + 10 = omega (arith, d8, s.darts) in
     let d11 : middle.darts + 1 ≡ n + 11 = omega (arith, d10) in
     let in_middle : Ring middle cs = split_ring surrounded (n + side) (surrounded.direction (n + side)) middle s
-    (surround_tied w surrounded j.surround j.tied) j.join.e_in cs (omega (arith, d8, end_in)) (surround_ring w surrounded j.surround j.tied cs end_in ring) in
+    (surround_tied w surrounded j.surround j.tied) j.bridge.e_in cs (omega (arith, d8, end_in)) (surround_ring w surrounded j.surround j.tied cs end_in ring) in
     let tied = middle_of w surrounded right side way new j in
     let cutting = cutting_of w surrounded right side way new j in
     let from_right : Stretches middle right b = subst (λ (z : ℕ). Stretches middle z b) end_is in_middle.0 in
@@ -104,7 +104,7 @@ outer_round w surrounded right side way new j b bs ring below out =
       straight_on = λ straight. subst (λ (z : ℕ). Stretches new (last_of b bs) z) d10 (both.1 straight);
     }
 
--- the ring of the joined face
+-- the ring of the connected face
 pub connected_ring : (w surrounded : DartMap) (right side way : ℕ) (new : DartMap) → IsConnecting w surrounded right side way new → (b : ℕ) (bs : List ℕ) →
     IsRound w right new b bs → (kept : List ℕ) → (new.angle right ≡ 2 → kept ≡ b ∷ bs) → (IsCorner new right → kept ≡ (b ∷ bs) ++ (right ∷ [])) →
     Ring new (kept ++ detour w.darts side)
@@ -142,7 +142,7 @@ detour_total w surrounded right side way new j =
       inner_angle w surrounded right side way new j ((side + 3) % 4) (omega arith),
     )
 
--- the joined face turns once to the left
+-- the connected face turns once to the left
 pub concatenated_once : (w surrounded : DartMap) (right side way : ℕ) (new : DartMap) → IsConnecting w surrounded right side way new → (front : List ℕ) →
     Below w.darts front → (In right front → ⊥) →
     total (map w.angle (front ++ (right ∷ []))) ≡ 2 * length (front ++ (right ∷ [])) + 4 →
@@ -240,13 +240,13 @@ below_all : (n : ℕ) (xs : List ℕ) → ((a : ℕ) → In a xs → a < n) → 
 below_all n [] all = tt
 below_all n (x ∷ xs) all = (all x (inl refl), below_all n xs (λ a h. all a (inr h)))
 
--- after the join, each corner is of a face that waits, or on the outside of the rectangle
-pub join_places : (w surrounded : DartMap) (right side way : ℕ) (new : DartMap) → IsConnecting w surrounded right side way new → (o : ℕ) → o < 4 →
+-- after the bridge, each corner is of a face that waits, or on the outside of the rectangle
+pub bridge_places : (w surrounded : DartMap) (right side way : ℕ) (new : DartMap) → IsConnecting w surrounded right side way new → (o : ℕ) → o < 4 →
     (inner : List (List ℕ)) (outer front kept : List ℕ) → outer ≡ front ++ (right ∷ []) →
     ((a : ℕ) → a < w.darts → IsCorner w a → In a (concatenated inner ++ outer)) → AreKeptCorners w right front kept →
     (a : ℕ) → a < w.darts + 12 → IsCorner new a →
     In a (concatenated inner ++ (kept ++ detour w.darts side)) ⊎ (IsRectangle new 1 a ⊎ IsOutside new (w.darts + 4 + o) a)
-join_places w surrounded right side way new j o o_in inner outer front kept ends all is a l corner =
+bridge_places w surrounded right side way new j o o_in inner outer front kept ends all is a l corner =
     let n : ℕ = w.darts in
     let Placed : ℕ → Type 0 = λ a. IsCorner new a →
     In a (concatenated inner ++ (kept ++ detour n side)) ⊎ (IsRectangle new 1 a ⊎ IsOutside new (n + 4 + o) a) in
@@ -287,7 +287,7 @@ join_places w surrounded right side way new j o o_in inner outer front kept ends
       ]
     ]
 
--- the outer face has another corner before `right`, so the joined face has its ring
+-- the outer face has another corner before `right`, so the connected face has its ring
 front_ring : (w surrounded : DartMap) (right side way : ℕ) (new : DartMap) → IsConnecting w surrounded right side way new → (front kept : List ℕ) →
     Ring w (front ++ (right ∷ [])) → Below w.darts front → (In right front → ⊥) → w.angle right ≤ 4 →
     total (map w.angle (front ++ (right ∷ []))) ≡ 2 * length (front ++ (right ∷ [])) + 4 →
@@ -298,15 +298,15 @@ front_ring w surrounded right side way new j (b ∷ bs) kept ring below out most
     connected_ring w surrounded right side way new j b bs (outer_round w surrounded right side way new j b bs ring below out) kept straight turning
 
 -- all faces wait to be cut
-pub join_waits : (w surrounded : DartMap) (right side way : ℕ) (new : DartMap) → IsConnecting w surrounded right side way new → (o : ℕ) → o < 4 →
+pub bridge_waits : (w surrounded : DartMap) (right side way : ℕ) (new : DartMap) → IsConnecting w surrounded right side way new → (o : ℕ) → o < 4 →
     (inner : List (List ℕ))
     (outer kept : List ℕ) → (listed : AreListed w right inner outer) → w.angle right ≤ 4 → AreKeptCorners w right listed.front kept →
     AreWaiting new (w.darts + 4 + o) (inner ++ ((kept ++ detour w.darts side) ∷ []))
-join_waits w surrounded right side way new j o o_in inner outer kept listed most is =
+bridge_waits w surrounded right side way new j o o_in inner outer kept listed most is =
     let n : ℕ = w.darts in
     let front : List ℕ = listed.front in
     let big : List ℕ = kept ++ detour n side in
-    let count : new.darts ≡ n + 12 = omega (arith, j.join.chord.darts, j.join.split.darts, j.surround.darts) in
+    let count : new.darts ≡ n + 12 = omega (arith, j.bridge.chord.darts, j.bridge.split.darts, j.surround.darts) in
     let all_distinct : Distinct (concatenated inner ++ (front ++ (right ∷ []))) =
     subst (λ (xs : List ℕ). Distinct (concatenated inner ++ xs)) listed.ends listed.distinct in
     let all_below : Below n (concatenated inner ++ (front ++ (right ∷ []))) =
@@ -346,5 +346,5 @@ join_waits w surrounded right side way new j o o_in inner outer kept listed most
       outside = (outside_four w surrounded right side way new j o o_in o o_in).four;
       placed = λ a l corner.
           subst (λ (xs : List ℕ). In a xs ⊎ (IsRectangle new 1 a ⊎ IsOutside new (n + 4 + o) a)) (sym (concatenated_more inner big))
-          (join_places w surrounded right side way new j o o_in inner outer front kept listed.ends listed.all is a (omega (arith, count, l)) corner);
+          (bridge_places w surrounded right side way new j o o_in inner outer front kept listed.ends listed.all is a (omega (arith, count, l)) corner);
     }

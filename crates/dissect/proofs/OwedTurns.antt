@@ -15,34 +15,34 @@ owing w owed = sum_below w.darts (λ x. length (owed x))
 
 -- what the face f turns to the left, what to the right, at the darts of the map and by what they owe
 abbrev pub gained : DartMap → (ℕ → ℕ) → (ℕ → List Turn) → ℕ → ℕ
-gained w label owed f = sum_below w.darts (part label (λ x. 2 + lefts (owed x)) f)
+gained w face_number owed f = sum_below w.darts (part face_number (λ x. 2 + lefts (owed x)) f)
 
 abbrev pub lost : DartMap → (ℕ → ℕ) → (ℕ → List Turn) → ℕ → ℕ
-lost w label owed f = sum_below w.darts (part label (λ x. w.angle x + rights (owed x)) f)
+lost w face_number owed f = sum_below w.darts (part face_number (λ x. w.angle x + rights (owed x)) f)
 
 -- four more to the left round a face, four more to the right round the outer one
 abbrev pub Turns : PlaneModel → DartMap → (ℕ → ℕ) → (ℕ → List Turn) → ℕ → Type 0
-Turns p w label owed f =
-    gained w label owed f + (if f == p.outer then 4 else 0) ≡ lost w label owed f + (if f == p.outer then 0 else 4)
+Turns p w face_number owed f =
+    gained w face_number owed f + (if f == p.outer then 4 else 0) ≡ lost w face_number owed f + (if f == p.outer then 0 else 4)
 
 -- the map of the plane p on the way to its bends, `total` in all, each counted at both darts: dart x still owes the turns
--- `owed x`, and is of the face `label x`
-pub record IsOwing (p : PlaneModel) (a h : ℕ → ℕ) (total : ℕ) (w : DartMap) (label : ℕ → ℕ) (owed : ℕ → List Turn) : Type 0 where
+-- `owed x`, and is of the face `face_number x`
+pub record IsOwing (p : PlaneModel) (a h : ℕ → ℕ) (total : ℕ) (w : DartMap) (face_number : ℕ → ℕ) (owed : ℕ → List Turn) : Type 0 where
   pub old : darts p ≤ w.darts
   pub tied : IsTied w
   pub meeting : IsMeeting w
   pub mirrors : (x : ℕ) → x < w.darts → owed (w.reverse_dart x) ≡ mirrored (owed x)
   pub ways : (x : ℕ) → x < w.darts → (w.direction (w.reverse_dart x) + 2 + lefts (owed x)) % 4 ≡ (w.direction x + rights (owed x)) % 4
-  pub labels : AreFaceNumbers w label
-  pub named : (x : ℕ) → x < w.darts → label x < p.faces
-  pub turns : (f : ℕ) → f < p.faces → Turns p w label owed f
+  pub face_numbers : AreFaceNumbers w face_number
+  pub named : (x : ℕ) → x < w.darts → face_number x < p.faces
+  pub turns : (f : ℕ) → f < p.faces → Turns p w face_number owed f
   pub dart_count : w.darts + owing w owed ≡ darts p + total
   pub vertex_count : 2 * w.vertices + owing w owed ≡ 2 * vertices p + total
   pub right_turns : 2 * reflex_turns w + owing w owed ≤ 4 * vertices p + total
   pub heads : (x : ℕ) → x < darts p → w.head x + 1 ≡ head p x
   pub angles : (x : ℕ) → x < darts p → w.angle x ≡ a x
   pub directions : (x : ℕ) → x < darts p → w.direction x ≡ h x
-  pub faces : (x : ℕ) → x < darts p → label x ≡ face_at p x
+  pub faces : (x : ℕ) → x < darts p → face_number x ≡ face_at p x
 
 -- once the edge of e has its first turn, e and the new dart behind it owe the others, and no one else of its four darts
 pub record IsOwedNext (w : DartMap) (e : ℕ) (turns : List Turn) (owed next : ℕ → List Turn) : Type 0 where
@@ -53,10 +53,10 @@ pub record IsOwedNext (w : DartMap) (e : ℕ) (turns : List Turn) (owed next : �
   pub others : (x : ℕ) → x < w.darts → x ≢ e → x ≢ w.reverse_dart e → next x ≡ owed x
 
 -- each new dart is of the face of the dart that it stands in front of
-pub record IsLabelledNext (w : DartMap) (e : ℕ) (label next : ℕ → ℕ) : Type 0 where
-  pub at_first : next w.darts ≡ label e
-  pub at_second : next (w.darts + 1) ≡ label (w.reverse_dart e)
-  pub old : (x : ℕ) → x < w.darts → next x ≡ label x
+pub record IsNumberedNext (w : DartMap) (e : ℕ) (face_number next : ℕ → ℕ) : Type 0 where
+  pub at_first : next w.darts ≡ face_number e
+  pub at_second : next (w.darts + 1) ≡ face_number (w.reverse_dart e)
+  pub old : (x : ℕ) → x < w.darts → next x ≡ face_number x
 
 -- there are such functions
 pub owed_next : (w : DartMap) (e : ℕ) (turns : List Turn) (owed : ℕ → List Turn) → IsTied w → e < w.darts →
@@ -81,10 +81,10 @@ owed_next w e turns owed tied e_in =
       },
     )
 
-pub labelled_next : (w : DartMap) (e : ℕ) (label : ℕ → ℕ) → (next : ℕ → ℕ) × IsLabelledNext w e label next
-labelled_next w e label =
+pub numbered_next : (w : DartMap) (e : ℕ) (face_number : ℕ → ℕ) → (next : ℕ → ℕ) × IsNumberedNext w e face_number next
+numbered_next w e face_number =
     let n : ℕ = w.darts in
-    let new : ℕ → ℕ = λ x. cond (eqb x (n + 1)) (label (w.reverse_dart e)) (cond (eqb x n) (label e) (label x)) in
+    let new : ℕ → ℕ = λ x. cond (eqb x (n + 1)) (face_number (w.reverse_dart e)) (cond (eqb x n) (face_number e) (face_number x)) in
     let skip : (x y v r : ℕ) → x ≢ y → cond (eqb x y) v r ≡ r = λ x y v r off. cond-false {A = ℕ} (eqb x y) v r (ne_eqb x y off) in
     let take : (x y v r : ℕ) → x ≡ y → cond (eqb x y) v r ≡ v = λ x y v r at. cond-true {A = ℕ} (eqb x y) v r (eq-eqb x y at) in (
       new,
@@ -96,9 +96,9 @@ labelled_next w e label =
     )
 
 -- the numbers of a map stay numbers under a split
-pub split_labels : (w : DartMap) (e way bend : ℕ) (new : DartMap) (label next : ℕ → ℕ) → IsTied w → e < w.darts →
-    IsSubdivided w e way bend new → IsLabelledNext w e label next → AreFaceNumbers w label → AreFaceNumbers new next
-split_labels w e way bend new label next tied e_in s named labels =
+pub split_face_numbers : (w : DartMap) (e way bend : ℕ) (new : DartMap) (face_number next : ℕ → ℕ) → IsTied w → e < w.darts →
+    IsSubdivided w e way bend new → IsNumberedNext w e face_number next → AreFaceNumbers w face_number → AreFaceNumbers new next
+split_face_numbers w e way bend new face_number next tied e_in s named face_numbers =
     let n : ℕ = w.darts in
     let t : ℕ = w.reverse_dart e in
     let t_in : t < n = tied.reverse_dart_in e e_in in
@@ -106,13 +106,13 @@ split_labels w e way bend new label next tied e_in s named labels =
     let p : ℕ = w.prev t in
     let c_in : c < n = tied.prev_in e e_in in
     let p_in : p < n = tied.prev_in t t_in in
-    let front : (x : ℕ) → x < n → label (w.prev x) ≡ label x = λ x l.
-    sym (labels.stays (w.prev x) (tied.prev_in x l)) ∙ ap label (tied.prev_back x l) in
+    let front : (x : ℕ) → x < n → face_number (w.prev x) ≡ face_number x = λ x l.
+    sym (face_numbers.stays (w.prev x) (tied.prev_in x l)) ∙ ap face_number (tied.prev_back x l) in
     record {
       stays = λ x l. by_place n c p (λ x. next (new.next x) ≡ next x)
           (ap next s.next_before ∙ named.at_first ∙ sym (front e e_in) ∙ sym (named.old c c_in))
           (ap next s.next_back ∙ named.at_second ∙ sym (front t t_in) ∙ sym (named.old p p_in))
-          (λ x l not_c not_p. ap next (s.next_other x l not_c not_p) ∙ named.old (w.next x) (tied.next_in x l) ∙ labels.stays x l
+          (λ x l not_c not_p. ap next (s.next_other x l not_c not_p) ∙ named.old (w.next x) (tied.next_in x l) ∙ face_numbers.stays x l
           ∙ sym (named.old x l))
           (ap next s.next_first ∙ named.old e e_in ∙ sym named.at_first)
           (ap next s.next_second ∙ named.old t t_in ∙ sym named.at_second)
@@ -134,19 +134,19 @@ split_labels w e way bend new label next tied e_in s named labels =
                 ]
           ] in
           -- a dart of the old map that has the number of x, and is held where x is
-          let before : (x : ℕ) → x < n + 2 → (z : ℕ) × (z < n) × (label z ≡ next x) × (set x ≡ true → set z ≡ true) = λ x l.
-          by_age n (λ x. (z : ℕ) × (z < n) × (label z ≡ next x) × (set x ≡ true → set z ≡ true))
+          let before : (x : ℕ) → x < n + 2 → (z : ℕ) × (z < n) × (face_number z ≡ next x) × (set x ≡ true → set z ≡ true) = λ x l.
+          by_age n (λ x. (z : ℕ) × (z < n) × (face_number z ≡ next x) × (set x ≡ true → set z ≡ true))
           (λ x l. (x, l, sym (named.old x l), λ held. held))
           (e, e_in, sym named.at_first, λ held. subst (λ (k : ℕ). set k ≡ true) s.next_first (closed n (omega (arith, s.darts)) held))
           (t, t_in, sym named.at_second, λ held. subst (λ (k : ℕ). set k ≡ true) s.next_second (closed (n + 1) (omega (arith, s.darts)) held))
           x l in
-          let (z, z_in, z_label, z_held) = before x (omega (arith, s.darts, x_in)) in
-          let reach : (y : ℕ) → y < n → label z ≡ label y → set y ≡ true = λ y l same. labels.least set shut z y z_in l same (z_held held) in
+          let (z, z_in, z_face_number, z_held) = before x (omega (arith, s.darts, x_in)) in
+          let reach : (y : ℕ) → y < n → face_number z ≡ face_number y → set y ≡ true = λ y l same. face_numbers.least set shut z y z_in l same (z_held held) in
           by_age n (λ y. next x ≡ next y → set y ≡ true)
-          (λ y l same. reach y l (z_label ∙ same ∙ named.old y l))
+          (λ y l same. reach y l (z_face_number ∙ same ∙ named.old y l))
           (λ same. subst (λ (k : ℕ). set k ≡ true) s.next_before
-          (closed c (omega (arith, s.darts, c_in)) (reach c c_in (z_label ∙ same ∙ named.at_first ∙ sym (front e e_in)))))
+          (closed c (omega (arith, s.darts, c_in)) (reach c c_in (z_face_number ∙ same ∙ named.at_first ∙ sym (front e e_in)))))
           (λ same. subst (λ (k : ℕ). set k ≡ true) s.next_back
-          (closed p (omega (arith, s.darts, p_in)) (reach p p_in (z_label ∙ same ∙ named.at_second ∙ sym (front t t_in)))))
+          (closed p (omega (arith, s.darts, p_in)) (reach p p_in (z_face_number ∙ same ∙ named.at_second ∙ sym (front t t_in)))))
           y (omega (arith, s.darts, y_in)) same;
     }

@@ -92,7 +92,7 @@ pub bent_paths : (e : ℕ) (w : DartMap) (turns : List Turn) (new : DartMap) (n 
     quarters' e ≡ quarters e ++ quarters_of turns → quarters' (reverse_dart e) ≡ quarters_of (mirrored turns) ++ quarters (reverse_dart e) →
     ((d : ℕ) → d < n → d ≢ e → d ≢ reverse_dart e → quarters' d ≡ quarters d) →
     IsBent e w turns new → HasPaths w n reverse_dart quarters → HasPaths new n reverse_dart quarters'
-bent_paths e w turns new n reverse_dart quarters quarters' tied e_in narrow reverse_dart_in reverse_dart_back apart at_e at_reverse_dart other (straight v) has =
+bent_paths e w turns new n reverse_dart quarters quarters' tied e_in darts_fit reverse_dart_in reverse_dart_back apart at_e at_reverse_dart other (straight v) has =
     paths_same w n reverse_dart quarters quarters'
     (λ d l. elim (cases_eq d e) [
       | inl is_e ↦ ap quarters is_e ∙ sym (ap quarters' is_e ∙ at_e ∙ append-nil (quarters e))
@@ -101,20 +101,20 @@ bent_paths e w turns new n reverse_dart quarters quarters' tied e_in narrow reve
         | inr not_reverse_dart ↦ sym (other d l not_e not_reverse_dart)
       ]
     ]) has
-bent_paths e w turns new n reverse_dart quarters quarters' tied e_in narrow reverse_dart_in reverse_dart_back apart at_e at_reverse_dart other
+bent_paths e w turns new n reverse_dart quarters quarters' tied e_in darts_fit reverse_dart_in reverse_dart_back apart at_e at_reverse_dart other
     (turned v mid last turn rest split bends) has =
     let t : ℕ = reverse_dart e in
     let next : ℕ → List ℕ = with_turns quarters e t (turn ∷ []) in
     let next_e : next e ≡ quarters e ++ (angle_of turn ∷ []) = with_turns-at quarters e t (turn ∷ []) in
     let next_t : next t ≡ (4 - angle_of turn) ∷ quarters t =
     with_turns-back quarters e t (turn ∷ []) apart ∙ ap (λ (k : ℕ). k ∷ quarters t) (opposite_angle turn) in
-    let narrow_now : v.darts ≤ no_dart = omega (arith, narrow, bent_more e mid rest last bends, split.darts) in
+    let darts_fit_now : v.darts ≤ no_dart = omega (arith, darts_fit, bent_more e mid rest last bends, split.darts) in
     let middle : HasPaths mid n reverse_dart next =
-    bend_paths v e (start_direction v e) (angle_of turn) mid n reverse_dart quarters next tied e_in narrow_now (omega arith) (quarter_angle turn) split
+    bend_paths v e (start_direction v e) (angle_of turn) mid n reverse_dart quarters next tied e_in darts_fit_now (omega arith) (quarter_angle turn) split
     reverse_dart_in reverse_dart_back apart next_e next_t (λ d l not_e not_t. with_turns-other quarters e t (turn ∷ []) d not_e not_t) has in
     bent_paths e mid rest last n reverse_dart next quarters'
     (split_tied v e (start_direction v e) (angle_of turn) mid tied (omega (arith, e_in, has.few)) split)
-    e_in narrow reverse_dart_in reverse_dart_back apart
+    e_in darts_fit reverse_dart_in reverse_dart_back apart
     (at_e ∙ sym (append_assoc (quarters e) (angle_of turn ∷ []) (quarters_of rest))
     ∙ ap (λ (ts : List ℕ). ts ++ quarters_of rest) (sym next_e))
     (at_reverse_dart ∙ ap (λ (ts : List ℕ). ts ++ quarters t) (quarters-mirrored turn rest)
@@ -154,7 +154,7 @@ turned_passed p s k w ends back has = record {
 pub turned_bent : (p : PlaneModel) (s : ℕ → List Turn) (k : ℕ) (w mid : DartMap) → HasEnds p →
     ((d : ℕ) → d < darts p → s (reverse_dart p d) ≡ mirrored (s d)) → k < darts p → k < reverse_dart p k → IsTied w → mid.darts ≤ no_dart →
     IsBent k w (s k) mid → HasTurned p s k w → HasTurned p s (k + 1) mid
-turned_bent p s k w mid ends mirrors k_in less tied narrow bends has =
+turned_bent p s k w mid ends mirrors k_in less tied darts_fit bends has =
     let t : ℕ = reverse_dart p k in
     let t_in : t < darts p = ends.reverse_dart_inside k k_in in
     let apart : t ≢ k = ends.reverse_dart_apart k k_in in
@@ -172,7 +172,7 @@ turned_bent p s k w mid ends mirrors k_in less tied narrow bends has =
     ∙ ap quarters_of (sym (mirrors k k_in)) in
     record {
       quarters = next;
-      paths = bent_paths k w (s k) mid (darts p) (reverse_dart p) has.quarters next tied k_in narrow ends.reverse_dart_inside ends.reverse_dart_back apart
+      paths = bent_paths k w (s k) mid (darts p) (reverse_dart p) has.quarters next tied k_in darts_fit ends.reverse_dart_inside ends.reverse_dart_back apart
           next_k next_t (λ d l not_k not_t. next_other d not_k not_t) bends has.paths;
       done = λ d l either. elim (cases_eq d k) [
         | inl is_k ↦ ap next is_k ∙ whole_k ∙ sym (ap (λ (i : ℕ). quarters_of (s i)) is_k)
@@ -200,15 +200,15 @@ all_more p s k w new (bent j v mid last j_in less bends rest) =
 pub all_paths : (p : PlaneModel) (s : ℕ → List Turn) (k : ℕ) (w new : DartMap) → HasEnds p →
     ((d : ℕ) → d < darts p → s (reverse_dart p d) ≡ mirrored (s d)) → IsTied w → new.darts ≤ no_dart → AreBent p s k w new →
     HasTurned p s k w → HasPaths new (darts p) (reverse_dart p) (λ d. quarters_of (s d))
-all_paths p s k w new ends mirrors tied narrow (finished j v past) has =
+all_paths p s k w new ends mirrors tied darts_fit (finished j v past) has =
     paths_same v (darts p) (reverse_dart p) has.quarters (λ d. quarters_of (s d))
     (λ d l. has.done d l (inl (omega (arith, past)))) has.paths
-all_paths p s k w new ends mirrors tied narrow (passed j v last back rest) has =
-    all_paths p s (j + 1) v last ends mirrors tied narrow rest (turned_passed p s j v ends back has)
-all_paths p s k w new ends mirrors tied narrow (bent j v mid last j_in less bends rest) has =
+all_paths p s k w new ends mirrors tied darts_fit (passed j v last back rest) has =
+    all_paths p s (j + 1) v last ends mirrors tied darts_fit rest (turned_passed p s j v ends back has)
+all_paths p s k w new ends mirrors tied darts_fit (bent j v mid last j_in less bends rest) has =
     let j_old : j < v.darts = omega (arith, j_in, has.paths.few) in
-    all_paths p s (j + 1) mid last ends mirrors (bent_tied j v (s j) mid tied j_old bends) narrow rest
-    (turned_bent p s j v mid ends mirrors j_in less tied (omega (arith, narrow, all_more p s (j + 1) mid last rest)) bends has)
+    all_paths p s (j + 1) mid last ends mirrors (bent_tied j v (s j) mid tied j_old bends) darts_fit rest
+    (turned_bent p s j v mid ends mirrors j_in less tied (omega (arith, darts_fit, all_more p s (j + 1) mid last rest)) bends has)
 
 pub all_extended : (p : PlaneModel) (s : ℕ → List Turn) (k : ℕ) (w new : DartMap) → IsTied w → darts p ≤ w.darts → AreBent p s k w new →
     IsExtended w new
@@ -244,8 +244,8 @@ bare_connected p a h w plane bare s next reverse_dart x y l_x l_y at =
 pub bends_have_paths : (p : PlaneModel) (a h : ℕ → ℕ) (s : ℕ → List Turn) (w new : DartMap) → IsPlane p →
     ((d : ℕ) → d < darts p → s (reverse_dart p d) ≡ mirrored (s d)) → IsBare p a h w → IsTied w → new.darts ≤ no_dart → AreBent p s 0 w new →
     HasPaths new (darts p) (reverse_dart p) (λ d. quarters_of (s d))
-bends_have_paths p a h s w new plane mirrors bare tied narrow all =
-    all_paths p s 0 w new (plane_ends p plane) mirrors tied narrow all (turned_bare p a h s w bare)
+bends_have_paths p a h s w new plane mirrors bare tied darts_fit all =
+    all_paths p s 0 w new (plane_ends p plane) mirrors tied darts_fit all (turned_bare p a h s w bare)
 
 -- and it is connected
 pub bends_stay_connected : (p : PlaneModel) (a h : ℕ → ℕ) (s : ℕ → List Turn) (w new : DartMap) → IsPlane p → IsBare p a h w → IsTied w →

@@ -4,33 +4,33 @@ use Rattle.std.proofs.lemmas.Bool.{cases_eq, eq-eqb, ne_eqb, cond-true, cond-fal
 use Rattle.common.specs.Sums.{sum_below}
 use Rattle.common.proofs.Sums.{sum_below-same, sum_below-one, sum_below-member}
 use Rattle.dissect.proofs.Reordered.{sum_at}
-use Rattle.dissect.proofs.Trees.{Joins, IsTree}
+use Rattle.dissect.proofs.Trees.{Connections, IsTree}
 
 -- the dart is the one by which the tree leads to its end
-pub record IsUp (j : Joins) (parent : ℕ → ℕ) (d : ℕ) : Type 0 where
+pub record IsUp (j : Connections) (parent : ℕ → ℕ) (d : ℕ) : Type 0 where
   pub node : j.to d ≢ j.root
   pub parent_is : parent (j.to d) ≡ d
 
 -- each dart has a reverse, the same edge the other way
-pub record IsPaired (j : Joins) (reverse_dart : ℕ → ℕ) : Type 0 where
+pub record IsPaired (j : Connections) (reverse_dart : ℕ → ℕ) : Type 0 where
   pub inside : (d : ℕ) → d < j.darts → reverse_dart d < j.darts
   pub back : (d : ℕ) → d < j.darts → reverse_dart (reverse_dart d) ≡ d
   pub from : (d : ℕ) → d < j.darts → j.from d ≡ j.to (reverse_dart d)
   pub node : (d : ℕ) → d < j.darts → j.to d < j.nodes
 
 -- what passes along each dart, up to multiples of four
-pub record IsBalanced (j : Joins) (reverse_dart parent off : ℕ → ℕ) : Type 0 where
+pub record IsBalanced (j : Connections) (reverse_dart parent off : ℕ → ℕ) : Type 0 where
   pub small : (d : ℕ) → d < j.darts → off d < 4
   pub pairs : (d : ℕ) → d < j.darts → (off d + off (reverse_dart d)) % 4 ≡ 0
   pub round : (v : ℕ) → v < j.nodes → sum_at j.darts j.to v off % 4 ≡ 0
   pub only : (d : ℕ) → d < j.darts → (off d ≡ 0) ⊎ (IsUp j parent d ⊎ IsUp j parent (reverse_dart d))
 
 -- where nothing passes along the reverse, nothing does along the dart
-none_back : (j : Joins) (reverse_dart parent off : ℕ → ℕ) → IsBalanced j reverse_dart parent off → (d : ℕ) → d < j.darts → off (reverse_dart d) ≡ 0 → off d ≡ 0
+none_back : (j : Connections) (reverse_dart parent off : ℕ → ℕ) → IsBalanced j reverse_dart parent off → (d : ℕ) → d < j.darts → off (reverse_dart d) ≡ 0 → off d ≡ 0
 none_back j reverse_dart parent off is d l e = omega (arith, is.small d l, is.pairs d l)
 
 -- nothing passes along the darts that lead to nodes of rank more than `high` less k
-peeled : (j : Joins) (reverse_dart g rank parent base off : ℕ → ℕ) → IsPaired j reverse_dart → IsTree j g rank parent base → IsBalanced j reverse_dart parent off
+peeled : (j : Connections) (reverse_dart g rank parent base off : ℕ → ℕ) → IsPaired j reverse_dart → IsTree j g rank parent base → IsBalanced j reverse_dart parent off
     → (high k : ℕ) → ((v : ℕ) → v < j.nodes → rank v ≤ high)
     → (v : ℕ) → v < j.nodes → v ≢ j.root → high < rank v + k → off (parent v) ≡ 0
 peeled j reverse_dart g rank parent base off paired tree is high zero most v l ne past = absurd (omega (arith, most v l))
@@ -75,7 +75,7 @@ peeled j reverse_dart g rank parent base off paired tree is high (suc k) most v 
         ]
 
 -- nothing passes at all
-pub nothing : (j : Joins) (reverse_dart g rank parent base off : ℕ → ℕ) → IsPaired j reverse_dart → IsTree j g rank parent base → IsBalanced j reverse_dart parent off
+pub nothing : (j : Connections) (reverse_dart g rank parent base off : ℕ → ℕ) → IsPaired j reverse_dart → IsTree j g rank parent base → IsBalanced j reverse_dart parent off
     → (d : ℕ) → d < j.darts → off d ≡ 0
 nothing j reverse_dart g rank parent base off paired tree is d l =
     elim (is.only d l) [

@@ -4,7 +4,7 @@ use Rattle.std.proofs.lemmas.List.{drop-set-lt, take-append-drop, drop_more, dro
 use borrow.Rule.Slice.PartMut.{put_mid, mid_of}
 use Rattle.std.proofs.lemmas.List.Elements.{All-cons}
 use Rattle.std.proofs.Math.ListN.{length-set}
-use Rattle.dissect.specs.Turning.{Rising, Reduced, IsHighest}
+use Rattle.dissect.specs.Turning.{Rising, HasNoHook, IsHighest}
 use Rattle.dissect.specs.DartMaps.{DartMap, IsSound, Grows, same, further}
 use Rattle.std.proofs.lemmas.List.Sums.{sum_by-cons}
 use Rattle.dissect.specs.Faces.{Below, AreWaiting, pieces_of}
@@ -65,7 +65,7 @@ reading_top w0 face room w xs h read now more reading =
       low = omega (arith, reading.low);
       some = omega arith;
       inside = omega (arith, more, length-set xs h c);
-      tail = subst (λ (st : List ℕ). Reduced 0 (map w.angle st)) (sym below) reading.reduced;
+      tail = subst (λ (st : List ℕ). HasNoHook 0 (map w.angle st)) (sym below) reading.hookless;
       space = reading.space;
     }
 
@@ -76,7 +76,7 @@ reading_here w0 face room w xs h read now reading = record {
   scan = scan_here w0 w face (tops xs h) (drop read xs) reading.scan;
   low = reading.low;
   inside = reading.inside;
-  reduced = reading.reduced;
+  hookless = reading.hookless;
   space = subst (HasRoom w) (sym reading.kept) reading.space;
   kept = refl;
   darts = reading.darts;
@@ -90,7 +90,7 @@ reading_on w0 face room w new xs zs h read now h' read' now' first second = reco
   scan = scan_on w0 w new face (tops xs h) (drop read xs) (tops zs h') (drop read' zs) first.scan second.scan;
   low = second.low;
   inside = second.inside;
-  reduced = second.reduced;
+  hookless = second.hookless;
   space = subst (HasRoom new) first.kept second.space;
   kept = second.kept ∙ first.kept;
   darts = second.darts;
@@ -115,7 +115,7 @@ reading_begins w0 face room m xs sound o rs wait space highest said darts = reco
   };
   low = omega arith;
   inside = omega arith;
-  reduced = tt;
+  hookless = tt;
   space = space;
   kept = refl;
   darts = darts;
@@ -144,7 +144,7 @@ pub reading_done : (w0 : DartMap) (face : List ℕ) (room : ℕ) (w : DartMap) (
     IsReading w0 face room w xs h read now → (o : ℕ) (rs : List (List ℕ)) → AreWaiting w0 o (face ∷ rs) → AreWaiting w o rs
 reading_done w0 face room w xs h read now all reading o rs wait =
     scan_done w0 face w (tops xs h) (subst (λ (zs : List ℕ). IsScan w0 face w (tops xs h) zs) (drop_all read xs all) reading.scan)
-    reading.reduced o rs wait
+    reading.hookless o rs wait
 
 pub all_below : (n m : ℕ) (xs : List ℕ) → n ≤ m → Below n xs → All (λ a. a < m) xs
 all_below n m [] le below = λ k d l. absurd (omega arith)

@@ -1,4 +1,4 @@
--- A map in its rectangle: the sides and the join stay straight chains of darts, whatever is cut.
+-- A map in its rectangle: the sides and the bridge stay straight chains of darts, whatever is cut.
 use Rattle.std.proofs.Common.{◌≡◌, ℕ, ◌+◌, ◌<◌, ◌∙◌, [], ◌∷◌, arith, subst, sym, ap, refl, inl, inr}
 use Rattle.dissect.specs.DartMaps.{DartMap, IsTied}
 use Rattle.dissect.specs.Faces.{In, AreWaiting}
@@ -27,33 +27,33 @@ module _ (w : DartMap) (outside : ℕ) (new : DartMap) (tied : IsTied w) (four :
   four_surrounded : AreQuarters e.surrounded
   four_surrounded = surrounded_quarters w e.surrounded four e.surround
 
-  tied_joined : IsTied e.joined
-  tied_joined = cut_tied e.surrounded e.right side_dart e.direction e.joined tied_surrounded e.join
+  tied_bridged : IsTied e.bridged
+  tied_bridged = cut_tied e.surrounded e.right side_dart e.direction e.bridged tied_surrounded e.bridge
 
-  four_joined : AreQuarters e.joined
-  four_joined = cut_quarters e.surrounded e.right side_dart e.direction e.joined four_surrounded e.join
+  four_bridged : AreQuarters e.bridged
+  four_bridged = cut_quarters e.surrounded e.right side_dart e.direction e.bridged four_surrounded e.bridge
 
   -- a chain of the surrounded map is one of the last
   surrounded_chain : (end reverse_dart held : ℕ) → HasChain e.surrounded end reverse_dart held [] → HasChain new end reverse_dart held []
   surrounded_chain end reverse_dart held chain =
-      grows_chain e.joined new end reverse_dart held [] tied_joined four_joined e.grows
-      (cut_chain e.surrounded e.right side_dart e.direction e.joined end reverse_dart held [] tied_surrounded (four_surrounded side_dart e.join.e_in) e.join chain)
+      grows_chain e.bridged new end reverse_dart held [] tied_bridged four_bridged e.grows
+      (cut_chain e.surrounded e.right side_dart e.direction e.bridged end reverse_dart held [] tied_surrounded (four_surrounded side_dart e.bridge.e_in) e.bridge chain)
 
-  -- and so is a chain of the joined map
-  joined_chain : (end reverse_dart held : ℕ) → HasChain e.joined end reverse_dart held [] → HasChain new end reverse_dart held []
-  joined_chain end reverse_dart held chain = grows_chain e.joined new end reverse_dart held [] tied_joined four_joined e.grows chain
+  -- and so is a chain of the connected map
+  bridged_chain : (end reverse_dart held : ℕ) → HasChain e.bridged end reverse_dart held [] → HasChain new end reverse_dart held []
+  bridged_chain end reverse_dart held chain = grows_chain e.bridged new end reverse_dart held [] tied_bridged four_bridged e.grows chain
 
-  keeps_joined : Keeps e.joined new
-  keeps_joined = grows_keeps e.joined new e.grows
+  keeps_bridged : Keeps e.bridged new
+  keeps_bridged = grows_keeps e.bridged new e.grows
 
   keeps_surrounded : Keeps e.surrounded new
-  keeps_surrounded = keeps_on e.surrounded e.joined new (cut_keeps e.surrounded e.right side_dart e.direction e.joined e.join) keeps_joined
+  keeps_surrounded = keeps_on e.surrounded e.bridged new (cut_keeps e.surrounded e.right side_dart e.direction e.bridged e.bridge) keeps_bridged
 
   count_surrounded : e.surrounded.darts ≡ n + 8
   count_surrounded = e.surround.darts
 
-  count_middle : e.join.middle.darts ≡ n + 10
-  count_middle = omega (arith, e.join.split.darts, e.surround.darts)
+  count_middle : e.bridge.middle.darts ≡ n + 10
+  count_middle = omega (arith, e.bridge.split.darts, e.surround.darts)
 
   inner_chain : (k : ℕ) → k < 4 → HasPath new (n + k) (n + 4 + k) []
   inner_chain k l =
@@ -113,108 +113,108 @@ module _ (w : DartMap) (outside : ℕ) (new : DartMap) (tied : IsTied w) (four :
         ];
   }
 
-  -- the join, before anything else is cut
-  join_chain : HasPath e.joined (n + 10) (n + 11) []
-  join_chain =
-      let first : e.join.middle.darts ≡ n + 10 = count_middle in
-      let second : e.join.middle.darts + 1 ≡ n + 11 = omega (arith, count_middle) in
+  -- the bridge, before anything else is cut
+  bridge_chain : HasPath e.bridged (n + 10) (n + 11) []
+  bridge_chain =
+      let first : e.bridge.middle.darts ≡ n + 10 = count_middle in
+      let second : e.bridge.middle.darts + 1 ≡ n + 11 = omega (arith, count_middle) in
       record {
         first = n + 10;
         rest = [];
         path = record {
-          first_in = omega (arith, e.join.chord.darts, count_middle);
+          first_in = omega (arith, e.bridge.chord.darts, count_middle);
           rest_in = tt;
-          start = ap e.joined.before (sym first) ∙ e.join.chord.before_there;
+          start = ap e.bridged.before (sym first) ∙ e.bridge.chord.before_there;
           follows = tt;
           ends = refl;
         };
-        back = ap e.joined.reverse_dart (sym first) ∙ e.join.chord.reverse_dart_there ∙ second;
+        back = ap e.bridged.reverse_dart (sym first) ∙ e.bridge.chord.reverse_dart_there ∙ second;
         turns = refl;
       }
 
-  join_chain_back : HasPath e.joined (n + 11) (n + 10) []
-  join_chain_back =
-      let first : e.join.middle.darts ≡ n + 10 = count_middle in
-      let second : e.join.middle.darts + 1 ≡ n + 11 = omega (arith, count_middle) in
+  bridge_chain_back : HasPath e.bridged (n + 11) (n + 10) []
+  bridge_chain_back =
+      let first : e.bridge.middle.darts ≡ n + 10 = count_middle in
+      let second : e.bridge.middle.darts + 1 ≡ n + 11 = omega (arith, count_middle) in
       record {
         first = n + 11;
         rest = [];
         path = record {
-          first_in = omega (arith, e.join.chord.darts, count_middle);
+          first_in = omega (arith, e.bridge.chord.darts, count_middle);
           rest_in = tt;
-          start = ap e.joined.before (sym second) ∙ e.join.chord.before_back;
+          start = ap e.bridged.before (sym second) ∙ e.bridge.chord.before_back;
           follows = tt;
           ends = refl;
         };
-        back = ap e.joined.reverse_dart (sym second) ∙ e.join.chord.reverse_dart_back ∙ first;
+        back = ap e.bridged.reverse_dart (sym second) ∙ e.bridge.chord.reverse_dart_back ∙ first;
         turns = refl;
       }
 
-  -- the side that was cut goes through the end of the join
+  -- the side that was cut goes through the end of the bridge
   side_chain : HasChain new side_dart (n + 4 + e.side) e.surrounded.darts []
   side_chain =
-      joined_chain side_dart (n + 4 + e.side) e.surrounded.darts
-      (beside_chain e.join.middle e.joined side_dart (n + 4 + e.side) e.surrounded.darts []
-      (chord_beside e.join.middle e.right e.surrounded.darts e.direction e.joined
-      (split_tied e.surrounded side_dart (e.surrounded.direction side_dart) 2 e.join.middle tied_surrounded e.join.e_in e.join.split) e.join.chord)
+      bridged_chain side_dart (n + 4 + e.side) e.surrounded.darts
+      (beside_chain e.bridge.middle e.bridged side_dart (n + 4 + e.side) e.surrounded.darts []
+      (chord_beside e.bridge.middle e.right e.surrounded.darts e.direction e.bridged
+      (split_tied e.surrounded side_dart (e.surrounded.direction side_dart) 2 e.bridge.middle tied_surrounded e.bridge.e_in e.bridge.split) e.bridge.chord)
       (record {
-        path = path_doubled e.surrounded e.join.middle side_dart (n + 4 + e.side) side_dart e.surrounded.darts 0 [] []
+        path = path_doubled e.surrounded e.bridge.middle side_dart (n + 4 + e.side) side_dart e.surrounded.darts 0 [] []
             (record {
-              first_in = e.join.e_in;
+              first_in = e.bridge.e_in;
               rest_in = tt;
               start = e.surround.before_inner e.side e.side_in;
               follows = tt;
               ends = refl;
             })
             (e.surround.reverse_dart_inner e.side e.side_in)
-            (split_doubled e.surrounded side_dart (e.surrounded.direction side_dart) 2 0 e.join.middle tied_surrounded e.join.e_in
-            (four_surrounded side_dart e.join.e_in) (omega arith) refl e.join.split)
-            (longer_end e.surrounded e.join.middle side_dart);
+            (split_doubled e.surrounded side_dart (e.surrounded.direction side_dart) 2 0 e.bridge.middle tied_surrounded e.bridge.e_in
+            (four_surrounded side_dart e.bridge.e_in) (omega arith) refl e.bridge.split)
+            (longer_end e.surrounded e.bridge.middle side_dart);
         holds = inl refl;
       }))
 
-  -- the map is joined with the rectangle at the head of the right turn
-  pub join : IsConnectedAt w e.right new
-  unfolding join_chain join_chain_back
-  join =
-      let first : e.join.middle.darts ≡ n + 10 = count_middle in
-      let second : e.join.middle.darts + 1 ≡ n + 11 = omega (arith, count_middle) in
-      let there_in : n + 10 < e.joined.darts = omega (arith, e.join.chord.darts, count_middle) in
-      let back_in : n + 11 < e.joined.darts = omega (arith, e.join.chord.darts, count_middle) in
-      let place_in : n + 8 < e.joined.darts = omega (arith, e.join.chord.darts, count_middle) in
+  -- the map is connected with the rectangle at the head of the right turn
+  pub bridge : IsConnectedAt w e.right new
+  unfolding bridge_chain bridge_chain_back
+  bridge =
+      let first : e.bridge.middle.darts ≡ n + 10 = count_middle in
+      let second : e.bridge.middle.darts + 1 ≡ n + 11 = omega (arith, count_middle) in
+      let there_in : n + 10 < e.bridged.darts = omega (arith, e.bridge.chord.darts, count_middle) in
+      let back_in : n + 11 < e.bridged.darts = omega (arith, e.bridge.chord.darts, count_middle) in
+      let place_in : n + 8 < e.bridged.darts = omega (arith, e.bridge.chord.darts, count_middle) in
       let right_surrounded : e.right < e.surrounded.darts = omega (arith, e.right_in, e.surround.darts) in
       let way : new.direction (n + 10) ≡ e.direction =
-      keeps_joined.direction (n + 10) there_in ∙ ap e.joined.direction (sym first) ∙ e.join.chord.direction_there in
+      keeps_bridged.direction (n + 10) there_in ∙ ap e.bridged.direction (sym first) ∙ e.bridge.chord.direction_there in
       let right_way : new.direction e.right ≡ w.direction e.right =
       keeps_surrounded.direction e.right right_surrounded ∙ e.surround.direction_old e.right e.right_in in
-      let middle_way : e.join.middle.direction e.right ≡ w.direction e.right =
-      e.join.split.direction_old e.right right_surrounded ∙ e.surround.direction_old e.right e.right_in in
-      let middle_angle : e.join.middle.angle e.right ≡ w.angle e.right =
-      e.join.split.angle_old e.right right_surrounded ∙ e.surround.angle_old e.right e.right_in in
-      let right_head : new.head e.right ≡ e.join.middle.head e.right =
-      keeps_surrounded.head e.right right_surrounded ∙ sym (e.join.split.head_old e.right right_surrounded) in
+      let middle_way : e.bridge.middle.direction e.right ≡ w.direction e.right =
+      e.bridge.split.direction_old e.right right_surrounded ∙ e.surround.direction_old e.right e.right_in in
+      let middle_angle : e.bridge.middle.angle e.right ≡ w.angle e.right =
+      e.bridge.split.angle_old e.right right_surrounded ∙ e.surround.angle_old e.right e.right_in in
+      let right_head : new.head e.right ≡ e.bridge.middle.head e.right =
+      keeps_surrounded.head e.right right_surrounded ∙ sym (e.bridge.split.head_old e.right right_surrounded) in
       record {
         chain = record {
-          there = (joined_chain (n + 10) (n + 11) (n + 10) (record { path = join_chain; holds = inl refl })).path;
-          again = (joined_chain (n + 11) (n + 10) (n + 11) (record { path = join_chain_back; holds = inl refl })).path;
+          there = (bridged_chain (n + 10) (n + 11) (n + 10) (record { path = bridge_chain; holds = inl refl })).path;
+          again = (bridged_chain (n + 11) (n + 10) (n + 11) (record { path = bridge_chain_back; holds = inl refl })).path;
         };
-        from = keeps_joined.head (n + 11) back_in ∙ ap e.joined.head (sym second) ∙ e.join.chord.head_back ∙ sym right_head;
-        leaves = omega (arith, way, right_way, middle_way, middle_angle, e.join.fits.from_d);
+        from = keeps_bridged.head (n + 11) back_in ∙ ap e.bridged.head (sym second) ∙ e.bridge.chord.head_back ∙ sym right_head;
+        leaves = omega (arith, way, right_way, middle_way, middle_angle, e.bridge.fits.from_d);
         side = e.side;
         side_in = e.side_in;
         meets = omega (
           arith,
           way,
           e.side_in,
-          e.join.fits.to_f,
-          e.join.split.angle_first,
-          e.join.split.direction_first,
+          e.bridge.fits.to_f,
+          e.bridge.split.angle_first,
+          e.bridge.split.direction_first,
           e.surround.direction_inner e.side e.side_in,
         );
-        to = keeps_joined.head (n + 10) there_in ∙ ap e.joined.head (sym first) ∙ e.join.chord.head_there
-            ∙ ap e.join.middle.head count_surrounded
-            ∙ sym (e.join.chord.head_old (n + 8) (omega (arith, count_middle)))
-            ∙ sym (keeps_joined.head (n + 8) place_in);
+        to = keeps_bridged.head (n + 10) there_in ∙ ap e.bridged.head (sym first) ∙ e.bridge.chord.head_there
+            ∙ ap e.bridge.middle.head count_surrounded
+            ∙ sym (e.bridge.chord.head_old (n + 8) (omega (arith, count_middle)))
+            ∙ sym (keeps_bridged.head (n + 8) place_in);
         on_side = record {
           first = side_chain.path.first;
           rest = side_chain.path.rest;

@@ -1,4 +1,4 @@
--- The whole: the map in its rectangle, joined and cut.
+-- The whole: the map in its rectangle, connected and cut.
 use Rattle.std.proofs.Common.{◌≡◌, ◌≢◌, ℕ, ◌+◌, ◌-◌, ◌*◌, ◌%◌, ◌<◌, ◌≤◌, ◌∙◌, List, [], ◌∷◌, ◌++◌, Bool, true, false, cond, eqb, length, map, sum, take, drop, length-append, arith, subst, sym, ap, refl, inl, inr}
 use Rattle.std.specs.List.{list_any}
 use Rattle.std.proofs.lemmas.List.Sums.{sum_by-cons}
@@ -19,7 +19,7 @@ use Rattle.dissect.proofs.Orbits.{distinct_few}
 use Rattle.dissect.proofs.Turns.{listed_sum, turns_reach}
 use Rattle.dissect.proofs.Sounding.{by_side, surround_tied, surround_sound, surround_reflex_turns}
 use Rattle.dissect.proofs.ConnectedFaces.{surround_stretch, IsConnecting}
-use Rattle.dissect.proofs.Merging.{join_waits}
+use Rattle.dissect.proofs.Merging.{bridge_waits}
 
 take_own : (r s : List ℕ) → take (length r) (r ++ s) ≡ r
 take_own [] s = refl
@@ -131,9 +131,9 @@ surround_reaches w new s tied reaches = λ a l.
     a (omega (arith, s.darts, l))
 
 -- the side that the right turn faces can be cut
-pub facing_can : (w surrounded : DartMap) (right side : ℕ) → IsSound w → IsSurrounded w surrounded → right < w.darts → 2 < w.angle right → side < 4 →
+pub cut_side_can : (w surrounded : DartMap) (right side : ℕ) → IsSound w → IsSurrounded w surrounded → right < w.darts → 2 < w.angle right → side < 4 →
     (side + w.angle right) % 4 ≡ w.direction right → CanCut surrounded right (w.darts + (side + 3) % 4)
-facing_can w surrounded right side sound s right_in turn side_in faces =
+cut_side_can w surrounded right side sound s right_in turn side_in faces =
     let behind : surrounded.next (w.darts + (side + 3) % 4) ≡ w.darts + side = omega (arith, s.next_inner ((side + 3) % 4) (omega arith)) in
     record {
       d_in = omega (arith, s.darts, right_in);
@@ -150,74 +150,74 @@ facing_can w surrounded right side sound s right_in turn side_in faces =
     }
 
 -- what the rectangle and the cut make of the map
-pub joining_of : (w surrounded : DartMap) (right side way : ℕ) (new : DartMap) → IsSound w → IsSurrounded w surrounded → right < w.darts → side < 4 →
+pub bridging_of : (w surrounded : DartMap) (right side way : ℕ) (new : DartMap) → IsSound w → IsSurrounded w surrounded → right < w.darts → side < 4 →
     IsCut surrounded right (surrounded.next (w.darts + (side + 3) % 4)) way new → IsConnecting w surrounded right side way new
-joining_of w surrounded right side way new sound s right_in side_in cut =
+bridging_of w surrounded right side way new sound s right_in side_in cut =
     let behind : surrounded.next (w.darts + (side + 3) % 4) ≡ w.darts + side = omega (arith, s.next_inner ((side + 3) % 4) (omega arith)) in
     record {
       tied = sound.tied;
       surround = s;
       right_in = right_in;
       side_in = side_in;
-      join = subst (λ (e : ℕ). IsCut surrounded right e way new) behind cut;
+      bridge = subst (λ (e : ℕ). IsCut surrounded right e way new) behind cut;
     }
 
-pub join_sound : (w surrounded : DartMap) (right side way : ℕ) (new : DartMap) → IsSound w → IsConnecting w surrounded right side way new → IsSound new
-join_sound w surrounded right side way new sound j =
-    cut_sound surrounded right (w.darts + side) way new (surround_sound w surrounded j.surround sound) j.join
+pub bridge_sound : (w surrounded : DartMap) (right side way : ℕ) (new : DartMap) → IsSound w → IsConnecting w surrounded right side way new → IsSound new
+bridge_sound w surrounded right side way new sound j =
+    cut_sound surrounded right (w.darts + side) way new (surround_sound w surrounded j.surround sound) j.bridge
 
-pub join_room : (w surrounded : DartMap) (right side way room : ℕ) (new : DartMap) → IsConnecting w surrounded right side way new →
+pub bridge_room : (w surrounded : DartMap) (right side way room : ℕ) (new : DartMap) → IsConnecting w surrounded right side way new →
     w.darts + 4 * reflex_turns w + RECTANGLE_ROOM ≤ room → HasRoom new room
-join_room w surrounded right side way room new j space =
+bridge_room w surrounded right side way room new j space =
     omega (
       arith,
-      cut_reflex_turns surrounded right (w.darts + side) way new j.join,
+      cut_reflex_turns surrounded right (w.darts + side) way new j.bridge,
       surround_reflex_turns w surrounded j.surround,
-      j.join.chord.darts,
-      j.join.split.darts,
+      j.bridge.chord.darts,
+      j.bridge.split.darts,
       j.surround.darts,
       space,
     )
 
-pub join_ready : (w surrounded : DartMap) (right side way : ℕ) (new : DartMap) → IsSound w → IsConnecting w surrounded right side way new →
+pub bridge_ready : (w surrounded : DartMap) (right side way : ℕ) (new : DartMap) → IsSound w → IsConnecting w surrounded right side way new →
     (inner : List (List ℕ)) (outer corners counts : List ℕ) → (listed : AreListed w right inner outer) →
     AreConnectedFaces w right side listed.front inner corners counts → (k : ℕ) → k < 4 → AreReady new (w.darts + 4 + k) corners counts
-join_ready w surrounded right side way new sound j inner outer corners counts listed made k k_in =
+bridge_ready w surrounded right side way new sound j inner outer corners counts listed made k k_in =
     flat_ready new (w.darts + 4 + k) corners counts (inner ++ ((made.kept ++ detour w.darts side) ∷ [])) made.flat
-    (join_waits w surrounded right side way new j k k_in inner outer made.kept listed (sound.meeting.most right j.right_in) made.is_kept)
+    (bridge_waits w surrounded right side way new j k k_in inner outer made.kept listed (sound.meeting.most right j.right_in) made.is_kept)
 
 pub enclosed_by : (w : DartMap) (outside : ℕ) (surrounded : DartMap) (right side way : ℕ) (new last : DartMap) →
-    ((label : ℕ → ℕ) → AreFaceNumbers w label → label right ≡ label outside) → IsConnecting w surrounded right side way new → Grows new last →
+    ((face_number : ℕ → ℕ) → AreFaceNumbers w face_number → face_number right ≡ face_number outside) → IsConnecting w surrounded right side way new → Grows new last →
     IsEnclosed w outside last
 enclosed_by w outside surrounded right side way new last same_face j grows = record {
   surrounded = surrounded;
   surround = j.surround;
-  joined = new;
+  bridged = new;
   right = right;
   side = side;
   direction = way;
   right_in = j.right_in;
   same_face = same_face;
   side_in = j.side_in;
-  join = j.join;
+  bridge = j.bridge;
   grows = grows;
 }
 
-pub enclosed_reaches : (w surrounded : DartMap) (right side way : ℕ) (new last : DartMap) (label : ℕ → ℕ) (outer : ℕ) → IsSound w → HasTurns w label outer →
+pub enclosed_reaches : (w surrounded : DartMap) (right side way : ℕ) (new last : DartMap) (face_number : ℕ → ℕ) (outer : ℕ) → IsSound w → HasTurns w face_number outer →
     IsConnecting w surrounded right side way new → Grows new last → ReachesCorners last
-enclosed_reaches w surrounded right side way new last label outer sound turns j grows =
-    grows_reaches new last (join_sound w surrounded right side way new sound j) grows
-    (cut_reaches surrounded right (w.darts + side) way new (surround_tied w surrounded j.surround sound.tied) j.join
-    (surround_reaches w surrounded j.surround sound.tied (turns_reach w label outer sound.tied turns)))
+enclosed_reaches w surrounded right side way new last face_number outer sound turns j grows =
+    grows_reaches new last (bridge_sound w surrounded right side way new sound j) grows
+    (cut_reaches surrounded right (w.darts + side) way new (surround_tied w surrounded j.surround sound.tied) j.bridge
+    (surround_reaches w surrounded j.surround sound.tied (turns_reach w face_number outer sound.tied turns)))
 
 pub enclosed_few : (w surrounded : DartMap) (right side way : ℕ) (new last : DartMap) → IsSound w → IsConnecting w surrounded right side way new → Grows new last →
     AreWaiting last (w.darts + 4) [] → last.vertices ≤ w.vertices + reflex_turns w + 4
 enclosed_few w surrounded right side way new last sound j grows done =
-    let last_sound = grows_sound new last (join_sound w surrounded right side way new sound j) grows in
+    let last_sound = grows_sound new last (bridge_sound w surrounded right side way new sound j) grows in
     omega (
       arith,
       grows_vertices new last grows,
-      cut_vertices surrounded right (w.darts + side) way new j.join,
+      cut_vertices surrounded right (w.darts + side) way new j.bridge,
       surround_reflex_turns w surrounded j.surround,
       j.surround.vertices,
       four_reflex_turns last (w.darts + 4) last_sound done.inside done.outside,

@@ -1,4 +1,4 @@
--- A chain of darts by itself, as a side of the rectangle or its join: splits, chords, cuts and a rectangle keep it, its
+-- A chain of darts by itself, as a side of the rectangle or its bridge: splits, chords, cuts and a rectangle keep it, its
 -- turns and the darts on it.
 use Rattle.std.proofs.Common.{ℕ, ◌+◌, ◌<◌, List, ◌∷◌, arith, subst, sym, refl, inl, inr}
 use Rattle.std.proofs.lemmas.Bool.{cases_eq}

@@ -4,11 +4,11 @@ use Rattle.std.proofs.lemmas.Bool.{cases_lt}
 use Rattle.std.proofs.lemmas.List.{drop-set-lt}
 use Rattle.std.proofs.lemmas.List.Elements.{All-set}
 use Rattle.std.proofs.Math.ListN.{length-set}
-use Rattle.dissect.specs.Turning.{Reduced, AreTurns}
+use Rattle.dissect.specs.Turning.{HasNoHook, AreTurns}
 use Rattle.dissect.specs.DartMaps.{DartMap, IsCut}
 use Rattle.dissect.specs.Faces.{IsCorner, In, concatenated, AreWaiting}
 use Rattle.dissect.specs.Scan.{down, tops, IsScan, CanCut, HasRoom, IsHookOn}
-use Rattle.dissect.proofs.LeftTurns.{reduced_left, reduced_right, left_or_right}
+use Rattle.dissect.proofs.LeftTurns.{hookless_left, hookless_right, left_or_right}
 use Rattle.dissect.proofs.Listing.{in_below, below_left}
 use Rattle.dissect.proofs.Scanning.{scan_can, scan_bites, scan_kept, scan_cut_straight, scan_cut_turning, cut_room, in_down}
 use Rattle.dissect.proofs.Finishing.{turns_of, ring_corners}
@@ -19,7 +19,7 @@ pub record IsTop (w0 : DartMap) (room : ℕ) (face : List ℕ) (w : DartMap) (xs
   pub low : h ≤ read
   pub some : 1 ≤ h
   pub inside : read ≤ length xs
-  pub tail : Reduced 0 (map w.angle (tops xs (h - 1)))
+  pub tail : HasNoHook 0 (map w.angle (tops xs (h - 1)))
   pub space : HasRoom w room
 
 pub tops_more : (xs : List ℕ) (h : ℕ) → tops xs (h + 1) ≡ get_or xs h 0 ∷ tops xs h
@@ -73,15 +73,15 @@ stack_turns w0 face w st rest o rs scan wait a here =
       ring_corners w a (down st rest) waiting.rings.0.0 there,
     )
 
--- where no hook stands uppermost, the stack is reduced
+-- where no hook stands uppermost, the stack is hookless
 pub unhooked : (w : DartMap) (st : List ℕ) → AreTurns (map w.angle st) → (IsHookOn w st → ⊥) → 1 ≤ length st →
-    ((c : ℕ) (rest : List ℕ) → st ≡ c ∷ rest → Reduced 0 (map w.angle rest)) → Reduced 0 (map w.angle st)
+    ((c : ℕ) (rest : List ℕ) → st ≡ c ∷ rest → HasNoHook 0 (map w.angle rest)) → HasNoHook 0 (map w.angle st)
 unhooked w [] turns clear some tail = tt
 unhooked w (c ∷ st) turns clear some tail =
-    let reduced : Reduced 0 (map w.angle st) = tail c st refl in
+    let hookless : HasNoHook 0 (map w.angle st) = tail c st refl in
     elim (left_or_right (w.angle c) turns.0 turns.1 turns.2) [
-      | inl left ↦ reduced_left (w.angle c) (map w.angle st) left turns.3 reduced (no_hook w c st left clear)
-      | inr right ↦ reduced_right (w.angle c) (map w.angle st) right reduced
+      | inl left ↦ hookless_left (w.angle c) (map w.angle st) left turns.3 hookless (no_hook w c st left clear)
+      | inr right ↦ hookless_right (w.angle c) (map w.angle st) right hookless
     ]
   where
     no_hook : (w : DartMap) (c : ℕ) (st : List ℕ) → w.angle c ≡ 1 → (IsHookOn w (c ∷ st) → ⊥) →
@@ -111,7 +111,7 @@ top_straight w0 room face w xs k read way o rs new top wait hook cut straight =
     let same_rest : drop read (set xs k (w.darts + 2)) ≡ drop read xs = drop-set-lt read xs k (w.darts + 2) (omega (arith, top.low)) in
     let same_tops : tops (set xs k (w.darts + 2)) (k + 1) ≡ (w.darts + 2) ∷ tops xs k =
     tops_put xs k (w.darts + 2) (omega (arith, top.low, top.inside)) in
-    let reduced : Reduced 0 (w.angle c1 ∷ w.angle d ∷ map w.angle (tops xs k)) = below_top w xs k top.tail in
+    let hookless : HasNoHook 0 (w.angle c1 ∷ w.angle d ∷ map w.angle (tops xs k)) = below_top w xs k top.tail in
     let one_back : k + 1 - 1 ≡ k = omega arith in
     record {
       scan = subst (λ (st : List ℕ). IsScan w0 face new st (drop read (set xs k (w.darts + 2)))) (sym same_tops)
@@ -119,19 +119,19 @@ top_straight w0 room face w xs k read way o rs new top wait hook cut straight =
       low = omega (arith, top.low);
       some = omega arith;
       inside = omega (arith, top.inside, length-set xs k (w.darts + 2));
-      tail = subst (λ (j : ℕ). Reduced 0 (map new.angle (tops (set xs k (w.darts + 2)) j))) (sym one_back)
-          (subst (λ (zs : List ℕ). Reduced 0 (map new.angle zs)) (sym (tops_set xs k (w.darts + 2) k (omega arith)))
-          (subst (Reduced 0) (sym kept.stack) ((reduced.1 hook.left_first).0 hook.right).1));
+      tail = subst (λ (j : ℕ). HasNoHook 0 (map new.angle (tops (set xs k (w.darts + 2)) j))) (sym one_back)
+          (subst (λ (zs : List ℕ). HasNoHook 0 (map new.angle zs)) (sym (tops_set xs k (w.darts + 2) k (omega arith)))
+          (subst (HasNoHook 0) (sym kept.stack) ((hookless.1 hook.left_first).0 hook.right).1));
       space = cut_room w d (w.next c) way room new cut top.space;
     }
   where
-    below_top : (w : DartMap) (xs : List ℕ) (k : ℕ) → Reduced 0 (map w.angle (tops xs (k + 3 - 1))) →
-        Reduced 0 (w.angle (get_or xs (k + 1) 0) ∷ w.angle (get_or xs k 0) ∷ map w.angle (tops xs k))
-    below_top w xs k reduced =
+    below_top : (w : DartMap) (xs : List ℕ) (k : ℕ) → HasNoHook 0 (map w.angle (tops xs (k + 3 - 1))) →
+        HasNoHook 0 (w.angle (get_or xs (k + 1) 0) ∷ w.angle (get_or xs k 0) ∷ map w.angle (tops xs k))
+    below_top w xs k hookless =
         let e2 : k + 3 - 1 ≡ (k + 1) + 1 = omega arith in
         let e : tops xs (k + 3 - 1) ≡ get_or xs (k + 1) 0 ∷ get_or xs k 0 ∷ tops xs k =
         ap (tops xs) e2 ∙ tops_more xs (k + 1) ∙ ap (λ (zs : List ℕ). get_or xs (k + 1) 0 ∷ zs) (tops_more xs k) in
-        subst (λ (zs : List ℕ). Reduced 0 (map w.angle zs)) e reduced
+        subst (λ (zs : List ℕ). HasNoHook 0 (map w.angle zs)) e hookless
 
 -- a cut at the hook that leaves its right turn one
 pub top_turning : (w0 : DartMap) (room : ℕ) (face : List ℕ) (w : DartMap) (xs : List ℕ) (k read way : ℕ) (o : ℕ) (rs : List (List ℕ)) (new : DartMap) →
@@ -159,29 +159,29 @@ top_turning w0 room face w xs k read way o rs new top wait hook cut corner =
     let same_tail : tops ys (k + 2 - 1) ≡ d ∷ tops xs k =
     ap (tops ys) one_back ∙ tops_set xs (k + 1) x (k + 1) (omega arith) ∙ tops_more xs k in
     let rights : 2 < new.angle d = beyond (new.angle d) (w.angle d) cut.chord.angle_d (cut.split.angle_old d cut.d_in) cut.right corner in
-    let reduced = below_top w xs k top.tail in
+    let hookless = below_top w xs k top.tail in
     record {
       scan = subst (λ (st : List ℕ). IsScan w0 face new st (drop read ys)) (sym same_tops)
           (subst (λ (rest : List ℕ). IsScan w0 face new (x ∷ d ∷ tops xs k) rest) (sym same_rest) after);
       low = omega (arith, top.low);
       some = omega arith;
       inside = omega (arith, top.inside, length-set xs (k + 1) x);
-      tail = subst (λ (zs : List ℕ). Reduced 0 (map new.angle zs)) (sym same_tail)
-          (reduced_right (new.angle d) (map new.angle (tops xs k)) rights
-          (subst (Reduced 0) (sym kept.stack) ((reduced.1 hook.left_first).0 hook.right).1));
+      tail = subst (λ (zs : List ℕ). HasNoHook 0 (map new.angle zs)) (sym same_tail)
+          (hookless_right (new.angle d) (map new.angle (tops xs k)) rights
+          (subst (HasNoHook 0) (sym kept.stack) ((hookless.1 hook.left_first).0 hook.right).1));
       space = cut_room w d (w.next c) way room new cut top.space;
     }
   where
     beyond : (a b : ℕ) {m : ℕ} → a + 1 ≡ m → m ≡ b → 2 < b → a ≢ 2 → 2 < a
     beyond a b less same right other = elim (cases_lt 2 a) [ inl more ↦ more | inr low ↦ absurd (other (omega (arith, less, same, right, low))) ]
 
-    below_top : (w : DartMap) (xs : List ℕ) (k : ℕ) → Reduced 0 (map w.angle (tops xs (k + 3 - 1))) →
-        Reduced 0 (w.angle (get_or xs (k + 1) 0) ∷ w.angle (get_or xs k 0) ∷ map w.angle (tops xs k))
-    below_top w xs k reduced =
+    below_top : (w : DartMap) (xs : List ℕ) (k : ℕ) → HasNoHook 0 (map w.angle (tops xs (k + 3 - 1))) →
+        HasNoHook 0 (w.angle (get_or xs (k + 1) 0) ∷ w.angle (get_or xs k 0) ∷ map w.angle (tops xs k))
+    below_top w xs k hookless =
         let e2 : k + 3 - 1 ≡ (k + 1) + 1 = omega arith in
         let e : tops xs (k + 3 - 1) ≡ get_or xs (k + 1) 0 ∷ get_or xs k 0 ∷ tops xs k =
         ap (tops xs) e2 ∙ tops_more xs (k + 1) ∙ ap (λ (zs : List ℕ). get_or xs (k + 1) 0 ∷ zs) (tops_more xs k) in
-        subst (λ (zs : List ℕ). Reduced 0 (map w.angle zs)) e reduced
+        subst (λ (zs : List ℕ). HasNoHook 0 (map w.angle zs)) e hookless
 
 -- what the hook lets a cut rest on
 pub top_can : (w0 : DartMap) (room : ℕ) (face : List ℕ) (w : DartMap) (xs : List ℕ) (k read : ℕ) (o : ℕ) (rs : List (List ℕ)) →
@@ -290,19 +290,19 @@ pub turns_at : (w0 : DartMap) (room : ℕ) (face : List ℕ) (w : DartMap) (xs :
 turns_at w0 room face w xs h read o rs top wait =
     turns_of w (tops xs h) top.scan.sound (stack_turns w0 face w (tops xs h) (drop read xs) o rs top.scan wait)
 
--- with no hook uppermost, the whole stack is reduced
+-- with no hook uppermost, the whole stack is hookless
 pub unhooked_at : (w0 : DartMap) (room : ℕ) (face : List ℕ) (w : DartMap) (xs : List ℕ) (h read : ℕ) (o : ℕ) (rs : List (List ℕ)) →
-    IsTop w0 room face w xs h read → AreWaiting w0 o (face ∷ rs) → (IsHookOn w (tops xs h) → ⊥) → Reduced 0 (map w.angle (tops xs h))
+    IsTop w0 room face w xs h read → AreWaiting w0 o (face ∷ rs) → (IsHookOn w (tops xs h) → ⊥) → HasNoHook 0 (map w.angle (tops xs h))
 unhooked_at w0 room face w xs h read o rs top wait clear =
     let k : ℕ = h - 1 in
     let some : 1 ≤ h = top.some in
     let e : h ≡ k + 1 = omega arith in
     let same : tops xs h ≡ get_or xs k 0 ∷ tops xs k = ap (tops xs) e ∙ tops_more xs k in
     let turns : AreTurns (map w.angle (tops xs h)) = turns_at w0 room face w xs h read o rs top wait in
-    subst (λ (st : List ℕ). Reduced 0 (map w.angle st)) (sym same)
+    subst (λ (st : List ℕ). HasNoHook 0 (map w.angle st)) (sym same)
     (unhooked w (get_or xs k 0 ∷ tops xs k) (subst (λ (st : List ℕ). AreTurns (map w.angle st)) same turns)
     (λ hook. clear (subst (IsHookOn w) (sym same) hook)) (omega arith)
-    (λ c rest e. let tail : tops xs k ≡ rest = cc in subst (λ (zs : List ℕ). Reduced 0 (map w.angle zs)) tail top.tail))
+    (λ c rest e. let tail : tops xs k ≡ rest = cc in subst (λ (zs : List ℕ). HasNoHook 0 (map w.angle zs)) tail top.tail))
 
 pub inside_put : (xs : List ℕ) (i x n m : ℕ) → All (λ a. a < n) xs → m ≡ n → x < n → All (λ a. a < m) (set xs i x)
 inside_put xs i x n m all same less =

@@ -9,7 +9,7 @@ use Rattle.faces.specs.Planes.{PlaneModel, IsPlane, HasEnds, darts, vertices, he
 use Rattle.ortho_rep.specs.declared.turn.Turn.{Turn}
 use Rattle.ortho_rep.specs.Turns.{lefts, rights}
 use Rattle.ortho_rep.specs.Representation.{Rep}
-use Rattle.ortho_rep.proofs.WeakDuality.{gains, losses, turning-split}
+use Rattle.ortho_rep.proofs.WeakDuality.{left_sums, right_sums, turning-split}
 use Rattle.dissect.specs.Headings.{AreHeadings}
 use Rattle.dissect.specs.DartMaps.{DartMap, IsTied, IsMeeting, around, reflex_turns}
 use Rattle.dissect.specs.FaceNumbers.{AreFaceNumbers}
@@ -87,8 +87,8 @@ module _ (p : PlaneModel) (a : ℕ → ℕ) (s : ℕ → List Turn) (h : ℕ →
     whole = whole;
   }
 
-  labels : AreFaceNumbers w (face_at p)
-  labels = record {
+  face_numbers : AreFaceNumbers w (face_at p)
+  face_numbers = record {
     stays = λ x l. ap (face_at p) (bare.nexts x (in_plane x l)) ∙ plane.faces.closed x (in_plane x l);
     least = λ set closed x y x_in y_in same held. plane.faces.least set
         (λ d l here. subst (λ (k : ℕ). set k ≡ true) (bare.nexts d l) (closed d (omega (arith, l, bare.dart_count)) here))
@@ -98,14 +98,14 @@ module _ (p : PlaneModel) (a : ℕ → ℕ) (s : ℕ → List Turn) (h : ℕ →
   -- the turns round each face are those of the shape
   turns : (f : ℕ) → f < p.faces → Turns p w (face_at p) s f
   turns f l =
-      let gain : gained w (face_at p) s f ≡ gains p a s f =
+      let left_sum : gained w (face_at p) s f ≡ left_sums p a s f =
       ap (λ (k : ℕ). sum_below k (part (face_at p) (λ x. 2 + lefts (s x)) f)) bare.dart_count in
-      let loss : lost w (face_at p) s f ≡ losses p a s f =
+      let right_sum : lost w (face_at p) s f ≡ right_sums p a s f =
       ap (λ (k : ℕ). sum_below k (part (face_at p) (λ x. w.angle x + rights (s x)) f)) bare.dart_count
       ∙ sum_below-same (darts p) (part (face_at p) (λ x. w.angle x + rights (s x)) f) (part (face_at p) (λ x. a x + rights (s x)) f)
       (λ x b. part_same (face_at p) (face_at p) (λ x. a x + rights (s x)) (λ x. w.angle x + rights (s x)) f x refl
       (ap (λ (k : ℕ). k + rights (s x)) (bare.angles x b))) in
-      balance (eqb f p.outer) (gained w (face_at p) s f) (lost w (face_at p) s f) (gains p a s f) (losses p a s f) gain loss
+      balance (eqb f p.outer) (gained w (face_at p) s f) (lost w (face_at p) s f) (left_sums p a s f) (right_sums p a s f) left_sum right_sum
       (sym (turning-split p a s f) ∙ rep.faces f l)
     where
       balance : (outer : Bool) (g l g' l' : ℕ) → g ≡ g' → l ≡ l' → pos g' -ℤ pos l' ≡ cond outer (negsuc 3) (pos 4) →
@@ -141,7 +141,7 @@ module _ (p : PlaneModel) (a : ℕ → ℕ) (s : ℕ → List Turn) (h : ℕ →
             ap w.direction (bare.reverse_darts x b) ∙ bare.directions (reverse_dart p x) (ends.reverse_dart_inside x b) in
             ap (λ (k : ℕ). (k + 2 + lefts (s x)) % 4) there ∙ headings.strings x b
             ∙ sym (ap (λ (k : ℕ). (k + rights (s x)) % 4) (bare.directions x b));
-        labels = labels;
+        face_numbers = face_numbers;
         named = λ x l. ends.face_named x (in_plane x l);
         turns = turns;
         dart_count = omega (arith, total, bare.dart_count);

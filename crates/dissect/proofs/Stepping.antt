@@ -8,37 +8,37 @@ use Rattle.dissect.specs.DartMaps.{DartMap, IsSubdivided}
 use Rattle.dissect.proofs.Splitting.{by_age, split_tied, split_meeting}
 use Rattle.dissect.specs.Steps.{IsBent, straight, turned, AreBent, finished, passed, bent, angle_of, start_direction}
 use Rattle.dissect.proofs.Mirroring.{turn_counts}
-use Rattle.dissect.proofs.OwedTurns.{IsOwing, IsOwedNext, IsLabelledNext, owed_next, labelled_next, split_labels}
+use Rattle.dissect.proofs.OwedTurns.{IsOwing, IsOwedNext, IsNumberedNext, owed_next, numbered_next, split_face_numbers}
 use Rattle.dissect.proofs.Turning.{owing_less, reflex_turns_more, turned_alike, mirrors_on, ways_on}
 
 -- one bend
 pub owing_on : (p : PlaneModel) (a h : ℕ → ℕ) (total : ℕ) (w : DartMap) (e : ℕ) (turn : Turn) (turns : List Turn) (new : DartMap)
-    (label label' : ℕ → ℕ) (owed owed' : ℕ → List Turn) → IsOwing p a h total w label owed → e < w.darts →
-    owed e ≡ turn ∷ turns → IsSubdivided w e (start_direction w e) (angle_of turn) new → IsLabelledNext w e label label' →
-    IsOwedNext w e turns owed owed' → IsOwing p a h total new label' owed'
-owing_on p a h total w e turn turns new label label' owed owed' owing e_in owes s named next =
+    (face_number face_number' : ℕ → ℕ) (owed owed' : ℕ → List Turn) → IsOwing p a h total w face_number owed → e < w.darts →
+    owed e ≡ turn ∷ turns → IsSubdivided w e (start_direction w e) (angle_of turn) new → IsNumberedNext w e face_number face_number' →
+    IsOwedNext w e turns owed owed' → IsOwing p a h total new face_number' owed'
+owing_on p a h total w e turn turns new face_number face_number' owed owed' owing e_in owes s named next =
     let tied = owing.tied in
     let way : ℕ = start_direction w e in
     let t_in : w.reverse_dart e < w.darts = tied.reverse_dart_in e e_in in
     let counts = turn_counts turn turns in
-    let less = owing_less w e way turn turns new label label' owed owed' tied e_in s owes (owing.mirrors e e_in) named next in
+    let less = owing_less w e way turn turns new face_number face_number' owed owed' tied e_in s owes (owing.mirrors e e_in) named next in
     let inside : (x : ℕ) → x < darts p → x < w.darts = λ x l. omega (arith, l, owing.old) in
     record {
       old = omega (arith, owing.old, s.darts);
       tied = split_tied w e way (angle_of turn) new tied e_in s;
       meeting = split_meeting w e way (angle_of turn) new tied owing.meeting e_in (omega arith) counts.2 (omega (arith, counts.3)) s;
-      mirrors = mirrors_on w e way turn turns new label label' owed owed' tied e_in s owes (owing.mirrors e e_in) named next owing.mirrors;
-      ways = ways_on w e way turn turns new label label' owed owed' tied e_in s owes (owing.mirrors e e_in) named next refl
+      mirrors = mirrors_on w e way turn turns new face_number face_number' owed owed' tied e_in s owes (owing.mirrors e e_in) named next owing.mirrors;
+      ways = ways_on w e way turn turns new face_number face_number' owed owed' tied e_in s owes (owing.mirrors e e_in) named next refl
           owing.meeting.quarter owing.ways;
-      labels = split_labels w e way (angle_of turn) new label label' tied e_in s named owing.labels;
-      named = λ x l. by_age w.darts (λ x. label' x < p.faces)
+      face_numbers = split_face_numbers w e way (angle_of turn) new face_number face_number' tied e_in s named owing.face_numbers;
+      named = λ x l. by_age w.darts (λ x. face_number' x < p.faces)
           (λ x l. omega (arith, named.old x l, owing.named x l))
           (omega (arith, named.at_first, owing.named e e_in)) (omega (arith, named.at_second, owing.named (w.reverse_dart e) t_in))
           x (omega (arith, s.darts));
       turns = λ f l. omega (
         arith,
         owing.turns f l,
-        turned_alike w e way turn turns new label label' owed owed' tied e_in s owes (owing.mirrors e e_in) named next f,
+        turned_alike w e way turn turns new face_number face_number' owed owed' tied e_in s owes (owing.mirrors e e_in) named next f,
       );
       dart_count = omega (arith, owing.dart_count, less, s.darts);
       vertex_count = omega (arith, owing.vertex_count, less, s.vertices);
@@ -46,7 +46,7 @@ owing_on p a h total w e turn turns new label label' owed owed' owing e_in owes 
         arith,
         owing.right_turns,
         less,
-        reflex_turns_more w e way turn turns new label label' owed owed' tied e_in s owes (owing.mirrors e e_in) named next,
+        reflex_turns_more w e way turn turns new face_number face_number' owed owed' tied e_in s owes (owing.mirrors e e_in) named next,
       );
       heads = λ x l. omega (arith, owing.heads x l, s.head_old x (inside x l));
       angles = λ x l. s.angle_old x (inside x l) ∙ owing.angles x l;
@@ -63,10 +63,10 @@ pub record IsPaid (w : DartMap) (e : ℕ) (owed : ℕ → List Turn) (new : Dart
 
 -- one edge
 pub edge_on : (p : PlaneModel) (a h : ℕ → ℕ) (total e : ℕ) (w : DartMap) (turns : List Turn) (new : DartMap) → IsBent e w turns new →
-    (label : ℕ → ℕ) (owed : ℕ → List Turn) → IsOwing p a h total w label owed → e < w.darts → owed e ≡ turns →
-    (label' : ℕ → ℕ) × (owed' : ℕ → List Turn) × IsOwing p a h total new label' owed' × IsPaid w e owed new owed'
-edge_on p a h total e w [] new (straight _) label owed owing e_in owes = (
-  label,
+    (face_number : ℕ → ℕ) (owed : ℕ → List Turn) → IsOwing p a h total w face_number owed → e < w.darts → owed e ≡ turns →
+    (face_number' : ℕ → ℕ) × (owed' : ℕ → List Turn) × IsOwing p a h total new face_number' owed' × IsPaid w e owed new owed'
+edge_on p a h total e w [] new (straight _) face_number owed owing e_in owes = (
+  face_number,
   owed,
   owing,
   record {
@@ -83,17 +83,17 @@ edge_on p a h total e w [] new (straight _) label owed owing e_in owes = (
     ];
   },
 )
-edge_on p a h total e w (turn ∷ turns) new (turned _ mid _ _ _ s rest) label owed owing e_in owes =
+edge_on p a h total e w (turn ∷ turns) new (turned _ mid _ _ _ s rest) face_number owed owing e_in owes =
     let tied = owing.tied in
     let n : ℕ = w.darts in
     let t : ℕ = w.reverse_dart e in
     let t_in : t < n = tied.reverse_dart_in e e_in in
     let (owed1, next) = owed_next w e turns owed tied e_in in
-    let (label1, named) = labelled_next w e label in
-    let step = owing_on p a h total w e turn turns mid label label1 owed owed1 owing e_in owes s named next in
-    let (label2, owed2, ends, paid) = edge_on p a h total e mid turns new rest label1 owed1 step (omega (arith, s.darts, e_in)) next.at_e in
+    let (face_number1, named) = numbered_next w e face_number in
+    let step = owing_on p a h total w e turn turns mid face_number face_number1 owed owed1 owing e_in owes s named next in
+    let (face_number2, owed2, ends, paid) = edge_on p a h total e mid turns new rest face_number1 owed1 step (omega (arith, s.darts, e_in)) next.at_e in
     let not_reverse_dart : (x : ℕ) → x < n + 1 → x ≢ mid.reverse_dart e = λ x l h. omega (arith, h ∙ s.reverse_dart_e, l) in (
-      label2,
+      face_number2,
       owed2,
       ends,
       record {
@@ -186,18 +186,18 @@ bent_on p s k w mid owed owed' ends few k_in lesser behind paid =
 
 -- all edges: in the end no dart owes a turn
 pub edges_on : (p : PlaneModel) (a h : ℕ → ℕ) (total : ℕ) (s : ℕ → List Turn) (k : ℕ) (w new : DartMap) → HasEnds p → AreBent p s k w new →
-    (label : ℕ → ℕ) (owed : ℕ → List Turn) → IsOwing p a h total w label owed → IsBehind p s k w owed →
-    (label' : ℕ → ℕ) × (owed' : ℕ → List Turn) × IsOwing p a h total new label' owed' × ((x : ℕ) → x < new.darts → owed' x ≡ [])
-edges_on p a h total s k w new ends (finished _ _ all) label owed owing behind = (
-  label,
+    (face_number : ℕ → ℕ) (owed : ℕ → List Turn) → IsOwing p a h total w face_number owed → IsBehind p s k w owed →
+    (face_number' : ℕ → ℕ) × (owed' : ℕ → List Turn) × IsOwing p a h total new face_number' owed' × ((x : ℕ) → x < new.darts → owed' x ≡ [])
+edges_on p a h total s k w new ends (finished _ _ all) face_number owed owing behind = (
+  face_number,
   owed,
   owing,
   λ x l. elim (behind.done x l) [ inl none ↦ none | inr (inside, low, low_reverse_dart) ↦ absurd (omega (arith, inside, low, all)) ],
 )
-edges_on p a h total s k w new ends (passed _ _ _ greater rest) label owed owing behind =
-    edges_on p a h total s (k + 1) w new ends rest label owed owing (passed_on p s k w owed ends greater behind)
-edges_on p a h total s k w new ends (bent _ _ mid _ k_in lesser edge rest) label owed owing behind =
+edges_on p a h total s k w new ends (passed _ _ _ greater rest) face_number owed owing behind =
+    edges_on p a h total s (k + 1) w new ends rest face_number owed owing (passed_on p s k w owed ends greater behind)
+edges_on p a h total s k w new ends (bent _ _ mid _ k_in lesser edge rest) face_number owed owing behind =
     let owes : owed k ≡ s k = (behind.waits k k_in (omega arith) (omega (arith, lesser))).0 in
-    let (label1, owed1, owing1, paid) = edge_on p a h total k w (s k) mid edge label owed owing (omega (arith, k_in, owing.old)) owes in
-    edges_on p a h total s (k + 1) mid new ends rest label1 owed1 owing1
+    let (face_number1, owed1, owing1, paid) = edge_on p a h total k w (s k) mid edge face_number owed owing (omega (arith, k_in, owing.old)) owes in
+    edges_on p a h total s (k + 1) mid new ends rest face_number1 owed1 owing1
     (bent_on p s k w mid owed owed1 ends owing.old k_in lesser behind paid)

@@ -120,7 +120,7 @@ pub split_stretches : (w : DartMap) (e way a c : ℕ) (new : DartMap) → IsSubd
     a < w.darts → Stretches w a c → Stretches new a c
 split_stretches w e way a c new s tied e_in l r = split_stretch w e way new s tied e_in r.places a c l r.stretch
 
--- where a chord joins the corner d with the straight place f right behind the corner c
+-- where a chord connects the corner d with the straight place f right behind the corner c
 pub record IsCutting (w : DartMap) (d c f : ℕ) : Type 0 where
   pub d_in : d < w.darts
   pub c_in : c < w.darts

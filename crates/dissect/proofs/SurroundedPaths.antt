@@ -1,4 +1,4 @@
--- A rectangle beside a map: what it keeps, and what the join and the cuts after it keep.
+-- A rectangle beside a map: what it keeps, and what the bridge and the cuts after it keep.
 use Rattle.std.proofs.Common.{◌≡◌, ◌≢◌, ℕ, ◌+◌, ◌-◌, ◌%◌, ◌<◌, ◌≤◌, ◌∙◌, zero, suc, Bool, true, List, arith, subst, sym, ap, inl, inr}
 use Rattle.std.proofs.lemmas.Bool.{cases_lt}
 use Rattle.dissect.specs.DartMaps.{DartMap, no_dart, IsTied, IsCut}
@@ -88,18 +88,18 @@ pub surround_paths : (w new : DartMap) (n : ℕ) (reverse_dart : ℕ → ℕ) (q
     HasPaths w n reverse_dart quarters → HasPaths new n reverse_dart quarters
 surround_paths w new n reverse_dart quarters tied surrounded = beside_paths w new n reverse_dart quarters (surrounded_beside w new tied surrounded)
 
--- and so do the join and the cuts after it
+-- and so do the bridge and the cuts after it
 pub enclosed_paths : (w : DartMap) (outside : ℕ) (new : DartMap) (n : ℕ) (reverse_dart : ℕ → ℕ) (quarters : ℕ → List ℕ) → IsTied w → AreQuarters w →
     IsEnclosed w outside new →
     HasPaths w n reverse_dart quarters → HasPaths new n reverse_dart quarters
 enclosed_paths w outside new n reverse_dart quarters tied four e has =
     let tied_surrounded = surrounded_tied w e.surrounded tied e.surround in
     let four_surrounded : AreQuarters e.surrounded = surrounded_quarters w e.surrounded four e.surround in
-    let tied_joined = cut_tied e.surrounded e.right (w.darts + e.side) e.direction e.joined tied_surrounded e.join in
-    let four_joined : AreQuarters e.joined = cut_quarters e.surrounded e.right (w.darts + e.side) e.direction e.joined four_surrounded e.join in
-    grows_paths e.joined new n reverse_dart quarters tied_joined four_joined e.grows
-    (cut_paths e.surrounded e.right (w.darts + e.side) e.direction e.joined n reverse_dart quarters tied_surrounded
-    (four_surrounded (w.darts + e.side) e.join.e_in) e.join
+    let tied_bridged = cut_tied e.surrounded e.right (w.darts + e.side) e.direction e.bridged tied_surrounded e.bridge in
+    let four_bridged : AreQuarters e.bridged = cut_quarters e.surrounded e.right (w.darts + e.side) e.direction e.bridged four_surrounded e.bridge in
+    grows_paths e.bridged new n reverse_dart quarters tied_bridged four_bridged e.grows
+    (cut_paths e.surrounded e.right (w.darts + e.side) e.direction e.bridged n reverse_dart quarters tied_surrounded
+    (four_surrounded (w.darts + e.side) e.bridge.e_in) e.bridge
     (surround_paths w e.surrounded n reverse_dart quarters tied e.surround has))
 
 -- a closed set of the surrounded map is one of the map
@@ -143,19 +143,19 @@ ring_some w new s a f shut a_in late =
     (λ k l _ h. (k, l, by_reverse_dart new s (w.darts + 4 + k) (w.darts + k) shut (omega (arith, f.darts, l)) (f.reverse_dart_outer k l) h))
     a (omega (arith, f.darts)) late
 
--- the join leads from the map to the rectangle
-pub join_there : (surrounded : DartMap) (right e way : ℕ) (new : DartMap) (s : ℕ → Bool) → IsCut surrounded right e way new → IsClosedUnder new s →
+-- the bridge leads from the map to the rectangle
+pub bridge_there : (surrounded : DartMap) (right e way : ℕ) (new : DartMap) (s : ℕ → Bool) → IsCut surrounded right e way new → IsClosedUnder new s →
     s right ≡ true → s e ≡ true
-join_there surrounded right e way new s cut shut h =
+bridge_there surrounded right e way new s cut shut h =
     let there : s cut.middle.darts ≡ true =
     by_next new s right cut.middle.darts shut (omega (arith, cut.chord.darts, cut.fits.d_in)) cut.chord.next_d h in
     by_next new s cut.middle.darts e shut (omega (arith, cut.chord.darts)) (cut.chord.next_there ∙ cut.split.next_first) there
 
 -- and back
-pub join_back : (surrounded : DartMap) (right e way : ℕ) (new : DartMap) (s : ℕ → Bool) → IsTied surrounded → IsCut surrounded right e way new →
+pub bridge_back : (surrounded : DartMap) (right e way : ℕ) (new : DartMap) (s : ℕ → Bool) → IsTied surrounded → IsCut surrounded right e way new →
     IsClosedUnder new s → right ≢ surrounded.prev e → right ≢ surrounded.prev (surrounded.reverse_dart e) → s (surrounded.prev e) ≡ true →
     s (surrounded.next right) ≡ true
-join_back surrounded right e way new s tied cut shut not_c not_p h =
+bridge_back surrounded right e way new s tied cut shut not_c not_p h =
     let tied_middle = split_tied surrounded e (surrounded.direction e) 2 cut.middle tied cut.e_in cut.split in
     let middle : IsClosedUnder cut.middle s =
     (chord_extended cut.middle right surrounded.darts way new tied_middle cut.fits cut.chord).shut s shut in
@@ -168,9 +168,9 @@ join_back surrounded right e way new s tied cut shut not_c not_p h =
     (cut.chord.next_back ∙ cut.split.next_other right cut.d_in not_c not_p) back
 
 -- a connected map stays connected with the rectangle that a cut leads to
-pub join_connected : (w surrounded : DartMap) (right side way : ℕ) (new : DartMap) → IsTied w → IsConnected w → IsSurrounded w surrounded → right < w.darts →
+pub bridge_connected : (w surrounded : DartMap) (right side way : ℕ) (new : DartMap) → IsTied w → IsConnected w → IsSurrounded w surrounded → right < w.darts →
     side < 4 → IsCut surrounded right (w.darts + side) way new → IsConnected new
-join_connected w surrounded right side way new tied connected f right_in side_in cut s next reverse_dart a b l_a l_b h =
+bridge_connected w surrounded right side way new tied connected f right_in side_in cut s next reverse_dart a b l_a l_b h =
     let e : ℕ = w.darts + side in
     let shut : IsClosedUnder new s = record { next = next; reverse_dart = reverse_dart } in
     let tied_surrounded = surrounded_tied w surrounded tied f in
@@ -186,13 +186,13 @@ join_connected w surrounded right side way new tied connected f right_in side_in
       | inl low ↦ connected s shut_old.next shut_old.reverse_dart c k l_c low at
       | inr high ↦
           let on : s right ≡ true = connected s shut_old.next shut_old.reverse_dart c right l_c right_in at in
-          ring_whole w surrounded s side f shut_surrounded side_in (join_there surrounded right e way new s cut shut on) k l_k high
+          ring_whole w surrounded s side f shut_surrounded side_in (bridge_there surrounded right e way new s cut shut on) k l_k high
     ] in
     let from_ring : (k : ℕ) → k < 4 → s (w.darts + k) ≡ true → s (w.next right) ≡ true = λ k l_k at.
     let before : s (surrounded.prev e) ≡ true =
     ring_whole w surrounded s k f shut_surrounded l_k at (surrounded.prev e) (omega (arith, prev_e, f.darts)) (omega (arith, prev_e)) in
     subst (λ (j : ℕ). s j ≡ true) (f.next_old right right_in)
-    (join_back surrounded right e way new s tied_surrounded cut shut
+    (bridge_back surrounded right e way new s tied_surrounded cut shut
     (λ same. omega (arith, same, prev_e, right_in)) (λ same. omega (arith, same, prev_t, right_in)) before) in
     extended.all s shut
     (elim (cases_lt found.0 w.darts) [
@@ -206,6 +206,6 @@ join_connected w surrounded right side way new tied connected f right_in side_in
 pub enclosed_connected : (w : DartMap) (outside : ℕ) (new : DartMap) → IsTied w → IsConnected w → IsEnclosed w outside new → IsConnected new
 enclosed_connected w outside new tied connected e =
     let tied_surrounded = surrounded_tied w e.surrounded tied e.surround in
-    let tied_joined = cut_tied e.surrounded e.right (w.darts + e.side) e.direction e.joined tied_surrounded e.join in
-    extended_connected e.joined new (grows_extended e.joined new tied_joined e.grows)
-    (join_connected w e.surrounded e.right e.side e.direction e.joined tied connected e.surround e.right_in e.side_in e.join)
+    let tied_bridged = cut_tied e.surrounded e.right (w.darts + e.side) e.direction e.bridged tied_surrounded e.bridge in
+    extended_connected e.bridged new (grows_extended e.bridged new tied_bridged e.grows)
+    (bridge_connected w e.surrounded e.right e.side e.direction e.bridged tied connected e.surround e.right_in e.side_in e.bridge)

@@ -142,20 +142,20 @@ enclosed_through w outside new end held tied four e old =
     let side : ℕ = w.darts + e.side in
     let tied_surrounded = surrounded_tied w e.surrounded tied e.surround in
     let four_surrounded = surrounded_quarters w e.surrounded four e.surround in
-    let tied_joined = cut_tied e.surrounded e.right side e.direction e.joined tied_surrounded e.join in
-    let four_joined = cut_quarters e.surrounded e.right side e.direction e.joined four_surrounded e.join in
-    grows_through e.joined new end held tied_joined four_joined e.grows
-    (cut_through e.surrounded e.right side e.direction e.joined end held tied_surrounded (four_surrounded side e.join.e_in) e.join
+    let tied_bridged = cut_tied e.surrounded e.right side e.direction e.bridged tied_surrounded e.bridge in
+    let four_bridged = cut_quarters e.surrounded e.right side e.direction e.bridged four_surrounded e.bridge in
+    grows_through e.bridged new end held tied_bridged four_bridged e.grows
+    (cut_through e.surrounded e.right side e.direction e.bridged end held tied_surrounded (four_surrounded side e.bridge.e_in) e.bridge
     (step_through w e.surrounded end held (beside_step w e.surrounded (surrounded_beside w e.surrounded tied e.surround)) old))
 
 -- what was a path of the map stands on the path with the same end in what it grew to
 pub through : (w : DartMap) (outside : ℕ) (new : DartMap) → IsTied w → AreQuarters w → IsEnclosed w outside new → new.darts ≤ no_dart →
     (end first first' : ℕ) (rest rest' : List ℕ) → IsPath w end first rest → IsPath new end first' rest' →
     StandOn (first ∷ rest) (first' ∷ rest')
-through w outside new tied four e narrow end first first' rest rest' path path' =
+through w outside new tied four e darts_fit end first first' rest rest' path path' =
     let old : GoesThrough w end (first ∷ rest) =
     record { first = first; rest = rest; path = path; holds = stands_itself (first ∷ rest) } in
     let now = enclosed_through w outside new end (first ∷ rest) tied four e old in
-    let one = path_unique new end now.first first' now.rest rest' narrow now.path path' in
+    let one = path_unique new end now.first first' now.rest rest' darts_fit now.path path' in
     subst (λ (ys : List ℕ). StandOn (first ∷ rest) (first' ∷ ys)) one.rests
     (subst (λ (y : ℕ). StandOn (first ∷ rest) (y ∷ now.rest)) one.first now.holds)

@@ -130,19 +130,19 @@ trace_skips w right flags corners counts outer d trace skip = record {
 }
 
 -- a corner that was not seen begins a new face
-pub trace_more : (w : DartMap) (right : ℕ) (label : ℕ → ℕ) (flags after : List Bool) (corners counts outer new : List ℕ) (d count : ℕ) →
-    IsTied w → right < w.darts → HasTurns w label (label right) → d < w.darts → w.angle d ≢ 2 → (IsFlagged flags d → ⊥) →
+pub trace_more : (w : DartMap) (right : ℕ) (face_number : ℕ → ℕ) (flags after : List Bool) (corners counts outer new : List ℕ) (d count : ℕ) →
+    IsTied w → right < w.darts → HasTurns w face_number (face_number right) → d < w.darts → w.angle d ≢ 2 → (IsFlagged flags d → ⊥) →
     length after ≡ length flags → count ≡ length new - length corners →
     IsTracing w right flags corners counts outer d → IsWalked w d flags after corners new →
     IsTracing w right after new (counts ++ (count ∷ [])) outer (d + 1)
-trace_more w right label flags after corners counts outer new d count tied right_in turns d_in corner bare same_size counted trace walked =
+trace_more w right face_number flags after corners counts outer new d count tied right_in turns d_in corner bare same_size counted trace walked =
     let p : ℕ = walked.places in
     let r : List ℕ = turning w (path w d p) in
     let inner : List (List ℕ) = trace.inner in
     let fresh : (x : ℕ) → In x (path w d p) → IsFlagged flags x → ⊥ =
     λ x here m. bare (shut_back w flags d p x tied trace.shut d_in walked.orbit here m) in
-    let inside : label d ≢ label right =
-    λ h. bare (trace.held d (orbit_holds w label right trace.places d tied turns.labels right_in trace.orbit d_in h)) in
+    let inside : face_number d ≢ face_number right =
+    λ h. bare (trace.held d (orbit_holds w face_number right trace.places d tied turns.face_numbers right_in trace.orbit d_in h)) in
     let long : count ≡ length r = omega (arith, counted, ap length walked.corners, length-append corners r) in
     record {
       inner = inner ++ (r ∷ []);
@@ -152,7 +152,7 @@ trace_more w right label flags after corners counts outer new d count tied right
             ∙ sym (lengths_more inner r);
       };
       rings = rings_more w inner r trace.rings (orbit_ring w d p walked.orbit corner)
-          (orbit_once w label (label right) d p tied turns d_in walked.orbit inside);
+          (orbit_once w face_number (face_number right) d p tied turns d_in walked.orbit inside);
       distinct = subst Distinct (sym (concatenated_more inner r))
           (distinct_append (concatenated inner) r trace.distinct (turning_distinct w (path w d p) (orbit_distinct w d p tied d_in walked.orbit))
           (λ a left right. fresh a (in_turning w a (path w d p) right).0 (trace.listed a left)));
@@ -188,10 +188,10 @@ trace_more w right label flags after corners counts outer new d count tied right
       ];
     }
 
-pub trace_done : (w : DartMap) (right : ℕ) (label : ℕ → ℕ) (flags : List Bool) (corners counts outer : List ℕ) (d : ℕ) → IsTied w →
-    right < w.darts → 2 < w.angle right → HasTurns w label (label right) → w.darts ≤ d → IsTracing w right flags corners counts outer d →
+pub trace_done : (w : DartMap) (right : ℕ) (face_number : ℕ → ℕ) (flags : List Bool) (corners counts outer : List ℕ) (d : ℕ) → IsTied w →
+    right < w.darts → 2 < w.angle right → HasTurns w face_number (face_number right) → w.darts ≤ d → IsTracing w right flags corners counts outer d →
     (inner : List (List ℕ)) × AreFlat corners counts inner × AreListed w right inner outer
-trace_done w right label flags corners counts outer d tied right_in turn turns all trace =
+trace_done w right face_number flags corners counts outer d tied right_in turn turns all trace =
     let p : ℕ = trace.places in
     let r : List ℕ = turning w (path w right p) in
     let corner : IsCorner w right = λ h. omega (arith, h, turn) in
@@ -205,7 +205,7 @@ trace_done w right label flags corners counts outer d tied right_in turn turns a
       ring = orbit_ring w right p trace.orbit corner;
       front = turning w (path w right (p - 1));
       ends = orbit_ends w right p trace.orbit corner;
-      turns_back = orbit_outside w label right p tied turns right_in trace.orbit;
+      turns_back = orbit_outside w face_number right p tied turns right_in trace.orbit;
       all = λ a l turn. elim (trace.known a (trace.passed a (omega (arith, l, all)) turn) turn) [
         | inl left ↦ in_left a (concatenated trace.inner) r left
         | inr outside ↦ in_right a (concatenated trace.inner) r (subst (In a) trace.outer_is outside)

@@ -3,28 +3,28 @@ use Rattle.std.proofs.Common.{◌≡◌, ◌≢◌, ◌≤◌, ◌<◌, ℕ, ◌
 use Rattle.std.proofs.lemmas.Bool.{cases_eq, cases_Bool, eq-eqb, ne_eqb, eqb-true, eqb-false, cond-true, cond-false, and_from, and_parts, both_ways, not_from_false, not-true, or_left, or_right, or_cases}
 use Rattle.common.specs.Sums.{sum_below}
 use Rattle.common.proofs.Sums.{sum_below-same, sum_below-add, sum_below-le, sum_below-lt, sum_below-one, sum_below-constant, sum_below-member, sum_below-turned, exchanged}
-use Rattle.dissect.proofs.Trees.{Joins, IsTree}
+use Rattle.dissect.proofs.Trees.{Connections, IsTree}
 use Rattle.dissect.proofs.Peeling.{IsUp, IsPaired}
 
 -- whether a dart is the one by which the tree leads to its end
-abbrev pub is_up : Joins → (ℕ → ℕ) → ℕ → Bool
+abbrev pub is_up : Connections → (ℕ → ℕ) → ℕ → Bool
 is_up j parent d = not (eqb (j.to d) j.root) && eqb (parent (j.to d)) d
 
 -- whether a dart or its reverse is
-abbrev pub in_tree : Joins → (ℕ → ℕ) → (ℕ → ℕ) → ℕ → Bool
+abbrev pub in_tree : Connections → (ℕ → ℕ) → (ℕ → ℕ) → ℕ → Bool
 in_tree j reverse_dart parent d = is_up j parent d || is_up j parent (reverse_dart d)
 
-pub up_from : (j : Joins) (parent : ℕ → ℕ) (d : ℕ) → is_up j parent d ≡ true → IsUp j parent d
+pub up_from : (j : Connections) (parent : ℕ → ℕ) (d : ℕ) → is_up j parent d ≡ true → IsUp j parent d
 up_from j parent d h =
     let both = and_parts (not (eqb (j.to d) j.root)) (eqb (parent (j.to d)) d) h in
     record { node = eqb-false (j.to d) j.root (not-true (eqb (j.to d) j.root) both.0); parent_is = eqb-true (parent (j.to d)) d both.1 }
 
-up_to : (j : Joins) (parent : ℕ → ℕ) (d : ℕ) → IsUp j parent d → is_up j parent d ≡ true
+up_to : (j : Connections) (parent : ℕ → ℕ) (d : ℕ) → IsUp j parent d → is_up j parent d ≡ true
 up_to j parent d up =
     and_from (not (eqb (j.to d) j.root)) (eqb (parent (j.to d)) d) (not_from_false (eqb (j.to d) j.root) (ne_eqb (j.to d) j.root up.node)) (eq-eqb (parent (j.to d)) d up.parent_is)
 
 -- a dart of the tree leads up, or its reverse does
-pub tree_from : (j : Joins) (reverse_dart parent : ℕ → ℕ) (d : ℕ) → in_tree j reverse_dart parent d ≡ true → IsUp j parent d ⊎ IsUp j parent (reverse_dart d)
+pub tree_from : (j : Connections) (reverse_dart parent : ℕ → ℕ) (d : ℕ) → in_tree j reverse_dart parent d ≡ true → IsUp j parent d ⊎ IsUp j parent (reverse_dart d)
 tree_from j reverse_dart parent d h =
     elim (or_cases (is_up j parent d) (is_up j parent (reverse_dart d)) h) [
       | inl up ↦ inl (up_from j parent d up)
@@ -32,17 +32,17 @@ tree_from j reverse_dart parent d h =
     ]
 
 -- the dart that leads to a node other than the root does
-parent_up : (j : Joins) (g rank parent base : ℕ → ℕ) → IsTree j g rank parent base → (v : ℕ) → v < j.nodes → v ≢ j.root → is_up j parent (parent v) ≡ true
+parent_up : (j : Connections) (g rank parent base : ℕ → ℕ) → IsTree j g rank parent base → (v : ℕ) → v < j.nodes → v ≢ j.root → is_up j parent (parent v) ≡ true
 parent_up j g rank parent base tree v l ne =
     let leads = tree.leads v l ne in
     up_to j parent (parent v) (record { node = λ e. ne (sym leads.to ∙ e); parent_is = ap parent leads.to })
 
 -- one for a dart that leads up
-abbrev pub ups : Joins → (ℕ → ℕ) → ℕ → ℕ
+abbrev pub ups : Connections → (ℕ → ℕ) → ℕ → ℕ
 ups j parent d = cond (is_up j parent d) 1 0
 
 -- one such dart for each node other than the root
-pub enough : (j : Joins) (reverse_dart g rank parent base : ℕ → ℕ) → IsPaired j reverse_dart → IsTree j g rank parent base → j.root < j.nodes
+pub enough : (j : Connections) (reverse_dart g rank parent base : ℕ → ℕ) → IsPaired j reverse_dart → IsTree j g rank parent base → j.root < j.nodes
     → j.nodes ≤ sum_below j.darts (ups j parent) + 1
 enough j reverse_dart g rank parent base paired tree root =
     let n : ℕ = j.darts in
@@ -77,7 +77,7 @@ enough j reverse_dart g rank parent base paired tree root =
         )
 
 -- a dart and its reverse do not both lead up
-not_both : (j : Joins) (reverse_dart g rank parent base : ℕ → ℕ) → IsPaired j reverse_dart → IsTree j g rank parent base → (d : ℕ) → d < j.darts
+not_both : (j : Connections) (reverse_dart g rank parent base : ℕ → ℕ) → IsPaired j reverse_dart → IsTree j g rank parent base → (d : ℕ) → d < j.darts
     → is_up j parent d ≡ true → is_up j parent (reverse_dart d) ≡ true → ⊥
 not_both j reverse_dart g rank parent base paired tree d l one two =
     let up = up_from j parent d one in
@@ -101,7 +101,7 @@ at_most_one a b c d h1 h2 h3 h4 h5 h6 = omega arith
 
 -- what n darts have of two trees on `j` and `k`, where none of the second is of the first, and there are nodes for all:
 -- each dart is of one of them
-pub spanned : (j k : Joins) (reverse_dart g rank parent base g' rank' parent' base' : ℕ → ℕ) → j.darts ≡ k.darts
+pub spanned : (j k : Connections) (reverse_dart g rank parent base g' rank' parent' base' : ℕ → ℕ) → j.darts ≡ k.darts
     → IsPaired j reverse_dart → IsTree j g rank parent base → j.root < j.nodes
     → IsPaired k reverse_dart → IsTree k g' rank' parent' base' → k.root < k.nodes
     → ((d : ℕ) → k.allowed d ≡ true → in_tree j reverse_dart parent d ≡ false)

@@ -1,4 +1,4 @@
--- Trees of nodes that are joined by darts: each node but the root has one dart that leads to it from a node of lower rank.
+-- Trees of nodes that are connected by darts: each node but the root has one dart that leads to it from a node of lower rank.
 use Rattle.std.proofs.Common.{◌≡◌, ◌≢◌, ◌≤◌, ◌<◌, ℕ, zero, suc, ◌+◌, ◌%◌, ◌⊎◌, Bool, true, false, not, ◌&&◌, cond, eqb, refl, sym, ap, ◌∙◌, subst, inl, inr, arith}
 use Rattle.std.proofs.lemmas.Bool.{cases_eq, eq-eqb, ne_eqb, eqb-true, cond-true, cond-false, and_from, and_parts, both_ways, not_from_false, not-true, true_from_ne_false}
 use Rattle.common.specs.Sums.{sum_below}
@@ -6,7 +6,7 @@ use Rattle.common.proofs.Sums.{sum_below-lt}
 use Rattle.flow_network.proofs.VertexDegrees.{search_below}
 
 -- n darts, each from the node `from d` to the node `to d`; the allowed ones may be taken
-pub record Joins : Type 0 where
+pub record Connections : Type 0 where
   pub darts : ℕ
   pub nodes : ℕ
   pub from : ℕ → ℕ
@@ -15,19 +15,19 @@ pub record Joins : Type 0 where
   pub root : ℕ
 
 -- the dart leads to the node v from a node of lower rank
-pub record LeadsTo (j : Joins) (rank : ℕ → ℕ) (v d : ℕ) : Type 0 where
+pub record LeadsTo (j : Connections) (rank : ℕ → ℕ) (v d : ℕ) : Type 0 where
   pub inside : d < j.darts
   pub allowed : j.allowed d ≡ true
   pub to : j.to d ≡ v
   pub lower : rank (j.from d) < rank v
 
 -- a tree on all nodes, and a value of each node that goes up by g along the tree's darts, up to multiples of four
-pub record IsTree (j : Joins) (g : ℕ → ℕ) (rank parent base : ℕ → ℕ) : Type 0 where
+pub record IsTree (j : Connections) (g : ℕ → ℕ) (rank parent base : ℕ → ℕ) : Type 0 where
   pub leads : (v : ℕ) → v < j.nodes → v ≢ j.root → LeadsTo j rank v (parent v)
   pub along : (v : ℕ) → v < j.nodes → v ≢ j.root → base v % 4 ≡ (base (j.from (parent v)) + g (parent v)) % 4
 
 -- the same for the nodes that are reached, which are led to from such nodes
-pub record IsGrown (j : Joins) (g : ℕ → ℕ) (reached : ℕ → Bool) (rank parent base : ℕ → ℕ) : Type 0 where
+pub record IsGrown (j : Connections) (g : ℕ → ℕ) (reached : ℕ → Bool) (rank parent base : ℕ → ℕ) : Type 0 where
   pub root : reached j.root ≡ true
   pub leads : (v : ℕ) → reached v ≡ true → v ≢ j.root → LeadsTo j rank v (parent v)
   pub behind : (v : ℕ) → reached v ≡ true → v ≢ j.root → reached (j.from (parent v)) ≡ true
@@ -60,11 +60,11 @@ with-kept s v u h = elim (cases_eq u v) [
 ]
 
 -- how many nodes are not reached
-abbrev pub unreached : Joins → (ℕ → Bool) → ℕ
+abbrev pub unreached : Connections → (ℕ → Bool) → ℕ
 unreached j reached = sum_below j.nodes (λ v. cond (reached v) 0 1)
 
 -- a dart from a reached node to one that is not
-pub record IsBorder (j : Joins) (reached : ℕ → Bool) (d : ℕ) : Type 0 where
+pub record IsBorder (j : Connections) (reached : ℕ → Bool) (d : ℕ) : Type 0 where
   pub inside : d < j.darts
   pub allowed : j.allowed d ≡ true
   pub from : reached (j.from d) ≡ true
@@ -72,18 +72,18 @@ pub record IsBorder (j : Joins) (reached : ℕ → Bool) (d : ℕ) : Type 0 wher
   pub node : j.to d < j.nodes
 
 -- what is reached was there before, and is another node
-old_one : (j : Joins) (reached : ℕ → Bool) (d : ℕ) → IsBorder j reached d → (u : ℕ) → reached u ≡ true → u ≢ j.to d
+old_one : (j : Connections) (reached : ℕ → Bool) (d : ℕ) → IsBorder j reached d → (u : ℕ) → reached u ≡ true → u ≢ j.to d
 old_one j reached d b u h e = both_ways (reached (j.to d)) b.to (ap reached (sym e) ∙ h)
 
 -- what a node that is reached has stays, where the end of a dart of the border gets another value
-kept : (j : Joins) (reached : ℕ → Bool) (d : ℕ) → IsBorder j reached d → (f : ℕ → ℕ) (x u : ℕ) → reached u ≡ true → put f (j.to d) x u ≡ f u
+kept : (j : Connections) (reached : ℕ → Bool) (d : ℕ) → IsBorder j reached d → (f : ℕ → ℕ) (x u : ℕ) → reached u ≡ true → put f (j.to d) x u ≡ f u
 kept j reached d b f x u h = put-other f (j.to d) x u (old_one j reached d b u h)
 
 was_reached : (reached : ℕ → Bool) (w v : ℕ) → with_one reached w v ≡ true → v ≢ w → reached v ≡ true
 was_reached reached w v h ne = sym (with-other reached w v ne) ∙ h
 
 -- the border's dart leads to its end
-leads_new : (j : Joins) (reached : ℕ → Bool) (rank : ℕ → ℕ) (d : ℕ) → IsBorder j reached d
+leads_new : (j : Connections) (reached : ℕ → Bool) (rank : ℕ → ℕ) (d : ℕ) → IsBorder j reached d
     → LeadsTo j (put rank (j.to d) (rank (j.from d) + 1)) (j.to d) d
 leads_new j reached rank d b =
     let here = put-here rank (j.to d) (rank (j.from d) + 1) in
@@ -91,7 +91,7 @@ leads_new j reached rank d b =
     record { inside = b.inside; allowed = b.allowed; to = refl; lower = omega (arith, here, there) }
 
 -- and what led to a node still does
-leads_old : (j : Joins) (reached : ℕ → Bool) (rank : ℕ → ℕ) (d : ℕ) → IsBorder j reached d → (v e : ℕ) → reached v ≡ true → reached (j.from e) ≡ true → LeadsTo j rank v e
+leads_old : (j : Connections) (reached : ℕ → Bool) (rank : ℕ → ℕ) (d : ℕ) → IsBorder j reached d → (v e : ℕ) → reached v ≡ true → reached (j.from e) ≡ true → LeadsTo j rank v e
     → LeadsTo j (put rank (j.to d) (rank (j.from d) + 1)) v e
 leads_old j reached rank d b v e h k l =
     let here = kept j reached d b rank (rank (j.from d) + 1) v h in
@@ -99,7 +99,7 @@ leads_old j reached rank d b v e h k l =
     record { inside = l.inside; allowed = l.allowed; to = l.to; lower = omega (arith, here, there, l.lower) }
 
 -- one node more is reached
-grow : (j : Joins) (g : ℕ → ℕ) (reached : ℕ → Bool) (rank parent base : ℕ → ℕ) (d : ℕ) → IsGrown j g reached rank parent base → IsBorder j reached d
+grow : (j : Connections) (g : ℕ → ℕ) (reached : ℕ → Bool) (rank parent base : ℕ → ℕ) (d : ℕ) → IsGrown j g reached rank parent base → IsBorder j reached d
     → IsGrown j g (with_one reached (j.to d)) (put rank (j.to d) (rank (j.from d) + 1)) (put parent (j.to d) d) (put base (j.to d) (base (j.from d) + g d))
 grow j g reached rank parent base d is b =
     let w : ℕ = j.to d in
@@ -139,7 +139,7 @@ grow j g reached rank parent base d is b =
       ];
     }
 
-fewer : (j : Joins) (reached : ℕ → Bool) (d : ℕ) → IsBorder j reached d → unreached j (with_one reached (j.to d)) < unreached j reached
+fewer : (j : Connections) (reached : ℕ → Bool) (d : ℕ) → IsBorder j reached d → unreached j (with_one reached (j.to d)) < unreached j reached
 fewer j reached d b =
     sum_below-lt j.nodes (j.to d) (λ v. cond (with_one reached (j.to d) v) 0 1) (λ v. cond (reached v) 0 1) b.node
     (λ v h. no_more v (cases_eq v (j.to d)))
@@ -153,17 +153,17 @@ fewer j reached d b =
     no_more v (inr ne) = omega (arith, ap {B = ℕ} (λ (x : Bool). cond x 0 1) (with-other reached (j.to d) v ne))
 
 -- each set of nodes that holds the root and, with the start of an allowed dart, its end, holds every node
-abbrev pub Connects : Joins → Type 0
+abbrev pub Connects : Connections → Type 0
 Connects j = (s : ℕ → Bool) → s j.root ≡ true
     → ((d : ℕ) → d < j.darts → j.allowed d ≡ true → s (j.from d) ≡ true → s (j.to d) ≡ true)
     → (v : ℕ) → v < j.nodes → s v ≡ true
 
 -- a tree on all nodes, with the ranks, the parents and the values
-abbrev pub Tree : Joins → (ℕ → ℕ) → Type 0
+abbrev pub Tree : Connections → (ℕ → ℕ) → Type 0
 Tree j g = (rank parent base : ℕ → ℕ) × IsTree j g rank parent base
 
 -- a dart of the border, or none
-border : (j : Joins) → ((d : ℕ) → d < j.darts → j.to d < j.nodes) → (reached : ℕ → Bool)
+border : (j : Connections) → ((d : ℕ) → d < j.darts → j.to d < j.nodes) → (reached : ℕ → Bool)
     → ((d : ℕ) × IsBorder j reached d) ⊎ ((d : ℕ) → d < j.darts → j.allowed d ≡ true → reached (j.from d) ≡ true → reached (j.to d) ≡ true)
 border j ends reached =
     elim (search_below j.darts (λ d. j.allowed d && (reached (j.from d) && not (reached (j.to d))))) [
@@ -178,7 +178,7 @@ border j ends reached =
           (and_from _ _ allowed (and_from _ _ from (not_from_false (reached (j.to d)) to)))))
     ]
 
-build : (j : Joins) (g : ℕ → ℕ) → ((d : ℕ) → d < j.darts → j.to d < j.nodes) → Connects j
+build : (j : Connections) (g : ℕ → ℕ) → ((d : ℕ) → d < j.darts → j.to d < j.nodes) → Connects j
     → (k : ℕ) (reached : ℕ → Bool) (rank parent base : ℕ → ℕ) → IsGrown j g reached rank parent base → unreached j reached < k → Tree j g
 build j g ends connects zero reached rank parent base is left = absurd (omega arith)
 build j g ends connects (suc k) reached rank parent base is left =
@@ -192,8 +192,8 @@ build j g ends connects (suc k) reached rank parent base is left =
           (rank, parent, base, record { leads = λ v l. is.leads v (all v l); along = λ v l. is.along v (all v l) })
     ]
 
--- where the darts join all nodes there is such a tree
-pub tree : (j : Joins) (g : ℕ → ℕ) → ((d : ℕ) → d < j.darts → j.to d < j.nodes) → Connects j → Tree j g
+-- where the darts connect all nodes there is such a tree
+pub tree : (j : Connections) (g : ℕ → ℕ) → ((d : ℕ) → d < j.darts → j.to d < j.nodes) → Connects j → Tree j g
 tree j g ends connects =
     build j g ends connects (unreached j (λ v. eqb v j.root) + 1) (λ v. eqb v j.root) (λ _. 0) (λ _. 0) (λ _. 0)
     (record {

@@ -11,12 +11,12 @@ use Rattle.dissect.proofs.Splitting.{by_place, part, part_here, part_elsewhere, 
 use Rattle.dissect.specs.Steps.{angle_of, start_direction}
 use Rattle.dissect.proofs.SumsAndMaps.{sum_below-two_more}
 use Rattle.dissect.proofs.Mirroring.{mirrored-mirrored, rights-mirrored, turn_counts}
-use Rattle.dissect.proofs.OwedTurns.{owing, gained, lost, IsOwedNext, IsLabelledNext}
+use Rattle.dissect.proofs.OwedTurns.{owing, gained, lost, IsOwedNext, IsNumberedNext}
 
-module _ (w : DartMap) (e way : ℕ) (turn : Turn) (turns : List Turn) (new : DartMap) (label label' : ℕ → ℕ) (owed owed' : ℕ → List Turn)
+module _ (w : DartMap) (e way : ℕ) (turn : Turn) (turns : List Turn) (new : DartMap) (face_number face_number' : ℕ → ℕ) (owed owed' : ℕ → List Turn)
     (tied : IsTied w) (e_in : e < w.darts) (s : IsSubdivided w e way (angle_of turn) new)
     (owes : owed e ≡ turn ∷ turns) (mirrors : owed (w.reverse_dart e) ≡ mirrored (owed e))
-    (named : IsLabelledNext w e label label') (next : IsOwedNext w e turns owed owed') where
+    (named : IsNumberedNext w e face_number face_number') (next : IsOwedNext w e turns owed owed') where
   -- two turns less are owed
   pub owing_less : owing new owed' + 2 ≡ owing w owed
   owing_less =
@@ -62,23 +62,23 @@ module _ (w : DartMap) (e way : ℕ) (turn : Turn) (turns : List Turn) (new : Da
           three b some most off other = let e : b ≡ 3 = omega arith in omega (arith, e)
 
   -- what e and the new dart in front of it turn, against what e turned
-  side_e : (f : ℕ) → let gain = part label (λ x. 2 + lefts (owed x)) f in
-      let loss = part label (λ x. w.angle x + rights (owed x)) f in
-      let gain' = part label' (λ x. 2 + lefts (owed' x)) f in
-      let loss' = part label' (λ x. new.angle x + rights (owed' x)) f in
-      gain' e + gain' w.darts + loss e ≡ loss' e + loss' w.darts + gain e
+  side_e : (f : ℕ) → let left_sum = part face_number (λ x. 2 + lefts (owed x)) f in
+      let right_sum = part face_number (λ x. w.angle x + rights (owed x)) f in
+      let left_sum' = part face_number' (λ x. 2 + lefts (owed' x)) f in
+      let right_sum' = part face_number' (λ x. new.angle x + rights (owed' x)) f in
+      left_sum' e + left_sum' w.darts + right_sum e ≡ right_sum' e + right_sum' w.darts + left_sum e
   side_e f =
       let n : ℕ = w.darts in
       let counts = turn_counts turn turns in
-      let old_label : label' e ≡ label e = named.old e e_in in
-      elim (cases_eq (label e) f) [
+      let old_face_number : face_number' e ≡ face_number e = named.old e e_in in
+      elim (cases_eq (face_number e) f) [
         | inl at ↦
-            let one = part_here label (λ x. 2 + lefts (owed x)) f e at in
-            let two = part_here label (λ x. w.angle x + rights (owed x)) f e at in
-            let three = part_here label' (λ x. 2 + lefts (owed' x)) f e (old_label ∙ at) in
-            let four = part_here label' (λ x. new.angle x + rights (owed' x)) f e (old_label ∙ at) in
-            let five = part_here label' (λ x. 2 + lefts (owed' x)) f n (named.at_first ∙ at) in
-            let six = part_here label' (λ x. new.angle x + rights (owed' x)) f n (named.at_first ∙ at) in
+            let one = part_here face_number (λ x. 2 + lefts (owed x)) f e at in
+            let two = part_here face_number (λ x. w.angle x + rights (owed x)) f e at in
+            let three = part_here face_number' (λ x. 2 + lefts (owed' x)) f e (old_face_number ∙ at) in
+            let four = part_here face_number' (λ x. new.angle x + rights (owed' x)) f e (old_face_number ∙ at) in
+            let five = part_here face_number' (λ x. 2 + lefts (owed' x)) f n (named.at_first ∙ at) in
+            let six = part_here face_number' (λ x. new.angle x + rights (owed' x)) f n (named.at_first ∙ at) in
             let left_e : lefts (owed e) ≡ lefts (turn ∷ turns) = ap lefts owes in
             let right_e : rights (owed e) ≡ rights (turn ∷ turns) = ap rights owes in
             let left_e' : lefts (owed' e) ≡ lefts turns = ap lefts next.at_e in
@@ -105,35 +105,35 @@ module _ (w : DartMap) (e way : ℕ) (turn : Turn) (turns : List Turn) (new : Da
               s.angle_first,
             )
         | inr off ↦
-            let one = part_elsewhere label (λ x. 2 + lefts (owed x)) f e off in
-            let two = part_elsewhere label (λ x. w.angle x + rights (owed x)) f e off in
-            let three = part_elsewhere label' (λ x. 2 + lefts (owed' x)) f e (λ h. off (sym old_label ∙ h)) in
-            let four = part_elsewhere label' (λ x. new.angle x + rights (owed' x)) f e (λ h. off (sym old_label ∙ h)) in
-            let five = part_elsewhere label' (λ x. 2 + lefts (owed' x)) f n (λ h. off (sym named.at_first ∙ h)) in
-            let six = part_elsewhere label' (λ x. new.angle x + rights (owed' x)) f n (λ h. off (sym named.at_first ∙ h)) in
+            let one = part_elsewhere face_number (λ x. 2 + lefts (owed x)) f e off in
+            let two = part_elsewhere face_number (λ x. w.angle x + rights (owed x)) f e off in
+            let three = part_elsewhere face_number' (λ x. 2 + lefts (owed' x)) f e (λ h. off (sym old_face_number ∙ h)) in
+            let four = part_elsewhere face_number' (λ x. new.angle x + rights (owed' x)) f e (λ h. off (sym old_face_number ∙ h)) in
+            let five = part_elsewhere face_number' (λ x. 2 + lefts (owed' x)) f n (λ h. off (sym named.at_first ∙ h)) in
+            let six = part_elsewhere face_number' (λ x. new.angle x + rights (owed' x)) f n (λ h. off (sym named.at_first ∙ h)) in
             omega (arith, one, two, three, four, five, six)
       ]
 
   -- the same on the other side of the edge
-  side_reverse_dart : (f : ℕ) → let gain = part label (λ x. 2 + lefts (owed x)) f in
-      let loss = part label (λ x. w.angle x + rights (owed x)) f in
-      let gain' = part label' (λ x. 2 + lefts (owed' x)) f in
-      let loss' = part label' (λ x. new.angle x + rights (owed' x)) f in
-      gain' (w.reverse_dart e) + gain' (w.darts + 1) + loss (w.reverse_dart e) ≡ loss' (w.reverse_dart e) + loss' (w.darts + 1) + gain (w.reverse_dart e)
+  side_reverse_dart : (f : ℕ) → let left_sum = part face_number (λ x. 2 + lefts (owed x)) f in
+      let right_sum = part face_number (λ x. w.angle x + rights (owed x)) f in
+      let left_sum' = part face_number' (λ x. 2 + lefts (owed' x)) f in
+      let right_sum' = part face_number' (λ x. new.angle x + rights (owed' x)) f in
+      left_sum' (w.reverse_dart e) + left_sum' (w.darts + 1) + right_sum (w.reverse_dart e) ≡ right_sum' (w.reverse_dart e) + right_sum' (w.darts + 1) + left_sum (w.reverse_dart e)
   side_reverse_dart f =
       let n : ℕ = w.darts in
       let t : ℕ = w.reverse_dart e in
       let t_in : t < n = tied.reverse_dart_in e e_in in
       let counts = turn_counts turn turns in
-      let old_label : label' t ≡ label t = named.old t t_in in
-      elim (cases_eq (label t) f) [
+      let old_face_number : face_number' t ≡ face_number t = named.old t t_in in
+      elim (cases_eq (face_number t) f) [
         | inl at ↦
-            let one = part_here label (λ x. 2 + lefts (owed x)) f t at in
-            let two = part_here label (λ x. w.angle x + rights (owed x)) f t at in
-            let three = part_here label' (λ x. 2 + lefts (owed' x)) f t (old_label ∙ at) in
-            let four = part_here label' (λ x. new.angle x + rights (owed' x)) f t (old_label ∙ at) in
-            let five = part_here label' (λ x. 2 + lefts (owed' x)) f (n + 1) (named.at_second ∙ at) in
-            let six = part_here label' (λ x. new.angle x + rights (owed' x)) f (n + 1) (named.at_second ∙ at) in
+            let one = part_here face_number (λ x. 2 + lefts (owed x)) f t at in
+            let two = part_here face_number (λ x. w.angle x + rights (owed x)) f t at in
+            let three = part_here face_number' (λ x. 2 + lefts (owed' x)) f t (old_face_number ∙ at) in
+            let four = part_here face_number' (λ x. new.angle x + rights (owed' x)) f t (old_face_number ∙ at) in
+            let five = part_here face_number' (λ x. 2 + lefts (owed' x)) f (n + 1) (named.at_second ∙ at) in
+            let six = part_here face_number' (λ x. new.angle x + rights (owed' x)) f (n + 1) (named.at_second ∙ at) in
             let left_t : lefts (owed t) ≡ rights (turn ∷ turns) = ap lefts mirrors ∙ lefts-mirrored (owed e) ∙ ap rights owes in
             let right_t : rights (owed t) ≡ lefts (turn ∷ turns) = ap rights mirrors ∙ rights-mirrored (owed e) ∙ ap lefts owes in
             let left_t' : lefts (owed' t) ≡ 0 = ap lefts next.at_reverse_dart in
@@ -161,36 +161,36 @@ module _ (w : DartMap) (e way : ℕ) (turn : Turn) (turns : List Turn) (new : Da
               s.angle_second,
             )
         | inr off ↦
-            let one = part_elsewhere label (λ x. 2 + lefts (owed x)) f t off in
-            let two = part_elsewhere label (λ x. w.angle x + rights (owed x)) f t off in
-            let three = part_elsewhere label' (λ x. 2 + lefts (owed' x)) f t (λ h. off (sym old_label ∙ h)) in
-            let four = part_elsewhere label' (λ x. new.angle x + rights (owed' x)) f t (λ h. off (sym old_label ∙ h)) in
-            let five = part_elsewhere label' (λ x. 2 + lefts (owed' x)) f (n + 1) (λ h. off (sym named.at_second ∙ h)) in
-            let six = part_elsewhere label' (λ x. new.angle x + rights (owed' x)) f (n + 1) (λ h. off (sym named.at_second ∙ h)) in
+            let one = part_elsewhere face_number (λ x. 2 + lefts (owed x)) f t off in
+            let two = part_elsewhere face_number (λ x. w.angle x + rights (owed x)) f t off in
+            let three = part_elsewhere face_number' (λ x. 2 + lefts (owed' x)) f t (λ h. off (sym old_face_number ∙ h)) in
+            let four = part_elsewhere face_number' (λ x. new.angle x + rights (owed' x)) f t (λ h. off (sym old_face_number ∙ h)) in
+            let five = part_elsewhere face_number' (λ x. 2 + lefts (owed' x)) f (n + 1) (λ h. off (sym named.at_second ∙ h)) in
+            let six = part_elsewhere face_number' (λ x. new.angle x + rights (owed' x)) f (n + 1) (λ h. off (sym named.at_second ∙ h)) in
             omega (arith, one, two, three, four, five, six)
       ]
 
   -- round each face left and right turns grow alike
-  pub turned_alike : (f : ℕ) → gained new label' owed' f + lost w label owed f ≡ gained w label owed f + lost new label' owed' f
+  pub turned_alike : (f : ℕ) → gained new face_number' owed' f + lost w face_number owed f ≡ gained w face_number owed f + lost new face_number' owed' f
   turned_alike f =
       let n : ℕ = w.darts in
       let t : ℕ = w.reverse_dart e in
       let t_in : t < n = tied.reverse_dart_in e e_in in
-      let gain : ℕ → ℕ = part label (λ x. 2 + lefts (owed x)) f in
-      let loss : ℕ → ℕ = part label (λ x. w.angle x + rights (owed x)) f in
-      let gain' : ℕ → ℕ = part label' (λ x. 2 + lefts (owed' x)) f in
-      let loss' : ℕ → ℕ = part label' (λ x. new.angle x + rights (owed' x)) f in
-      let gains : sum_below (n + 2) gain' + (gain e + gain t) ≡ sum_below n gain + (gain' e + gain' t) + (gain' n + gain' (n + 1)) =
-      sum_below-two_more n e t gain gain' e_in t_in (tied.reverse_dart_apart e e_in)
-      (λ x l not_e not_t. part_same label label' (λ x. 2 + lefts (owed x)) (λ x. 2 + lefts (owed' x)) f x (named.old x l)
+      let left_sum : ℕ → ℕ = part face_number (λ x. 2 + lefts (owed x)) f in
+      let right_sum : ℕ → ℕ = part face_number (λ x. w.angle x + rights (owed x)) f in
+      let left_sum' : ℕ → ℕ = part face_number' (λ x. 2 + lefts (owed' x)) f in
+      let right_sum' : ℕ → ℕ = part face_number' (λ x. new.angle x + rights (owed' x)) f in
+      let left_sums : sum_below (n + 2) left_sum' + (left_sum e + left_sum t) ≡ sum_below n left_sum + (left_sum' e + left_sum' t) + (left_sum' n + left_sum' (n + 1)) =
+      sum_below-two_more n e t left_sum left_sum' e_in t_in (tied.reverse_dart_apart e e_in)
+      (λ x l not_e not_t. part_same face_number face_number' (λ x. 2 + lefts (owed x)) (λ x. 2 + lefts (owed' x)) f x (named.old x l)
       (ap (λ (ts : List Turn). 2 + lefts ts) (next.others x l not_e not_t))) in
-      let losses : sum_below (n + 2) loss' + (loss e + loss t) ≡ sum_below n loss + (loss' e + loss' t) + (loss' n + loss' (n + 1)) =
-      sum_below-two_more n e t loss loss' e_in t_in (tied.reverse_dart_apart e e_in)
-      (λ x l not_e not_t. part_same label label' (λ x. w.angle x + rights (owed x)) (λ x. new.angle x + rights (owed' x)) f x (named.old x l)
+      let right_sums : sum_below (n + 2) right_sum' + (right_sum e + right_sum t) ≡ sum_below n right_sum + (right_sum' e + right_sum' t) + (right_sum' n + right_sum' (n + 1)) =
+      sum_below-two_more n e t right_sum right_sum' e_in t_in (tied.reverse_dart_apart e e_in)
+      (λ x l not_e not_t. part_same face_number face_number' (λ x. w.angle x + rights (owed x)) (λ x. new.angle x + rights (owed' x)) f x (named.old x l)
       (ap (λ (k : ℕ). k + rights (owed' x)) (s.angle_old x l) ∙ ap (λ (ts : List Turn). w.angle x + rights ts) (next.others x l not_e not_t))) in
-      let all_gains : gained new label' owed' f ≡ sum_below (n + 2) gain' = ap (λ (k : ℕ). sum_below k gain') s.darts in
-      let all_losses : lost new label' owed' f ≡ sum_below (n + 2) loss' = ap (λ (k : ℕ). sum_below k loss') s.darts in
-      omega (arith, gains, losses, all_gains, all_losses, side_e f, side_reverse_dart f)
+      let all_left_sums : gained new face_number' owed' f ≡ sum_below (n + 2) left_sum' = ap (λ (k : ℕ). sum_below k left_sum') s.darts in
+      let all_right_sums : lost new face_number' owed' f ≡ sum_below (n + 2) right_sum' = ap (λ (k : ℕ). sum_below k right_sum') s.darts in
+      omega (arith, left_sums, right_sums, all_left_sums, all_right_sums, side_e f, side_reverse_dart f)
 
   -- what the new map's darts owe mirrors what their reverses owe
   pub mirrors_on : ((x : ℕ) → x < w.darts → owed (w.reverse_dart x) ≡ mirrored (owed x)) →

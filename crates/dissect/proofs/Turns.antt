@@ -11,14 +11,14 @@ use Rattle.dissect.specs.FaceNumbers.{AreFaceNumbers, darts_round, angles_round,
 use Rattle.dissect.specs.Walks.{steps, path, turning, IsOrbit}
 use Rattle.dissect.proofs.Orbits.{steps_more, path_member, path_holds, path_below, path_trail, any_in, in_any, orbit_of, orbit_distinct, turning_total}
 
-pub label_along : (w : DartMap) (label : ℕ → ℕ) → IsTied w → AreFaceNumbers w label → (k a : ℕ) → a < w.darts → label (steps w k a) ≡ label a
-label_along w label tied labels zero a l = refl
-label_along w label tied labels (suc k) a l = label_along w label tied labels k (w.next a) (tied.next_in a l) ∙ labels.stays a l
+pub face_number_along : (w : DartMap) (face_number : ℕ → ℕ) → IsTied w → AreFaceNumbers w face_number → (k a : ℕ) → a < w.darts → face_number (steps w k a) ≡ face_number a
+face_number_along w face_number tied face_numbers zero a l = refl
+face_number_along w face_number tied face_numbers (suc k) a l = face_number_along w face_number tied face_numbers k (w.next a) (tied.next_in a l) ∙ face_numbers.stays a l
 
 -- the walk passes each dart with its number
-pub orbit_holds : (w : DartMap) (label : ℕ → ℕ) (a p x : ℕ) → IsTied w → AreFaceNumbers w label → a < w.darts → IsOrbit w a p →
-    x < w.darts → label x ≡ label a → In x (path w a p)
-orbit_holds w label a p x tied labels l orbit x_in same =
+pub orbit_holds : (w : DartMap) (face_number : ℕ → ℕ) (a p x : ℕ) → IsTied w → AreFaceNumbers w face_number → a < w.darts → IsOrbit w a p →
+    x < w.darts → face_number x ≡ face_number a → In x (path w a p)
+orbit_holds w face_number a p x tied face_numbers l orbit x_in same =
     let s : ℕ → Bool = λ y. list_any (eqb y) (path w a p) in
     let closed : (y : ℕ) → y < w.darts → s y ≡ true → s (w.next y) ≡ true = λ y l h.
     let m = path_member w y a p (any_in y (path w a p) h) in
@@ -32,7 +32,7 @@ orbit_holds w label a p x tied labels l orbit x_in same =
     ]) in
     let begins : s a ≡ true = in_any a (path w a p)
     (subst (λ (z : ℕ). In z (path w a p)) orbit.back (path_holds w a p p orbit.some (omega arith))) in
-    any_in x (path w a p) (labels.least s closed a x l x_in (sym same) begins)
+    any_in x (path w a p) (face_numbers.least s closed a x l x_in (sym same) begins)
 
 -- the sum over the darts of a list
 pub listed_sum : (n : ℕ) (f : ℕ → ℕ) (xs : List ℕ) → Distinct xs → Below n xs →
@@ -67,22 +67,22 @@ listed_sum n f (y ∷ ys) distinct below =
         ]
 
 -- the same sum, over the darts with the number
-pub labelled_sum : (w : DartMap) (label : ℕ → ℕ) (a p : ℕ) (f : ℕ → ℕ) → IsTied w → AreFaceNumbers w label → a < w.darts → IsOrbit w a p →
-    sum_below w.darts (λ x. cond (eqb (label x) (label a)) (f x) 0) ≡ total (map f (path w a p))
-labelled_sum w label a p f tied labels l orbit =
-    sum_below-same w.darts (λ x. cond (eqb (label x) (label a)) (f x) 0) (λ x. cond (list_any (eqb x) (path w a p)) (f x) 0)
+pub numbered_sum : (w : DartMap) (face_number : ℕ → ℕ) (a p : ℕ) (f : ℕ → ℕ) → IsTied w → AreFaceNumbers w face_number → a < w.darts → IsOrbit w a p →
+    sum_below w.darts (λ x. cond (eqb (face_number x) (face_number a)) (f x) 0) ≡ total (map f (path w a p))
+numbered_sum w face_number a p f tied face_numbers l orbit =
+    sum_below-same w.darts (λ x. cond (eqb (face_number x) (face_number a)) (f x) 0) (λ x. cond (list_any (eqb x) (path w a p)) (f x) 0)
     (λ x x_in. ap (λ (b : Bool). cond b (f x) 0) (same x x_in))
     ∙ listed_sum w.darts f (path w a p) (orbit_distinct w a p tied l orbit) (path_below w tied a p l)
   where
-    same : (x : ℕ) → x < w.darts → eqb (label x) (label a) ≡ list_any (eqb x) (path w a p)
+    same : (x : ℕ) → x < w.darts → eqb (face_number x) (face_number a) ≡ list_any (eqb x) (path w a p)
     same x x_in =
-        elim (cases_eq (label x) (label a)) [
-          | inl e ↦ eq-eqb (label x) (label a) e ∙ sym (in_any x (path w a p) (orbit_holds w label a p x tied labels l orbit x_in e))
+        elim (cases_eq (face_number x) (face_number a)) [
+          | inl e ↦ eq-eqb (face_number x) (face_number a) e ∙ sym (in_any x (path w a p) (orbit_holds w face_number a p x tied face_numbers l orbit x_in e))
           | inr ne ↦ elim (cases_Bool (list_any (eqb x) (path w a p))) [
             | inl there ↦
                 let m = path_member w x a p (any_in x (path w a p) there) in
-                absurd (ne (ap label (sym m.3) ∙ label_along w label tied labels m.0 a l))
-            | inr none ↦ ne_eqb (label x) (label a) ne ∙ sym none
+                absurd (ne (ap face_number (sym m.3) ∙ face_number_along w face_number tied face_numbers m.0 a l))
+            | inr none ↦ ne_eqb (face_number x) (face_number a) ne ∙ sym none
           ]
         ]
 
@@ -91,35 +91,35 @@ total-ones [] = refl
 total-ones (x ∷ xs) = omega (arith, total-ones xs)
 
 -- the angles on the walk are those of the face, and so are the darts
-pub orbit_angles : (w : DartMap) (label : ℕ → ℕ) (a p : ℕ) → IsTied w → AreFaceNumbers w label → a < w.darts → IsOrbit w a p →
-    angles_round w label (label a) ≡ total (map w.angle (path w a p))
-orbit_angles w label a p tied labels l orbit = labelled_sum w label a p w.angle tied labels l orbit
+pub orbit_angles : (w : DartMap) (face_number : ℕ → ℕ) (a p : ℕ) → IsTied w → AreFaceNumbers w face_number → a < w.darts → IsOrbit w a p →
+    angles_round w face_number (face_number a) ≡ total (map w.angle (path w a p))
+orbit_angles w face_number a p tied face_numbers l orbit = numbered_sum w face_number a p w.angle tied face_numbers l orbit
 
-pub orbit_darts : (w : DartMap) (label : ℕ → ℕ) (a p : ℕ) → IsTied w → AreFaceNumbers w label → a < w.darts → IsOrbit w a p →
-    darts_round w label (label a) ≡ length (path w a p)
-orbit_darts w label a p tied labels l orbit = labelled_sum w label a p (λ _. 1) tied labels l orbit ∙ total-ones (path w a p)
+pub orbit_darts : (w : DartMap) (face_number : ℕ → ℕ) (a p : ℕ) → IsTied w → AreFaceNumbers w face_number → a < w.darts → IsOrbit w a p →
+    darts_round w face_number (face_number a) ≡ length (path w a p)
+orbit_darts w face_number a p tied face_numbers l orbit = numbered_sum w face_number a p (λ _. 1) tied face_numbers l orbit ∙ total-ones (path w a p)
 
 -- so the corners on the walk turn once to the left,
-pub orbit_once : (w : DartMap) (label : ℕ → ℕ) (outer a p : ℕ) → IsTied w → HasTurns w label outer → a < w.darts → IsOrbit w a p →
-    label a ≢ outer → TurnsOnce w (turning w (path w a p))
-orbit_once w label outer a p tied turns l orbit inner =
+pub orbit_once : (w : DartMap) (face_number : ℕ → ℕ) (outer a p : ℕ) → IsTied w → HasTurns w face_number outer → a < w.darts → IsOrbit w a p →
+    face_number a ≢ outer → TurnsOnce w (turning w (path w a p))
+orbit_once w face_number outer a p tied turns l orbit inner =
     omega (
       arith,
       turning_total w (path w a p),
-      orbit_angles w label a p tied turns.labels l orbit,
-      orbit_darts w label a p tied turns.labels l orbit,
+      orbit_angles w face_number a p tied turns.face_numbers l orbit,
+      orbit_darts w face_number a p tied turns.face_numbers l orbit,
       turns.inner a l inner,
     )
 
 -- and those round the outer face once to the right
-pub orbit_outside : (w : DartMap) (label : ℕ → ℕ) (a p : ℕ) → IsTied w → HasTurns w label (label a) → a < w.darts → IsOrbit w a p →
+pub orbit_outside : (w : DartMap) (face_number : ℕ → ℕ) (a p : ℕ) → IsTied w → HasTurns w face_number (face_number a) → a < w.darts → IsOrbit w a p →
     total (map w.angle (turning w (path w a p))) ≡ 2 * length (turning w (path w a p)) + 4
-orbit_outside w label a p tied turns l orbit =
+orbit_outside w face_number a p tied turns l orbit =
     omega (
       arith,
       turning_total w (path w a p),
-      orbit_angles w label a p tied turns.labels l orbit,
-      orbit_darts w label a p tied turns.labels l orbit,
+      orbit_angles w face_number a p tied turns.face_numbers l orbit,
+      orbit_darts w face_number a p tied turns.face_numbers l orbit,
       turns.outside,
     )
 
@@ -129,8 +129,8 @@ flat_total f [] flat = omega arith
 flat_total f (x ∷ xs) flat = omega (arith, flat x (inl refl), flat_total f xs (λ y h. flat y (inr h)))
 
 -- on each walk there is a corner
-pub turns_reach : (w : DartMap) (label : ℕ → ℕ) (outer : ℕ) → IsTied w → HasTurns w label outer → ReachesCorners w
-turns_reach w label outer tied turns = λ a l.
+pub turns_reach : (w : DartMap) (face_number : ℕ → ℕ) (outer : ℕ) → IsTied w → HasTurns w face_number outer → ReachesCorners w
+turns_reach w face_number outer tied turns = λ a l.
     let orbit = orbit_of w tied a l in
     first w a (turning w (path w a orbit.0)) (path_trail w a orbit.0) (some a l orbit.0 orbit.1)
   where
@@ -143,14 +143,14 @@ turns_reach w label outer tied turns = λ a l.
         elim (cases_eq (length (turning w (path w a p))) 0) [
           | inl none ↦
               let empty : total (map w.angle (turning w (path w a p))) ≡ 0 = no_total (turning w (path w a p)) none in
-              elim (cases_eq (label a) outer) [
+              elim (cases_eq (face_number a) outer) [
                 | inl e ↦ absurd (omega (
                   arith,
-                  orbit_outside w label a p tied (subst (HasTurns w label) (sym e) turns) l orbit,
+                  orbit_outside w face_number a p tied (subst (HasTurns w face_number) (sym e) turns) l orbit,
                   none,
                   empty,
                 ))
-                | inr inner ↦ absurd (omega (arith, orbit_once w label outer a p tied turns l orbit inner, none, empty))
+                | inr inner ↦ absurd (omega (arith, orbit_once w face_number outer a p tied turns l orbit inner, none, empty))
               ]
           | inr more ↦ omega arith
         ]

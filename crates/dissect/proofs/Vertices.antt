@@ -1,17 +1,17 @@
--- The vertices of a plane are joined by its darts, and so are the faces by those off a tree on the vertices.
+-- The vertices of a plane are connected by its darts, and so are the faces by those off a tree on the vertices.
 use Rattle.std.proofs.Common.{◌≡◌, ℕ, ◌+◌, ◌-◌, true, not, refl, sym, ap, ◌∙◌, subst, arith}
 use Rattle.std.proofs.lemmas.Bool.{true_from_ne_false}
 use Rattle.embedding.specs.declared.rules.Rule.TheVariants.{Disconnected}
 use Rattle.embedding.specs.Rules.{IsClosed}
 use Rattle.faces.specs.Planes.{PlaneModel, IsPlane, HasEnds, darts, vertices, head, tail, reverse_dart, face_at}
 use Rattle.flow_network.proofs.VertexDegrees.{entry_dart}
-use Rattle.dissect.proofs.Trees.{Joins, Connects}
+use Rattle.dissect.proofs.Trees.{Connections, Connects}
 use Rattle.dissect.proofs.Peeling.{IsPaired}
 use Rattle.dissect.proofs.TreeCounts.{in_tree}
 
--- the vertices, numbered from 0, joined by all darts
-abbrev pub vertex_joins : PlaneModel → Joins
-vertex_joins p = record {
+-- the vertices, numbered from 0, connected by all darts
+abbrev pub vertex_connections : PlaneModel → Connections
+vertex_connections p = record {
   darts = darts p;
   nodes = vertices p;
   from = λ d. tail p d - 1;
@@ -20,18 +20,18 @@ vertex_joins p = record {
   root = 0;
 }
 
--- the faces, joined by the darts that are not of the tree on the vertices
-abbrev pub face_joins : PlaneModel → (ℕ → ℕ) → Joins
-face_joins p parent = record {
+-- the faces, connected by the darts that are not of the tree on the vertices
+abbrev pub face_connections : PlaneModel → (ℕ → ℕ) → Connections
+face_connections p parent = record {
   darts = darts p;
   nodes = p.faces;
   from = λ d. face_at p (reverse_dart p d);
   to = λ d. face_at p d;
-  allowed = λ d. not (in_tree (vertex_joins p) (reverse_dart p) parent d);
+  allowed = λ d. not (in_tree (vertex_connections p) (reverse_dart p) parent d);
   root = 0;
 }
 
-pub vertices_paired : (p : PlaneModel) → HasEnds p → IsPaired (vertex_joins p) (reverse_dart p)
+pub vertices_paired : (p : PlaneModel) → HasEnds p → IsPaired (vertex_connections p) (reverse_dart p)
 vertices_paired p ends = record {
   inside = ends.reverse_dart_inside;
   back = ends.reverse_dart_back;
@@ -39,7 +39,7 @@ vertices_paired p ends = record {
   node = λ d l. omega (arith, ends.head_from d l, ends.head_to d l);
 }
 
-pub faces_paired : (p : PlaneModel) (parent : ℕ → ℕ) → HasEnds p → IsPaired (face_joins p parent) (reverse_dart p)
+pub faces_paired : (p : PlaneModel) (parent : ℕ → ℕ) → HasEnds p → IsPaired (face_connections p parent) (reverse_dart p)
 faces_paired p parent ends = record {
   inside = ends.reverse_dart_inside;
   back = ends.reverse_dart_back;
@@ -47,8 +47,8 @@ faces_paired p parent ends = record {
   node = ends.face_named;
 }
 
--- all darts join all vertices
-pub vertices_connect : (p : PlaneModel) → IsPlane p → Connects (vertex_joins p)
+-- all darts connect all vertices
+pub vertices_connect : (p : PlaneModel) → IsPlane p → Connects (vertex_connections p)
 vertices_connect p plane s one shut v l =
     true_from_ne_false (s v) (λ none.
     plane.rules Disconnected (omega arith) (

@@ -8,7 +8,7 @@ use Rattle.dissect.specs.FaceNumbers.{AreFaceNumbers, HasTurns}
 use Rattle.dissect.proofs.Listing.{in_append, in_left, in_right}
 use Rattle.dissect.specs.Walks.{steps, path, turning, IsFlagged, IsWalked}
 use Rattle.dissect.proofs.Orbits.{steps_in, steps_more, path_member, path_more, orbit_of, turning-append, turning_corner, turning_straight}
-use Rattle.dissect.proofs.Turns.{flat_total, label_along, orbit_angles, orbit_darts}
+use Rattle.dissect.proofs.Turns.{flat_total, face_number_along, orbit_angles, orbit_darts}
 
 -- no right turn within k steps
 pub record IsSeeking (w : DartMap) (a k dart : ℕ) : Type 0 where
@@ -30,9 +30,9 @@ seek_on w a k dart next seek low to =
     }
 
 -- a face that turns to the right has a right turn
-pub seek_fails : (w : DartMap) (label : ℕ → ℕ) (a k dart : ℕ) → IsTied w → HasTurns w label (label a) → a < w.darts →
+pub seek_fails : (w : DartMap) (face_number : ℕ → ℕ) (a k dart : ℕ) → IsTied w → HasTurns w face_number (face_number a) → a < w.darts →
     w.darts ≤ k → IsSeeking w a k dart → ⊥
-seek_fails w label a k dart tied turns l all seek =
+seek_fails w face_number a k dart tied turns l all seek =
     let orbit = orbit_of w tied a l in
     let p : ℕ = orbit.0 in
     let flat : (x : ℕ) → In x (path w a p) → w.angle x ≤ 2 = λ x h.
@@ -44,8 +44,8 @@ seek_fails w label a k dart tied turns l all seek =
     omega (
       arith,
       flat_total w.angle (path w a p) flat,
-      orbit_angles w label a p tied turns.labels l orbit.1,
-      orbit_darts w label a p tied turns.labels l orbit.1,
+      orbit_angles w face_number a p tied turns.face_numbers l orbit.1,
+      orbit_darts w face_number a p tied turns.face_numbers l orbit.1,
       turns.outside,
     )
 
@@ -175,9 +175,9 @@ walk_fails w start before after others listed k dart tied l all walk =
 pub seek_in : (w : DartMap) (a k dart : ℕ) → IsTied w → a < w.darts → IsSeeking w a k dart → dart < w.darts
 seek_in w a k dart tied l seek = subst (λ (d : ℕ). d < w.darts) (sym seek.here) (steps_in w tied k a l)
 
-pub seek_label : (w : DartMap) (label : ℕ → ℕ) (a k dart : ℕ) → IsTied w → AreFaceNumbers w label → a < w.darts → IsSeeking w a k dart →
-    label dart ≡ label a
-seek_label w label a k dart tied labels l seek = ap label seek.here ∙ label_along w label tied labels k a l
+pub seek_face_number : (w : DartMap) (face_number : ℕ → ℕ) (a k dart : ℕ) → IsTied w → AreFaceNumbers w face_number → a < w.darts → IsSeeking w a k dart →
+    face_number dart ≡ face_number a
+seek_face_number w face_number a k dart tied face_numbers l seek = ap face_number seek.here ∙ face_number_along w face_number tied face_numbers k a l
 
 pub walk_in : (w : DartMap) (start : ℕ) (before after : List Bool) (others listed : List ℕ) (k dart : ℕ) → IsTied w → start < w.darts →
     IsWalking w start before after others listed k dart → dart < w.darts

@@ -16,9 +16,9 @@ pub record KeepsDarts (p : PlaneModel) (a : ℕ → ℕ) (w : DartMap) : Type 0 
 
 -- the faces of the map turn as faces of a drawing do, and the darts of the plane p are of the faces that p gives them
 pub record KeepsFaces (p : PlaneModel) (w : DartMap) : Type 0 where
-  pub label : ℕ → ℕ
-  pub turns : HasTurns w label p.outer
-  pub faces : (d : ℕ) → d < darts p → label d ≡ face_at p d
+  pub face_number : ℕ → ℕ
+  pub turns : HasTurns w face_number p.outer
+  pub faces : (d : ℕ) → d < darts p → face_number d ≡ face_at p d
 
 -- each bend of the strings s is a vertex more, two darts more, and at most a right turn more
 pub record CountsBends (p : PlaneModel) (s : ℕ → List Turn) (w : DartMap) : Type 0 where

@@ -29,7 +29,7 @@ StandOn [] others = Unit {0}
 StandOn (a ∷ rest) [] = ⊥
 StandOn (a ∷ rest) (b ∷ others) = ((a ≡ b) × StandOn rest others) ⊎ StandOn (a ∷ rest) others
 
--- the map of the shape stands in the boxes, in a rectangle to which it is joined at a right turn of its outer face
+-- the map of the shape stands in the boxes, in a rectangle to which it is connected at a right turn of its outer face
 pub record IsEnclosedMap (p : PlaneModel) (shape : ShapeModel) (b : BoxesModel) : Type 0 where
   pub enclosed_map : DartMap
   pub of_shape : IsMapOfShape p shape enclosed_map
@@ -43,8 +43,8 @@ pub record IsEnclosedMap (p : PlaneModel) (shape : ShapeModel) (b : BoxesModel) 
   pub right : ℕ
   pub right_in : right < enclosed_map.darts
   pub turns_right : 2 < enclosed_map.angle right
-  pub outer : of_shape.faces.label right ≡ p.outer
-  pub join : IsConnectedAt enclosed_map right (dart_map b)
+  pub outer : of_shape.faces.face_number right ≡ p.outer
+  pub bridge : IsConnectedAt enclosed_map right (dart_map b)
 
 -- the paths of the plane's darts lie apart
 pub record ArePathsApart (p : PlaneModel) (w : DartMap) : Type 0 where
@@ -74,9 +74,9 @@ pub record IsBoxed (p : PlaneModel) (shape : ShapeModel) (b : BoxesModel) : Type
   -- it comes to no vertex twice, its reverse takes it the other way, and no other dart shares a part of it
   pub apart : ArePathsApart p (dart_map b)
   -- paths meet nowhere but at their ends, which are vertices of the plane: between the darts of a path, of a side of the rectangle and
-  -- of the join lie vertices that are on no other, and are none of the plane's
+  -- of the bridge lie vertices that are on no other, and are none of the plane's
   pub chains : AreChains (vertices p) (dart_map b)
   -- at its head it makes its angle with the next dart: the reverse of the next dart arrives so many quarters to the right
   pub angles : (d : ℕ) → d < darts p → ((dart_map b).direction (reverse_dart p (next p d)) + angle_at shape d) % 4 ≡ (dart_map b).direction d
-  -- round the whole stands a rectangle, joined to it at a right turn of the plane's outer face
+  -- round the whole stands a rectangle, connected to it at a right turn of the plane's outer face
   pub enclosed : IsEnclosedMap p shape b

@@ -90,7 +90,7 @@ pub record IsSubdivided (w : DartMap) (e way bend : ℕ) (new : DartMap) : Type 
   pub before_second : new.before (w.darts + 1) ≡ w.before (w.reverse_dart e)
   pub before_other : (a : ℕ) → a < w.darts → a ≢ e → a ≢ w.reverse_dart e → new.before a ≡ w.before a
 
--- A new edge joins the corner at the head of d with the corner at the head of f: the new dart w.darts goes on
+-- A new edge connects the corner at the head of d with the corner at the head of f: the new dart w.darts goes on
 -- from d in the direction `way`, and w.darts + 1 comes back from f. Each corner gives up one right angle,
 -- which the new edge then has on its left.
 pub record IsChord (w : DartMap) (d f way : ℕ) (new : DartMap) : Type 0 where
@@ -132,8 +132,8 @@ pub record Fits (w : DartMap) (d f way : ℕ) : Type 0 where
   pub direction_quarter : way < 4
   pub from_d : (way + 1 + w.angle d) % 4 ≡ w.direction d
   pub to_f : (way + w.angle f) % 4 ≡ (w.direction f + 1) % 4
-  pub wide_d : 1 < w.angle d
-  pub wide_f : 1 < w.angle f
+  pub splits_d : 1 < w.angle d
+  pub splits_f : 1 < w.angle f
 
 -- a map whose edges are straight
 pub record IsSound (w : DartMap) : Type 0 where
@@ -141,7 +141,7 @@ pub record IsSound (w : DartMap) : Type 0 where
   pub meeting : IsMeeting w
   pub straight : IsStraight w
 
--- One cut: the edge of the dart e is split without a turn, and a chord joins the corner at the head of d, which
+-- One cut: the edge of the dart e is split without a turn, and a chord connects the corner at the head of d, which
 -- is a right turn or two, with the new place on e.
 pub record IsCut (w : DartMap) (d e way : ℕ) (new : DartMap) : Type 0 where
   pub middle : DartMap

@@ -1,4 +1,4 @@
--- The corners of all faces, listed, before the map is joined with its rectangle.
+-- The corners of all faces, listed, before the map is connected with its rectangle.
 use Rattle.std.specs.Prelude.{◌≡◌, ◌≢◌, ℕ, ◌+◌, ◌*◌, ◌%◌, ◌<◌, List, [], ◌∷◌, ◌++◌, length, map}
 use Rattle.dissect.specs.DartMaps.{DartMap}
 use Rattle.dissect.specs.Faces.{IsCorner, Ring, In, Distinct, Below, concatenated, AreRings}
@@ -15,7 +15,7 @@ pub record AreListed (w : DartMap) (right : ℕ) (inner : List (List ℕ)) (oute
   pub turns_back : total (map w.angle outer) ≡ 2 * length outer + 4
   pub all : (a : ℕ) → a < w.darts → IsCorner w a → In a (concatenated inner ++ outer)
 
--- the corners that the joined face has beside those of the outer face, where the map had n darts: along the cut to
+-- the corners that the connected face has beside those of the outer face, where the map had n darts: along the cut to
 -- the side `side` of the rectangle, round its inside and back
 abbrev pub detour : ℕ → ℕ → List ℕ
 detour n side =
@@ -26,13 +26,13 @@ pub record AreFlat (corners counts : List ℕ) (faces : List (List ℕ)) : Type 
   pub flat : corners ≡ concatenated faces
   pub lengths : counts ≡ map (λ (r : List ℕ). length r) faces
 
--- what the joined face keeps of the outer face's corners, which are `front` and then `right`: all of them, or all
--- but `right`, where that is straight after the join
+-- what the connected face keeps of the outer face's corners, which are `front` and then `right`: all of them, or all
+-- but `right`, where that is straight after the bridge
 pub record AreKeptCorners (w : DartMap) (right : ℕ) (front kept : List ℕ) : Type 0 where
   pub straight : w.angle right ≡ 3 → kept ≡ front
   pub turning : w.angle right ≢ 3 → kept ≡ front ++ (right ∷ [])
 
--- the faces of the map joined with its rectangle
+-- the faces of the map connected with its rectangle
 pub record AreConnectedFaces (w : DartMap) (right side : ℕ) (front : List ℕ) (inner : List (List ℕ)) (corners counts : List ℕ) : Type 0 where
   pub kept : List ℕ
   pub is_kept : AreKeptCorners w right front kept

@@ -3,7 +3,7 @@ use Rattle.std.specs.Prelude.{◌≡◌, ℕ, ◌<◌, ◌≤◌, ◌⊎◌, map
 use Rattle.std.specs.List.{range_with_len}
 use Rattle.ortho_rep.specs.declared.points.TheConstants.{MAX_COORDINATE}
 use Rattle.dissect.specs.DartMaps.{DartMap}
-use Rattle.dissect.specs.Paths.{turning_places}
+use Rattle.dissect.specs.Paths.{turning_vertices}
 use Rattle.ortho_rep.specs.declared.points.Point.{Point}
 use Rattle.ortho_rep.specs.Points.{PointsModel, corners_at}
 use Rattle.dissect.specs.Boxes.{BoxesModel, HasEdge, dart_map}
@@ -32,7 +32,7 @@ pub record AreTaken (b : BoxesModel) (x y : ℕ → ℕ) (points : PointsModel) 
   pub vertex_count : length points.vertices ≡ b.old
   pub count : length points.corners ≡ length b.edges
   pub corners : (e : ℕ) → e < length b.edges → (edge : HasEdge b e)
-      → corners_at points e ≡ map (point_at x y) (turning_places (dart_map b) edge.first edge.rest)
+      → corners_at points e ≡ map (point_at x y) (turning_vertices (dart_map b) edge.first edge.rest)
 
 -- the points are taken from some numbers in order, within the grid
 pub record AreLaidOut (b : BoxesModel) (points : PointsModel) : Type 0 where
@@ -47,6 +47,6 @@ pub record AreLaidOut (b : BoxesModel) (points : PointsModel) : Type 0 where
   pub taken : AreTaken b x y points
 
 -- no numbers in order are all within the grid
-abbrev pub HasNoPlace : BoxesModel → Type 0
-HasNoPlace b = (x y : ℕ → ℕ) → IsOrdered (dart_map b) x y
+abbrev pub FitsNoGrid : BoxesModel → Type 0
+FitsNoGrid b = (x y : ℕ → ℕ) → IsOrdered (dart_map b) x y
     → (v : ℕ) × (v < b.vertices) × ((MAX_COORDINATE < x v) ⊎ (MAX_COORDINATE < y v))

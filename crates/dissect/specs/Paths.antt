@@ -26,9 +26,9 @@ bends w a [] = []
 bends w a (b ∷ bs) = if turn_to w a b == 0 then bends w b bs else turn_to w a b ∷ bends w b bs
 
 -- the vertices at which a path turns, in order
-abbrev pub turning_places : DartMap → ℕ → List ℕ → List ℕ
-turning_places w a [] = []
-turning_places w a (b ∷ bs) = if turn_to w a b == 0 then turning_places w b bs else w.head a ∷ turning_places w b bs
+abbrev pub turning_vertices : DartMap → ℕ → List ℕ → List ℕ
+turning_vertices w a [] = []
+turning_vertices w a (b ∷ bs) = if turn_to w a b == 0 then turning_vertices w b bs else w.head a ∷ turning_vertices w b bs
 
 -- the edge that ends with the dart `end`, and the other way with `reverse_dart`, sets out with the reverse of that, and
 -- turns by these quarters

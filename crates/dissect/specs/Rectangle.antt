@@ -1,4 +1,4 @@
--- The rectangle round a map, and how the two are joined. The map `inner` has n darts and v vertices, which have the
+-- The rectangle round a map, and how the two are connected. The map `inner` has n darts and v vertices, which have the
 -- same numbers in the map that holds it.
 use Rattle.std.specs.Prelude.{◌≡◌, ◌≢◌, ℕ, ◌+◌, ◌%◌, ◌<◌, List, [], ◌∷◌}
 use Rattle.dissect.specs.DartMaps.{DartMap}
@@ -11,7 +11,7 @@ pub record IsStraightChain (w : DartMap) (end back : ℕ) : Type 0 where
   pub again : HasPath w back end []
 
 -- the place where the dart `at` arrives lies on the chain that ends with the dart `end`, before its end
-pub record IsPlaceOn (w : DartMap) (end at : ℕ) : Type 0 where
+pub record IsInsideChain (w : DartMap) (end at : ℕ) : Type 0 where
   pub first : ℕ
   pub rest : List ℕ
   pub path : IsPath w end first rest
@@ -29,7 +29,7 @@ pub record HasRectangle (inner w : DartMap) : Type 0 where
   pub corners : (k : ℕ) → k < 4 → w.head (inner.darts + 4 + k) ≡ inner.vertices + (k + 3) % 4
   pub outside : (k : ℕ) → k < 4 → IsOutside w (inner.darts + 4) (inner.darts + 4 + k)
 
--- A straight chain of darts, which ends with the dart n + 10 and the other way with n + 11, joins the map with a side of its
+-- A straight chain of darts, which ends with the dart n + 10 and the other way with n + 11, connects the map with a side of its
 -- rectangle: it sets out where the dart `right` arrives, and leaves a right angle between itself and the next edge on its left.
 pub record IsConnectedAt (inner : DartMap) (right : ℕ) (w : DartMap) : Type 0 where
   pub chain : IsStraightChain w (inner.darts + 10) (inner.darts + 11)
@@ -40,4 +40,4 @@ pub record IsConnectedAt (inner : DartMap) (right : ℕ) (w : DartMap) : Type 0 
   pub side_in : side < 4
   pub meets : (w.direction (inner.darts + 10) + 1) % 4 ≡ side
   pub to : w.head (inner.darts + 10) ≡ w.head (inner.darts + 8)
-  pub on_side : IsPlaceOn w (inner.darts + side) (inner.darts + 8)
+  pub on_side : IsInsideChain w (inner.darts + side) (inner.darts + 8)

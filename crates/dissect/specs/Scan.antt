@@ -2,7 +2,7 @@
 use Rattle.std.specs.Prelude.{◌≡◌, ℕ, zero, suc, ◌+◌, ◌*◌, ◌%◌, ◌<◌, ◌≤◌, List, [], ◌∷◌, length, map, slice_index, drop, All}
 use Rattle.dissect.specs.DartMaps.{DartMap, IsSound, Grows, reflex_turns}
 use Rattle.dissect.specs.Faces.{AreWaiting}
-use Rattle.dissect.specs.Turning.{total, Rising, Hopeful, Reduced}
+use Rattle.dissect.specs.Turning.{total, Rising, Hopeful, HasNoHook}
 
 -- the stack, from its bottom up, and then the rest
 abbrev pub down : List ℕ → List ℕ → List ℕ
@@ -41,13 +41,13 @@ IsHookOn w (c ∷ []) = ⊥
 IsHookOn w (c ∷ c1 ∷ []) = ⊥
 IsHookOn w (c ∷ c1 ∷ d ∷ st) = (w.angle c ≡ 1) × (w.angle c1 ≡ 1) × (2 < w.angle d)
 
--- the scan of a face whose corners stand in a list of places: those below h are the stack, which is reduced, and
+-- the scan of a face whose corners stand in a list of places: those below h are the stack, which is hookless, and
 -- those from `read` on the rest; there is room for `room` darts, and for `now` of them by now
 pub record IsReading (w0 : DartMap) (face : List ℕ) (room : ℕ) (w : DartMap) (xs : List ℕ) (h read now : ℕ) : Type 0 where
   pub scan : IsScan w0 face w (tops xs h) (drop read xs)
   pub low : h ≤ read
   pub inside : read ≤ length xs
-  pub reduced : Reduced 0 (map w.angle (tops xs h))
+  pub hookless : HasNoHook 0 (map w.angle (tops xs h))
   pub space : HasRoom w room
   pub kept : now ≡ room
   pub darts : All (λ a. a < now) xs

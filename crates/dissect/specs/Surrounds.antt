@@ -1,4 +1,4 @@
--- A rectangle round a map, and its join.
+-- A rectangle round a map, and its bridge.
 use Rattle.std.specs.Prelude.{◌≡◌, ℕ, ◌+◌, ◌%◌, ◌<◌}
 use Rattle.dissect.specs.DartMaps.{DartMap, no_dart, IsCut, Grows}
 use Rattle.dissect.specs.FaceNumbers.{AreFaceNumbers}
@@ -30,17 +30,17 @@ pub record IsSurrounded (w new : DartMap) : Type 0 where
   pub before_inner : (k : ℕ) → k < 4 → new.before (w.darts + k) ≡ no_dart
   pub before_outer : (k : ℕ) → k < 4 → new.before (w.darts + 4 + k) ≡ no_dart
 
--- a map in its rectangle, with which it is joined by a cut from a right turn of its own, on the face of the dart
+-- a map in its rectangle, with which it is connected by a cut from a right turn of its own, on the face of the dart
 -- `outside`, to a side of the rectangle, and then cut up further
 pub record IsEnclosed (w : DartMap) (outside : ℕ) (new : DartMap) : Type 0 where
   pub surrounded : DartMap
   pub surround : IsSurrounded w surrounded
-  pub joined : DartMap
+  pub bridged : DartMap
   pub right : ℕ
   pub side : ℕ
   pub direction : ℕ
   pub right_in : right < w.darts
-  pub same_face : (label : ℕ → ℕ) → AreFaceNumbers w label → label right ≡ label outside
+  pub same_face : (face_number : ℕ → ℕ) → AreFaceNumbers w face_number → face_number right ≡ face_number outside
   pub side_in : side < 4
-  pub join : IsCut surrounded right (w.darts + side) direction joined
-  pub grows : Grows joined new
+  pub bridge : IsCut surrounded right (w.darts + side) direction bridged
+  pub grows : Grows bridged new

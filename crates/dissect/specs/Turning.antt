@@ -17,9 +17,9 @@ Hopeful sum count [] = Unit {0}
 Hopeful sum count (x ∷ st) = (2 < x → sum + x + 1 ≤ 2 * (count + 1)) × Hopeful (sum + x) (count + 1) st
 
 -- on each right turn of the stack stands at most one left turn, of which `lefts` stand above the list
-abbrev pub Reduced : ℕ → List ℕ → Type 0
-Reduced lefts [] = Unit {0}
-Reduced lefts (x ∷ st) = (2 < x → (lefts ≤ 1) × Reduced 0 st) × (x ≡ 1 → Reduced (lefts + 1) st)
+abbrev pub HasNoHook : ℕ → List ℕ → Type 0
+HasNoHook lefts [] = Unit {0}
+HasNoHook lefts (x ∷ st) = (2 < x → (lefts ≤ 1) × HasNoHook 0 st) × (x ≡ 1 → HasNoHook (lefts + 1) st)
 
 -- the angles of corners
 abbrev pub AreTurns : List ℕ → Type 0

@@ -122,7 +122,7 @@ impl Boxes {
     }
 
     /// The dart in front of a dart on the same chain, which is an edge of the plane, a side of the rectangle,
-    /// its join or a cut; none where it is the first one.
+    /// its bridge or a cut; none where it is the first one.
     pub fn before(&self, dart: u32) -> Option<u32>
         requires { dart < self.now.darts }
         ensures some { IfSome result (λ front. front ≡ (dart_map self.now).before dart) }

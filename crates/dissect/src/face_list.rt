@@ -14,7 +14,7 @@ use std::alloc::{AllocError, Global};
 /// The corners of faces, those of each face in walking order, whose memory can be used again.
 #[derive(Drop)]
 pub struct Faces {
-    /// The corners of the inner faces, one face after another, and behind them those of the joined face
+    /// The corners of the inner faces, one face after another, and behind them those of the connected face
     /// once it is added.
     pub(crate) corners: Vec<u32>,
     /// How many corners each of these faces has.
@@ -39,7 +39,7 @@ impl Faces {
     }
 }
 
-/// How many faces a joined map has, by Euler's formula. Only how much room is made for them rests on it.
+/// How many faces a connected map has, by Euler's formula. Only how much room is made for them rests on it.
 fn face_count(table: &DartTable) -> usize {
     (table.darts / 2 + 2).saturating_sub(table.vertices) as usize
 }
@@ -50,7 +50,7 @@ pub fn list_faces(table: &DartTable, right: u32, faces: Faces) -> Result<Faces, 
     requires tied { IsTied (dart_map_of table.now) }
     requires inside { right < table.now.darts }
     requires turn { 2 < (dart_map_of table.now).angle right }
-    requires turns { (label : ℕ → ℕ) × HasTurns (dart_map_of table.now) label (label right) }
+    requires turns { (face_number : ℕ → ℕ) × HasTurns (dart_map_of table.now) face_number (face_number right) }
     ensures listed { IfOk result (λ f. (inner : List (List ℕ)) × AreFlat f.corners.items f.counts.items inner
         × AreListed (dart_map_of table.now) right inner f.outer.items) }
 {
@@ -59,7 +59,7 @@ pub fn list_faces(table: &DartTable, right: u32, faces: Faces) -> Result<Faces, 
     let mut seen = filled(faces.seen, darts, false)?;
     let mut outer = emptied(faces.outer, darts)?;
     walk(table, right, &mut seen, &mut outer)?;
-    // The joined face has the corners of the outer face, and seven more.
+    // The connected face has the corners of the outer face, and seven more.
     let mut corners = emptied(faces.corners, darts + 7)?;
     let mut counts = emptied(faces.counts, face_count(table))?;
     'darts: for start in 0..table.darts {

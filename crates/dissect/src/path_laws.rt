@@ -39,7 +39,7 @@ pub fn cuts_keep_paths()
         → HasPaths w n reverse_dart quarters → HasPaths new n reverse_dart quarters }
 {}
 
-/// A rectangle round the map, its join and the cuts after it keep the turns of each edge.
+/// A rectangle round the map, its bridge and the cuts after it keep the turns of each edge.
 pub fn rectangles_keep_paths()
     ensures { (w : DartMap) (outside : ℕ) (new : DartMap) (n : ℕ) (reverse_dart : ℕ → ℕ) (quarters : ℕ → List ℕ) → IsSound w
         → IsEnclosed w outside new

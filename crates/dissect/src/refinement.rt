@@ -1,4 +1,4 @@
-//! Puts a rectangle round a map in four directions, joins the two, and cuts every face into boxes.
+//! Puts a rectangle round a map in four directions, connects the two, and cuts every face into boxes.
 //!
 //! A cut leads from a right turn of the outer face to the side of the rectangle that it faces, so that
 //! the outer face and the inside of the rectangle become one face. Each face but the outside of the
@@ -21,7 +21,7 @@ use std::alloc::{AllocError, Global};
 
 /// The side of the rectangle that a cut from the right turn `right` goes to: 0 to 3 for that whose
 /// inside runs to the east, north, west and south.
-fn facing_side(table: &DartTable, right: u32) -> u32
+fn cut_side(table: &DartTable, right: u32) -> u32
     requires sound { IsSound (dart_map_of table.now) }
     requires inside { right < table.now.darts }
     ensures side { result < 4 }
@@ -30,7 +30,7 @@ fn facing_side(table: &DartTable, right: u32) -> u32
     u32::from(table.direction[right as usize] + 4 - table.angle[right as usize]) % 4
 }
 
-/// Puts a rectangle round the map, joins it to a right turn of the outer face, which is that of
+/// Puts a rectangle round the map, connects it to a right turn of the outer face, which is that of
 /// the dart `outside`, and cuts all faces into boxes. The table needs room for four darts for each
 /// right turn, and for `RECTANGLE_ROOM` more. Linear in the darts. Faces are listed in the memory that is
 /// lent, which is given back.
@@ -41,7 +41,7 @@ fn facing_side(table: &DartTable, right: u32) -> u32
 /// that was lent is gone.
 pub fn refine_in(table: &mut DartTable, outside: u32, faces: Faces) -> Result<Faces, AllocError>
     requires sound { IsSound (dart_map_of table.old) }
-    requires turns { (label : ℕ → ℕ) × HasTurns (dart_map_of table.old) label (label outside) }
+    requires turns { (face_number : ℕ → ℕ) × HasTurns (dart_map_of table.old) face_number (face_number outside) }
     requires inside { outside < table.old.darts }
     requires space { table.old.darts + 4 * reflex_turns (dart_map_of table.old) + RECTANGLE_ROOM ≤ room table.old }
     ensures sound { OnOk result (IsSound (dart_map_of table.new)) }
@@ -54,7 +54,7 @@ pub fn refine_in(table: &mut DartTable, outside: u32, faces: Faces) -> Result<Fa
 {
     let right = find_right(table, outside);
     let mut faces = list_faces(table, right, faces)?;
-    let side = facing_side(table, right);
+    let side = cut_side(table, right);
     add_connected_face(table, right, side, &mut faces)?;
     let corner = table.darts + (side + 3) % 4;
     surround(table);

@@ -10,7 +10,7 @@ ghost use Rattle.std.specs.Prelude.{◌≡◌, ◌≢◌, ℕ, ◌+◌, ◌-◌,
 ghost use Rattle.dissect.specs.DartMaps.{IsSound, IsCut, Grows};
 ghost use Rattle.dissect.specs.Tables.{dart_map_of, room};
 ghost use Rattle.dissect.specs.Faces.{AreWaiting, pieces_of};
-ghost use Rattle.dissect.specs.Turning.{AreTurns, Reduced, IsHighest};
+ghost use Rattle.dissect.specs.Turning.{AreTurns, HasNoHook, IsHighest};
 ghost use Rattle.dissect.specs.Scan.{CanCut, HasRoom, IsHookOn, IsReading, down, tops};
 
 use crate::table::DartTable;

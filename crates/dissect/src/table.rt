@@ -42,7 +42,7 @@ pub struct DartTable {
     ghost angle_room: { vec_len angle ≡ vec_len next },
     ghost darts_in: { darts ≤ vec_len next },
     ghost few: { vertices ≤ darts },
-    ghost narrow: { vec_len next < 2 ^ 32 },
+    ghost darts_fit: { vec_len next < 2 ^ 32 },
 }
 
 impl DartTable {
@@ -97,7 +97,7 @@ impl DartTable {
         self.vertices += 1;
     }
 
-    /// Joins the corner at the head of the dart `d` with the corner at the head of the dart `f` by an
+    /// Connects the corner at the head of the dart `d` with the corner at the head of the dart `f` by an
     /// edge that leaves in the direction `way`.
     pub fn chord(&mut self, d: u32, f: u32, way: u8)
         requires tied { IsTied (dart_map_of self.old) }

@@ -14,10 +14,10 @@ use std::alloc::AllocError;
 pub fn find_right(table: &DartTable, outside: u32) -> u32
     requires tied { IsTied (dart_map_of table.now) }
     requires inside { outside < table.now.darts }
-    requires turns { (label : ℕ → ℕ) × HasTurns (dart_map_of table.now) label (label outside) }
+    requires turns { (face_number : ℕ → ℕ) × HasTurns (dart_map_of table.now) face_number (face_number outside) }
     ensures inside { result < table.now.darts }
     ensures right { 2 < (dart_map_of table.now).angle result }
-    ensures same { (label : ℕ → ℕ) → AreFaceNumbers (dart_map_of table.now) label → label result ≡ label outside }
+    ensures same { (face_number : ℕ → ℕ) → AreFaceNumbers (dart_map_of table.now) face_number → face_number result ≡ face_number outside }
 {
     let mut dart = outside;
     'steps: for _ in 0..table.darts {

@@ -9,7 +9,7 @@ use Rattle.geometry.specs.declared.rectangles.Rectangle.{Rectangle}
 use Rattle.geometry.specs.Rectangles.{Covers, AreApart}
 use Rattle.ortho_rep.specs.declared.points.Point.{Point}
 use Rattle.drawing_check.specs.Walks.{HasNoRepeat}
-use Rattle.drawing_check.specs.Shown.{Lists, Shows}
+use Rattle.drawing_check.specs.Shown.{Enumerates, Shows}
 
 -- points with the same coordinates are the same
 pub point_is : (p q : Point) → p.x ≡ q.x → p.y ≡ q.y → p ≡ q
@@ -92,5 +92,5 @@ shows_append [] ts ps qs s t = subst (λ (l : List Point). Shows ts (l ++ qs)) (
 shows_append (r ∷ rs) ts ps qs s t =
     (s.0, s.1 ++ qs, ap (λ (l : List Point). l ++ qs) s.2 ∙ append_assoc s.0 s.1 qs, s.3, shows_append rs ts s.1 qs s.4 t)
 
-pub shows_push : (rs : List Rectangle) (r : Rectangle) (ps qs : List Point) → Shows rs ps → Lists r qs → Shows (rs ++ r ∷ []) (ps ++ qs)
+pub shows_push : (rs : List Rectangle) (r : Rectangle) (ps qs : List Point) → Shows rs ps → Enumerates r qs → Shows (rs ++ r ∷ []) (ps ++ qs)
 shows_push rs r ps qs s l = shows_append rs (r ∷ []) ps qs s (qs, [], sym (append-nil qs), l, refl)

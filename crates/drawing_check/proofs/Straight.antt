@@ -18,7 +18,7 @@ straight_path route none = ap (λ (corners : List Point). route.start ∷ (corne
 pub none_all : (P : Point → Type 0) (corners : List Point) → length corners ≡ 0 → All P corners
 none_all P corners none = λ k d lt. absurd (omega arith)
 
--- its one segment is parallel to an axis
+-- its one part is parallel to an axis
 axes_of_segment : (a b : Point) (t : Bool) → (t ≡ true ↔ IsAxis a b) → t ≡ true ↔ IsOnAxes (a ∷ b ∷ [])
 axes_of_segment a b t one = (λ e. each (one.0 e), λ h. one.1 (h 0 (omega arith)))
   where

@@ -11,7 +11,7 @@ use Rattle.ortho_rep.specs.declared.points.Point.{Point}
 use Rattle.drawing_check.specs.Walks.{step_from, distance, walk, inner, HasNoRepeat}
 use Rattle.drawing_check.specs.Paths.{point_of}
 use Rattle.drawing_check.specs.Draws.{IsAxis, IsOnAxes, AreOnAxes}
-use Rattle.drawing_check.specs.Shown.{span_of, same_point, strips, Lists, Shows}
+use Rattle.drawing_check.specs.Shown.{rectangle_between, same_point, strips, Enumerates, Shows}
 use Rattle.drawing_check.proofs.Coverings.{point_is, shows_append, no_repeat_from_apart, apart_from_no_repeat}
 use Rattle.drawing_check.proofs.Segments.{toward_up, toward_down, toward_same, segment_lists}
 
@@ -91,7 +91,7 @@ more_steps a b axis no_end =
 
 -- ---- a path
 
--- what holds of a path's segments holds of those behind the first
+-- what holds of a path's parts holds of those behind the first
 axes_rest : (a : Point) (path : List Point) → IsOnAxes (a ∷ path) → IsOnAxes path
 axes_rest a path h k lt =
     let e : suc k + 1 ≡ suc (k + 1) = omega arith in
@@ -111,7 +111,7 @@ shows_strips (a ∷ b ∷ []) h = last (h 0 (omega arith)) (cases_Bool (same_poi
           walk a b (distance a b - 1),
           [],
           sym (append-nil (walk a b (distance a b - 1))),
-          subst (λ (p : Point). Lists (span_of (step_from a b 1) p) (walk a b (distance a b - 1))) (step_back a b axis) (segment_lists a b (distance a b - 1) axis (more_steps a b axis more) (omega arith)),
+          subst (λ (p : Point). Enumerates (rectangle_between (step_from a b 1) p) (walk a b (distance a b - 1))) (step_back a b axis) (segment_lists a b (distance a b - 1) axis (more_steps a b axis more) (omega arith)),
           refl,
         )
 shows_strips (a ∷ b ∷ c ∷ rest) h =
@@ -119,7 +119,7 @@ shows_strips (a ∷ b ∷ c ∷ rest) h =
       walk a b (distance a b),
       inner (b ∷ c ∷ rest),
       refl,
-      subst (λ (p : Point). Lists (span_of (step_from a b 1) p) (walk a b (distance a b))) (all_steps a b axis) (segment_lists a b (distance a b) axis (steps_some a b axis) (omega arith)),
+      subst (λ (p : Point). Enumerates (rectangle_between (step_from a b 1) p) (walk a b (distance a b))) (all_steps a b axis) (segment_lists a b (distance a b) axis (steps_some a b axis) (omega arith)),
       shows_strips (b ∷ c ∷ rest) (axes_rest a (b ∷ c ∷ rest) h),
     )
 
@@ -129,55 +129,55 @@ shows_paths (path ∷ ps) h =
     shows_append (strips path) (flat_map strips ps) (inner path) (flat_map inner ps) (shows_strips path (All-head IsOnAxes path ps h)) (shows_paths ps (All-tail IsOnAxes path ps h))
 
 -- a vertex is a rectangle of one point
-point_lists : (p : Point) → Lists (span_of p p) (p ∷ [])
+point_lists : (p : Point) → Enumerates (rectangle_between p p) (p ∷ [])
 point_lists p = record {
   once = λ i j d lt within. absurd (omega arith);
   covered = λ q. (
-    λ h. let zeroth : h.0 ≡ 0 = omega (arith, h.1) in let one : p ≡ q = subst (λ (n : ℕ). get_or (p ∷ []) n q ≡ q) zeroth h.2 in subst (λ (r : Point). Covers (span_of p p) r.x r.y) one (omega arith, omega arith, omega arith, omega arith),
+    λ h. let zeroth : h.0 ≡ 0 = omega (arith, h.1) in let one : p ≡ q = subst (λ (n : ℕ). get_or (p ∷ []) n q ≡ q) zeroth h.2 in subst (λ (r : Point). Covers (rectangle_between p p) r.x r.y) one (omega arith, omega arith, omega arith, omega arith),
     λ in_p. (0, omega arith, point_is p q (omega (arith, in_p.0, in_p.1)) (omega (arith, in_p.2, in_p.3))),
   );
 }
 
-pub shows_points : (ps : List Point) → Shows (map (λ p. span_of p p) ps) ps
+pub shows_points : (ps : List Point) → Shows (map (λ p. rectangle_between p p) ps) ps
 shows_points [] = refl
 shows_points (p ∷ ps) = (p ∷ [], ps, refl, point_lists p, shows_points ps)
 
 -- ---- each is a rectangle
 
-span_filled : (a b : Point) → IsFilled (span_of a b)
-span_filled a b = (omega arith, omega arith)
+rectangle_filled : (a b : Point) → IsFilled (rectangle_between a b)
+rectangle_filled a b = (omega arith, omega arith)
 
-points_filled : (ps : List Point) → All IsFilled (map (λ p. span_of p p) ps)
+points_filled : (ps : List Point) → All IsFilled (map (λ p. rectangle_between p p) ps)
 points_filled [] = All-nil IsFilled
-points_filled (p ∷ ps) = All-cons IsFilled (span_of p p) (map (λ q. span_of q q) ps) (span_filled p p) (points_filled ps)
+points_filled (p ∷ ps) = All-cons IsFilled (rectangle_between p p) (map (λ q. rectangle_between q q) ps) (rectangle_filled p p) (points_filled ps)
 
 strips_filled : (path : List Point) → All IsFilled (strips path)
 strips_filled [] = All-nil IsFilled
 strips_filled (a ∷ []) = All-nil IsFilled
 strips_filled (a ∷ b ∷ []) = last (same_point (step_from a b 1) b)
   where
-    last : (t : Bool) → All IsFilled (cond t [] (span_of (step_from a b 1) (step_from b a 1) ∷ []))
+    last : (t : Bool) → All IsFilled (cond t [] (rectangle_between (step_from a b 1) (step_from b a 1) ∷ []))
     last true = All-nil IsFilled
-    last false = All-cons IsFilled (span_of (step_from a b 1) (step_from b a 1)) [] (span_filled (step_from a b 1) (step_from b a 1)) (All-nil IsFilled)
+    last false = All-cons IsFilled (rectangle_between (step_from a b 1) (step_from b a 1)) [] (rectangle_filled (step_from a b 1) (step_from b a 1)) (All-nil IsFilled)
 strips_filled (a ∷ b ∷ c ∷ rest) =
-    All-cons IsFilled (span_of (step_from a b 1) b) (strips (b ∷ c ∷ rest)) (span_filled (step_from a b 1) b) (strips_filled (b ∷ c ∷ rest))
+    All-cons IsFilled (rectangle_between (step_from a b 1) b) (strips (b ∷ c ∷ rest)) (rectangle_filled (step_from a b 1) b) (strips_filled (b ∷ c ∷ rest))
 
 paths_filled : (ps : List (List Point)) → All IsFilled (flat_map strips ps)
 paths_filled [] = All-nil IsFilled
 paths_filled (path ∷ ps) = All-append IsFilled (strips path) (flat_map strips ps) (strips_filled path) (paths_filled ps)
 
 -- each rectangle of the vertices and the paths is one
-pub listed_filled : (vertices : List Point) (ps : List (List Point)) (rs : List Rectangle) → rs ≡ map (λ p. span_of p p) vertices ++ flat_map strips ps → All IsFilled rs
-listed_filled vertices ps rs is = rw is (All-append IsFilled (map (λ p. span_of p p) vertices) (flat_map strips ps) (points_filled vertices) (paths_filled ps))
+pub listed_filled : (vertices : List Point) (ps : List (List Point)) (rs : List Rectangle) → rs ≡ map (λ p. rectangle_between p p) vertices ++ flat_map strips ps → All IsFilled rs
+listed_filled vertices ps rs is = rw is (All-append IsFilled (map (λ p. rectangle_between p p) vertices) (flat_map strips ps) (points_filled vertices) (paths_filled ps))
 
--- ---- one segment more
+-- ---- one part more
 
-pub strips-more : (a b e : Point) (l : List Point) → strips (a ∷ b ∷ (l ++ e ∷ [])) ≡ span_of (step_from a b 1) b ∷ strips (b ∷ (l ++ e ∷ []))
+pub strips-more : (a b e : Point) (l : List Point) → strips (a ∷ b ∷ (l ++ e ∷ [])) ≡ rectangle_between (step_from a b 1) b ∷ strips (b ∷ (l ++ e ∷ []))
 strips-more a b e [] = refl
 strips-more a b e (c ∷ l) = refl
 
--- the strip of the next segment
-pub add_strip : (old new target : List Rectangle) (value : Rectangle) (from c e : Point) (l rest : List Point) → old ++ strips (from ∷ (l ++ e ∷ [])) ≡ target → l ≡ c ∷ rest → value ≡ span_of (step_from from c 1) c → new ≡ old ++ value ∷ [] → new ++ strips (c ∷ (rest ++ e ∷ [])) ≡ target
+-- the strip of the next part
+pub add_strip : (old new target : List Rectangle) (value : Rectangle) (from c e : Point) (l rest : List Point) → old ++ strips (from ∷ (l ++ e ∷ [])) ≡ target → l ≡ c ∷ rest → value ≡ rectangle_between (step_from from c 1) c → new ≡ old ++ value ∷ [] → new ++ strips (c ∷ (rest ++ e ∷ [])) ≡ target
 add_strip old new target value from c e l rest done is_l is_value is_new =
     let behind : List Rectangle = strips (c ∷ (rest ++ e ∷ [])) in
     ap (λ (n : List Rectangle). n ++ behind) is_new
@@ -187,16 +187,16 @@ add_strip old new target value from c e l rest done is_l is_value is_new =
     ∙ ap (λ (m : List Point). old ++ strips (from ∷ (m ++ e ∷ []))) (sym is_l)
     ∙ done
 
--- a last segment of one step has none
+-- a last part of one step has none
 pub no_last_strip : (old target : List Rectangle) (from e : Point) (l : List Point) → old ++ strips (from ∷ (l ++ e ∷ [])) ≡ target → l ≡ [] → same_point (step_from from e 1) e ≡ true → old ≡ target
 no_last_strip old target from e l done is_l end =
-    let none : strips (from ∷ e ∷ []) ≡ [] = cond-true (same_point (step_from from e 1) e) [] (span_of (step_from from e 1) (step_from e from 1) ∷ []) end in
+    let none : strips (from ∷ e ∷ []) ≡ [] = cond-true (same_point (step_from from e 1) e) [] (rectangle_between (step_from from e 1) (step_from e from 1) ∷ []) end in
     sym (append-nil old) ∙ ap (λ (s : List Rectangle). old ++ s) (sym none) ∙ ap (λ (m : List Point). old ++ strips (from ∷ (m ++ e ∷ []))) (sym is_l) ∙ done
 
--- any other last segment has one without its end
-pub last_strip : (old new target : List Rectangle) (value : Rectangle) (from e : Point) (l : List Point) → old ++ strips (from ∷ (l ++ e ∷ [])) ≡ target → l ≡ [] → same_point (step_from from e 1) e ≡ false → value ≡ span_of (step_from from e 1) (step_from e from 1) → new ≡ old ++ value ∷ [] → new ≡ target
+-- any other last part has one without its end
+pub last_strip : (old new target : List Rectangle) (value : Rectangle) (from e : Point) (l : List Point) → old ++ strips (from ∷ (l ++ e ∷ [])) ≡ target → l ≡ [] → same_point (step_from from e 1) e ≡ false → value ≡ rectangle_between (step_from from e 1) (step_from e from 1) → new ≡ old ++ value ∷ [] → new ≡ target
 last_strip old new target value from e l done is_l more is_value is_new =
-    let one : strips (from ∷ e ∷ []) ≡ span_of (step_from from e 1) (step_from e from 1) ∷ [] = cond-false (same_point (step_from from e 1) e) [] (span_of (step_from from e 1) (step_from e from 1) ∷ []) more in
+    let one : strips (from ∷ e ∷ []) ≡ rectangle_between (step_from from e 1) (step_from e from 1) ∷ [] = cond-false (same_point (step_from from e 1) e) [] (rectangle_between (step_from from e 1) (step_from e from 1) ∷ []) more in
     is_new ∙ ap (λ (v : Rectangle). old ++ v ∷ []) is_value ∙ ap (λ (s : List Rectangle). old ++ s) (sym one) ∙ ap (λ (m : List Point). old ++ strips (from ∷ (m ++ e ∷ []))) (sym is_l) ∙ done
 
 -- the rectangles of one more path
@@ -209,8 +209,8 @@ paths_step base old new ps path done is_new =
     (ap (λ (s : List Rectangle). flat_map strips ps ++ s) (sym (append-nil (strips path))) ∙ sym (flat_map-append strips ps (path ∷ [])))
 
 -- the rectangles of all vertices and all paths are apart exactly where no point is met twice
-pub apart_is_no_repeat : (vertices : List Point) (ps : List (List Point)) (rs : List Rectangle) → AreOnAxes ps → rs ≡ map (λ p. span_of p p) vertices ++ flat_map strips ps → AllPairs AreApart rs ↔ HasNoRepeat (vertices ++ flat_map inner ps)
+pub apart_is_no_repeat : (vertices : List Point) (ps : List (List Point)) (rs : List Rectangle) → AreOnAxes ps → rs ≡ map (λ p. rectangle_between p p) vertices ++ flat_map strips ps → AllPairs AreApart rs ↔ HasNoRepeat (vertices ++ flat_map inner ps)
 apart_is_no_repeat vertices ps rs axes is =
-    let shown = shows_append (map (λ p. span_of p p) vertices) (flat_map strips ps) vertices (flat_map inner ps) (shows_points vertices) (shows_paths ps axes) in
+    let shown = shows_append (map (λ p. rectangle_between p p) vertices) (flat_map strips ps) vertices (flat_map inner ps) (shows_points vertices) (shows_paths ps axes) in
     let all : Shows rs (vertices ++ flat_map inner ps) = subst (λ (l : List Rectangle). Shows l (vertices ++ flat_map inner ps)) (sym is) shown in
     (no_repeat_from_apart rs (vertices ++ flat_map inner ps) all, apart_from_no_repeat rs (vertices ++ flat_map inner ps) all)

@@ -42,7 +42,7 @@ abbrev pub direction_between : Point → Point → Direction
 direction_between a b =
     if nat_lt a.x b.x then East else (if nat_lt b.x a.x then West else (if nat_lt a.y b.y then North else South))
 
--- the direction of segment k of a path
+-- the direction of part k of a path
 abbrev pub direction_of : List Point → ℕ → Direction
 direction_of path k = direction_between (point_of path k) (point_of path (k + 1))
 

@@ -1,4 +1,4 @@
-//! Whether the segments of a path are parallel to an axis.
+//! Whether the parts of a path are parallel to an axis.
 
 ghost use Rattle.std.specs.Prelude.{◌↔◌, IsTrue};
 ghost use Rattle.drawing_check.specs.Draws.{IsAxis, IsOnAxes};
@@ -7,7 +7,7 @@ ghost use Rattle.drawing_check.specs.Routes.{path_of};
 use crate::route::Route;
 use ortho_rep::Point;
 
-/// Whether each segment of a path is parallel to an axis.
+/// Whether each part of a path is parallel to an axis.
 pub(crate) fn is_on_axes(route: &Route<'_>) -> bool
     ensures { IsTrue result ↔ IsOnAxes (path_of route.now) }
 {

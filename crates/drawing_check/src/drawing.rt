@@ -59,7 +59,7 @@ impl Drawing {
 /// point is met twice, by vertices and between the ends of paths. The first three need no memory:
 /// want of it is answered only where they hold.
 ///
-/// The points are compared as rectangles, one for each vertex and at most one for each segment. For s of
+/// The points are compared as rectangles, one for each vertex and at most one for each part. For s of
 /// them it takes O(s log s) time, and 16 bytes of memory each, sorted in place unless they lie in few rows
 /// and columns; besides, a table of at most 64 bytes each, or a map of those that a sweep still meets.
 ///

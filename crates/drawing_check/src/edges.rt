@@ -9,7 +9,7 @@ ghost use Rattle.ortho_rep.specs.Edges.{lesser_darts};
 ghost use Rattle.drawing_check.specs.Paths.{path_along, paths};
 ghost use Rattle.drawing_check.specs.Draws.{AreInGrid, AreOnAxes, IsTurning, leaving};
 ghost use Rattle.drawing_check.specs.Routes.{path_of, direction_at};
-ghost use Rattle.drawing_check.specs.Shown.{span_of, strips};
+ghost use Rattle.drawing_check.specs.Shown.{rectangle_between, strips};
 
 use crate::grid::all_in_grid;
 use crate::meeting::list_vertices;
@@ -24,7 +24,7 @@ use ortho_rep::{Points, Shape};
 pub(crate) struct EdgesSeen {
     /// Whether all vertices and all corners lie in the grid.
     pub(crate) in_grid: bool,
-    /// Whether each segment of each path is parallel to an axis.
+    /// Whether each part of each path is parallel to an axis.
     pub(crate) on_axes: bool,
     /// Whether each edge has as many corners as turns, and each corner is its turn.
     pub(crate) turning: bool,
@@ -52,7 +52,7 @@ pub(crate) fn walk_edges(
         ↔ All (λ d. IsTurning (path_along plane.now points.now d) (turns_at shape.now d))
         (lesser_darts plane.now) }
     ensures listed { IsTrue result.listed
-        → rectangles.new.items ≡ map (λ q. span_of q q) points.now.vertices
+        → rectangles.new.items ≡ map (λ q. rectangle_between q q) points.now.vertices
         ++ flat_map strips (paths plane.now points.now) }
     ensures room { darts plane.now ≤ length directions.new }
     ensures leaving { (d : ℕ) → d < darts plane.now

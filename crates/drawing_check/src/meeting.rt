@@ -3,7 +3,7 @@
 ghost use Rattle.std.specs.Prelude.{◌≡◌, ◌∷◌, ◌++◌, [], map, OnOk};
 ghost use Rattle.drawing_check.specs.Walks.{toward, step_from};
 ghost use Rattle.drawing_check.specs.Routes.{path_of};
-ghost use Rattle.drawing_check.specs.Shown.{span_of, strips};
+ghost use Rattle.drawing_check.specs.Shown.{rectangle_between, strips};
 
 use crate::route::Route;
 use geometry::Rectangle;
@@ -17,7 +17,7 @@ pub(crate) fn list_vertices(
     points: &Points,
     edges: u16,
 ) -> Result<(), AllocError>
-    ensures { OnOk result (rectangles.new.items ≡ map (λ q. span_of q q) points.now.vertices) }
+    ensures { OnOk result (rectangles.new.items ≡ map (λ q. rectangle_between q q) points.now.vertices) }
 {
     let vertices = points.vertices();
     rectangles.clear();
@@ -28,8 +28,8 @@ pub(crate) fn list_vertices(
     Ok(())
 }
 
-/// Adds what a path covers between its ends: a strip for each segment, with the corner at its end, and none
-/// for a last segment of one step.
+/// Adds what a path covers between its ends: a strip for each part, with the corner at its end, and none
+/// for a last part of one step.
 pub(crate) fn add_route(
     rectangles: &mut Vec<Rectangle>,
     route: &Route<'_>,
@@ -44,7 +44,7 @@ pub(crate) fn add_route(
     add_last(rectangles, from, route.end)
 }
 
-/// Adds what the last segment of a path covers without its end: nothing where it is one step.
+/// Adds what the last part of a path covers without its end: nothing where it is one step.
 pub(crate) fn add_last(
     rectangles: &mut Vec<Rectangle>,
     from: Point,
@@ -61,7 +61,7 @@ pub(crate) fn add_last(
 
 /// The least rectangle that covers both points.
 fn spanned(a: Point, b: Point) -> Rectangle
-    ensures { result ≡ span_of a b }
+    ensures { result ≡ rectangle_between a b }
 {
     Rectangle {
         left: a.x.min(b.x),

@@ -19,7 +19,7 @@ use ortho_rep::{Point, Turn};
 pub(crate) struct PathSeen {
     /// Whether all corners lie in the grid.
     pub(crate) in_grid: bool,
-    /// Whether each segment is parallel to an axis.
+    /// Whether each part is parallel to an axis.
     pub(crate) on_axes: bool,
     /// Whether there are as many corners as turns, and each corner is its turn.
     pub(crate) turning: bool,
@@ -46,8 +46,8 @@ fn list_route(rectangles: &mut Vec<Rectangle>, listed: bool, route: &Route<'_>) 
     listed && add_route(rectangles, route).is_ok()
 }
 
-/// The same of a path of one segment.
-fn list_segment(rectangles: &mut Vec<Rectangle>, listed: bool, start: Point, end: Point) -> bool
+/// The same of a path of one part.
+fn list_straight(rectangles: &mut Vec<Rectangle>, listed: bool, start: Point, end: Point) -> bool
     ensures before { IsTrue result → IsTrue listed }
     ensures added { IsTrue result
         → rectangles.new.items ≡ rectangles.old.items ++ strips (start ∷ end ∷ []) }
@@ -74,7 +74,7 @@ pub(crate) fn examine_route(
         ≡ direction_between route.now.end (point_of (path_of route.now) (length route.now.corners.now)) }
 {
     if route.corners.is_empty() {
-        return examine_segment(route, turns, rectangles, listed);
+        return examine_straight(route, turns, rectangles, listed);
     }
     let corners = route.corners.len();
     PathSeen {
@@ -88,7 +88,7 @@ pub(crate) fn examine_route(
 }
 
 /// The same of a path without corners.
-fn examine_segment(
+fn examine_straight(
     route: &Route<'_>,
     turns: &[Turn],
     rectangles: &mut Vec<Rectangle>,
@@ -109,7 +109,7 @@ fn examine_segment(
         in_grid: true,
         on_axes: is_axis(route.start, route.end),
         turning: turns.is_empty(),
-        listed: list_segment(rectangles, listed, route.start, route.end),
+        listed: list_straight(rectangles, listed, route.start, route.end),
         out: direction_from(route.start, route.end),
         back: direction_from(route.end, route.start),
     }

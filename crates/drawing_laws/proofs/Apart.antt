@@ -30,7 +30,7 @@ OutsideSees w x y px py around a =
     ⊎ ((IsOn w a (around 0) × (py ≡ y (w.head (around 0))) × Spans 0 x y px (tail w a) (w.head a) × (x (w.head (around 1)) < px))
     ⊎ ((a ≡ around 1) × (px ≡ x (w.head (around 1))) × (py ≡ y (w.head (around 1)))))
 
--- the numbers of the outside's corners
+-- the coordinates of the outside's corners
 record IsSpread (w : DartMap) (x y : ℕ → ℕ) (around : ℕ → ℕ) : Type 0 where
   wide : x (w.head (around 1)) < x (w.head (around 3))
   right : x (w.head (around 0)) ≡ x (w.head (around 3))

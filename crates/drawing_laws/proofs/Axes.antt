@@ -1,4 +1,4 @@
--- Numbers that grow along the darts in one direction and stay along those in another.
+-- Coordinates that grow along the darts in one direction and stay along those in another.
 use Rattle.std.proofs.Common.{◌≡◌, ◌≢◌, ◌⊎◌, ℕ, zero, suc, ◌+◌, ◌-◌, ◌<◌, ◌≤◌, ◌∙◌, cond, ltb, arith, sym, ap, subst, inl, inr, lt-ltb, le-ltb}
 use Rattle.std.proofs.lemmas.Bool.{cases_eq, cases_lt, cond-true, cond-false}
 use Rattle.dissect.specs.DartMaps.{DartMap}
@@ -8,7 +8,7 @@ use Rattle.drawing_laws.specs.Least.{HasNoGap}
 use Rattle.drawing_laws.proofs.Raising.{AreLow, IsShort, least_above}
 use Rattle.drawing_laws.proofs.Gaps.{Occurs, occurs, no_more}
 
--- the numbers of the ends of the first m darts: they grow along darts in direction `ahead`, and stay along those in direction `aside`
+-- the coordinates of the ends of the first m darts: they grow along darts in direction `ahead`, and stay along those in direction `aside`
 pub record Follow (w : DartMap) (ahead aside m : ℕ) (x : ℕ → ℕ) : Type 0 where
   pub grow : (a : ℕ) → a < m → w.direction a ≡ ahead → x (tail w a) < x (w.head a)
   pub stay : (a : ℕ) → a < m → w.direction a ≡ aside → x (tail w a) ≡ x (w.head a)
@@ -88,7 +88,7 @@ one_more w ahead aside m x before last = record {
   ];
 }
 
--- the first m darts are followed, or some number is short
+-- the first m darts are followed, or some coordinate is short
 along : (w : DartMap) (ahead aside m : ℕ) (x : ℕ → ℕ) → HasEnds w → ahead ≢ aside → m ≤ w.darts
     → Follow w ahead aside m x ⊎ IsShort w.vertices (All-darts w ahead aside) x
 along w ahead aside zero x ends apart within = inl (record { grow = λ a inside _. absurd (omega (arith, inside)); stay = λ a inside _. absurd (omega (arith, inside)) })
@@ -102,7 +102,7 @@ along w ahead aside (suc m) x ends apart within =
           ]
     ]
 
--- where any numbers follow the darts, there are least ones
+-- where any coordinates follow the darts, there are least ones
 pub least_following : (w : DartMap) (ahead aside : ℕ) (top : ℕ → ℕ) → HasEnds w → ahead ≢ aside → Follow w ahead aside w.darts top
     → (l : ℕ → ℕ) × Follow w ahead aside w.darts l × AreLow w.vertices (λ x. Follow w ahead aside w.darts x) l
 least_following w ahead aside top ends apart has =
@@ -111,7 +111,7 @@ least_following w ahead aside top ends apart has =
 
 -- ---- no gap
 
--- numbers above k lowered by one
+-- coordinates above k lowered by one
 abbrev lowered : (ℕ → ℕ) → ℕ → ℕ → ℕ
 lowered x k v = cond (ltb k (x v)) (x v - 1) (x v)
 
@@ -121,7 +121,7 @@ lowered_above x k v above = cond-true (ltb k (x v)) (x v - 1) (x v) (lt-ltb k (x
 lowered_below : (x : ℕ → ℕ) (k v : ℕ) → x v ≤ k → lowered x k v ≡ x v
 lowered_below x k v below = cond-false (ltb k (x v)) (x v - 1) (x v) (le-ltb k (x v) below)
 
--- of two numbers that are not k the less one stays less
+-- of two coordinates that are not k the less one stays less
 still_less : (x : ℕ → ℕ) (k t h : ℕ) → x t ≢ k → x t < x h → lowered x k t < lowered x k h
 still_less x k t h other less =
     elim (cases_lt k (x t)) [
@@ -140,7 +140,7 @@ lowered_follow w ahead aside x k ends has none = record {
   stay = λ a inside across. ap (λ (n : ℕ). cond (ltb k n) (n - 1) n) (has.stay a inside across);
 }
 
--- so each number up to that of a vertex is the number of some vertex
+-- so each coordinate up to that of a vertex is that of some vertex
 pub no_gap : (w : DartMap) (ahead aside : ℕ) (x : ℕ → ℕ) → HasEnds w → Follow w ahead aside w.darts x → AreLow w.vertices (λ y. Follow w ahead aside w.darts y) x
     → HasNoGap w.vertices x
 no_gap w ahead aside x ends has low v k inside within =
@@ -152,7 +152,7 @@ no_gap w ahead aside x ends has low v k inside within =
           absurd (let never : ⊥ = omega (arith, least, lowered_above x k v above, above) in never)
     ]
 
--- so there are no more numbers up to that of a vertex than vertices
+-- so there are no more coordinates up to that of a vertex than vertices
 pub few_numbers : (n : ℕ) (x : ℕ → ℕ) → HasNoGap n x → (v : ℕ) → v < n → x v < n
 few_numbers n x gapless v inside =
     let each : (k : ℕ) → k < x v + 1 → Occurs n x k = λ k within.

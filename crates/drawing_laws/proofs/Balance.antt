@@ -10,7 +10,7 @@ use Rattle.ortho_rep.specs.declared.turn.Turn.{Turn}
 use Rattle.faces.specs.Planes.{PlaneModel, IsPlane, HasEnds, darts, reverse_dart, face_at}
 use Rattle.ortho_rep.specs.Turns.{lefts, rights}
 use Rattle.ortho_rep.specs.Representation.{Rep, whole_turn}
-use Rattle.ortho_rep.proofs.WeakDuality.{weighed, paired, gains, losses, turning-split, lefts_of, rights_are}
+use Rattle.ortho_rep.proofs.WeakDuality.{weighed, paired, left_sums, right_sums, turning-split, lefts_of, rights_are}
 use Rattle.drawing_laws.proofs.Shifted.{AreFacePrices}
 
 -- eight quarter turns at the outer face
@@ -18,16 +18,16 @@ abbrev eight_at : PlaneModel → ℕ → ℕ
 eight_at p f = cond (eqb p.outer f) 8 0
 
 -- round each face the turns to the left are four more than those to the right, round the outer face four less
-turned : (p : PlaneModel) (a : ℕ → ℕ) (s : ℕ → List Turn) → Rep p a s → (f : ℕ) → f < p.faces → gains p a s f + eight_at p f ≡ losses p a s f + 4
+turned : (p : PlaneModel) (a : ℕ → ℕ) (s : ℕ → List Turn) → Rep p a s → (f : ℕ) → f < p.faces → left_sums p a s f + eight_at p f ≡ right_sums p a s f + 4
 turned p a s rep f l =
-    let turns : pos (gains p a s f) -ℤ pos (losses p a s f) ≡ whole_turn p f = sym (turning-split p a s f) ∙ rep.faces f l in
+    let turns : pos (left_sums p a s f) -ℤ pos (right_sums p a s f) ≡ whole_turn p f = sym (turning-split p a s f) ∙ rep.faces f l in
     elim (cases_eq f p.outer) [
       | inl e ↦
           let outer : whole_turn p f ≡ negsuc 3 = cond-true {A = ℤ} (eqb f p.outer) (negsuc 3) (pos 4) (eq-eqb f p.outer e) in
-          less (gains p a s f) (losses p a s f) (eight_at p f) (turns ∙ outer) (cond-true {A = ℕ} (eqb p.outer f) 8 0 (eq-eqb p.outer f (sym e)))
+          less (left_sums p a s f) (right_sums p a s f) (eight_at p f) (turns ∙ outer) (cond-true {A = ℕ} (eqb p.outer f) 8 0 (eq-eqb p.outer f (sym e)))
       | inr ne ↦
           let inner : whole_turn p f ≡ pos 4 = cond-false {A = ℤ} (eqb f p.outer) (negsuc 3) (pos 4) (ne_eqb f p.outer ne) in
-          more (gains p a s f) (losses p a s f) (eight_at p f) (turns ∙ inner) (cond-false {A = ℕ} (eqb p.outer f) 8 0 (ne_eqb p.outer f (λ q. ne (sym q))))
+          more (left_sums p a s f) (right_sums p a s f) (eight_at p f) (turns ∙ inner) (cond-false {A = ℕ} (eqb p.outer f) 8 0 (ne_eqb p.outer f (λ q. ne (sym q))))
     ]
   where
     less : (g l c : ℕ) → pos g -ℤ pos l ≡ negsuc 3 → c ≡ 8 → g + c ≡ l + 4
@@ -40,19 +40,19 @@ turned p a s rep f l =
 weighed_faces : (p : PlaneModel) (a : ℕ → ℕ) (s : ℕ → List Turn) (y : ℕ → ℕ) → IsPlane p → HasEnds p → Rep p a s
     → weighed (darts p) (λ d. y (face_at p d)) (λ d. 2 + lefts (s d)) + 8 * y p.outer ≡ weighed (darts p) (λ d. y (face_at p d)) (λ d. a d + rights (s d)) + 4 * sum_below p.faces y
 weighed_faces p a s y plane ends rep =
-    let gain : sum_below p.faces (λ f. y f * gains p a s f) ≡ weighed (darts p) (λ d. y (face_at p d)) (λ d. 2 + lefts (s d)) = exchanged (darts p) p.faces (face_at p) (λ d. 2 + lefts (s d)) y ends.face_named in
-    let loss : sum_below p.faces (λ f. y f * losses p a s f) ≡ weighed (darts p) (λ d. y (face_at p d)) (λ d. a d + rights (s d)) = exchanged (darts p) p.faces (face_at p) (λ d. a d + rights (s d)) y ends.face_named in
-    let each : sum_below p.faces (λ f. y f * gains p a s f + cond (eqb p.outer f) (8 * y f) 0) ≡ sum_below p.faces (λ f. y f * losses p a s f + 4 * y f) =
-    sum_below-same p.faces (λ f. y f * gains p a s f + cond (eqb p.outer f) (8 * y f) 0) (λ f. y f * losses p a s f + 4 * y f)
-    (λ f l. scaled (y f) (gains p a s f) (losses p a s f) (eqb p.outer f) (turned p a s rep f l)) in
+    let left_sum : sum_below p.faces (λ f. y f * left_sums p a s f) ≡ weighed (darts p) (λ d. y (face_at p d)) (λ d. 2 + lefts (s d)) = exchanged (darts p) p.faces (face_at p) (λ d. 2 + lefts (s d)) y ends.face_named in
+    let right_sum : sum_below p.faces (λ f. y f * right_sums p a s f) ≡ weighed (darts p) (λ d. y (face_at p d)) (λ d. a d + rights (s d)) = exchanged (darts p) p.faces (face_at p) (λ d. a d + rights (s d)) y ends.face_named in
+    let each : sum_below p.faces (λ f. y f * left_sums p a s f + cond (eqb p.outer f) (8 * y f) 0) ≡ sum_below p.faces (λ f. y f * right_sums p a s f + 4 * y f) =
+    sum_below-same p.faces (λ f. y f * left_sums p a s f + cond (eqb p.outer f) (8 * y f) 0) (λ f. y f * right_sums p a s f + 4 * y f)
+    (λ f l. scaled (y f) (left_sums p a s f) (right_sums p a s f) (eqb p.outer f) (turned p a s rep f l)) in
     omega (
       arith,
-      gain,
-      loss,
+      left_sum,
+      right_sum,
       each,
-      sum_below-add p.faces (λ f. y f * gains p a s f) (λ f. cond (eqb p.outer f) (8 * y f) 0),
+      sum_below-add p.faces (λ f. y f * left_sums p a s f) (λ f. cond (eqb p.outer f) (8 * y f) 0),
       sum_below-one p.faces p.outer (λ f. 8 * y f) plane.outer,
-      sum_below-add p.faces (λ f. y f * losses p a s f) (λ f. 4 * y f),
+      sum_below-add p.faces (λ f. y f * right_sums p a s f) (λ f. 4 * y f),
       sum_below-times p.faces 4 y,
     )
   where
@@ -88,8 +88,8 @@ pub balanced : (p : PlaneModel) (a : ℕ → ℕ) (s : ℕ → List Turn) (y : �
 balanced p a s y plane ends rep prices =
     let n : ℕ = darts p in
     let own : ℕ → ℕ = λ d. y (face_at p d) in
-    let gain : weighed n own (λ d. 2 + lefts (s d)) ≡ sum_below n (λ d. 2 * own d) + sum_below n (λ d. own d * lefts (s d)) =
+    let left_sum : weighed n own (λ d. 2 + lefts (s d)) ≡ sum_below n (λ d. 2 * own d) + sum_below n (λ d. own d * lefts (s d)) =
     sum_below-same n (λ d. own d * (2 + lefts (s d))) (λ d. 2 * own d + own d * lefts (s d)) (λ d l. omega arith) ∙ sum_below-add n (λ d. 2 * own d) (λ d. own d * lefts (s d)) in
-    let loss : weighed n own (λ d. a d + rights (s d)) ≡ sum_below n (λ d. own d * a d) + sum_below n (λ d. own d * rights (s d)) =
+    let right_sum : weighed n own (λ d. a d + rights (s d)) ≡ sum_below n (λ d. own d * a d) + sum_below n (λ d. own d * rights (s d)) =
     sum_below-same n (λ d. own d * (a d + rights (s d))) (λ d. own d * a d + own d * rights (s d)) (λ d l. omega arith) ∙ sum_below-add n (λ d. own d * a d) (λ d. own d * rights (s d)) in
-    omega (arith, weighed_faces p a s y plane ends rep, gain, loss, bends_across p a s y ends rep prices, sum_below-times n 2 own)
+    omega (arith, weighed_faces p a s y plane ends rep, left_sum, right_sum, bends_across p a s y ends rep prices, sum_below-times n 2 own)

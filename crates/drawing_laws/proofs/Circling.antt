@@ -5,12 +5,12 @@ use Rattle.dissect.specs.DartMaps.{DartMap, IsSound}
 use Rattle.dissect.specs.Paths.{IsConnected}
 use Rattle.dissect.specs.Boxes.{IsCutUp}
 use Rattle.dissect.proofs.Reordered.{sum_at, sum_at-add, sum_at-same}
-use Rattle.dissect.proofs.Trees.{Joins}
+use Rattle.dissect.proofs.Trees.{Connections}
 use Rattle.dissect.proofs.Peeling.{IsPaired}
 use Rattle.drawing_laws.proofs.Growing.{Growth, growth, Up, way_sum, way_root, way_step, peels}
-use Rattle.drawing_laws.proofs.Labels.{Labels, OfFaces, labels}
+use Rattle.drawing_laws.proofs.FaceNumbering.{FaceNumbering, OfFaces, face_numbers}
 use Rattle.drawing_laws.proofs.CornerCounts.{clockwise, moved}
-use Rattle.drawing_laws.proofs.Connecting.{outer_joins, filled, face_node, face_joins, vertex_joins, paired1, face_next, paired2, spanned, holds_outside}
+use Rattle.drawing_laws.proofs.Connecting.{outer_connections, filled, face_node, face_connections, vertex_connections, paired1, face_next, paired2, spanned, holds_outside}
 use Rattle.drawing_laws.proofs.Rotating.{rotated, rotated_sound, rotated_cut}
 
 -- no face is of the set
@@ -18,10 +18,10 @@ abbrev pub nobody : ℕ → Bool
 nobody a = false
 
 -- the faces that the outside does not reach: none
-abbrev pub rest : (w : DartMap) (o : ℕ) (faces : Labels w o) → Growth (outer_joins w o faces nobody) → ℕ → Bool
+abbrev pub rest : (w : DartMap) (o : ℕ) (faces : FaceNumbering w o) → Growth (outer_connections w o faces nobody) → ℕ → Bool
 rest w o faces g0 = filled w o faces nobody g0
 
-module _ (w : DartMap) (sound : IsSound w) (connected : IsConnected w) (cut : IsCutUp w) (o : ℕ) (faces : Labels w o)
+module _ (w : DartMap) (sound : IsSound w) (connected : IsConnected w) (cut : IsCutUp w) (o : ℕ) (faces : FaceNumbering w o)
     (outer : (s : ℕ → Bool) → OfFaces w s → s cut.outside ≡ s faces.out) where
   abbrev upward0 : (a : ℕ) → a < w.darts → w.direction a ≡ 0 → nobody (w.reverse_dart a) ≡ true → nobody a ≡ true
   upward0 a a_in east on = on
@@ -32,14 +32,14 @@ module _ (w : DartMap) (sound : IsSound w) (connected : IsConnected w) (cut : Is
   back_back : (a : ℕ) → a < w.darts → w.reverse_dart (w.reverse_dart a) ≡ a
   back_back = sound.tied.reverse_dart_back
 
-  none_left : (g0 : Growth (outer_joins w o faces nobody)) (a : ℕ) → a < w.darts → rest w o faces g0 a ≡ false
+  none_left : (g0 : Growth (outer_connections w o faces nobody)) (a : ℕ) → a < w.darts → rest w o faces g0 a ≡ false
   none_left g0 a a_in =
-      ap not (connected (λ d. g0.reached (faces.label d)) (λ d d_in on. ap g0.reached (faces.stays d d_in) ∙ on)
-      (λ d d_in on. g0.closed (w.reverse_dart d) (back_in d d_in) refl (ap (λ (e : ℕ). g0.reached (faces.label e)) (back_back d d_in) ∙ on))
+      ap not (connected (λ d. g0.reached (faces.face_number d)) (λ d d_in on. ap g0.reached (faces.stays d d_in) ∙ on)
+      (λ d d_in on. g0.closed (w.reverse_dart d) (back_in d d_in) refl (ap (λ (e : ℕ). g0.reached (faces.face_number e)) (back_back d d_in) ∙ on))
       faces.out a faces.out_in a_in (ap g0.reached faces.out_own ∙ g0.grown.root))
 
-  module _ (g0 : Growth (outer_joins w o faces nobody)) (g1 : Growth (face_joins w o faces (rest w o faces g0) faces.out))
-      (g2 : Growth (vertex_joins w o faces (rest w o faces g0) faces.out g1))
+  module _ (g0 : Growth (outer_connections w o faces nobody)) (g1 : Growth (face_connections w o faces (rest w o faces g0) faces.out))
+      (g2 : Growth (vertex_connections w o faces (rest w o faces g0) faces.out g1))
       (m : ℕ → ℕ) (round : (u : ℕ) → sum_at w.darts w.head u m ≡ sum_at w.darts w.head u (λ d. m (w.reverse_dart d)))
       (west : (a : ℕ) → a < w.darts → w.direction a ≡ 2 → m a ≡ 0) where
     abbrev s : ℕ → Bool
@@ -48,17 +48,17 @@ module _ (w : DartMap) (sound : IsSound w) (connected : IsConnected w) (cut : Is
     abbrev f : ℕ → ℕ
     f = face_node w o faces s
 
-    abbrev j1 : Joins
-    j1 = face_joins w o faces s faces.out
+    abbrev j1 : Connections
+    j1 = face_connections w o faces s faces.out
 
-    abbrev j2 : Joins
-    j2 = vertex_joins w o faces s faces.out g1
+    abbrev j2 : Connections
+    j2 = vertex_connections w o faces s faces.out g1
 
     merged : (d : ℕ) → d < w.darts → s d ≡ true → f d ≡ faces.out
     merged d d_in on = absurd (both_ways (s d) (none_left g0 d d_in) on)
 
     out_node : f faces.out ≡ faces.out
-    out_node = cond-false {A = ℕ} (s faces.out) w.darts (faces.label faces.out) (none_left g0 faces.out faces.out_in) ∙ faces.out_own
+    out_node = cond-false {A = ℕ} (s faces.out) w.darts (faces.face_number faces.out) (none_left g0 faces.out faces.out_in) ∙ faces.out_own
 
     root_in : faces.out < w.darts + 1
     root_in = omega (arith, faces.out_in)
@@ -166,7 +166,7 @@ module _ (w : DartMap) (sound : IsSound w) (connected : IsConnected w) (cut : Is
 
     no_rise : (a : ℕ) → a < w.darts → rise a ≡ true → ⊥
     no_rise a a_in on =
-        rise_out (sym (outer rise rise_of) ∙ holds_outside w sound connected cut.outside (labels w sound cut) rise rise_of
+        rise_out (sym (outer rise rise_of) ∙ holds_outside w sound connected cut.outside (face_numbers w sound cut) rise rise_of
         (λ d d_in east there.
         let b : ℕ = w.reverse_dart d in
         let none : m b ≡ 0 = west b (back_in d d_in) (omega (arith, sound.straight d d_in, east)) in
@@ -176,7 +176,7 @@ module _ (w : DartMap) (sound : IsSound w) (connected : IsConnected w) (cut : Is
     no_fall : (a : ℕ) → a < w.darts → fall a ≡ true → ⊥
     no_fall a a_in on =
         fall_out (sym (outer fall fall_of) ∙ holds_outside (rotated w 2) (rotated_sound w 2 sound) connected cut.outside
-        (labels (rotated w 2) (rotated_sound w 2 sound) (rotated_cut w 2 cut)) fall fall_of
+        (face_numbers (rotated w 2) (rotated_sound w 2 sound) (rotated_cut w 2 cut)) fall fall_of
         (λ d d_in way there.
         let b : ℕ = w.reverse_dart d in
         let none : m d ≡ 0 = west d d_in (omega (arith, way, sound.meeting.quarter d d_in)) in
@@ -200,14 +200,14 @@ module _ (w : DartMap) (sound : IsSound w) (connected : IsConnected w) (cut : Is
   pub no_circling : (m : ℕ → ℕ) → ((u : ℕ) → sum_at w.darts w.head u m ≡ sum_at w.darts w.head u (λ d. m (w.reverse_dart d)))
       → ((a : ℕ) → a < w.darts → w.direction a ≡ 2 → m a ≡ 0)
       → (e : ℕ) → e < w.darts → w.direction e ≡ 0 → 1 ≤ m e → ⊥
-  no_circling m round west e e_in east some = first (growth (outer_joins w o faces nobody) faces.inside)
+  no_circling m round west e e_in east some = first (growth (outer_connections w o faces nobody) faces.inside)
     where
-      first : Growth (outer_joins w o faces nobody) → ⊥
-      first g0 = second (growth (face_joins w o faces (rest w o faces g0) faces.out) inside)
+      first : Growth (outer_connections w o faces nobody) → ⊥
+      first g0 = second (growth (face_connections w o faces (rest w o faces g0) faces.out) inside)
         where
           inside : (d : ℕ) → d < w.darts → face_node w o faces (rest w o faces g0) d < w.darts + 1
           inside d d_in =
-              omega (arith, cond-false {A = ℕ} (rest w o faces g0 d) w.darts (faces.label d) (none_left g0 d d_in), faces.inside d d_in)
+              omega (arith, cond-false {A = ℕ} (rest w o faces g0 d) w.darts (faces.face_number d) (none_left g0 d d_in), faces.inside d d_in)
 
-          second : Growth (face_joins w o faces (rest w o faces g0) faces.out) → ⊥
-          second g1 = nothing_flows g0 g1 (growth (vertex_joins w o faces (rest w o faces g0) faces.out g1) sound.meeting.head_in) m round west e e_in east some
+          second : Growth (face_connections w o faces (rest w o faces g0) faces.out) → ⊥
+          second g1 = nothing_flows g0 g1 (growth (vertex_connections w o faces (rest w o faces g0) faces.out g1) sound.meeting.head_in) m round west e e_in east some

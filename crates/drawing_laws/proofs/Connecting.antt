@@ -6,10 +6,10 @@ use Rattle.common.proofs.Sums.{sum_below-more, sum_below-add, sum_below-le, sum_
 use Rattle.dissect.specs.DartMaps.{DartMap, IsSound}
 use Rattle.dissect.specs.Paths.{IsConnected}
 use Rattle.dissect.proofs.Reordered.{sum_at, sum_at-same, reordered_at}
-use Rattle.dissect.proofs.Trees.{Joins}
+use Rattle.dissect.proofs.Trees.{Connections}
 use Rattle.dissect.proofs.Peeling.{IsPaired}
 use Rattle.drawing_laws.proofs.Growing.{Growth, growth, Up, is_up, ups, up_from, up_leads, enough, one_way, by_growth, peels}
-use Rattle.drawing_laws.proofs.Labels.{Labels, OfFaces}
+use Rattle.drawing_laws.proofs.FaceNumbering.{FaceNumbering, OfFaces}
 use Rattle.drawing_laws.proofs.CornerCounts.{touches, boxes_off, next_one, few_edges}
 
 and_swap : (x y z : Bool) → z ≡ x → (x && y) ≡ false → (y && z) ≡ false
@@ -50,27 +50,27 @@ at_most_one : (a b c d : ℕ) → a + b ≤ 1 → c + d ≤ 1 → a + c ≤ 1 �
 at_most_one a b c d h1 h2 h3 h4 h5 h6 = omega arith
 
 -- the faces that the outside reaches across edges, without one of the set
-abbrev pub outer_joins : (w : DartMap) (o : ℕ) → Labels w o → (ℕ → Bool) → Joins
-outer_joins w o faces s = record {
+abbrev pub outer_connections : (w : DartMap) (o : ℕ) → FaceNumbering w o → (ℕ → Bool) → Connections
+outer_connections w o faces s = record {
   darts = w.darts;
   nodes = w.darts;
-  from = λ d. faces.label (w.reverse_dart d);
-  to = faces.label;
+  from = λ d. faces.face_number (w.reverse_dart d);
+  to = faces.face_number;
   allowed = λ d. not (s d);
   root = faces.out;
 }
 
 -- all other faces
-abbrev pub filled : (w : DartMap) (o : ℕ) (faces : Labels w o) (s : ℕ → Bool) → Growth (outer_joins w o faces s) → ℕ → Bool
-filled w o faces s g a = not (g.reached (faces.label a))
+abbrev pub filled : (w : DartMap) (o : ℕ) (faces : FaceNumbering w o) (s : ℕ → Bool) → Growth (outer_connections w o faces s) → ℕ → Bool
+filled w o faces s g a = not (g.reached (faces.face_number a))
 
 -- the face of a dart, where those of the set are one
-abbrev pub face_node : (w : DartMap) (o : ℕ) → Labels w o → (ℕ → Bool) → ℕ → ℕ
-face_node w o faces s a = cond (s a) w.darts (faces.label a)
+abbrev pub face_node : (w : DartMap) (o : ℕ) → FaceNumbering w o → (ℕ → Bool) → ℕ → ℕ
+face_node w o faces s a = cond (s a) w.darts (faces.face_number a)
 
 -- the faces, connected across the edges that touch one off the set
-abbrev pub face_joins : (w : DartMap) (o : ℕ) → Labels w o → (ℕ → Bool) → ℕ → Joins
-face_joins w o faces s root = record {
+abbrev pub face_connections : (w : DartMap) (o : ℕ) → FaceNumbering w o → (ℕ → Bool) → ℕ → Connections
+face_connections w o faces s root = record {
   darts = w.darts;
   nodes = w.darts + 1;
   from = λ d. face_node w o faces s (w.reverse_dart d);
@@ -79,24 +79,24 @@ face_joins w o faces s root = record {
   root = root;
 }
 
-abbrev pub in_tree : (w : DartMap) (j : Joins) → Growth j → ℕ → Bool
+abbrev pub in_tree : (w : DartMap) (j : Connections) → Growth j → ℕ → Bool
 in_tree w j g d = is_up j g d || is_up j g (w.reverse_dart d)
 
 -- the vertices, connected along those of these edges that are not of the tree on the faces
-abbrev pub vertex_joins : (w : DartMap) (o : ℕ) (faces : Labels w o) (s : ℕ → Bool) (root : ℕ) → Growth (face_joins w o faces s root) → Joins
-vertex_joins w o faces s root g = record {
+abbrev pub vertex_connections : (w : DartMap) (o : ℕ) (faces : FaceNumbering w o) (s : ℕ → Bool) (root : ℕ) → Growth (face_connections w o faces s root) → Connections
+vertex_connections w o faces s root g = record {
   darts = w.darts;
   nodes = w.vertices;
   from = λ d. w.head (w.reverse_dart d);
   to = w.head;
-  allowed = λ d. not (s d && s (w.reverse_dart d)) && not (in_tree w (face_joins w o faces s root) g d);
+  allowed = λ d. not (s d && s (w.reverse_dart d)) && not (in_tree w (face_connections w o faces s root) g d);
   root = w.head faces.out;
 }
 
-module _ (w : DartMap) (sound : IsSound w) (connected : IsConnected w) (o : ℕ) (faces : Labels w o)
+module _ (w : DartMap) (sound : IsSound w) (connected : IsConnected w) (o : ℕ) (faces : FaceNumbering w o)
     (s0 : ℕ → Bool) (of0 : OfFaces w s0)
     (upward0 : (a : ℕ) → a < w.darts → w.direction a ≡ 0 → s0 (w.reverse_dart a) ≡ true → s0 a ≡ true)
-    (free : s0 faces.out ≡ false) (g0 : Growth (outer_joins w o faces s0)) where
+    (free : s0 faces.out ≡ false) (g0 : Growth (outer_connections w o faces s0)) where
   abbrev n : ℕ
   n = w.darts
 
@@ -116,20 +116,20 @@ module _ (w : DartMap) (sound : IsSound w) (connected : IsConnected w) (o : ℕ)
   of a a_in = ap (λ (c : ℕ). not (g0.reached c)) (faces.stays a a_in)
 
   -- a face that the outside reaches is not of the first set
-  off_first : (a : ℕ) → a < w.darts → g0.reached (faces.label a) ≡ true → s0 a ≡ false
+  off_first : (a : ℕ) → a < w.darts → g0.reached (faces.face_number a) ≡ true → s0 a ≡ false
   off_first a a_in r =
-      elim (cases_eq (faces.label a) faces.out) [
+      elim (cases_eq (faces.face_number a) faces.out) [
         | inl e ↦ faces.held s0 of0 a a_in ∙ ap s0 e ∙ free
         | inr ne ↦
-            let leads = g0.grown.leads (faces.label a) r ne in
-            let d : ℕ = g0.parent (faces.label a) in
+            let leads = g0.grown.leads (faces.face_number a) r ne in
+            let d : ℕ = g0.parent (faces.face_number a) in
             faces.held s0 of0 a a_in ∙ ap s0 (sym leads.to) ∙ sym (faces.held s0 of0 d leads.inside) ∙ not-true (s0 d) leads.allowed
       ]
 
-  reached_of : (a : ℕ) → s a ≡ false → g0.reached (faces.label a) ≡ true
-  reached_of a off = true_from_ne_false (g0.reached (faces.label a)) (λ none. both_ways (s a) off (not_from_false (g0.reached (faces.label a)) none))
+  reached_of : (a : ℕ) → s a ≡ false → g0.reached (faces.face_number a) ≡ true
+  reached_of a off = true_from_ne_false (g0.reached (faces.face_number a)) (λ none. both_ways (s a) off (not_from_false (g0.reached (faces.face_number a)) none))
 
-  off_of : (a : ℕ) → g0.reached (faces.label a) ≡ true → s a ≡ false
+  off_of : (a : ℕ) → g0.reached (faces.face_number a) ≡ true → s a ≡ false
   off_of a r = ap not r
 
   pub out_off : filled w o faces s0 g0 faces.out ≡ false
@@ -143,12 +143,12 @@ module _ (w : DartMap) (sound : IsSound w) (connected : IsConnected w) (o : ℕ)
       true_from_ne_false (s a) (λ off.
       let here = reached_of a off in
       let b : ℕ = w.reverse_dart a in
-      let there : g0.reached (faces.label b) ≡ false = not-true (g0.reached (faces.label b)) on in
+      let there : g0.reached (faces.face_number b) ≡ false = not-true (g0.reached (faces.face_number b)) on in
       elim (cases_Bool (s0 b)) [
         | inl first ↦ both_ways (s0 a) (off_first a a_in here) (upward0 a a_in east first)
         | inr other ↦
-            both_ways (g0.reached (faces.label b)) there
-            (g0.closed b (back_in a a_in) (not_from_false (s0 b) other) (ap (λ (d : ℕ). g0.reached (faces.label d)) (back_back a a_in) ∙ here))
+            both_ways (g0.reached (faces.face_number b)) there
+            (g0.closed b (back_in a a_in) (not_from_false (s0 b) other) (ap (λ (d : ℕ). g0.reached (faces.face_number d)) (back_back a a_in) ∙ here))
       ])
 
   -- ---- the tree on the faces
@@ -156,26 +156,26 @@ module _ (w : DartMap) (sound : IsSound w) (connected : IsConnected w) (o : ℕ)
   module _ (root : ℕ) (root_in : root < w.darts + 1)
       (merged : (d : ℕ) → d < w.darts → filled w o faces s0 g0 d ≡ true → face_node w o faces (filled w o faces s0 g0) d ≡ root)
       (start : ℕ) (start_in : start < w.darts) (starts : face_node w o faces (filled w o faces s0 g0) start ≡ root)
-      (g1 : Growth (face_joins w o faces (filled w o faces s0 g0) root)) where
+      (g1 : Growth (face_connections w o faces (filled w o faces s0 g0) root)) where
     abbrev f : ℕ → ℕ
     f = face_node w o faces s
 
-    abbrev j1 : Joins
-    j1 = face_joins w o faces s root
+    abbrev j1 : Connections
+    j1 = face_connections w o faces s root
 
     pub face_in : (d : ℕ) → d < w.darts → face_node w o faces (filled w o faces s0 g0) d < w.darts + 1
     face_in d d_in =
         elim (cases_Bool (s d)) [
-          | inl on ↦ omega (arith, cond-true {A = ℕ} (s d) n (faces.label d) on)
-          | inr off ↦ omega (arith, cond-false {A = ℕ} (s d) n (faces.label d) off, faces.inside d d_in)
+          | inl on ↦ omega (arith, cond-true {A = ℕ} (s d) n (faces.face_number d) on)
+          | inr off ↦ omega (arith, cond-false {A = ℕ} (s d) n (faces.face_number d) off, faces.inside d d_in)
         ]
 
-    pub paired1 : IsPaired (face_joins w o faces (filled w o faces s0 g0) root) w.reverse_dart
+    pub paired1 : IsPaired (face_connections w o faces (filled w o faces s0 g0) root) w.reverse_dart
     paired1 = record { inside = back_in; back = back_back; from = λ d l. refl; node = face_in }
 
     pub face_next : (a : ℕ) → a < w.darts → face_node w o faces (filled w o faces s0 g0) (w.next a) ≡ face_node w o faces (filled w o faces s0 g0) a
     face_next a a_in =
-        ap (λ (b : Bool). cond b w.darts (faces.label (w.next a))) (of a a_in) ∙ ap (λ (c : ℕ). cond (s a) w.darts c) (faces.stays a a_in)
+        ap (λ (b : Bool). cond b w.darts (faces.face_number (w.next a))) (of a a_in) ∙ ap (λ (c : ℕ). cond (s a) w.darts c) (faces.stays a a_in)
 
     touch_back : (a : ℕ) → a < w.darts → (s a && s (w.reverse_dart a)) ≡ false → (s (w.reverse_dart a) && s (w.reverse_dart (w.reverse_dart a))) ≡ false
     touch_back a a_in off = and_swap (s a) (s (w.reverse_dart a)) (s (w.reverse_dart (w.reverse_dart a))) (ap s (back_back a a_in)) off
@@ -199,8 +199,8 @@ module _ (w : DartMap) (sound : IsSound w) (connected : IsConnected w) (o : ℕ)
         let both = or_parts (is_up j1 g1 a) (is_up j1 g1 (w.reverse_dart a)) off in
         or_from (is_up j1 g1 (w.reverse_dart a)) (is_up j1 g1 (w.reverse_dart (w.reverse_dart a))) both.1 (ap (is_up j1 g1) (back_back a a_in) ∙ both.0)
 
-    pub up_of : (a : ℕ) → in_tree w (face_joins w o faces (filled w o faces s0 g0) root) g1 a ≡ true
-        → Up (face_joins w o faces (filled w o faces s0 g0) root) g1 a ⊎ Up (face_joins w o faces (filled w o faces s0 g0) root) g1 (w.reverse_dart a)
+    pub up_of : (a : ℕ) → in_tree w (face_connections w o faces (filled w o faces s0 g0) root) g1 a ≡ true
+        → Up (face_connections w o faces (filled w o faces s0 g0) root) g1 a ⊎ Up (face_connections w o faces (filled w o faces s0 g0) root) g1 (w.reverse_dart a)
     up_of a on =
         elim (or_cases (is_up j1 g1 a) (is_up j1 g1 (w.reverse_dart a)) on) [
           | inl up ↦ inl (up_from j1 g1 a up)
@@ -209,11 +209,11 @@ module _ (w : DartMap) (sound : IsSound w) (connected : IsConnected w) (o : ℕ)
 
     -- ---- the tree on the vertices
 
-    module _ (g2 : Growth (vertex_joins w o faces (filled w o faces s0 g0) root g1)) where
-      abbrev j2 : Joins
-      j2 = vertex_joins w o faces s root g1
+    module _ (g2 : Growth (vertex_connections w o faces (filled w o faces s0 g0) root g1)) where
+      abbrev j2 : Connections
+      j2 = vertex_connections w o faces s root g1
 
-      pub paired2 : IsPaired (vertex_joins w o faces (filled w o faces s0 g0) root g1) w.reverse_dart
+      pub paired2 : IsPaired (vertex_connections w o faces (filled w o faces s0 g0) root g1) w.reverse_dart
       paired2 = record { inside = back_in; back = back_back; from = λ d l. refl; node = sound.meeting.head_in }
 
       off_tree : (d : ℕ) → d < w.darts → (s d && s (w.reverse_dart d)) ≡ false → in_tree w j1 g1 d ≡ false
@@ -272,7 +272,7 @@ module _ (w : DartMap) (sound : IsSound w) (connected : IsConnected w) (o : ℕ)
                 ∙ sym (ap (λ (b : Bool). b || g2.reached (w.head a)) off)
           ]
 
-      from_told : (a c : ℕ) → a < w.darts → faces.label a ≡ c → told c ≡ true → s a ≡ false → g2.reached (w.head a) ≡ true
+      from_told : (a c : ℕ) → a < w.darts → faces.face_number a ≡ c → told c ≡ true → s a ≡ false → g2.reached (w.head a) ≡ true
       from_told a c a_in named on off =
           let here : told a ≡ true = faces.held told told_of a a_in ∙ ap told named ∙ on in
           elim (or_cases (s a) (g2.reached (w.head a)) here) [
@@ -280,32 +280,32 @@ module _ (w : DartMap) (sound : IsSound w) (connected : IsConnected w) (o : ℕ)
             | inr yes' ↦ yes'
           ]
 
-      round_faces : (v : ℕ) → g0.reached v ≡ true → (a : ℕ) → a < w.darts → faces.label a ≡ v → g2.reached (w.head a) ≡ true
+      round_faces : (v : ℕ) → g0.reached v ≡ true → (a : ℕ) → a < w.darts → faces.face_number a ≡ v → g2.reached (w.head a) ≡ true
       round_faces v r =
-          by_growth (outer_joins w o faces s0) g0 (λ (v : ℕ). (a : ℕ) → a < w.darts → faces.label a ≡ v → g2.reached (w.head a) ≡ true)
+          by_growth (outer_connections w o faces s0) g0 (λ (v : ℕ). (a : ℕ) → a < w.darts → faces.face_number a ≡ v → g2.reached (w.head a) ≡ true)
           (λ a a_in named. from_told a faces.out a_in named (or_right (s faces.out) (g2.reached (w.head faces.out)) g2.grown.root) (off_of a (ap g0.reached named ∙ g0.grown.root)))
           step v r
         where
           step : (v : ℕ) → g0.reached v ≡ true → v ≢ faces.out
-              → ((a : ℕ) → a < w.darts → faces.label a ≡ faces.label (w.reverse_dart (g0.parent v)) → g2.reached (w.head a) ≡ true)
-              → (a : ℕ) → a < w.darts → faces.label a ≡ v → g2.reached (w.head a) ≡ true
+              → ((a : ℕ) → a < w.darts → faces.face_number a ≡ faces.face_number (w.reverse_dart (g0.parent v)) → g2.reached (w.head a) ≡ true)
+              → (a : ℕ) → a < w.darts → faces.face_number a ≡ v → g2.reached (w.head a) ≡ true
           step v r ne before a a_in named =
               let leads = g0.grown.leads v r ne in
               let d : ℕ = g0.parent v in
               let off : s d ≡ false = off_of d (ap g0.reached leads.to ∙ r) in
               let there : g2.reached (w.head (w.reverse_dart d)) ≡ true = before (w.reverse_dart d) (back_in d leads.inside) refl in
               let here : g2.reached (w.head d) ≡ true = ends d leads.inside (and_off (s d) (s (w.reverse_dart d)) off) ∙ there in
-              let face : told (faces.label d) ≡ true = sym (faces.held told told_of d leads.inside) ∙ or_right (s d) (g2.reached (w.head d)) here in
+              let face : told (faces.face_number d) ≡ true = sym (faces.held told told_of d leads.inside) ∙ or_right (s d) (g2.reached (w.head d)) here in
               from_told a v a_in named (ap told (sym leads.to) ∙ face) (off_of a (ap g0.reached named ∙ r))
 
       -- so all vertices of the edges that touch such a face are reached
       pub all_vertices : (a : ℕ) → a < w.darts → (filled w o faces s0 g0 a && filled w o faces s0 g0 (w.reverse_dart a)) ≡ false → g2.reached (w.head a) ≡ true
       all_vertices a a_in touch =
           elim (either (s a) (s (w.reverse_dart a)) touch) [
-            | inl off ↦ round_faces (faces.label a) (reached_of a off) a a_in refl
+            | inl off ↦ round_faces (faces.face_number a) (reached_of a off) a a_in refl
             | inr off ↦
                 let b : ℕ = w.reverse_dart a in
-                ends a a_in touch ∙ round_faces (faces.label b) (reached_of b off) b (back_in a a_in) refl
+                ends a a_in touch ∙ round_faces (faces.face_number b) (reached_of b off) b (back_in a a_in) refl
           ]
 
       -- ---- how many edges
@@ -382,9 +382,9 @@ module _ (w : DartMap) (sound : IsSound w) (connected : IsConnected w) (o : ℕ)
             sum_below-le w.darts both (λ v. cond (g1.reached v) 1 0) (λ v v_in. node v v_in (cases_eq faces.out v) (cases_Bool (s v)) (cases_Bool (eqb (w.direction v) 1 && eqb (w.angle v) 1))),
           )
         where
-          shown : (v : ℕ) → v < w.darts → s v ≡ false → faces.label v ≡ v → cond {A = ℕ} (g1.reached v) 1 0 ≡ 1
+          shown : (v : ℕ) → v < w.darts → s v ≡ false → faces.face_number v ≡ v → cond {A = ℕ} (g1.reached v) 1 0 ≡ 1
           shown v v_in off named =
-              let at : f v ≡ v = cond-false {A = ℕ} (s v) w.darts (faces.label v) off ∙ named in
+              let at : f v ≡ v = cond-false {A = ℕ} (s v) w.darts (faces.face_number v) off ∙ named in
               cond-true {A = ℕ} (g1.reached v) 1 0 (ap g1.reached (sym at) ∙ all_faces v v_in)
 
           box_none : (v : ℕ) → (s v ≡ true) ⊎ ((eqb (w.direction v) 1 && eqb (w.angle v) 1) ≡ false) → boxes_off w s v ≡ 0
@@ -417,7 +417,7 @@ module _ (w : DartMap) (sound : IsSound w) (connected : IsConnected w) (o : ℕ)
                 arith,
                 box_none v (inr (not_out v e)),
                 cond-true {A = ℕ} (eqb faces.out v) 1 0 (eq-eqb faces.out v e),
-                shown v v_in (ap s (sym e) ∙ out_off) (ap faces.label (sym e) ∙ faces.out_own ∙ e),
+                shown v v_in (ap s (sym e) ∙ out_off) (ap faces.face_number (sym e) ∙ faces.out_own ∙ e),
               )
           node v v_in (inr ne) (inl on) corner = omega (arith, box_none v (inl on), cond-false {A = ℕ} (eqb faces.out v) 1 0 (ne_eqb faces.out v ne))
           node v v_in (inr ne) (inr off) (inr other) = omega (arith, box_none v (inr other), cond-false {A = ℕ} (eqb faces.out v) 1 0 (ne_eqb faces.out v ne))
@@ -431,8 +431,8 @@ module _ (w : DartMap) (sound : IsSound w) (connected : IsConnected w) (o : ℕ)
               )
 
       pub tight : sum_below w.darts (touches w (filled w o faces s0 g0)) + 2 * cond (g1.reached w.darts) 1 0
-          ≤ 2 * sum_below w.darts (ups (face_joins w o faces (filled w o faces s0 g0) root) g1)
-          + 2 * sum_below w.darts (ups (vertex_joins w o faces (filled w o faces s0 g0) root g1) g2)
+          ≤ 2 * sum_below w.darts (ups (face_connections w o faces (filled w o faces s0 g0) root) g1)
+          + 2 * sum_below w.darts (ups (vertex_connections w o faces (filled w o faces s0 g0) root g1) g2)
       tight =
           let first = enough j1 g1 face_in root_in in
           let last = sum_below-more w.darts (λ v. cond (g1.reached v) 1 0) in
@@ -447,8 +447,8 @@ module _ (w : DartMap) (sound : IsSound w) (connected : IsConnected w) (o : ℕ)
 
       -- each edge is of one of the trees
       pub spanned : (d : ℕ) → d < w.darts → (filled w o faces s0 g0 d && filled w o faces s0 g0 (w.reverse_dart d)) ≡ false
-          → (Up (face_joins w o faces (filled w o faces s0 g0) root) g1 d ⊎ Up (face_joins w o faces (filled w o faces s0 g0) root) g1 (w.reverse_dart d))
-          ⊎ (Up (vertex_joins w o faces (filled w o faces s0 g0) root g1) g2 d ⊎ Up (vertex_joins w o faces (filled w o faces s0 g0) root g1) g2 (w.reverse_dart d))
+          → (Up (face_connections w o faces (filled w o faces s0 g0) root) g1 d ⊎ Up (face_connections w o faces (filled w o faces s0 g0) root) g1 (w.reverse_dart d))
+          ⊎ (Up (vertex_connections w o faces (filled w o faces s0 g0) root g1) g2 d ⊎ Up (vertex_connections w o faces (filled w o faces s0 g0) root g1) g2 (w.reverse_dart d))
       spanned d d_in touch =
           elim (cases_Bool (in_tree w j1 g1 d)) [
             | inl on ↦ inl (up_of d on)
@@ -474,29 +474,29 @@ module _ (w : DartMap) (sound : IsSound w) (connected : IsConnected w) (o : ℕ)
           ]
 
 -- a set of faces that is closed to the north, and holds any, holds the outside
-pub holds_outside : (w : DartMap) → IsSound w → IsConnected w → (o : ℕ) (faces : Labels w o) (s : ℕ → Bool) → OfFaces w s
+pub holds_outside : (w : DartMap) → IsSound w → IsConnected w → (o : ℕ) (faces : FaceNumbering w o) (s : ℕ → Bool) → OfFaces w s
     → ((a : ℕ) → a < w.darts → w.direction a ≡ 0 → s (w.reverse_dart a) ≡ true → s a ≡ true)
     → (a : ℕ) → a < w.darts → s a ≡ true → s o ≡ true
 holds_outside w sound connected o faces s of_s up a a_in on =
     faces.out_held s of_s
-    ∙ true_from_ne_false (s faces.out) (λ off. closing off (growth (outer_joins w o faces s) faces.inside))
+    ∙ true_from_ne_false (s faces.out) (λ off. closing off (growth (outer_connections w o faces s) faces.inside))
   where
-    closing : s faces.out ≡ false → Growth (outer_joins w o faces s) → ⊥
+    closing : s faces.out ≡ false → Growth (outer_connections w o faces s) → ⊥
     closing off g0 =
-        first (growth (face_joins w o faces s' w.darts) (λ d d_in. bound d d_in (cases_Bool (s' d))))
+        first (growth (face_connections w o faces s' w.darts) (λ d d_in. bound d d_in (cases_Bool (s' d))))
       where
         s' : ℕ → Bool
         s' = filled w o faces s g0
 
         bound : (d : ℕ) → d < w.darts → (s' d ≡ true) ⊎ (s' d ≡ false) → face_node w o faces s' d < w.darts + 1
-        bound d d_in (inl yes') = omega (arith, cond-true {A = ℕ} (s' d) w.darts (faces.label d) yes')
-        bound d d_in (inr no') = omega (arith, cond-false {A = ℕ} (s' d) w.darts (faces.label d) no', faces.inside d d_in)
+        bound d d_in (inl yes') = omega (arith, cond-true {A = ℕ} (s' d) w.darts (faces.face_number d) yes')
+        bound d d_in (inr no') = omega (arith, cond-false {A = ℕ} (s' d) w.darts (faces.face_number d) no', faces.inside d d_in)
 
         in_set : (d : ℕ) → d < w.darts → s' d ≡ true → face_node w o faces s' d ≡ w.darts
-        in_set d d_in yes' = cond-true {A = ℕ} (s' d) w.darts (faces.label d) yes'
+        in_set d d_in yes' = cond-true {A = ℕ} (s' d) w.darts (faces.face_number d) yes'
 
-        first : Growth (face_joins w o faces s' w.darts) → ⊥
+        first : Growth (face_connections w o faces s' w.darts) → ⊥
         first g1 =
             set_not_reached w sound connected o faces s of_s up off g0 w.darts (omega arith) in_set a a_in
             (in_set a a_in (holds_first w sound connected o faces s of_s up off g0 a a_in on)) g1
-            (growth (vertex_joins w o faces s' w.darts g1) sound.meeting.head_in) g1.grown.root
+            (growth (vertex_connections w o faces s' w.darts g1) sound.meeting.head_in) g1.grown.root

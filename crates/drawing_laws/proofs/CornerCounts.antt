@@ -6,7 +6,7 @@ use Rattle.common.proofs.Sums.{sum_below-same, sum_below-add, sum_below-le, sum_
 use Rattle.embedding.specs.Darts.{IsOneToOne}
 use Rattle.dissect.specs.DartMaps.{DartMap, IsSound}
 use Rattle.dissect.proofs.Reordered.{sum_at, sum_at-add, sum_at-times, sum_at-same, reordered_at}
-use Rattle.drawing_laws.proofs.Labels.{OfFaces}
+use Rattle.drawing_laws.proofs.FaceNumbering.{OfFaces}
 
 -- the dart that arrives next clockwise
 abbrev pub clockwise : DartMap → ℕ → ℕ

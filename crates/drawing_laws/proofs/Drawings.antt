@@ -9,7 +9,7 @@ use Rattle.ortho_rep.specs.Representation.{IsLeast}
 use Rattle.drawing_check.specs.Draws.{Draws}
 use Rattle.dissect.specs.Boxes.{BoxesModel}
 use Rattle.dissect.specs.Boxed.{IsBoxed}
-use Rattle.drawing_laws.proofs.Numbers.{boxes_ordered}
+use Rattle.drawing_laws.proofs.Coordinates.{boxes_ordered}
 use Rattle.entries.specs.declared.cause.Cause.{Cause}
 use Rattle.entries.specs.Drawn.{ShowsCause, HasPoints}
 use Rattle.entries.specs.declared.answer.Answer.{Answer}
@@ -21,7 +21,7 @@ use Rattle.drawing_laws.specs.Remaining.{MayShow}
 use Rattle.drawing_laws.proofs.Remaining.{remaining_of_least}
 use Rattle.drawing_laws.proofs.WideOnly.{shown_wide}
 
--- some numbers are in the order of the boxes
+-- some coordinates are in the order of the boxes
 some_order : (plane : PlaneModel) (shape : ShapeModel) (b : BoxesModel) → IsBoxed plane shape b → ¬ HasNoOrder b
 some_order plane shape b boxed none =
     let (x, y, ordered) = boxes_ordered b boxed.boxes in

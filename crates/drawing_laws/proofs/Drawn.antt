@@ -1,4 +1,4 @@
--- Points that are taken from numbers in order draw the shape.
+-- Points that are taken from coordinates in order draw the shape.
 use Rattle.std.proofs.Common.{◌≡◌, ℕ, zero, suc, ◌+◌, ◌-◌, ◌%◌, ◌<◌, ◌≤◌, ◌∙◌, List, [], ◌∷◌, ◌++◌, map, filter, length, length-append, get_or, slice_index, arith, subst, sym, ap, refl, inl, inr, true, cond, ltb, eqb, All, AllPairs, Contains}
 use Rattle.std.specs.List.{range_with_len, flat_map}
 use Rattle.std.proofs.lemmas.Bool.{cases_eq, cases_lt, cond-true, cond-false, lt-ltb, ltb-true, eq-eqb, ne_eqb}
@@ -16,7 +16,7 @@ use Rattle.ortho_rep.specs.Edges.{is_lesser, lesser_darts, edge_number}
 use Rattle.ortho_rep.proofs.EdgeNumbers.{edge_number-below, lesser-more, length-lesser}
 use Rattle.dissect.specs.Steps.{angle_of}
 use Rattle.dissect.specs.Faces.{In, Distinct, Below, last_of}
-use Rattle.dissect.specs.Paths.{HasPath, IsPath, turn_to, turning_places}
+use Rattle.dissect.specs.Paths.{HasPath, IsPath, turn_to, turning_vertices}
 use Rattle.dissect.specs.Boxes.{BoxesModel, dart_map}
 use Rattle.dissect.specs.Boxed.{IsBoxed}
 use Rattle.dissect.specs.Ordered.{IsOrdered, AreWithin, AreTaken, AreLaidOut, point_at}
@@ -99,7 +99,7 @@ module _ (p : PlaneModel) (shape : ShapeModel) (b : BoxesModel) (plane : IsPlane
 
   -- the corners of an edge
   corners_are : (d : ℕ) (d_in : d < darts p) → is_lesser p d ≡ true
-      → corners_at points (edge_number p d) ≡ map (point_at x y) (turning_places (dart_map b) (path_of d d_in).first (path_of d d_in).rest)
+      → corners_at points (edge_number p d) ≡ map (point_at x y) (turning_vertices (dart_map b) (path_of d d_in).first (path_of d d_in).rest)
   corners_are d d_in lesser =
       let has = path_of d d_in in
       let at : slice_index b.edges (edge_number p d) ≡ d =
@@ -133,7 +133,7 @@ module _ (p : PlaneModel) (shape : ShapeModel) (b : BoxesModel) (plane : IsPlane
       ∙ ap (point_at x y) (sym (ap (dart_map b).head has.path.ends ∙ boxed.heads d d_in)) in
       ap (λ (q : Point). q ∷ (corners_at points (edge_number p d) ++ vertex_point points (head p d) ∷ [])) first
       ∙ ap (λ (qs : List Point). point_at x y ((dart_map b).head ((dart_map b).reverse_dart has.first)) ∷ (qs ++ vertex_point points (head p d) ∷ [])) (corners_are d d_in lesser)
-      ∙ ap (λ (q : Point). point_at x y ((dart_map b).head ((dart_map b).reverse_dart has.first)) ∷ (map (point_at x y) (turning_places (dart_map b) has.first has.rest) ++ q ∷ [])) last
+      ∙ ap (λ (q : Point). point_at x y ((dart_map b).head ((dart_map b).reverse_dart has.first)) ∷ (map (point_at x y) (turning_vertices (dart_map b) has.first has.rest) ++ q ∷ [])) last
 
   first_goes : (d : ℕ) (d_in : d < darts p)
       → Goes ((dart_map b).direction (path_of d d_in).first) x y ((dart_map b).head ((dart_map b).reverse_dart (path_of d d_in).first)) ((dart_map b).head (path_of d d_in).first)
@@ -177,10 +177,10 @@ module _ (p : PlaneModel) (shape : ShapeModel) (b : BoxesModel) (plane : IsPlane
   reverse_leaves d d_in lesser =
       let has = path_of d d_in in
       let u : ℕ = (dart_map b).head ((dart_map b).reverse_dart has.first) in
-      let n : ℕ = length (map (point_at x y) (turning_places (dart_map b) has.first has.rest)) in
+      let n : ℕ = length (map (point_at x y) (turning_vertices (dart_map b) has.first has.rest)) in
       let is = line_is d d_in lesser in
       let size : length (line_of d d_in) ≡ n + 2 =
-      omega (arith, length-append (map (point_at x y) (turning_places (dart_map b) has.first has.rest)) (point_at x y ((dart_map b).head (last_of has.first has.rest)) ∷ [])) in
+      omega (arith, length-append (map (point_at x y) (turning_vertices (dart_map b) has.first has.rest)) (point_at x y ((dart_map b).head (last_of has.first has.rest)) ∷ [])) in
       leaving-reverse_dart p points d n (plane_ends p plane) d_in lesser (ap length is ∙ size)
       ∙ ap (λ (path : List Point). direction_between (point_of path (n + 1)) (point_of path n)) is
       ∙ line_back (dart_map b) boxed.boxes.sound x y ordered n u has.first has.rest has.path.first_in has.path.rest_in has.path.follows (first_goes d d_in) size
@@ -346,7 +346,7 @@ module _ (p : PlaneModel) (shape : ShapeModel) (b : BoxesModel) (plane : IsPlane
   -- ---- the grid
 
   module _ (x_within : AreWithin b.vertices x) (y_within : AreWithin b.vertices y) where
-    turns_within : (a : ℕ) (rest : List ℕ) → a < b.darts → Below b.darts rest → All IsInGrid (map (point_at x y) (turning_places (dart_map b) a rest))
+    turns_within : (a : ℕ) (rest : List ℕ) → a < b.darts → Below b.darts rest → All IsInGrid (map (point_at x y) (turning_vertices (dart_map b) a rest))
     turns_within a [] a_in below = All-nil IsInGrid
     turns_within a (c ∷ cs) a_in below =
         let later = turns_within c cs below.0 below.1 in
@@ -355,12 +355,12 @@ module _ (p : PlaneModel) (shape : ShapeModel) (b : BoxesModel) (plane : IsPlane
         elim (cases_eq t 0) [
           | inl none ↦
               subst (λ (vs : List ℕ). All IsInGrid (map (point_at x y) vs))
-              (sym (cond-true {A = List ℕ} (eqb t 0) (turning_places (dart_map b) c cs) ((dart_map b).head a ∷ turning_places (dart_map b) c cs) (eq-eqb t 0 none)))
+              (sym (cond-true {A = List ℕ} (eqb t 0) (turning_vertices (dart_map b) c cs) ((dart_map b).head a ∷ turning_vertices (dart_map b) c cs) (eq-eqb t 0 none)))
               later
           | inr some ↦
               subst (λ (vs : List ℕ). All IsInGrid (map (point_at x y) vs))
-              (sym (cond-false {A = List ℕ} (eqb t 0) (turning_places (dart_map b) c cs) ((dart_map b).head a ∷ turning_places (dart_map b) c cs) (ne_eqb t 0 some)))
-              (All-cons IsInGrid (point_at x y ((dart_map b).head a)) (map (point_at x y) (turning_places (dart_map b) c cs)) (x_within ((dart_map b).head a) v_in, y_within ((dart_map b).head a) v_in) later)
+              (sym (cond-false {A = List ℕ} (eqb t 0) (turning_vertices (dart_map b) c cs) ((dart_map b).head a ∷ turning_vertices (dart_map b) c cs) (ne_eqb t 0 some)))
+              (All-cons IsInGrid (point_at x y ((dart_map b).head a)) (map (point_at x y) (turning_vertices (dart_map b) c cs)) (x_within ((dart_map b).head a) v_in, y_within ((dart_map b).head a) v_in) later)
         ]
 
     in_grid : AreInGrid points

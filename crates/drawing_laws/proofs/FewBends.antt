@@ -13,15 +13,15 @@ use Rattle.ortho_rep.specs.Shapes.{ShapeModel, angle_at, turns_at}
 use Rattle.ortho_rep.specs.Representation.{Rep, IsLeast, bends_of}
 use Rattle.ortho_rep.specs.Prices.{Prove}
 use Rattle.ortho_rep.proofs.WeakDuality.{lefts_of, lengths-twice}
-use Rattle.dissect.proofs.Trees.{Joins}
-use Rattle.dissect.proofs.Vertices.{vertex_joins, face_joins, vertices_paired, faces_paired}
+use Rattle.dissect.proofs.Trees.{Connections}
+use Rattle.dissect.proofs.Vertices.{vertex_connections, face_connections, vertices_paired, faces_paired}
 use Rattle.dissect.proofs.TreeCounts.{ups}
 use Rattle.drawing_laws.proofs.StrongDuality.{prices_exist}
 use Rattle.drawing_laws.specs.Bound.{bends, edges, bend_bound}
 use Rattle.drawing_laws.proofs.Shifted.{AreFacePrices, face_prices}
 use Rattle.drawing_laws.proofs.Dearest.{dearest, dearest-from, dearest-to, dearest-near, angles_worth, four_each}
 use Rattle.drawing_laws.proofs.Balance.{balanced}
-use Rattle.drawing_laws.proofs.OtherRoots.{joins_by, paired_by, trees}
+use Rattle.drawing_laws.proofs.OtherRoots.{connections_by, paired_by, trees}
 use Rattle.drawing_laws.proofs.Weighing.{by_nodes, by_trees, up_le}
 
 -- the prices of both faces of a dart and of the dearest ones at both ends
@@ -85,10 +85,10 @@ by_roots : (p : PlaneModel) (a : ℕ → ℕ) (s : ℕ → List Turn) (y : ℕ �
 by_roots p a s y plane ends prices vertex inside =
     let t = trees p plane ends vertex p.outer inside plane.outer in
     let n : ℕ = darts p in
-    let j : Joins = joins_by (vertex_joins p) t.allowed vertex in
-    let k : Joins = joins_by (face_joins p (λ _. 0)) t.allowed' p.outer in
-    let paired = paired_by (vertex_joins p) (reverse_dart p) t.allowed vertex (vertices_paired p ends) in
-    let paired' = paired_by (face_joins p (λ _. 0)) (reverse_dart p) t.allowed' p.outer (faces_paired p (λ _. 0) ends) in
+    let j : Connections = connections_by (vertex_connections p) t.allowed vertex in
+    let k : Connections = connections_by (face_connections p (λ _. 0)) t.allowed' p.outer in
+    let paired = paired_by (vertex_connections p) (reverse_dart p) t.allowed vertex (vertices_paired p ends) in
+    let paired' = paired_by (face_connections p (λ _. 0)) (reverse_dart p) t.allowed' p.outer (faces_paired p (λ _. 0) ends) in
     let w : ℕ → ℕ = around p y in
     let at_vertex : ℕ → ℕ = λ v. 4 * dearest p y v + 1 in
     let at_face : ℕ → ℕ = λ f. 4 * y f + 5 in

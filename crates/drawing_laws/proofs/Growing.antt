@@ -5,7 +5,7 @@ use Rattle.common.specs.Sums.{sum_below}
 use Rattle.common.proofs.Sums.{sum_below-same, sum_below-add, sum_below-le, sum_below-lt, sum_below-one, sum_below-member, sum_below-changed, exchanged}
 use Rattle.flow_network.proofs.VertexDegrees.{search_below}
 use Rattle.dissect.proofs.Reordered.{sum_at}
-use Rattle.dissect.proofs.Trees.{Joins, LeadsTo, IsBorder, put, with_one, unreached}
+use Rattle.dissect.proofs.Trees.{Connections, LeadsTo, IsBorder, put, with_one, unreached}
 use Rattle.dissect.proofs.Peeling.{IsPaired}
 
 pub put-here : (f : ℕ → ℕ) (v x : ℕ) → put f v x v ≡ x
@@ -27,36 +27,36 @@ with-kept s v u h = elim (cases_eq u v) [
 ]
 
 -- the nodes that are reached, each but the root by a dart from one of lower rank
-pub record IsGrown (j : Joins) (reached : ℕ → Bool) (rank parent : ℕ → ℕ) : Type 0 where
+pub record IsGrown (j : Connections) (reached : ℕ → Bool) (rank parent : ℕ → ℕ) : Type 0 where
   pub root : reached j.root ≡ true
   pub leads : (v : ℕ) → reached v ≡ true → v ≢ j.root → LeadsTo j rank v (parent v)
   pub behind : (v : ℕ) → reached v ≡ true → v ≢ j.root → reached (j.from (parent v)) ≡ true
 
 -- all nodes that can be reached
-pub record Growth (j : Joins) : Type 0 where
+pub record Growth (j : Connections) : Type 0 where
   pub reached : ℕ → Bool
   pub rank : ℕ → ℕ
   pub parent : ℕ → ℕ
   pub grown : IsGrown j reached rank parent
   pub closed : (d : ℕ) → d < j.darts → j.allowed d ≡ true → reached (j.from d) ≡ true → reached (j.to d) ≡ true
 
-old_one : (j : Joins) (reached : ℕ → Bool) (d : ℕ) → IsBorder j reached d → (u : ℕ) → reached u ≡ true → u ≢ j.to d
+old_one : (j : Connections) (reached : ℕ → Bool) (d : ℕ) → IsBorder j reached d → (u : ℕ) → reached u ≡ true → u ≢ j.to d
 old_one j reached d b u h e = both_ways (reached (j.to d)) b.to (ap reached (sym e) ∙ h)
 
-kept : (j : Joins) (reached : ℕ → Bool) (d : ℕ) → IsBorder j reached d → (f : ℕ → ℕ) (x u : ℕ) → reached u ≡ true → put f (j.to d) x u ≡ f u
+kept : (j : Connections) (reached : ℕ → Bool) (d : ℕ) → IsBorder j reached d → (f : ℕ → ℕ) (x u : ℕ) → reached u ≡ true → put f (j.to d) x u ≡ f u
 kept j reached d b f x u h = put-other f (j.to d) x u (old_one j reached d b u h)
 
 was_reached : (reached : ℕ → Bool) (w v : ℕ) → with_one reached w v ≡ true → v ≢ w → reached v ≡ true
 was_reached reached w v h ne = sym (with-other reached w v ne) ∙ h
 
-leads_new : (j : Joins) (reached : ℕ → Bool) (rank : ℕ → ℕ) (d : ℕ) → IsBorder j reached d
+leads_new : (j : Connections) (reached : ℕ → Bool) (rank : ℕ → ℕ) (d : ℕ) → IsBorder j reached d
     → LeadsTo j (put rank (j.to d) (rank (j.from d) + 1)) (j.to d) d
 leads_new j reached rank d b =
     let here = put-here rank (j.to d) (rank (j.from d) + 1) in
     let there = kept j reached d b rank (rank (j.from d) + 1) (j.from d) b.from in
     record { inside = b.inside; allowed = b.allowed; to = refl; lower = omega (arith, here, there) }
 
-leads_old : (j : Joins) (reached : ℕ → Bool) (rank : ℕ → ℕ) (d : ℕ) → IsBorder j reached d → (v e : ℕ) → reached v ≡ true → reached (j.from e) ≡ true → LeadsTo j rank v e
+leads_old : (j : Connections) (reached : ℕ → Bool) (rank : ℕ → ℕ) (d : ℕ) → IsBorder j reached d → (v e : ℕ) → reached v ≡ true → reached (j.from e) ≡ true → LeadsTo j rank v e
     → LeadsTo j (put rank (j.to d) (rank (j.from d) + 1)) v e
 leads_old j reached rank d b v e h k l =
     let here = kept j reached d b rank (rank (j.from d) + 1) v h in
@@ -64,7 +64,7 @@ leads_old j reached rank d b v e h k l =
     record { inside = l.inside; allowed = l.allowed; to = l.to; lower = omega (arith, here, there, l.lower) }
 
 -- one node more is reached
-grow : (j : Joins) (reached : ℕ → Bool) (rank parent : ℕ → ℕ) (d : ℕ) → IsGrown j reached rank parent → IsBorder j reached d
+grow : (j : Connections) (reached : ℕ → Bool) (rank parent : ℕ → ℕ) (d : ℕ) → IsGrown j reached rank parent → IsBorder j reached d
     → IsGrown j (with_one reached (j.to d)) (put rank (j.to d) (rank (j.from d) + 1)) (put parent (j.to d) d)
 grow j reached rank parent d is b =
     let w : ℕ = j.to d in
@@ -88,7 +88,7 @@ grow j reached rank parent d is b =
       ];
     }
 
-fewer : (j : Joins) (reached : ℕ → Bool) (d : ℕ) → IsBorder j reached d → unreached j (with_one reached (j.to d)) < unreached j reached
+fewer : (j : Connections) (reached : ℕ → Bool) (d : ℕ) → IsBorder j reached d → unreached j (with_one reached (j.to d)) < unreached j reached
 fewer j reached d b =
     sum_below-lt j.nodes (j.to d) (λ v. cond (with_one reached (j.to d) v) 0 1) (λ v. cond (reached v) 0 1) b.node
     (λ v h. no_more v (cases_eq v (j.to d)))
@@ -101,7 +101,7 @@ fewer j reached d b =
     no_more v (inl e) = none (with_one reached (j.to d) v) (cond (reached v) 0 1) (ap (with_one reached (j.to d)) e ∙ with-here reached (j.to d))
     no_more v (inr ne) = omega (arith, ap {B = ℕ} (λ (x : Bool). cond x 0 1) (with-other reached (j.to d) v ne))
 
-border : (j : Joins) → ((d : ℕ) → d < j.darts → j.to d < j.nodes) → (reached : ℕ → Bool)
+border : (j : Connections) → ((d : ℕ) → d < j.darts → j.to d < j.nodes) → (reached : ℕ → Bool)
     → ((d : ℕ) × IsBorder j reached d) ⊎ ((d : ℕ) → d < j.darts → j.allowed d ≡ true → reached (j.from d) ≡ true → reached (j.to d) ≡ true)
 border j ends reached =
     elim (search_below j.darts (λ d. j.allowed d && (reached (j.from d) && not (reached (j.to d))))) [
@@ -116,7 +116,7 @@ border j ends reached =
           (and_from _ _ allowed (and_from _ _ from (not_from_false (reached (j.to d)) to)))))
     ]
 
-build : (j : Joins) → ((d : ℕ) → d < j.darts → j.to d < j.nodes)
+build : (j : Connections) → ((d : ℕ) → d < j.darts → j.to d < j.nodes)
     → (k : ℕ) (reached : ℕ → Bool) (rank parent : ℕ → ℕ) → IsGrown j reached rank parent → unreached j reached < k → Growth j
 build j ends zero reached rank parent is left = absurd (omega arith)
 build j ends (suc k) reached rank parent is left =
@@ -129,7 +129,7 @@ build j ends (suc k) reached rank parent is left =
     ]
 
 -- all nodes that the allowed darts lead to from the root
-pub growth : (j : Joins) → ((d : ℕ) → d < j.darts → j.to d < j.nodes) → Growth j
+pub growth : (j : Connections) → ((d : ℕ) → d < j.darts → j.to d < j.nodes) → Growth j
 growth j ends =
     build j ends (unreached j (λ v. eqb v j.root) + 1) (λ v. eqb v j.root) (λ _. 0) (λ _. 0)
     (record {
@@ -140,35 +140,35 @@ growth j ends =
     (omega arith)
 
 -- whether the dart is the one by which its end is reached
-abbrev pub is_up : (j : Joins) → Growth j → ℕ → Bool
+abbrev pub is_up : (j : Connections) → Growth j → ℕ → Bool
 is_up j g d = g.reached (j.to d) && (not (eqb (j.to d) j.root) && eqb (g.parent (j.to d)) d)
 
-pub record Up (j : Joins) (g : Growth j) (d : ℕ) : Type 0 where
+pub record Up (j : Connections) (g : Growth j) (d : ℕ) : Type 0 where
   pub reached : g.reached (j.to d) ≡ true
   pub node : j.to d ≢ j.root
   pub parent_is : g.parent (j.to d) ≡ d
 
-pub up_from : (j : Joins) (g : Growth j) (d : ℕ) → is_up j g d ≡ true → Up j g d
+pub up_from : (j : Connections) (g : Growth j) (d : ℕ) → is_up j g d ≡ true → Up j g d
 up_from j g d h =
     let first = and_parts (g.reached (j.to d)) (not (eqb (j.to d) j.root) && eqb (g.parent (j.to d)) d) h in
     let both = and_parts (not (eqb (j.to d) j.root)) (eqb (g.parent (j.to d)) d) first.1 in
     record { reached = first.0; node = eqb-false (j.to d) j.root (not-true (eqb (j.to d) j.root) both.0); parent_is = eqb-true (g.parent (j.to d)) d both.1 }
 
-up_to : (j : Joins) (g : Growth j) (d : ℕ) → Up j g d → is_up j g d ≡ true
+up_to : (j : Connections) (g : Growth j) (d : ℕ) → Up j g d → is_up j g d ≡ true
 up_to j g d up =
     and_from _ _ up.reached
     (and_from (not (eqb (j.to d) j.root)) (eqb (g.parent (j.to d)) d) (not_from_false (eqb (j.to d) j.root) (ne_eqb (j.to d) j.root up.node)) (eq-eqb (g.parent (j.to d)) d up.parent_is))
 
-pub up_leads : (j : Joins) (g : Growth j) (d : ℕ) → Up j g d → LeadsTo j g.rank (j.to d) d
+pub up_leads : (j : Connections) (g : Growth j) (d : ℕ) → Up j g d → LeadsTo j g.rank (j.to d) d
 up_leads j g d up = subst (λ (e : ℕ). LeadsTo j g.rank (j.to d) e) up.parent_is (g.grown.leads (j.to d) up.reached up.node)
 
-abbrev pub ups : (j : Joins) → Growth j → ℕ → ℕ
+abbrev pub ups : (j : Connections) → Growth j → ℕ → ℕ
 ups j g d = cond (is_up j g d) 1 0
 
 -- ---- how many
 
 -- one such dart for each node that is reached, but for the root
-pub enough : (j : Joins) (g : Growth j) → ((d : ℕ) → d < j.darts → j.to d < j.nodes) → j.root < j.nodes
+pub enough : (j : Connections) (g : Growth j) → ((d : ℕ) → d < j.darts → j.to d < j.nodes) → j.root < j.nodes
     → sum_below j.nodes (λ v. cond (g.reached v) 1 0) ≤ sum_below j.darts (ups j g) + 1
 enough j g ends root =
     let n : ℕ = j.darts in
@@ -202,7 +202,7 @@ enough j g ends root =
         )
 
 -- a dart and its reverse are not both such
-pub one_way : (j : Joins) (g : Growth j) (reverse_dart : ℕ → ℕ) → IsPaired j reverse_dart → (d : ℕ) → d < j.darts → Up j g d → Up j g (reverse_dart d) → ⊥
+pub one_way : (j : Connections) (g : Growth j) (reverse_dart : ℕ → ℕ) → IsPaired j reverse_dart → (d : ℕ) → d < j.darts → Up j g d → Up j g (reverse_dart d) → ⊥
 one_way j g reverse_dart paired d l up back =
     let one = up_leads j g d up in
     let two = up_leads j g (reverse_dart d) back in
@@ -212,7 +212,7 @@ one_way j g reverse_dart paired d l up back =
 
 -- ---- by growth
 
-module _ (j : Joins) (g : Growth j) where
+module _ (j : Connections) (g : Growth j) where
   by_rank : (P : ℕ → Type 0) → P j.root → ((v : ℕ) → g.reached v ≡ true → v ≢ j.root → P (j.from (g.parent v)) → P v)
       → (k v : ℕ) → g.rank v < k → g.reached v ≡ true → P v
   by_rank P base step zero v less r = absurd (omega (arith, less))

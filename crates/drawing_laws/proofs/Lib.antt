@@ -20,12 +20,12 @@ pub mod Parts
 pub mod Meeting
 pub mod Drawn
 pub mod Growing
-pub mod Labels
+pub mod FaceNumbering
 pub mod CornerCounts
 pub mod Connecting
 pub mod Rotating
 pub mod Circling
-pub mod Numbers
+pub mod Coordinates
 pub mod Directed
 pub mod Raising
 pub mod Gaps

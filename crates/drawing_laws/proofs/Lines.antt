@@ -8,7 +8,7 @@ use Rattle.ortho_rep.specs.declared.turn.Turn.{Turn}
 use Rattle.ortho_rep.specs.declared.turn.Turn.TheVariants.{Left, Right}
 use Rattle.dissect.specs.DartMaps.{DartMap, IsSound}
 use Rattle.dissect.specs.Faces.{Below, last_of}
-use Rattle.dissect.specs.Paths.{Follows, turn_to, bends, turning_places}
+use Rattle.dissect.specs.Paths.{Follows, turn_to, bends, turning_vertices}
 use Rattle.dissect.proofs.StraightPaths.{straight_on, turned_on}
 use Rattle.dissect.specs.Steps.{angle_of}
 use Rattle.dissect.specs.Ordered.{IsOrdered, point_at}
@@ -18,17 +18,17 @@ use Rattle.drawing_laws.proofs.Sides.{Goes, goes_on, goes_leads, dart_goes}
 
 -- the points from the vertex u on: straight to the first corner behind the dart a, to the others and to the end
 abbrev pub line : DartMap → (ℕ → ℕ) → (ℕ → ℕ) → ℕ → ℕ → List ℕ → List Point
-line w x y u a rest = point_at x y u ∷ (map (point_at x y) (turning_places w a rest) ++ point_at x y (w.head (last_of a rest)) ∷ [])
+line w x y u a rest = point_at x y u ∷ (map (point_at x y) (turning_vertices w a rest) ++ point_at x y (w.head (last_of a rest)) ∷ [])
 
 pub line_straight : (w : DartMap) (x y : ℕ → ℕ) (u a b : ℕ) (bs : List ℕ) → turn_to w a b ≡ 0 → line w x y u a (b ∷ bs) ≡ line w x y u b bs
 line_straight w x y u a b bs none =
     ap (λ (places : List ℕ). point_at x y u ∷ (map (point_at x y) places ++ point_at x y (w.head (last_of b bs)) ∷ []))
-    (cond-true {A = List ℕ} (eqb (turn_to w a b) 0) (turning_places w b bs) (w.head a ∷ turning_places w b bs) (eq-eqb (turn_to w a b) 0 none))
+    (cond-true {A = List ℕ} (eqb (turn_to w a b) 0) (turning_vertices w b bs) (w.head a ∷ turning_vertices w b bs) (eq-eqb (turn_to w a b) 0 none))
 
 pub line_turn : (w : DartMap) (x y : ℕ → ℕ) (u a b : ℕ) (bs : List ℕ) → turn_to w a b ≢ 0 → line w x y u a (b ∷ bs) ≡ point_at x y u ∷ line w x y (w.head a) b bs
 line_turn w x y u a b bs some =
     ap (λ (places : List ℕ). point_at x y u ∷ (map (point_at x y) places ++ point_at x y (w.head (last_of b bs)) ∷ []))
-    (cond-false {A = List ℕ} (eqb (turn_to w a b) 0) (turning_places w b bs) (w.head a ∷ turning_places w b bs) (ne_eqb (turn_to w a b) 0 some))
+    (cond-false {A = List ℕ} (eqb (turn_to w a b) 0) (turning_vertices w b bs) (w.head a ∷ turning_vertices w b bs) (ne_eqb (turn_to w a b) 0 some))
 
 bends_straight : (w : DartMap) (a b : ℕ) (bs : List ℕ) → turn_to w a b ≡ 0 → bends w a (b ∷ bs) ≡ bends w b bs
 bends_straight w a b bs none =
@@ -147,7 +147,7 @@ module _ (w : DartMap) (sound : IsSound w) (x y : ℕ → ℕ) (ordered : IsOrde
             (line_axes u b bs below.0 below.1 follows.2 (on_straight u a b a_in below.0 follows.1 none goes).1)
         | inr some ↦
             subst IsOnAxes (sym (line_turn w x y u a b bs some))
-            (axes_more (point_at x y u) (point_at x y (w.head a)) (map (point_at x y) (turning_places w b bs) ++ point_at x y (w.head (last_of b bs)) ∷ [])
+            (axes_more (point_at x y u) (point_at x y (w.head a)) (map (point_at x y) (turning_vertices w b bs) ++ point_at x y (w.head (last_of b bs)) ∷ [])
             (goes_axis (w.direction a) x y u (w.head a) goes)
             (line_axes (w.head a) b bs below.0 below.1 follows.2 (on_turn a b below.0 follows.1)))
       ]
@@ -192,7 +192,7 @@ module _ (w : DartMap) (sound : IsSound w) (x y : ℕ → ℕ) (ordered : IsOrde
           → direction_between (point_of (line w x y u a (b ∷ bs)) (n + 1)) (point_of (line w x y u a (b ∷ bs)) n) ≡ way_of ((w.direction (last_of b bs) + 2) % 4)
       behind zero size same later =
           let long : length (point_at x y u ∷ line w x y (w.head a) b bs) ≡ 2 = sym (ap length same) ∙ size in
-          absurd (short (map (point_at x y) (turning_places w b bs)) (point_at x y (w.head (last_of b bs))) long)
+          absurd (short (map (point_at x y) (turning_vertices w b bs)) (point_at x y (w.head (last_of b bs))) long)
         where
           short : (ps : List Point) (e : Point) → suc (suc (length (ps ++ e ∷ []))) ≡ 2 → ⊥
           short [] e size = omega (arith, size)

@@ -1,4 +1,4 @@
--- The least numbers in the order of boxes.
+-- The least coordinates in the order of boxes.
 use Rattle.std.proofs.Common.{◌≡◌, ℕ, ◌<◌, ◌∙◌, List, [], ◌∷◌, All, length, map, get_or, arith, sym, ap, subst, eqb, inl, inr, eq-eqb, ne_eqb}
 use Rattle.std.proofs.lemmas.Bool.{cases_eq, cond-true, cond-false}
 use Rattle.std.proofs.lemmas.List.{get_or_default}
@@ -8,7 +8,7 @@ use Rattle.ortho_rep.specs.declared.points.Point.{Point}
 use Rattle.ortho_rep.specs.Points.{PointsModel}
 use Rattle.dissect.specs.DartMaps.{DartMap}
 use Rattle.dissect.specs.Faces.{Below}
-use Rattle.dissect.specs.Paths.{turn_to, turning_places}
+use Rattle.dissect.specs.Paths.{turn_to, turning_vertices}
 use Rattle.dissect.specs.Boxes.{BoxesModel, AreBoxes, dart_map}
 use Rattle.dissect.specs.Ordered.{IsOrdered, AreLaidOut, point_at}
 use Rattle.drawing_laws.specs.Least.{AreLeast, AreBelow, HasLeast, HasNoGap, IsBelow}
@@ -20,7 +20,7 @@ ends_of b boxes = record {
   head_in = boxes.sound.meeting.head_in;
 }
 
--- numbers in order along each axis, and both together
+-- coordinates in order along each axis, and both together
 x_follows : (b : BoxesModel) (x y : ℕ → ℕ) → IsOrdered (dart_map b) x y → Follow (dart_map b) 0 1 b.darts x
 x_follows b x y o = record { grow = λ a inside goes. (o.east a inside goes).0; stay = λ a inside across. (o.north a inside across).1 }
 
@@ -68,18 +68,18 @@ laid_least b points laid = record { ordered = laid.ordered; x_least = laid.x_lea
 
 -- what holds of the points of all vertices of boxes holds of the points at which a path turns
 all_places : (w : DartMap) (P : Point → Type 0) (x y : ℕ → ℕ) → ((a : ℕ) → a < w.darts → P (point_at x y (w.head a)))
-    → (a : ℕ) (rest : List ℕ) → a < w.darts → Below w.darts rest → All P (map (point_at x y) (turning_places w a rest))
+    → (a : ℕ) (rest : List ℕ) → a < w.darts → Below w.darts rest → All P (map (point_at x y) (turning_vertices w a rest))
 all_places w P x y each a [] a_in below = All-nil P
 all_places w P x y each a (b ∷ bs) a_in below =
     let later = all_places w P x y each b bs below.0 below.1 in
-    let here : List Point = point_at x y (w.head a) ∷ map (point_at x y) (turning_places w b bs) in
+    let here : List Point = point_at x y (w.head a) ∷ map (point_at x y) (turning_vertices w b bs) in
     elim (cases_eq (turn_to w a b) 0) [
       | inl none ↦
-          let on = cond-true {A = List ℕ} (eqb (turn_to w a b) 0) (turning_places w b bs) (w.head a ∷ turning_places w b bs) (eq-eqb (turn_to w a b) 0 none) in
+          let on = cond-true {A = List ℕ} (eqb (turn_to w a b) 0) (turning_vertices w b bs) (w.head a ∷ turning_vertices w b bs) (eq-eqb (turn_to w a b) 0 none) in
           subst (All P) (sym (ap (map (point_at x y)) on)) later
       | inr some ↦
-          let on = cond-false {A = List ℕ} (eqb (turn_to w a b) 0) (turning_places w b bs) (w.head a ∷ turning_places w b bs) (ne_eqb (turn_to w a b) 0 some) in
-          subst (All P) (sym (ap (map (point_at x y)) on)) (All-cons P (point_at x y (w.head a)) (map (point_at x y) (turning_places w b bs)) (each a a_in) later)
+          let on = cond-false {A = List ℕ} (eqb (turn_to w a b) 0) (turning_vertices w b bs) (w.head a ∷ turning_vertices w b bs) (ne_eqb (turn_to w a b) 0 some) in
+          subst (All P) (sym (ap (map (point_at x y)) on)) (All-cons P (point_at x y (w.head a)) (map (point_at x y) (turning_vertices w b bs)) (each a a_in) later)
     ]
 
 -- and of all points and corners of a layout

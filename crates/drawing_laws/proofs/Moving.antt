@@ -19,11 +19,11 @@ abbrev pub one_at : ℕ → ℕ → ℕ
 one_at w u = cond (eqb w u) 1 0
 
 -- the quarter turns of a face to the left, and those to the right, by angles a and left turns l
-abbrev pub gain_at : PlaneModel → (ℕ → ℕ) → ℕ → ℕ
-gain_at p l f = part_at (darts p) (face_at p) (λ e. 2 + l e) f
+abbrev pub left_sum_at : PlaneModel → (ℕ → ℕ) → ℕ → ℕ
+left_sum_at p l f = part_at (darts p) (face_at p) (λ e. 2 + l e) f
 
-abbrev pub loss_at : PlaneModel → (ℕ → ℕ) → (ℕ → ℕ) → ℕ → ℕ
-loss_at p a l f = part_at (darts p) (face_at p) (λ e. a e + l (reverse_dart p e)) f
+abbrev pub right_sum_at : PlaneModel → (ℕ → ℕ) → (ℕ → ℕ) → ℕ → ℕ
+right_sum_at p a l f = part_at (darts p) (face_at p) (λ e. a e + l (reverse_dart p e)) f
 
 -- ---- one place
 
@@ -88,7 +88,7 @@ pub record Moved (p : PlaneModel) (a l y : ℕ → ℕ) (k : ℕ) (reached : ℕ
   pub same_lefts : (d : ℕ) → d < darts p → (lefts d ≡ l d) ⊎ ((reached (face_at p d) ≡ true) × (reached (across_at p d) ≡ true))
   pub kept : l k ≤ lefts k
   pub around : (v : ℕ) → part_at (darts p) (head p) angles v ≡ part_at (darts p) (head p) a v + one_at x (p.faces + v)
-  pub faces : (f : ℕ) → f < p.faces → gain_at p lefts f + loss_at p a l f + one_at (across_at p k) f ≡ gain_at p l f + loss_at p angles lefts f + one_at x f
+  pub faces : (f : ℕ) → f < p.faces → left_sum_at p lefts f + right_sum_at p a l f + one_at (across_at p k) f ≡ left_sum_at p l f + right_sum_at p angles lefts f + one_at x f
   pub total : sum_below (darts p) lefts + y x ≡ sum_below (darts p) l + y (across_at p k)
 
 -- at first it stands at the face across
@@ -167,17 +167,17 @@ new_size p angles d z old new e b =
     ]
 
 -- a face takes on what the angle or the left turns at one of its darts are more
-loss-angle : (p : PlaneModel) (l f g : ℕ → ℕ) (d : ℕ) → d < darts p → ((e : ℕ) → e < darts p → e ≢ d → f e ≡ g e) → g d ≡ f d + 1 → (k : ℕ) → loss_at p g l k ≡ loss_at p f l k + one_at (face_at p d) k
-loss-angle p l f g d inside others here k =
+right_sum-angle : (p : PlaneModel) (l f g : ℕ → ℕ) (d : ℕ) → d < darts p → ((e : ℕ) → e < darts p → e ≢ d → f e ≡ g e) → g d ≡ f d + 1 → (k : ℕ) → right_sum_at p g l k ≡ right_sum_at p f l k + one_at (face_at p d) k
+right_sum-angle p l f g d inside others here k =
     part-more (darts p) d (face_at p) (λ e. f e + l (reverse_dart p e)) (λ e. g e + l (reverse_dart p e)) inside
     (λ e b ne. ap (λ (x : ℕ). x + l (reverse_dart p e)) (others e b ne)) (omega (arith, here)) k
 
-pub gain-lefts : (p : PlaneModel) (f g : ℕ → ℕ) (d : ℕ) → d < darts p → ((e : ℕ) → e < darts p → e ≢ d → f e ≡ g e) → g d ≡ f d + 1 → (k : ℕ) → gain_at p g k ≡ gain_at p f k + one_at (face_at p d) k
-gain-lefts p f g d inside others here k =
+pub left_sum-lefts : (p : PlaneModel) (f g : ℕ → ℕ) (d : ℕ) → d < darts p → ((e : ℕ) → e < darts p → e ≢ d → f e ≡ g e) → g d ≡ f d + 1 → (k : ℕ) → left_sum_at p g k ≡ left_sum_at p f k + one_at (face_at p d) k
+left_sum-lefts p f g d inside others here k =
     part-more (darts p) d (face_at p) (λ e. 2 + f e) (λ e. 2 + g e) inside (λ e b ne. ap (λ (x : ℕ). 2 + x) (others e b ne)) (omega (arith, here)) k
 
-pub loss-lefts : (p : PlaneModel) (a f g : ℕ → ℕ) (d : ℕ) → HasEnds p → d < darts p → ((e : ℕ) → e < darts p → e ≢ d → f e ≡ g e) → g d ≡ f d + 1 → (k : ℕ) → loss_at p a g k ≡ loss_at p a f k + one_at (across_at p d) k
-loss-lefts p a f g d ends inside others here k =
+pub right_sum-lefts : (p : PlaneModel) (a f g : ℕ → ℕ) (d : ℕ) → HasEnds p → d < darts p → ((e : ℕ) → e < darts p → e ≢ d → f e ≡ g e) → g d ≡ f d + 1 → (k : ℕ) → right_sum_at p a g k ≡ right_sum_at p a f k + one_at (across_at p d) k
+right_sum-lefts p a f g d ends inside others here k =
     part-more (darts p) (reverse_dart p d) (face_at p) (λ e. a e + f (reverse_dart p e)) (λ e. a e + g (reverse_dart p e)) (ends.reverse_dart_inside d inside)
     (λ e b ne. ap (λ (x : ℕ). a e + x) (others (reverse_dart p e) (ends.reverse_dart_inside e b) (λ q. ne (sym (ends.reverse_dart_back e b) ∙ ap (reverse_dart p) q))))
     (omega (arith, here, ap f (ends.reverse_dart_back d inside), ap g (ends.reverse_dart_back d inside))) k
@@ -209,7 +209,7 @@ widen p a l y k reached d ends inside room level from to m =
         one_at-other (face_at p d) (p.faces + v) (λ e. omega arith),
         one_at-moved p.faces (head p d) v,
       );
-      faces = λ f b. omega (arith, loss-angle p m.lefts m.angles new d inside others here f, m.faces f b, one_at-other w f (λ e. omega arith));
+      faces = λ f b. omega (arith, right_sum-angle p m.lefts m.angles new d inside others here f, m.faces f b, one_at-other w f (λ e. omega arith));
       total = omega (arith, m.total, level);
     }
 
@@ -237,7 +237,7 @@ narrow p a l y k reached d ends inside some level from to m =
         one_at-other w (p.faces + v) (λ e. omega arith),
         one_at-moved p.faces (head p d) v,
       );
-      faces = λ f b. omega (arith, loss-angle p m.lefts new m.angles d inside others here f, m.faces f b, one_at-other (corner_at p d) f (λ e. omega arith));
+      faces = λ f b. omega (arith, right_sum-angle p m.lefts new m.angles d inside others here f, m.faces f b, one_at-other (corner_at p d) f (λ e. omega arith));
       total = omega (arith, m.total, level);
     }
 
@@ -262,7 +262,7 @@ bend p a l y k reached d ends inside level from to m =
         | inr ne ↦ omega (arith, m.kept, put-other m.lefts d (m.lefts d + 1) k ne)
       ];
       around = λ v. omega (arith, m.around v, one_at-other w (p.faces + v) (λ e. omega arith), one_at-other (across_at p d) (p.faces + v) (λ e. omega arith));
-      faces = λ f b. omega (arith, gain-lefts p m.lefts new d inside others here f, loss-lefts p m.angles m.lefts new d ends inside others here f, m.faces f b);
+      faces = λ f b. omega (arith, left_sum-lefts p m.lefts new d inside others here f, right_sum-lefts p m.angles m.lefts new d ends inside others here f, m.faces f b);
       total = omega (arith, total-lefts p m.lefts new d inside others here, m.total, level);
     }
 
@@ -285,6 +285,6 @@ straighten p a l y k reached d ends inside before some level from to m =
       same_lefts = new_lefts p l m.lefts reached w d (m.lefts d - 1) (with-kept reached w (face_at p d) from, with-here reached w) m.same_lefts;
       kept = omega (arith, m.kept, put-other m.lefts d (m.lefts d - 1) k (λ e. omega arith));
       around = λ v. omega (arith, m.around v, one_at-other (face_at p d) (p.faces + v) (λ e. omega arith), one_at-other w (p.faces + v) (λ e. omega arith));
-      faces = λ f b. omega (arith, gain-lefts p new m.lefts d inside others here f, loss-lefts p m.angles new m.lefts d ends inside others here f, m.faces f b);
+      faces = λ f b. omega (arith, left_sum-lefts p new m.lefts d inside others here f, right_sum-lefts p m.angles new m.lefts d ends inside others here f, m.faces f b);
       total = omega (arith, total-lefts p new m.lefts d inside others here, m.total, level);
     }

@@ -6,7 +6,7 @@ use Rattle.std.proofs.lemmas.List.Elements.{Contains-append_cases}
 use Rattle.ortho_rep.specs.declared.points.Point.{Point}
 use Rattle.dissect.specs.DartMaps.{DartMap, IsSound}
 use Rattle.dissect.specs.Faces.{Below, last_of, In, Distinct}
-use Rattle.dissect.specs.Paths.{Follows, turn_to, turning_places}
+use Rattle.dissect.specs.Paths.{Follows, turn_to, turning_vertices}
 use Rattle.dissect.specs.Ordered.{IsOrdered, tail, point_at}
 use Rattle.drawing_check.specs.Walks.{step_from, distance, walk, inner, HasNoRepeat}
 use Rattle.drawing_check.proofs.Coverings.{no_repeat_append}
@@ -138,7 +138,7 @@ inner_turn : (w : DartMap) (x y : ℕ → ℕ) (u a b : ℕ) (bs : List ℕ) →
     ≡ walk (point_at x y u) (point_at x y (w.head a)) (distance (point_at x y u) (point_at x y (w.head a))) ++ inner (line w x y (w.head a) b bs)
 inner_turn w x y u a b bs some =
     ap inner (line_turn w x y u a b bs some)
-    ∙ inner_more (point_at x y u) (point_at x y (w.head a)) (point_at x y (w.head (last_of b bs))) (map (point_at x y) (turning_places w b bs))
+    ∙ inner_more (point_at x y u) (point_at x y (w.head a)) (point_at x y (w.head (last_of b bs))) (map (point_at x y) (turning_vertices w b bs))
 
 module _ (w : DartMap) (sound : IsSound w) (x y : ℕ → ℕ) (ordered : IsOrdered w x y) where
   pub line_met : (u a : ℕ) (rest : List ℕ) (q : Point) → a < w.darts → Below w.darts rest → Follows w a rest → Distinct (a ∷ rest)

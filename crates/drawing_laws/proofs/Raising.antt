@@ -1,10 +1,10 @@
--- Where some numbers have a property, and numbers without it can be raised, there are least ones that have it.
+-- Where some coordinates have a property, and coordinates without it can be raised, there are least ones that have it.
 use Rattle.std.proofs.Common.{◌≡◌, ◌⊎◌, ℕ, zero, suc, ◌+◌, ◌<◌, ◌≤◌, cond, eqb, arith, ap, inl, inr, eq-eqb, ne_eqb}
 use Rattle.std.proofs.lemmas.Bool.{cases_eq, cond-true, cond-false}
 use Rattle.common.specs.Sums.{sum_below}
 use Rattle.common.proofs.Sums.{sum_below-le, sum_below-lt}
 
--- the first n numbers are nowhere above others
+-- the first n coordinates are nowhere above others
 abbrev pub AreUnder : ℕ → (ℕ → ℕ) → (ℕ → ℕ) → Type 0
 AreUnder n x y = (v : ℕ) → v < n → x v ≤ y v
 
@@ -12,7 +12,7 @@ AreUnder n x y = (v : ℕ) → v < n → x v ≤ y v
 abbrev pub AreLow : ℕ → ((ℕ → ℕ) → Type 0) → (ℕ → ℕ) → Type 0
 AreLow n Has x = (y : ℕ → ℕ) → Has y → AreUnder n x y
 
--- one of the numbers is less than all above them with the property are there
+-- one of the coordinates is less than all above them with the property are there
 pub record IsShort (n : ℕ) (Has : (ℕ → ℕ) → Type 0) (x : ℕ → ℕ) : Type 0 where
   pub place : ℕ
   pub need : ℕ
@@ -20,7 +20,7 @@ pub record IsShort (n : ℕ) (Has : (ℕ → ℕ) → Type 0) (x : ℕ → ℕ) 
   pub short : x place < need
   pub enough : (y : ℕ → ℕ) → Has y → AreUnder n x y → need ≤ y place
 
--- the number at a place in place of the one there
+-- the coordinate at a place in place of the one there
 abbrev pub with_at : (ℕ → ℕ) → ℕ → ℕ → ℕ → ℕ
 with_at x place need v = cond (eqb v place) need (x v)
 

@@ -34,7 +34,7 @@ pub record Covers (w : DartMap) (x y : ℕ → ℕ) (corner : ℕ → ℕ) (i j 
   pub below : y (w.head (corner 0)) ≤ j
   pub above : j < y (w.head (corner 1))
 
--- the numbers of a box: its sides along the axes
+-- the coordinates of a box: its sides along the axes
 pub record IsUpright (w : DartMap) (x y : ℕ → ℕ) (corner : ℕ → ℕ) : Type 0 where
   pub wide : x (w.head (corner 3)) < x (w.head (corner 1))
   pub high : y (w.head (corner 0)) < y (w.head (corner 1))
@@ -75,7 +75,7 @@ module _ (w : DartMap) (sound : IsSound w) (x y : ℕ → ℕ) (ordered : IsOrde
   pub on_way : (back angle : ℕ) (corner : ℕ → ℕ) → IsRound w back angle corner → (k a : ℕ) → k < 4 → a < w.darts → IsOn w a (corner k) → w.direction a ≡ k
   on_way back angle corner round k a few a_in on = keeps_way w sound on.places a (corner k) a_in on.keeps ∙ round.ways k few
 
-  -- to the north on a box's right side, its number is that of the side
+  -- to the north on a box's right side, its coordinate is that of the side
   north_line : (corner : ℕ → ℕ) (back angle a : ℕ) → IsRound w back angle corner → a < w.darts → IsOn w a (corner 1) → x (w.head a) ≡ x (w.head (corner 1))
   north_line corner back angle a round a_in on = (side_leads w sound x y ordered 1 a (corner 1) a_in (round.ways 1 (omega arith)) on).1
 

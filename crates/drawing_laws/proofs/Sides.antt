@@ -1,4 +1,4 @@
--- Sides of faces: straight stretches of darts from a corner to the next, in numbers that are in the order of the darts.
+-- Sides of faces: straight stretches of darts from a corner to the next, in coordinates that are in the order of the darts.
 use Rattle.std.proofs.Common.{◌≡◌, ℕ, zero, suc, ◌+◌, ◌%◌, ◌<◌, ◌≤◌, ◌⊎◌, ◌∙◌, arith, subst, sym, ap, refl, inl, inr}
 use Rattle.std.proofs.lemmas.Bool.{cases_eq, cases_lt, cases_order}
 use Rattle.dissect.specs.DartMaps.{DartMap, IsTied, IsSound}
@@ -6,7 +6,7 @@ use Rattle.dissect.specs.Faces.{IsCorner, StretchesIn, Stretches}
 use Rattle.dissect.proofs.Stretching.{stretch_back, steps_back}
 use Rattle.dissect.specs.Ordered.{IsOrdered, tail}
 
--- ---- numbers along a direction
+-- ---- coordinates along a direction
 
 -- the vertex v lies from u in the direction k, straight
 abbrev pub Goes : ℕ → (ℕ → ℕ) → (ℕ → ℕ) → ℕ → ℕ → Type 0
@@ -15,14 +15,14 @@ Goes (suc zero) x y u v = (y u < y v) × (x u ≡ x v)
 Goes (suc (suc zero)) x y u v = (x v < x u) × (y u ≡ y v)
 Goes (suc (suc (suc k))) x y u v = (y v < y u) × (x u ≡ x v)
 
--- so it does, or has the same numbers
+-- so it does, or has the same coordinates
 abbrev pub Leads : ℕ → (ℕ → ℕ) → (ℕ → ℕ) → ℕ → ℕ → Type 0
 Leads zero x y u v = (x u ≤ x v) × (y u ≡ y v)
 Leads (suc zero) x y u v = (y u ≤ y v) × (x u ≡ x v)
 Leads (suc (suc zero)) x y u v = (x v ≤ x u) × (y u ≡ y v)
 Leads (suc (suc (suc k))) x y u v = (y v ≤ y u) × (x u ≡ x v)
 
--- the number t is passed on the way from u to v, or reached
+-- the coordinate t is passed on the way from u to v, or reached
 abbrev pub Spans : ℕ → (ℕ → ℕ) → (ℕ → ℕ) → ℕ → ℕ → ℕ → Type 0
 Spans zero x y t u v = (x u < t) × (t ≤ x v)
 Spans (suc zero) x y t u v = (y u < t) × (t ≤ y v)
@@ -48,7 +48,7 @@ goes_on (suc zero) x y u v t one two = (omega (arith, one.0, two.0), one.1 ∙ t
 goes_on (suc (suc zero)) x y u v t one two = (omega (arith, one.0, two.0), one.1 ∙ two.1)
 goes_on (suc (suc (suc k))) x y u v t one two = (omega (arith, one.0, two.0), one.1 ∙ two.1)
 
--- a way through a middle vertex passes each number in one of its parts
+-- a way through a middle vertex passes each coordinate in one of its parts
 spans_split : (k : ℕ) (x y : ℕ → ℕ) (t u m v : ℕ) → Spans k x y t u v → Spans k x y t u m ⊎ Spans k x y t m v
 spans_split zero x y t u m v (low, high) =
     elim (cases_lt (x m) t) [ inl less ↦ inr (less, high) | inr more ↦ inl (low, omega (arith, more)) ]
@@ -66,7 +66,7 @@ spans_wide (suc zero) x y t s u v e one two (low, high) = (omega (arith, one.0, 
 spans_wide (suc (suc zero)) x y t s u v e one two (low, high) = (omega (arith, two.0, low), omega (arith, one.0, high))
 spans_wide (suc (suc (suc k))) x y t s u v e one two (low, high) = (omega (arith, two.0, low), omega (arith, one.0, high))
 
--- a number is not passed twice
+-- a coordinate is not passed twice
 spans_once : (k : ℕ) (x y : ℕ → ℕ) (t s u v e : ℕ) → Spans k x y t s u → Leads k x y u v → Spans k x y t v e → ⊥
 spans_once zero x y t s u v e one on two = omega (arith, one.1, on.0, two.0)
 spans_once (suc zero) x y t s u v e one on two = omega (arith, one.1, on.0, two.0)
@@ -131,7 +131,7 @@ on_one w a b c cb cc one two = keeps_one w one.places two.places a b c cb cc one
 pub on_itself : (w : DartMap) (c : ℕ) → IsOn w c c
 on_itself w c = record { places = 0; keeps = refl }
 
--- ---- directions and numbers
+-- ---- directions and coordinates
 
 module _ (w : DartMap) (sound : IsSound w) where
   -- the way behind a dart, by its angle
@@ -230,7 +230,7 @@ module _ (w : DartMap) (sound : IsSound w) where
               (stretch_leads d k m b a c b_in a_in way stretch.1 keeps (omega (arith, less, few))))
         ]
 
-    -- a side passes each number between its ends with a dart of it
+    -- a side passes each coordinate between its ends with a dart of it
     stretch_spans : (d k p c t : ℕ) → p < w.darts → w.direction c ≡ d → StretchesIn w k p c → Spans d x y t (w.head p) (w.head c)
         → (a : ℕ) × (a < w.darts) × IsOn w a c × Spans d x y t (tail w a) (w.head a)
     stretch_spans d zero p c t p_in way stretch spans =
@@ -263,7 +263,7 @@ module _ (w : DartMap) (sound : IsSound w) where
         (keeps_short w sound.tied stretch.places on.places p a c p_in a_in corner stretch.stretch on.keeps))
         (keeps_leads d on.places a c a_in way on.keeps) spans
 
-    -- where one dart of a side comes behind another, it passes no number that the other passes
+    -- where one dart of a side comes behind another, it passes no coordinate that the other passes
     not_both : (d m n a b c t : ℕ) → a < w.darts → b < w.darts → IsCorner w c → w.direction c ≡ d → Keeps w m a c → Keeps w n b c → m < n
         → Spans d x y t (tail w a) (w.head a) → Spans d x y t (tail w b) (w.head b) → ⊥
     not_both d m zero a b c t a_in b_in corner way one two less sa sb = omega (arith, less)
@@ -271,7 +271,7 @@ module _ (w : DartMap) (sound : IsSound w) where
         spans_once d x y t (tail w b) (w.head b) (tail w a) (w.head a) sb
         (stretch_leads d n m b a c b_in a_in way (keeps_stretch w n b c corner two) one (omega (arith, less))) sa
 
-    -- so a side passes each number with one dart alone
+    -- so a side passes each coordinate with one dart alone
     pub side_once : (d a b c t : ℕ) → a < w.darts → b < w.darts → IsCorner w c → w.direction c ≡ d → IsOn w a c → IsOn w b c
         → Spans d x y t (tail w a) (w.head a) → Spans d x y t (tail w b) (w.head b) → a ≡ b
     side_once d a b c t a_in b_in corner way one two sa sb =

@@ -19,8 +19,8 @@ use Rattle.ortho_rep.specs.Representation.{Rep, Least, IsShape, IsLeast, bends_o
 use Rattle.ortho_rep.specs.Prices.{PricesModel, Prove, IsProof, vertex_price, face_price}
 use Rattle.ortho_rep.proofs.SameAtDarts.{prove-alike}
 use Rattle.ortho_rep.proofs.FromFlow.{lefts-lefts_then_rights, rights-lefts_then_rights, mirrored-lefts_then_rights}
-use Rattle.ortho_rep.proofs.WeakDuality.{part_at, gains, losses, turning-split, lefts_of, rights_are, lengths-twice, least_by_prices}
-use Rattle.drawing_laws.proofs.Moving.{corner_at, across_at, one_at, gain_at, loss_at, put, put-here, put-other, gain-lefts, loss-lefts, total-lefts, Moved}
+use Rattle.ortho_rep.proofs.WeakDuality.{part_at, left_sums, right_sums, turning-split, lefts_of, rights_are, lengths-twice, least_by_prices}
+use Rattle.drawing_laws.proofs.Moving.{corner_at, across_at, one_at, left_sum_at, right_sum_at, put, put-here, put-other, left_sum-lefts, right_sum-lefts, total-lefts, Moved}
 use Rattle.drawing_laws.proofs.Reaching.{IsClosed, reach}
 
 -- ---- a representation with fewer bends
@@ -32,7 +32,7 @@ strings p l d = lefts_then_rights (l d) (l (reverse_dart p d))
 -- angles and left turns by which vertices and faces have what they had
 other_rep : (p : PlaneModel) (a : ℕ → ℕ) (s : ℕ → List Turn) (b l : ℕ → ℕ) → HasEnds p → Rep p a s → ((d : ℕ) → d < darts p → (1 ≤ b d) × (b d ≤ 4))
     → ((v : ℕ) → 1 ≤ v → v ≤ vertices p → part_at (darts p) (head p) b v ≡ part_at (darts p) (head p) a v)
-    → ((f : ℕ) → f < p.faces → gain_at p l f + loss_at p a (lefts_of s) f ≡ gain_at p (lefts_of s) f + loss_at p b l f)
+    → ((f : ℕ) → f < p.faces → left_sum_at p l f + right_sum_at p a (lefts_of s) f ≡ left_sum_at p (lefts_of s) f + right_sum_at p b l f)
     → Rep p b (strings p l)
 other_rep p a s b l ends rep sizes around faces = record {
   angles = sizes;
@@ -41,17 +41,17 @@ other_rep p a s b l ends rep sizes around faces = record {
       ∙ sym (mirrored-lefts_then_rights (l d) (l (reverse_dart p d)));
   around = λ v from to. around v from to ∙ rep.around v from to;
   faces = λ f in_f.
-      let gain : gains p b (strings p l) f ≡ gain_at p l f =
+      let left_sum : left_sums p b (strings p l) f ≡ left_sum_at p l f =
       sum_below-same (darts p) (λ d. cond (eqb (face_at p d) f) (2 + lefts (strings p l d)) 0) (λ d. cond (eqb (face_at p d) f) (2 + l d) 0)
       (λ d in_d. ap (λ (x : ℕ). cond (eqb (face_at p d) f) (2 + x) 0) (lefts-lefts_then_rights (l d) (l (reverse_dart p d)))) in
-      let loss : losses p b (strings p l) f ≡ loss_at p b l f =
+      let right_sum : right_sums p b (strings p l) f ≡ right_sum_at p b l f =
       sum_below-same (darts p) (λ d. cond (eqb (face_at p d) f) (b d + rights (strings p l d)) 0) (λ d. cond (eqb (face_at p d) f) (b d + l (reverse_dart p d)) 0)
       (λ d in_d. ap (λ (x : ℕ). cond (eqb (face_at p d) f) (b d + x) 0) (rights-lefts_then_rights (l d) (l (reverse_dart p d)))) in
-      let old : losses p a s f ≡ loss_at p a (lefts_of s) f =
+      let old : right_sums p a s f ≡ right_sum_at p a (lefts_of s) f =
       sum_below-same (darts p) (λ d. cond (eqb (face_at p d) f) (a d + rights (s d)) 0) (λ d. cond (eqb (face_at p d) f) (a d + lefts_of s (reverse_dart p d)) 0)
       (λ d in_d. ap (λ (x : ℕ). cond (eqb (face_at p d) f) (a d + x) 0) (rights_are p a s rep d in_d)) in
       turning-split p b (strings p l) f
-      ∙ same_turn (gains p b (strings p l) f) (losses p b (strings p l) f) (gains p a s f) (losses p a s f) (omega (arith, gain, loss, old, faces f in_f))
+      ∙ same_turn (left_sums p b (strings p l) f) (right_sums p b (strings p l) f) (left_sums p a s f) (right_sums p a s f) (omega (arith, left_sum, right_sum, old, faces f in_f))
       ∙ sym (turning-split p a s f)
       ∙ rep.faces f in_f;
 }
@@ -81,7 +81,7 @@ way_round p a s y k reached ends rep inside some cheap m =
     let other : Rep p m.angles (strings p new) =
     other_rep p a s m.angles new ends rep m.sizes
     (λ v from to. omega (arith, m.around v, apart (face_at p k) (p.faces + v) (omega arith)))
-    (λ f b. omega (arith, gain-lefts p new m.lefts k inside others here f, loss-lefts p m.angles new m.lefts k ends inside others here f, m.faces f b)) in
+    (λ f b. omega (arith, left_sum-lefts p new m.lefts k inside others here f, right_sum-lefts p m.angles new m.lefts k ends inside others here f, m.faces f b)) in
     better p a s m.angles new ends rep other (omega (arith, total-lefts p new m.lefts k inside others here, m.total, cheap))
   where
     apart : (w u : ℕ) → w < u → one_at w u ≡ 0

@@ -4,14 +4,14 @@ use Rattle.std.proofs.lemmas.Bool.{cases_eq, cases_Bool, eq-eqb, ne_eqb, cond-tr
 use Rattle.std.proofs.Math.Nat.{mul-add, mul-le-mul_left}
 use Rattle.common.specs.Sums.{sum_below}
 use Rattle.common.proofs.Sums.{sum_below-same, sum_below-add, sum_below-le, sum_below-none, sum_below-one, sum_below-turned, exchanged}
-use Rattle.dissect.proofs.Trees.{Joins, IsTree}
+use Rattle.dissect.proofs.Trees.{Connections, IsTree}
 use Rattle.dissect.proofs.Peeling.{IsPaired}
 use Rattle.dissect.proofs.TreeCounts.{is_up, in_tree, ups, up_from}
 
 -- ---- one tree
 
 -- of the darts that end at a node at most one leads up to it, and none to the root
-one_up : (j : Joins) (g rank parent base : ℕ → ℕ) → IsTree j g rank parent base → (v : ℕ) → v < j.nodes
+one_up : (j : Connections) (g rank parent base : ℕ → ℕ) → IsTree j g rank parent base → (v : ℕ) → v < j.nodes
     → sum_below j.darts (λ d. cond (eqb (j.to d) v) (ups j parent d) 0) + cond (eqb j.root v) 1 0 ≤ 1
 one_up j g rank parent base tree v l =
     elim (cases_eq j.root v) [
@@ -56,7 +56,7 @@ one_up j g rank parent base tree v l =
         ]
 
 -- what the ends of the darts that lead up weigh, and the root, is no more than all nodes weigh
-pub by_nodes : (j : Joins) (reverse_dart g rank parent base : ℕ → ℕ) → IsPaired j reverse_dart → IsTree j g rank parent base → j.root < j.nodes → (x : ℕ → ℕ)
+pub by_nodes : (j : Connections) (reverse_dart g rank parent base : ℕ → ℕ) → IsPaired j reverse_dart → IsTree j g rank parent base → j.root < j.nodes → (x : ℕ → ℕ)
     → sum_below j.darts (λ d. x (j.to d) * ups j parent d) + x j.root ≤ sum_below j.nodes x
 by_nodes j reverse_dart g rank parent base paired tree root x =
     let count : ℕ → ℕ = λ v. sum_below j.darts (λ d. cond (eqb (j.to d) v) (ups j parent d) 0) in
@@ -72,12 +72,12 @@ by_nodes j reverse_dart g rank parent base paired tree root x =
 -- ---- two trees
 
 -- one for a dart that leads up in the one tree, and one for the other
-abbrev both : Joins → Joins → (ℕ → ℕ) → (ℕ → ℕ) → ℕ → ℕ
+abbrev both : Connections → Connections → (ℕ → ℕ) → (ℕ → ℕ) → ℕ → ℕ
 both j k parent parent' d = ups j parent d + ups k parent' d
 
 -- where each dart is of one of two trees, a sum over all darts that weigh as their reverses is at most twice that over
 -- the darts that lead up
-pub by_trees : (j k : Joins) (reverse_dart parent parent' : ℕ → ℕ) → IsPaired j reverse_dart
+pub by_trees : (j k : Connections) (reverse_dart parent parent' : ℕ → ℕ) → IsPaired j reverse_dart
     → ((d : ℕ) → d < j.darts → (in_tree j reverse_dart parent d ≡ true) ⊎ (in_tree k reverse_dart parent' d ≡ true))
     → (w : ℕ → ℕ) → ((d : ℕ) → d < j.darts → w (reverse_dart d) ≡ w d)
     → sum_below j.darts w ≤ 2 * (sum_below j.darts (λ d. w d * ups j parent d) + sum_below j.darts (λ d. w d * ups k parent' d))
@@ -97,7 +97,7 @@ by_trees j k reverse_dart parent parent' paired each w same =
     enough : (x z c e : ℕ) → z ≡ x → 1 ≤ c + e → x ≤ x * c + z * e
     enough x z c e q h = subst (λ (t : ℕ). x ≤ x * c + t * e) (sym q) (omega (arith, mul-le-mul_left x h))
 
-    up_one : (h : Joins) (parent : ℕ → ℕ) (d : ℕ) → is_up h parent d ≡ true → ups h parent d ≡ 1
+    up_one : (h : Connections) (parent : ℕ → ℕ) (d : ℕ) → is_up h parent d ≡ true → ups h parent d ≡ 1
     up_one h parent d on = cond-true {A = ℕ} (is_up h parent d) 1 0 on
 
     some : (d : ℕ) → d < j.darts → 1 ≤ both j k parent parent' d + both j k parent parent' (reverse_dart d)
@@ -114,7 +114,7 @@ by_trees j k reverse_dart parent parent' paired each w same =
         ]
 
 -- what each dart that leads up weighs at most
-pub up_le : (j : Joins) (parent : ℕ → ℕ) (w x : ℕ → ℕ) → ((d : ℕ) → d < j.darts → is_up j parent d ≡ true → w d ≤ x (j.to d))
+pub up_le : (j : Connections) (parent : ℕ → ℕ) (w x : ℕ → ℕ) → ((d : ℕ) → d < j.darts → is_up j parent d ≡ true → w d ≤ x (j.to d))
     → sum_below j.darts (λ d. w d * ups j parent d) ≤ sum_below j.darts (λ d. x (j.to d) * ups j parent d)
 up_le j parent w x each =
     sum_below-le j.darts (λ d. w d * ups j parent d) (λ d. x (j.to d) * ups j parent d) (λ d l. one (w d) (x (j.to d)) (is_up j parent d) (each d l))

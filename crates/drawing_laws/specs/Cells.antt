@@ -1,4 +1,4 @@
--- Unit cells of the grid, and the boxes that cover them. The cell in column i and row j lies between the numbers i and i + 1 of x,
+-- Unit cells of the grid, and the boxes that cover them. The cell in column i and row j lies between the coordinates i and i + 1 of x,
 -- and j and j + 1 of y.
 use Rattle.std.specs.Prelude.{◌≡◌, ℕ, ◌<◌, ◌≤◌}
 use Rattle.dissect.specs.DartMaps.{DartMap}

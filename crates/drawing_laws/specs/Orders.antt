@@ -1,10 +1,10 @@
--- Numbers in the order of boxes, and sets of faces that are closed in one direction.
+-- Coordinates in the order of boxes, and sets of faces that are closed in one direction.
 use Rattle.std.specs.Prelude.{◌≡◌, ℕ, ◌<◌, Bool, true}
 use Rattle.dissect.specs.DartMaps.{DartMap}
 use Rattle.dissect.specs.Boxes.{BoxesModel, dart_map}
 use Rattle.dissect.specs.Ordered.{IsOrdered}
 
--- some numbers are in the order of the boxes
+-- some coordinates are in the order of the boxes
 abbrev pub HasOrder : BoxesModel → Type 0
 HasOrder b = (x : ℕ → ℕ) × (y : ℕ → ℕ) × IsOrdered (dart_map b) x y
 

@@ -25,7 +25,7 @@ pub fn layouts_are_in_grid()
         → IsBoxed plane shape b → ¬ ShowsCause plane shape b Cause.OutOfGrid }
 {}
 
-/// What boxes may show that have at most as many vertices as the grid has columns: `Wide` only where no numbers at all are in
+/// What boxes may show that have at most as many vertices as the grid has columns: `Wide` only where no coordinates at all are in
 /// their order. The boxes of a shape with the fewest bends have so few, so the same holds of each cause that stands in place of
 /// points in a laid answer.
 pub fn remaining_causes()
@@ -41,7 +41,7 @@ pub fn remaining_causes()
 {}
 
 /// Points that are laid out for boxes of a shape of a plane draw it, so of the causes `Wide` alone can be shown. In place of points a
-/// laid answer has it only where some boxes of its shape have no numbers in their order at all.
+/// laid answer has it only where some boxes of its shape have no coordinates in their order at all.
 pub fn only_wide()
     ensures shown { (plane : PlaneModel) (shape : ShapeModel) (b : BoxesModel) (cause : Cause)
         → IsPlane plane → IsBoxed plane shape b → ShowsCause plane shape b cause → cause ≡ Cause.Wide }

@@ -1,5 +1,5 @@
 //! Laws of shapes and drawings, each as the contract of a function that does nothing: how few bends least shapes
-//! have, that boxes have numbers in their order, that points taken from these draw the shape, and that each laid
+//! have, that boxes have coordinates in their order, that points taken from these draw the shape, and that each laid
 //! answer is drawn.
 #![tactic(auto)]
 
@@ -8,7 +8,7 @@ mod causes;
 mod cells;
 mod closed_sets;
 mod drawn_answers;
-mod least_numbers;
+mod least_coordinates;
 mod orders;
 mod planarity;
 mod prices;
@@ -18,7 +18,9 @@ pub use causes::{layouts_are_in_grid, only_wide, remaining_causes};
 pub use cells::cells_are_covered_once;
 pub use closed_sets::closed_sets_hold_the_outside;
 pub use drawn_answers::{answers_are_drawn, laid_answers_are_drawn, no_cause_is_shown};
-pub use least_numbers::{layouts_have_no_gap, least_numbers_exist, least_numbers_have_no_gap};
-pub use orders::numbers_in_order_exist;
-pub use planarity::{laid_out_points_pass, ordered_numbers_draw};
+pub use least_coordinates::{
+    layouts_have_no_gap, least_coordinates_exist, least_coordinates_have_no_gap,
+};
+pub use orders::coordinates_in_order_exist;
+pub use planarity::{laid_out_points_pass, ordered_coordinates_draw};
 pub use prices::{least_is_priced, least_shape_exists};

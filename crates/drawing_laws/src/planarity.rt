@@ -1,4 +1,4 @@
-//! Boxes that are drawn along numbers in the order of their darts lie apart, and points that are taken from such numbers draw the
+//! Boxes that are drawn along coordinates in the order of their darts lie apart, and points that are taken from such coordinates draw the
 //! shape: laws, each as the contract of a function that does nothing.
 //!
 //! Take one row of cells. A dart to the north that crosses it is on the right side of a box, or on the left side of the outside. In
@@ -7,7 +7,7 @@
 //!     outside |  box  |     box     | box | outside
 //!             a <---- b <---------- c <-- d
 //!
-//! The numbers fall from step to step, so each dart's chain ends at the outside; no two steps lead to one dart, so the darts of the
+//! The coordinates fall from step to step, so each dart's chain ends at the outside; no two steps lead to one dart, so the darts of the
 //! row are one chain. Hence exactly one box covers each cell of the rectangle round all of them.
 //!
 //! At a point look at the cell to its upper right. A dart sees it that goes past the point to the south, or to the east, or arrives
@@ -27,9 +27,9 @@ ghost use Rattle.drawing_check.specs.declared.fault.CheckFault.TheVariants.{Memo
 ghost use Rattle.drawing_check.specs.Draws.{Draws};
 ghost use Rattle.drawing_check.specs.Faults.{IsFirstFault};
 
-/// Where boxes dissect a shape of a plane, points that are taken from any numbers in the order of their darts, within the grid,
+/// Where boxes dissect a shape of a plane, points that are taken from any coordinates in the order of their darts, within the grid,
 /// draw the shape.
-pub fn ordered_numbers_draw()
+pub fn ordered_coordinates_draw()
     ensures { (p : PlaneModel) (shape : ShapeModel) (b : BoxesModel) (x y : ℕ → ℕ) (points : PointsModel) → IsPlane p → IsBoxed p shape b
         → IsOrdered (dart_map b) x y → AreWithin b.vertices x → AreWithin b.vertices y → AreTaken b x y points → Draws p shape points }
 {}

@@ -50,7 +50,7 @@ fn strings_in(alloc: Global, strings: &[&[Turn]]) -> Result<Vec<Vec<Turn>>, Allo
 pub(crate) fn shape_in(alloc: Global, angles: &[u8], strings: &[&[Turn]]) -> Option<Shape> {
     let strings = strings_in(alloc, strings).ok()?;
     let angles = angles.to_vec(alloc).ok()?;
-    if Shape::are_short(&strings) {
+    if Shape::have_few_turns(&strings) {
         Some(Shape::new(angles, strings))
     } else {
         None

@@ -99,7 +99,7 @@ fn strings_with_a_step(
 
 /// The shape of angles and strings, which are short.
 fn shape_from(rt: &impl Abort, angles: Vec<u8>, strings: Vec<Vec<Turn>>) -> Shape {
-    assert!(rt; Shape::are_short(&strings));
+    assert!(rt; Shape::have_few_turns(&strings));
     Shape::new(angles, strings)
 }
 

@@ -7,7 +7,7 @@ use Rattle.embedding.specs.Darts.{dart_count, next_of, reverse_of}
 use Rattle.embedding.specs.Rules.{KeepsBefore}
 use Rattle.embedding.specs.Faces.{HasFaces, degree_in}
 use Rattle.embedding.specs.Tables.{AreTies}
-use Rattle.embedding.specs.Walk.{AreTied, HasDegrees, IsFaced, at, next_in}
+use Rattle.embedding.specs.Walk.{AreTied, HasDegrees, HasFaceTable, at, next_in}
 use Rattle.embedding.proofs.Rotation.{reverse_is, next_one}
 
 -- a part of a list of one value has that value everywhere
@@ -30,7 +30,7 @@ pub same_degree : (n : ℕ) (face other : ℕ → ℕ) (k : ℕ) → ((d : ℕ) 
 same_degree n face other k is = sum_below-same n (λ d. cond (other d == k) 1 0) (λ d. cond (face d == k) 1 0) (λ d b. ap (λ (x : ℕ). cond (x == k) 1 0) (is d b))
 
 -- faces and degrees stand behind the links
-pub faced : (ties faces table : List ℕ) (n count : ℕ) → AreTied n ties → length faces ≡ n → HasDegrees (ties ++ faces) (length faces) (at faces) count table → HasFaces n (next_in ties) (at faces) count → IsFaced n ties count table
+pub faced : (ties faces table : List ℕ) (n count : ℕ) → AreTied n ties → length faces ≡ n → HasDegrees (ties ++ faces) (length faces) (at faces) count table → HasFaces n (next_in ties) (at faces) count → HasFaceTable n ties count table
 faced ties faces table n count tied all behind numbered =
     let front = ties ++ faces in
     let long = tied.size in

@@ -3,7 +3,7 @@
 ghost use Rattle.std.specs.Prelude.{◌≡◌, ◌+◌, ◌*◌, ◌<◌, ◌≤◌, ◌++◌, ℕ, length, slice_index, IfOk, OnOk};
 ghost use Rattle.embedding.specs.declared.graphs.TheConstants.{MAX_DARTS};
 ghost use Rattle.embedding.specs.Faces.{HasFaces, degree_in};
-ghost use Rattle.embedding.specs.Walk.{IsTraced, AreTied, HasDegrees, IsFaced, at, next_in};
+ghost use Rattle.embedding.specs.Walk.{IsTraced, AreTied, HasDegrees, HasFaceTable, at, next_in};
 
 use crate::graphs::MAX_DARTS;
 use std::alloc::AllocError;
@@ -81,13 +81,13 @@ fn add_table(table: &mut Vec<u16>, faces: &[u16], count: u16) -> Result<(), Allo
     Ok(())
 }
 
-/// Puts the face of each dart and the degree of each face behind the links, and says how many faces there are. They are
+/// Puts the face of each dart and the degree of each face behind the ties, and says how many faces there are. They are
 /// numbered in this memory.
 fn add_on(table: &mut Vec<u16>, faces: &mut [u16]) -> Result<u16, AllocError>
     requires tied { AreTied (length faces.old) table.old.items }
     requires few { length faces.old ≤ MAX_DARTS }
     requires unset { (d : ℕ) → d < length faces.old → slice_index faces.old d ≡ UNSET }
-    ensures { IfOk result (λ count. IsFaced (length faces.old) table.old.items count table.new.items) }
+    ensures { IfOk result (λ count. HasFaceTable (length faces.old) table.old.items count table.new.items) }
 {
     let count = number_faces(table, faces);
     add_table(table, faces, count)?;
@@ -98,7 +98,7 @@ fn add_on(table: &mut Vec<u16>, faces: &mut [u16]) -> Result<u16, AllocError>
 pub(crate) fn add_faces(table: &mut Vec<u16>, darts: usize) -> Result<u16, AllocError>
     requires tied { AreTied darts table.old.items }
     requires few { darts ≤ MAX_DARTS }
-    ensures { IfOk result (λ count. IsFaced darts table.old.items count table.new.items) }
+    ensures { IfOk result (λ count. HasFaceTable darts table.old.items count table.new.items) }
 {
     if darts > FEW_DARTS {
         let mut room = [UNSET; MAX_DARTS];

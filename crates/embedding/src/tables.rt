@@ -5,7 +5,7 @@ ghost use Rattle.std.specs.Prelude.{◌≡◌, ℕ, ◌+◌, ◌*◌, ◌<◌, �
 ghost use Rattle.embedding.specs.Lists.{list_of};
 ghost use Rattle.embedding.specs.Darts.{dart_count, first_dart, head_of, tail_of, reverse_of, after_of};
 ghost use Rattle.embedding.specs.Rules.{KeepsBefore};
-ghost use Rattle.embedding.specs.Tables.{cut_at, IsTable, AreTies, AreTables};
+ghost use Rattle.embedding.specs.Tables.{parts_at, IsTable, AreTies, AreTables};
 
 use crate::lists::Lists;
 use crate::numbering::add_faces;
@@ -70,7 +70,7 @@ fn add_starts(table: &mut Vec<u16>, lists: &Lists<'_>) -> Result<(), AllocError>
     Ok(())
 }
 
-/// What a graph keeps: the heads of all darts, a table, and how many faces there are. In the table stand the links of
+/// What a graph keeps: the heads of all darts, a table, and how many faces there are. In the table stand the ties of
 /// all darts, their faces, the degrees of the faces, and where each list begins.
 #[derive(Drop)]
 pub(crate) struct DartTables {
@@ -79,7 +79,7 @@ pub(crate) struct DartTables {
     pub(crate) faces: u16,
 }
 
-/// What the graph of these lists keeps, in the memory of old lists where that is enough. In the links stand of each dart
+/// What the graph of these lists keeps, in the memory of old lists where that is enough. In the ties stand of each dart
 /// its reverse, and the dart after it, which is the next one, but of the last dart of a list its first one. The room is
 /// just what a plane needs.
 pub(crate) fn darts_in(
@@ -91,7 +91,7 @@ pub(crate) fn darts_in(
     requires few { length lists.now < 256 }
     ensures kept { IfOk result (λ t. AreTables lists.now t.heads.items t.faces t.table.items) }
     ensures lists { IfOk result (λ t.
-        cut_at (drop (3 * length t.heads.items + t.faces) t.table.items) t.heads.items ≡ lists.now) }
+        parts_at (drop (3 * length t.heads.items + t.faces) t.table.items) t.heads.items ≡ lists.now) }
 {
     let darts = lists.darts();
     let mut heads = emptied(old_heads, darts)?;

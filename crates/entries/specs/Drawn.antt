@@ -5,7 +5,7 @@ use Rattle.ortho_rep.specs.Shapes.{ShapeModel}
 use Rattle.ortho_rep.specs.Points.{PointsModel}
 use Rattle.dissect.specs.Boxes.{BoxesModel}
 use Rattle.dissect.specs.Boxed.{IsBoxed}
-use Rattle.dissect.specs.Ordered.{AreLaidOut, HasNoPlace}
+use Rattle.dissect.specs.Ordered.{AreLaidOut, FitsNoGrid}
 use Rattle.drawing_check.specs.declared.fault.CheckFault.{CheckFault}
 use Rattle.drawing_check.specs.declared.fault.CheckFault.TheVariants as fault
 use Rattle.drawing_check.specs.Draws.{Draws}
@@ -23,7 +23,7 @@ pub record FailFirst (plane : PlaneModel) (shape : ShapeModel) (boxes : BoxesMod
 -- the boxes show that this is why the shape is not drawn
 abbrev pub ShowsCause : PlaneModel → ShapeModel → BoxesModel → Cause → Type 0
 -- no numbers in their order are within the grid
-ShowsCause plane shape boxes Wide = HasNoPlace boxes
+ShowsCause plane shape boxes Wide = FitsNoGrid boxes
 ShowsCause plane shape boxes OutOfGrid = FailFirst plane shape boxes fault.OutOfGrid
 ShowsCause plane shape boxes NotAxis = FailFirst plane shape boxes fault.NotAxis
 ShowsCause plane shape boxes WrongTurn = FailFirst plane shape boxes fault.WrongTurn

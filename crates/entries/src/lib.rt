@@ -5,15 +5,15 @@
 #![tactic(auto)]
 
 mod answer;
-mod binding;
 mod book;
+mod books;
 mod cause;
 mod entry;
 mod limits;
 
 pub use answer::Answer;
-pub use binding::bind;
 pub use book::{Batch, Book};
+pub use books::books_of;
 pub use cause::Cause;
 pub use entry::Entry;
 pub use limits::MAX_FILES;

@@ -1,4 +1,4 @@
--- Any two darts of a connected graph are joined: a set of darts that is closed under "next" and under
+-- Any two darts of a connected graph are connected: a set of darts that is closed under "next" and under
 -- "reverse" and holds one dart holds them all.
 use Rattle.std.proofs.Common.{◌≡◌, ℕ, zero, suc, ◌+◌, ◌-◌, ◌<◌, Bool, true, false, not, List, [], length, get_or, inl, inr, refl, sym, ap, ◌∙◌, subst, arith}
 use Rattle.std.proofs.lemmas.Bool.{cases_lt, cases_Bool, both_ways, not-true, not_from_false}
@@ -143,7 +143,7 @@ all_connected g rules s next reverse d e hd he here =
           absurd (both_ways (firsts g s (tail_of g d)) (not-true (firsts g s (tail_of g d)) rest) (tail_held g s shut d hd here))
     ]
 
--- any two faces of a plane are joined: a set of faces that holds with each dart's face the face across holds
+-- any two faces of a plane are connected: a set of faces that holds with each dart's face the face across holds
 -- them all, if it holds one
 pub faces_connected : (p : PlaneModel) → IsPlane p → (t : ℕ → Bool)
     → ((d : ℕ) → d < darts p → t (face_at p d) ≡ true → t (face_at p (reverse_dart p d)) ≡ true)

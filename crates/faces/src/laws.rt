@@ -36,7 +36,7 @@ pub fn degrees_sum()
     ensures { (p : PlaneModel) → IsPlane p → sum_below p.faces (degree p) ≡ darts p }
 {}
 
-/// Any two darts of a connected graph are joined: a set of darts that is closed under "next" and under
+/// Any two darts of a connected graph are connected: a set of darts that is closed under "next" and under
 /// "reverse" and holds one dart holds them all.
 pub fn darts_are_connected()
     ensures { (g : List (List ℕ)) → KeepsBefore g 8 → (s : ℕ → Bool)
@@ -44,7 +44,7 @@ pub fn darts_are_connected()
         → (d e : ℕ) → d < dart_count g → e < dart_count g → s d ≡ true → s e ≡ true }
 {}
 
-/// Any two faces of a plane are joined by crossings: a set of faces that holds with the face of each
+/// Any two faces of a plane are connected by crossings: a set of faces that holds with the face of each
 /// dart the face across it holds them all, if it holds one.
 pub fn faces_are_connected()
     ensures { (p : PlaneModel) → IsPlane p → (t : ℕ → Bool)

@@ -12,7 +12,7 @@ use Rattle.faces.proofs.Connected.{faces_connected}
 use Rattle.faces.proofs.Degrees.{degrees_sum}
 use Rattle.networks.specs.declared.arc.Arc.{Arc}
 use Rattle.networks.specs.Networks.{NetworkModel, node_count, arc_count, arc_at, supply_at}
-use Rattle.networks.specs.Flow.{Flow, IsWithin, leaves, enters, balance}
+use Rattle.networks.specs.Flow.{Flow, IsWithinCap, leaves, enters, balance}
 use Rattle.min_cost_flow.specs.Excess.{KeepsCaps}
 use Rattle.min_cost_flow.specs.Existence.{HasUnlimitedPaths, SuppliesSumToZero}
 use Rattle.min_cost_flow.proofs.Existence.{flow_where_joined, excess_leaves}
@@ -79,13 +79,13 @@ pub start_keeps : (p : PlaneModel) (net : NetworkModel) → IsFaceNet p net → 
 start_keeps p net is i l =
     elim (cases_lt i (darts p)) [
       | inl corner ↦
-          subst (λ (a : Arc). IsWithin a.cap (start p i)) (sym (is.corner i corner)) (small p i corner)
+          subst (λ (a : Arc). IsWithinCap a.cap (start p i)) (sym (is.corner i corner)) (small p i corner)
       | inr crossing ↦
           let d : ℕ = i - darts p in
           let at : darts p + d ≡ i = omega arith in
           let d_in : d < darts p = omega (arith, is.arcs) in
-          subst (λ (j : ℕ). IsWithin (arc_at net j).cap (start p i)) at
-          (subst (λ (a : Arc). IsWithin a.cap (start p i)) (sym (is.crossing d d_in)) tt)
+          subst (λ (j : ℕ). IsWithinCap (arc_at net j).cap (start p i)) at
+          (subst (λ (a : Arc). IsWithinCap a.cap (start p i)) (sym (is.crossing d d_in)) tt)
     ]
   where
     small : (p : PlaneModel) (d : ℕ) → d < darts p → start p d ≤ 3

@@ -6,7 +6,7 @@ use Rattle.std.proofs.lemmas.List.{get_or_default, get_or-take, get_or-drop, pla
 use borrow.Rule.Slice.PartMut.{put_mid, mid_of}
 use Rattle.geometry.specs.declared.rectangles.Rectangle.{Rectangle}
 use Rattle.geometry.specs.Rectangles.{IsFilled, AreApart}
-use Rattle.geometry.specs.Frontier.{HasRow, Passes, Reaches}
+use Rattle.geometry.specs.Frontier.{HasRow, Passes, IsBeyond}
 use Rattle.geometry.proofs.Holdings.{none_there, at}
 
 -- The sweep has met the first i of the list, which are apart, and in each row the frontier is one past the
@@ -64,7 +64,7 @@ IsFrontier-more before after xs i f full p =
         let old = f.past m y lt (one.2, one.3) in let free = p.free y (other.2, other.3) in omega arith
 
 -- Where the frontier is beyond the left column of the next one, that has a point in common with one before it.
-pub reached_not_apart : (frontier : List ℕ) (xs : List Rectangle) (i : ℕ) → IsFrontier frontier xs i → i < length xs → IsNonDecreasingBy (λ r. r.left) xs → IsFilled (at xs i) → Reaches frontier (at xs i) → AllPairs AreApart xs → ⊥
+pub reached_not_apart : (frontier : List ℕ) (xs : List Rectangle) (i : ℕ) → IsFrontier frontier xs i → i < length xs → IsNonDecreasingBy (λ r. r.left) xs → IsFilled (at xs i) → IsBeyond frontier (at xs i) → AllPairs AreApart xs → ⊥
 reached_not_apart frontier xs i f within sorted full reached apart =
     let y = reached.0 in
     let m = f.behind y (omega (arith, reached.2)) in

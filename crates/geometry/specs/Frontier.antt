@@ -14,5 +14,5 @@ pub record Passes (before after : List ℕ) (new : Rectangle) : Type 0 where
   pub others : (y : ℕ) → (HasRow new y → ⊥) → slice_index after y ≡ slice_index before y
 
 -- the frontier is beyond the rectangle's left column in one of its rows
-abbrev pub Reaches : List ℕ → Rectangle → Type 0
-Reaches frontier new = (y : ℕ) × HasRow new y × (new.left < slice_index frontier y)
+abbrev pub IsBeyond : List ℕ → Rectangle → Type 0
+IsBeyond frontier new = (y : ℕ) × HasRow new y × (new.left < slice_index frontier y)

@@ -5,7 +5,7 @@ ghost use Rattle.std.specs.Prelude.{◌≡◌, ◌<◌, ◌≤◌, ◌↔◌, Is
 ghost use Rattle.std.specs.Bool.{OnTrue, OnFalse};
 ghost use Rattle.std.specs.List.Sorted.{IsNonDecreasingBy};
 ghost use Rattle.geometry.specs.Rectangles.{IsFilled, AreApart};
-ghost use Rattle.geometry.specs.Frontier.{Passes, Reaches};
+ghost use Rattle.geometry.specs.Frontier.{Passes, IsBeyond};
 
 use crate::rectangles::Rectangle;
 use std::alloc::AllocError;
@@ -38,7 +38,7 @@ fn pass(frontier: &mut [u64], new: Rectangle) -> bool
     requires filled { IsFilled new }
     requires low { new.top < length frontier.old }
     ensures passes { OnTrue result (Passes frontier.old frontier.new new) }
-    ensures reaches { OnFalse result (Reaches frontier.old new) }
+    ensures reaches { OnFalse result (IsBeyond frontier.old new) }
 {
     let rows = &mut frontier[new.bottom as usize..=new.top as usize];
     if is_beyond(rows, u64::from(new.left)) {

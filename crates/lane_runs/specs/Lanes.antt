@@ -8,7 +8,7 @@ use Rattle.ruled_lanes.specs.declared.dealing.Tickets.{Tickets}
 use Rattle.ruled_lanes.specs.declared.dealing.Seat.{Seat}
 use Rattle.ruled_lanes.specs.declared.errors.Closed.{Closed}
 use Rattle.ruled_lanes.specs.HandedBack.{handed_back}
-use Rattle.ruled_lanes.specs.LinkEnds.{given, taken, room_of, AreEnds, GivesToSame}
+use Rattle.ruled_lanes.specs.LinkEnds.{given, taken, capacity_of, AreEnds, GivesToSame}
 use Rattle.ruled_lanes.specs.FanEnds.{given_at, GivesToSameLane}
 use Rattle.ruled_lanes.specs.TicketSeats.{drawn, has_ended, IsSeatOf, IsUnused}
 use Rattle.streams.specs.declared.frames.Mark.{Mark}
@@ -24,7 +24,7 @@ use Rattle.lane_runs.specs.declared.fault.LaneFault.{LaneFault}
 module _ {A : Type 0} where
   -- both ends of a link that has room for so many messages, and that nothing has passed
   pub record IsNewLink (capacity : ℕ) (giver : Giver A) (taker : Taker A) : Type 0 where
-    pub room : room_of giver ≡ capacity
+    pub room : capacity_of giver ≡ capacity
     pub ends : AreEnds giver taker
     pub none_given : given giver ≡ []
     pub none_taken : taken taker ≡ []

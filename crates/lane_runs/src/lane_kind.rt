@@ -26,7 +26,7 @@ pub type ScratchOf<L> = LaneScratch<
 /// What the lanes of a run do: what is known of a record at each of the four stages, where each stage makes the next
 /// from it, and of the end of a file. All lanes are lent one value of it.
 pub trait LaneKind: Sync {
-    /// A record that was cut out of its file.
+    /// A record that was read from its file.
     type Framed: Staged<Next = Self::Embedded>;
 
     /// What the second stage gives.

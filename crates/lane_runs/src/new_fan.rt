@@ -1,7 +1,7 @@
 //! A new fan, to which all lanes of a run give.
 ghost use Rattle.std.specs.Prelude.{◌≡◌, ◌≤◌, ◌+◌, [], IfOk, vec_len};
 ghost use Rattle.ruled_lanes.specs.declared.limits.TheConstants.{LANES, MAX_CAPACITY};
-ghost use Rattle.ruled_lanes.specs.FanEnds.{gathered, room_of_fan};
+ghost use Rattle.ruled_lanes.specs.FanEnds.{gathered, capacity_of_fan};
 ghost use Rattle.lane_runs.specs.Running.{AreNumbered, IsIdle};
 
 use lanes::{Message, Numbered};
@@ -26,7 +26,7 @@ pub fn new_fan<E: Numbered, M: Drop + Send>(
     requires least { 1 ≤ capacity }
     requires most { capacity ≤ MAX_CAPACITY }
     requires few { lanes ≤ LANES }
-    ensures room { IfOk result (λ fan. room_of_fan fan.gatherer ≡ capacity) }
+    ensures room { IfOk result (λ fan. capacity_of_fan fan.gatherer ≡ capacity) }
     ensures count { IfOk result (λ fan. vec_len fan.givers ≡ lanes) }
     ensures lanes { IfOk result (λ fan. vec_len fan.givers + vec_len fan.idle ≡ LANES) }
     ensures givers { IfOk result (λ fan. AreNumbered (IsIdle fan.gatherer) 0 fan.givers.items) }

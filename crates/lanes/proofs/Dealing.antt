@@ -9,7 +9,7 @@ use Rattle.lanes.specs.Notes.{About, Note, note, notes, numbered, GoOn, IsStoppe
 use Rattle.lanes.specs.Opening.{Meaning}
 use Rattle.lanes.specs.Stages.{IsPassedOn}
 use Rattle.lanes.specs.Drafts.{abouts, mark_after, IsDraft, AreDrafts}
-use Rattle.lanes.specs.Files.{HasFile, HasDrawn, TellsDrawn, IsReady, AreReady}
+use Rattle.lanes.specs.Files.{HasFile, HasDrawn, TellsDrawn, IsWholeDraft, AreReady}
 use Rattle.lanes.specs.Fans.{HasStop}
 
 -- a message's kind as a number
@@ -89,7 +89,7 @@ mark-items was (x ∷ xs) file mark = mark-items was xs file mark
 
 module _ {E : Type 0} where
   -- a draft of all that is told of its file is ready
-  draft_ready : (about : E → About) (choice : Choice) (meaning : Meaning) (file : ℕ) (ns : List Note) (draft : Draft E) → IsDraft about file ns draft → HasFile choice meaning file ns → IsReady about choice meaning file draft
+  draft_ready : (about : E → About) (choice : Choice) (meaning : Meaning) (file : ℕ) (ns : List Note) (draft : Draft E) → IsDraft about file ns draft → HasFile choice meaning file ns → IsWholeDraft about choice meaning file draft
   draft_ready about choice meaning file ns draft is has = record {
     mark = has.mark;
     marked = is.mark ∙ ap (mark_after None) has.told ∙ mark-items None (numbered choice file 0 has.records) file has.mark;

@@ -1,7 +1,7 @@
 -- What is kept of a file that was not opened, or was read as its source.
 use Rattle.std.proofs.Common.{◌≡◌, ℕ, Bool, true, false, List, [], Option, None, Some, Ok, Err, refl, sym, subst, append-nil}
 use Rattle.planar_code.specs.declared.ending.Ending.TheVariants as ending
-use Rattle.planar_code.specs.Place.{Early}
+use Rattle.planar_code.specs.FramerState.{Early}
 use Rattle.streams.specs.declared.frames.Mark.{Mark}
 use Rattle.streams.specs.declared.frames.Mark.TheVariants.{Ended}
 use Rattle.streams.specs.declared.frames.Mark.TheVariants as mark

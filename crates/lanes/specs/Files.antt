@@ -33,7 +33,7 @@ module _ {A M : Type 0} where
 
 module _ {A : Type 0} where
   -- the draft has a mark, and is all of its file
-  pub record IsReady (about : A → About) (choice : Choice) (meaning : Meaning) (file : ℕ) (draft : Draft A) : Type 0 where
+  pub record IsWholeDraft (about : A → About) (choice : Choice) (meaning : Meaning) (file : ℕ) (draft : Draft A) : Type 0 where
     pub mark : Mark
     pub marked : draft.mark ≡ Some mark
     pub whole : IsWhole about choice meaning file draft.entries.items mark
@@ -41,4 +41,4 @@ module _ {A : Type 0} where
   -- so are the drafts of files in a row, the first of which has this number
   abbrev pub AreReady : (A → About) → Choice → (ℕ → Meaning) → ℕ → List (Draft A) → Type 0
   AreReady about choice meaning file [] = ⊤
-  AreReady about choice meaning file (draft ∷ drafts) = IsReady about choice (meaning file) file draft × AreReady about choice meaning (file + 1) drafts
+  AreReady about choice meaning file (draft ∷ drafts) = IsWholeDraft about choice (meaning file) file draft × AreReady about choice meaning (file + 1) drafts

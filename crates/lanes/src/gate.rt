@@ -3,7 +3,7 @@
 /// A stage of a lane.
 #[derive(Clone, Copy, Debug, PartialEq, Eq)]
 pub enum Stage {
-    /// Reads the files and cuts them into records.
+    /// Reads the files and divides them into records.
     Read,
     /// Reads a record's graph and traces its faces.
     Embed,

@@ -1,10 +1,10 @@
--- Weights of pairs of segments: each edge pulls its two segments together by one unit, each pair is pushed apart by its weight.
+-- Weights of pairs of segments: each wire pulls its two segments together by one unit, each pair is pushed apart by its weight.
 use Rattle.std.specs.Prelude.{◌≡◌, ℕ, ◌+◌, ◌<◌, ◌==◌, if◌then◌else◌, List, length, slice_index_or}
 use Rattle.common.specs.Sums.{sum_below}
-use Rattle.least_length.specs.declared.segments.Edge.{Edge}
+use Rattle.least_length.specs.declared.segments.Wire.{Wire}
 use Rattle.least_length.specs.declared.segments.Segment.{Segment}
 use Rattle.least_length.specs.declared.segments.Sight.{Sight}
-use Rattle.least_length.specs.Lengths.{edge_at, segment_at, total_length, IsBefore, KeepsOrder}
+use Rattle.least_length.specs.Lengths.{wire_at, segment_at, total_length, StandsBefore, KeepsOrder}
 
 -- stands for pairs past the last
 abbrev pub no_sight : Sight
@@ -16,33 +16,33 @@ sight_at sights i = slice_index_or sights i no_sight
 abbrev pub total_weight : List Sight → ℕ
 total_weight sights = sum_below (length sights) (λ i. (sight_at sights i).weight)
 
--- what moves segment r up: a unit for each edge that starts there, and the weights of pairs in which it is behind
-abbrev pub up_at : List Edge → List Sight → ℕ → ℕ
-up_at edges sights r = sum_below (length edges) (λ i. if (edge_at edges i).from == r then 1 else 0) + sum_below (length sights) (λ i. if (sight_at sights i).behind == r then (sight_at sights i).weight else 0)
+-- what moves segment r up: a unit for each wire that starts there, and the weights of pairs in which it is behind
+abbrev pub up_at : List Wire → List Sight → ℕ → ℕ
+up_at wires sights r = sum_below (length wires) (λ i. if (wire_at wires i).from == r then 1 else 0) + sum_below (length sights) (λ i. if (sight_at sights i).behind == r then (sight_at sights i).weight else 0)
 
--- what moves it down: a unit for each edge that ends there, and the weights of pairs in which it is before
-abbrev pub down_at : List Edge → List Sight → ℕ → ℕ
-down_at edges sights r = sum_below (length edges) (λ i. if (edge_at edges i).to == r then 1 else 0) + sum_below (length sights) (λ i. if (sight_at sights i).before == r then (sight_at sights i).weight else 0)
+-- what moves it down: a unit for each wire that ends there, and the weights of pairs in which it is before
+abbrev pub down_at : List Wire → List Sight → ℕ → ℕ
+down_at wires sights r = sum_below (length wires) (λ i. if (wire_at wires i).to == r then 1 else 0) + sum_below (length sights) (λ i. if (sight_at sights i).before == r then (sight_at sights i).weight else 0)
 
 -- one segment is before the other on some level
 pub record IsSight (segments : List Segment) (sight : Sight) : Type 0 where
   pub first : sight.before < length segments
   pub second : sight.behind < length segments
-  pub order : IsBefore (segment_at segments sight.before) (segment_at segments sight.behind)
+  pub order : StandsBefore (segment_at segments sight.before) (segment_at segments sight.behind)
 
--- both ends of the edge are segments
-pub record HasEnds (segments : List Segment) (edge : Edge) : Type 0 where
-  pub from : edge.from < length segments
-  pub to : edge.to < length segments
+-- both ends of the wire are segments
+pub record HasEnds (segments : List Segment) (wire : Wire) : Type 0 where
+  pub from : wire.from < length segments
+  pub to : wire.to < length segments
 
 -- weights of pairs of segments that are in balance at each segment
-pub record AreWeights (segments : List Segment) (edges : List Edge) (sights : List Sight) : Type 0 where
-  pub ends : (i : ℕ) → i < length edges → HasEnds segments (edge_at edges i)
+pub record AreWeights (segments : List Segment) (wires : List Wire) (sights : List Sight) : Type 0 where
+  pub ends : (i : ℕ) → i < length wires → HasEnds segments (wire_at wires i)
   pub pairs : (i : ℕ) → i < length sights → IsSight segments (sight_at sights i)
-  pub balance : (r : ℕ) → r < length segments → up_at edges sights r ≡ down_at edges sights r
+  pub balance : (r : ℕ) → r < length segments → up_at wires sights r ≡ down_at wires sights r
 
--- what shows that numbers give edges of least total length
-pub record IsCertificate (segments : List Segment) (edges : List Edge) (numbers : ℕ → ℕ) (sights : List Sight) : Type 0 where
-  pub keeps : KeepsOrder segments numbers
-  pub weights : AreWeights segments edges sights
-  pub total : total_weight sights ≡ total_length edges numbers
+-- what shows that coordinates give wires of least total length
+pub record IsCertificate (segments : List Segment) (wires : List Wire) (coordinates : ℕ → ℕ) (sights : List Sight) : Type 0 where
+  pub keeps : KeepsOrder segments coordinates
+  pub weights : AreWeights segments wires sights
+  pub total : total_weight sights ≡ total_length wires coordinates

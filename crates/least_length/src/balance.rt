@@ -2,11 +2,11 @@
 
 ghost use Rattle.std.specs.Prelude.{◌≡◌, ◌<◌, ◌≤◌, ◌↔◌, ◌+◌, ◌==◌, if◌then◌else◌, ℕ, [], length, true, IfOk, slice_index};
 ghost use Rattle.common.specs.Sums.{sum_below};
-ghost use Rattle.least_length.specs.declared.segments.TheConstants.{MAX_EDGES, MAX_SIGHTS};
-ghost use Rattle.least_length.specs.Lengths.{edge_at};
+ghost use Rattle.least_length.specs.declared.segments.TheConstants.{MAX_WIRES, MAX_SIGHTS};
+ghost use Rattle.least_length.specs.Lengths.{wire_at};
 ghost use Rattle.least_length.specs.Weights.{down_at, sight_at, up_at};
 
-use crate::segments::{Edge, Sight};
+use crate::segments::{Sight, Wire};
 use crate::sweep::Sweep;
 use std::alloc::{AllocError, Global};
 
@@ -32,25 +32,25 @@ impl Balance {
         }
     }
 
-    /// Whether at each segment edges and weights are in balance.
+    /// Whether at each segment wires and weights are in balance.
     pub(crate) fn is_even(
         &mut self,
         segments: usize,
-        edges: &[Edge],
+        wires: &[Wire],
         sights: &[Sight],
     ) -> Result<bool, AllocError>
-        requires edges { length edges.now ≤ MAX_EDGES }
+        requires wires { length wires.now ≤ MAX_WIRES }
         requires sights { length sights.now ≤ MAX_SIGHTS }
-        requires ends { (i : ℕ) → i < length edges.now → ((edge_at edges.now i).from < segments) × ((edge_at edges.now i).to < segments) }
+        requires ends { (i : ℕ) → i < length wires.now → ((wire_at wires.now i).from < segments) × ((wire_at wires.now i).to < segments) }
         requires pairs { (i : ℕ) → i < length sights.now → ((sight_at sights.now i).before < segments) × ((sight_at sights.now i).behind < segments) }
-        ensures { IfOk result (λ even. (even ≡ true) ↔ ((r : ℕ) → r < segments → up_at edges.now sights.now r ≡ down_at edges.now sights.now r)) }
+        ensures { IfOk result (λ even. (even ≡ true) ↔ ((r : ℕ) → r < segments → up_at wires.now sights.now r ≡ down_at wires.now sights.now r)) }
     {
         self.up.clear();
         self.up.resize(segments, 0)?;
         self.down.clear();
         self.down.resize(segments, 0)?;
         let even = is_even_in(
-            edges,
+            wires,
             sights,
             self.up.as_mut_slice(),
             self.down.as_mut_slice(),
@@ -59,37 +59,37 @@ impl Balance {
     }
 }
 
-/// Whether at each segment edges and weights are in balance, by adding them up in two lists of zeros.
-fn is_even_in(edges: &[Edge], sights: &[Sight], up: &mut [u64], down: &mut [u64]) -> bool
-    requires edges { length edges.now ≤ MAX_EDGES }
+/// Whether at each segment wires and weights are in balance, by adding them up in two lists of zeros.
+fn is_even_in(wires: &[Wire], sights: &[Sight], up: &mut [u64], down: &mut [u64]) -> bool
+    requires wires { length wires.now ≤ MAX_WIRES }
     requires sights { length sights.now ≤ MAX_SIGHTS }
     requires sizes { length down.old ≡ length up.old }
-    requires ends { (i : ℕ) → i < length edges.now → ((edge_at edges.now i).from < length up.old) × ((edge_at edges.now i).to < length up.old) }
+    requires ends { (i : ℕ) → i < length wires.now → ((wire_at wires.now i).from < length up.old) × ((wire_at wires.now i).to < length up.old) }
     requires pairs { (i : ℕ) → i < length sights.now → ((sight_at sights.now i).before < length up.old) × ((sight_at sights.now i).behind < length up.old) }
     requires blank { (r : ℕ) → slice_index up.old r ≡ 0 }
     requires clear { (r : ℕ) → slice_index down.old r ≡ 0 }
-    ensures { (result ≡ true) ↔ ((r : ℕ) → r < length up.old → up_at edges.now sights.now r ≡ down_at edges.now sights.now r) }
+    ensures { (result ≡ true) ↔ ((r : ℕ) → r < length up.old → up_at wires.now sights.now r ≡ down_at wires.now sights.now r) }
 {
-    add_edges(edges, up, down);
+    add_wires(wires, up, down);
     add_sights(sights, up, down);
     are_same(up, down)
 }
 
-/// Adds a unit up where each edge starts, and one down where it ends.
-fn add_edges(edges: &[Edge], up: &mut [u64], down: &mut [u64])
-    requires few { length edges.now ≤ MAX_EDGES }
-    requires starts { (i : ℕ) → i < length edges.now → (edge_at edges.now i).from < length up.old }
-    requires ends { (i : ℕ) → i < length edges.now → (edge_at edges.now i).to < length down.old }
+/// Adds a unit up where each wire starts, and one down where it ends.
+fn add_wires(wires: &[Wire], up: &mut [u64], down: &mut [u64])
+    requires few { length wires.now ≤ MAX_WIRES }
+    requires starts { (i : ℕ) → i < length wires.now → (wire_at wires.now i).from < length up.old }
+    requires ends { (i : ℕ) → i < length wires.now → (wire_at wires.now i).to < length down.old }
     requires blank { (r : ℕ) → slice_index up.old r ≡ 0 }
     requires clear { (r : ℕ) → slice_index down.old r ≡ 0 }
-    ensures up { (r : ℕ) → r < length up.new → slice_index up.new r ≡ sum_below (length edges.now) (λ i. if (edge_at edges.now i).from == r then 1 else 0) }
-    ensures light { (r : ℕ) → slice_index up.new r ≤ MAX_EDGES }
-    ensures slight { (r : ℕ) → slice_index down.new r ≤ MAX_EDGES }
-    ensures down { (r : ℕ) → r < length down.new → slice_index down.new r ≡ sum_below (length edges.now) (λ i. if (edge_at edges.now i).to == r then 1 else 0) }
+    ensures up { (r : ℕ) → r < length up.new → slice_index up.new r ≡ sum_below (length wires.now) (λ i. if (wire_at wires.now i).from == r then 1 else 0) }
+    ensures light { (r : ℕ) → slice_index up.new r ≤ MAX_WIRES }
+    ensures slight { (r : ℕ) → slice_index down.new r ≤ MAX_WIRES }
+    ensures down { (r : ℕ) → r < length down.new → slice_index down.new r ≡ sum_below (length wires.now) (λ i. if (wire_at wires.now i).to == r then 1 else 0) }
 {
-    for edge in edges {
-        up[usize::from(edge.from)] += 1;
-        down[usize::from(edge.to)] += 1;
+    for wire in wires {
+        up[usize::from(wire.from)] += 1;
+        down[usize::from(wire.to)] += 1;
     }
 }
 
@@ -98,8 +98,8 @@ fn add_sights(sights: &[Sight], up: &mut [u64], down: &mut [u64])
     requires few { length sights.now ≤ MAX_SIGHTS }
     requires behind { (i : ℕ) → i < length sights.now → (sight_at sights.now i).behind < length up.old }
     requires before { (i : ℕ) → i < length sights.now → (sight_at sights.now i).before < length down.old }
-    requires light { (r : ℕ) → slice_index up.old r ≤ MAX_EDGES }
-    requires slight { (r : ℕ) → slice_index down.old r ≤ MAX_EDGES }
+    requires light { (r : ℕ) → slice_index up.old r ≤ MAX_WIRES }
+    requires slight { (r : ℕ) → slice_index down.old r ≤ MAX_WIRES }
     ensures up { (r : ℕ) → r < length up.new → slice_index up.new r ≡ slice_index up.old r + sum_below (length sights.now) (λ i. if (sight_at sights.now i).behind == r then (sight_at sights.now i).weight else 0) }
     ensures down { (r : ℕ) → r < length down.new → slice_index down.new r ≡ slice_index down.old r + sum_below (length sights.now) (λ i. if (sight_at sights.now i).before == r then (sight_at sights.now i).weight else 0) }
 {

@@ -1,74 +1,74 @@
 //! The test of a certificate.
 
 ghost use Rattle.std.specs.Prelude.{◌≡◌, ◌<◌, ◌≤◌, ◌↔◌, ℕ, length, true, IfOk};
-ghost use Rattle.least_length.specs.declared.segments.TheConstants.{MAX_EDGES, MAX_SIGHTS};
-ghost use Rattle.least_length.specs.Lengths.{edge_at, numbers_in, segment_at, total_length, IsBefore, IsLeast, KeepsOrder};
+ghost use Rattle.least_length.specs.declared.segments.TheConstants.{MAX_WIRES, MAX_SIGHTS};
+ghost use Rattle.least_length.specs.Lengths.{wire_at, coordinates_in, segment_at, total_length, StandsBefore, IsShortest, KeepsOrder};
 ghost use Rattle.least_length.specs.Weights.{sight_at, total_weight, HasEnds, IsCertificate, IsSight};
 
 use crate::balance::Balance;
 use crate::scratch::Scratch;
-use crate::segments::{Edge, Segment, Sight};
+use crate::segments::{Segment, Sight, Wire};
 use std::alloc::AllocError;
 
-/// Whether pairs of segments and their weights show that the edges are shortest in all with these numbers, one
-/// for each segment: that no numbers with which segments keep their order on each level give a lesser total
+/// Whether pairs of segments and their weights show that the wires are shortest in all with these coordinates, one
+/// for each segment: that no coordinates with which segments keep their order on each level give a lesser total
 /// length.
 ///
-/// The time is linear in the segments and their levels, edges and pairs, where segments are listed in the order
-/// of their numbers and the answer is yes. Else it is quadratic in the segments.
+/// The time is linear in the segments and their levels, wires and pairs, where segments are listed in the order
+/// of their coordinates and the answer is yes. Else it is quadratic in the segments.
 ///
 /// # Errors
 /// `AllocError` where the lent memory is too small and there is no more.
 pub fn certify_lengths(
     scratch: &mut Scratch,
     segments: &[Segment],
-    edges: &[Edge],
-    numbers: &[u16],
+    wires: &[Wire],
+    coordinates: &[u16],
     sights: &[Sight],
 ) -> Result<bool, AllocError>
-    requires numbers { length numbers.now ≡ length segments.now }
-    requires edges { length edges.now ≤ MAX_EDGES }
+    requires coordinates { length coordinates.now ≡ length segments.now }
+    requires wires { length wires.now ≤ MAX_WIRES }
     requires sights { length sights.now ≤ MAX_SIGHTS }
-    ensures exact { IfOk result (λ found. (found ≡ true) ↔ IsCertificate segments.now edges.now (numbers_in numbers.now) sights.now) }
-    ensures least { IfOk result (λ found. found ≡ true → IsLeast segments.now edges.now (numbers_in numbers.now)) }
+    ensures exact { IfOk result (λ found. (found ≡ true) ↔ IsCertificate segments.now wires.now (coordinates_in coordinates.now) sights.now) }
+    ensures least { IfOk result (λ found. found ≡ true → IsShortest segments.now wires.now (coordinates_in coordinates.now)) }
 {
-    certify(&mut scratch.balance, segments, edges, numbers, sights)
+    certify(&mut scratch.balance, segments, wires, coordinates, sights)
 }
 
 /// The same as [`certify_lengths`], in just the memory that it needs.
 pub(crate) fn certify(
     balance: &mut Balance,
     segments: &[Segment],
-    edges: &[Edge],
-    numbers: &[u16],
+    wires: &[Wire],
+    coordinates: &[u16],
     sights: &[Sight],
 ) -> Result<bool, AllocError>
-    requires numbers { length numbers.now ≡ length segments.now }
-    requires edges { length edges.now ≤ MAX_EDGES }
+    requires coordinates { length coordinates.now ≡ length segments.now }
+    requires wires { length wires.now ≤ MAX_WIRES }
     requires sights { length sights.now ≤ MAX_SIGHTS }
-    ensures exact { IfOk result (λ found. (found ≡ true) ↔ IsCertificate segments.now edges.now (numbers_in numbers.now) sights.now) }
-    ensures least { IfOk result (λ found. found ≡ true → IsLeast segments.now edges.now (numbers_in numbers.now)) }
+    ensures exact { IfOk result (λ found. (found ≡ true) ↔ IsCertificate segments.now wires.now (coordinates_in coordinates.now) sights.now) }
+    ensures least { IfOk result (λ found. found ≡ true → IsShortest segments.now wires.now (coordinates_in coordinates.now)) }
 {
-    if !have_ends(segments, edges) || !are_sights(segments, sights) {
+    if !have_ends(segments, wires) || !are_sights(segments, sights) {
         return Ok(false);
     }
-    let kept = balance.sweep.keep_order(segments, numbers)?;
+    let kept = balance.sweep.keep_order(segments, coordinates)?;
     if !kept {
         return Ok(false);
     }
-    if weigh(sights) != measure(edges, numbers) {
+    if weigh(sights) != measure(wires, coordinates) {
         return Ok(false);
     }
-    balance.is_even(segments.len(), edges, sights)
+    balance.is_even(segments.len(), wires, sights)
 }
 
-/// Whether both ends of each edge are segments.
-fn have_ends(segments: &[Segment], edges: &[Edge]) -> bool
-    ensures { (result ≡ true) ↔ ((i : ℕ) → i < length edges.now → HasEnds segments.now (edge_at edges.now i)) }
+/// Whether both ends of each wire are segments.
+fn have_ends(segments: &[Segment], wires: &[Wire]) -> bool
+    ensures { (result ≡ true) ↔ ((i : ℕ) → i < length wires.now → HasEnds segments.now (wire_at wires.now i)) }
 {
     let count = segments.len();
-    for edge in edges {
-        if usize::from(edge.from) >= count || usize::from(edge.to) >= count {
+    for wire in wires {
+        if usize::from(wire.from) >= count || usize::from(wire.to) >= count {
             return false;
         }
     }
@@ -101,20 +101,20 @@ fn is_sight(segments: &[Segment], sight: Sight) -> bool
 
 /// Whether some level is crossed by both segments, and there the first stands before the second.
 fn stands_before(first: Segment, second: Segment) -> bool
-    ensures { (result ≡ true) ↔ IsBefore first second }
+    ensures { (result ≡ true) ↔ StandsBefore first second }
 {
     let low = first.low.max(second.low);
     let high = first.high.min(second.high);
-    low <= high && first.number < second.number
+    low <= high && first.coordinate < second.coordinate
 }
 
-/// Whether segments keep their order with these numbers, segment by segment.
-pub(crate) fn keep_order(segments: &[Segment], numbers: &[u16]) -> bool
-    requires { length numbers.now ≡ length segments.now }
-    ensures { (result ≡ true) ↔ KeepsOrder segments.now (numbers_in numbers.now) }
+/// Whether segments keep their order with these coordinates, segment by segment.
+pub(crate) fn keep_order(segments: &[Segment], coordinates: &[u16]) -> bool
+    requires { length coordinates.now ≡ length segments.now }
+    ensures { (result ≡ true) ↔ KeepsOrder segments.now (coordinates_in coordinates.now) }
 {
     for place in 0..segments.len() {
-        if !keeps_order(segments, numbers, place) {
+        if !keeps_order(segments, coordinates, place) {
             return false;
         }
     }
@@ -122,15 +122,15 @@ pub(crate) fn keep_order(segments: &[Segment], numbers: &[u16]) -> bool
 }
 
 /// Whether one segment stays before all that it is before now.
-fn keeps_order(segments: &[Segment], numbers: &[u16], place: usize) -> bool
-    requires count { length numbers.now ≡ length segments.now }
+fn keeps_order(segments: &[Segment], coordinates: &[u16], place: usize) -> bool
+    requires count { length coordinates.now ≡ length segments.now }
     requires place { place < length segments.now }
-    ensures { (result ≡ true) ↔ ((s : ℕ) → s < length segments.now → IsBefore (segment_at segments.now place) (segment_at segments.now s) → numbers_in numbers.now place < numbers_in numbers.now s) }
+    ensures { (result ≡ true) ↔ ((s : ℕ) → s < length segments.now → StandsBefore (segment_at segments.now place) (segment_at segments.now s) → coordinates_in coordinates.now place < coordinates_in coordinates.now s) }
 {
     let segment = segments[place];
-    let number = numbers[place];
+    let coordinate = coordinates[place];
     for other in 0..segments.len() {
-        if number >= numbers[other] && stands_before(segment, segments[other]) {
+        if coordinate >= coordinates[other] && stands_before(segment, segments[other]) {
             return false;
         }
     }
@@ -149,16 +149,16 @@ fn weigh(sights: &[Sight]) -> u64
     total
 }
 
-/// How long all edges are together.
-fn measure(edges: &[Edge], numbers: &[u16]) -> u64
-    requires few { length edges.now ≤ MAX_EDGES }
-    requires ends { (i : ℕ) → i < length edges.now → ((edge_at edges.now i).from < length numbers.now) × ((edge_at edges.now i).to < length numbers.now) }
-    ensures { result ≡ total_length edges.now (numbers_in numbers.now) }
+/// How long all wires are together.
+fn measure(wires: &[Wire], coordinates: &[u16]) -> u64
+    requires few { length wires.now ≤ MAX_WIRES }
+    requires ends { (i : ℕ) → i < length wires.now → ((wire_at wires.now i).from < length coordinates.now) × ((wire_at wires.now i).to < length coordinates.now) }
+    ensures { result ≡ total_length wires.now (coordinates_in coordinates.now) }
 {
     let mut total: u64 = 0;
-    for edge in edges {
-        let from = numbers[usize::from(edge.from)];
-        let to = numbers[usize::from(edge.to)];
+    for wire in wires {
+        let from = coordinates[usize::from(wire.from)];
+        let to = coordinates[usize::from(wire.to)];
         total += u64::from(from.abs_diff(to));
     }
     total

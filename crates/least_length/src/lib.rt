@@ -1,24 +1,24 @@
-//! Numbers of segments along one axis with which edges are shortest in all, and their proof.
+//! Coordinates of segments along one axis with which edges are shortest in all, and their proof.
 //!
 //! A *segment* is a longest line of vertices and corners that edges join along the other axis; along this one
-//! it has one number. The segments on a level keep their order, and nothing else is kept. Least total length is
-//! then a linear program over the segments; its dual gives each pair of segments that stand on one level a
-//! weight, and weights that are in balance at each segment bound the length of all numbers from below (Tamassia
-//! 1987, by a flow; strong duality).
+//! it has one coordinate. A *wire* leads along this axis from one segment to another. The segments on a level keep
+//! their order, and nothing else is kept. Least total length is then a linear program over the segments; its dual
+//! gives each pair of segments that stand on one level a weight, and weights that are in balance at each segment
+//! bound the length of all coordinates from below (Tamassia 1987, by a flow; strong duality).
 #![tactic(auto)]
 
 mod balance;
 mod certificate;
 mod laws;
 mod least;
-mod neighbours;
 mod pulling;
 mod scratch;
 mod segments;
+mod sight_lists;
 mod sweep;
 
 pub use certificate::certify_lengths;
 pub use laws::weights_bound_lengths;
-pub use least::{find_least, find_shorter, least_numbers, least_numbers_in};
+pub use least::{find_shorter, find_shortest, shortest_coordinates, shortest_coordinates_in};
 pub use scratch::Scratch;
-pub use segments::{Edge, MAX_EDGES, MAX_SIGHTS, Segment, Sight};
+pub use segments::{MAX_SIGHTS, MAX_WIRES, Segment, Sight, Wire};

@@ -1,9 +1,9 @@
-//! Segments that their edges pull, until all pulls are in balance.
+//! Segments that their wires pull, until all pulls are in balance.
 
 ghost use Rattle.std.specs.Prelude.{◌≡◌, []};
 
-use crate::neighbours::Neighbours;
-use crate::segments::{Edge, MAX_SIGHTS, Segment, Sight};
+use crate::segments::{MAX_SIGHTS, Segment, Sight, Wire};
+use crate::sight_lists::SightLists;
 use std::alloc::{AllocError, Global};
 
 /// How many times a segment is pulled on at most.
@@ -15,14 +15,14 @@ const UNREACHED: u16 = u16::MAX;
 /// Stands for that of the segment where the search began.
 const ROOT: u16 = u16::MAX - 1;
 
-/// What the search for least numbers works in.
+/// What the search for least coordinates works in.
 #[derive(Drop)]
 pub(crate) struct Pulling {
-    pub(crate) neighbours: Neighbours,
+    pub(crate) sight_lists: SightLists,
     /// For each segment how many more units pull it up than down.
     excess: Vec<i32>,
-    /// The numbers of the segments so far.
-    numbers: Vec<u32>,
+    /// The coordinates of the segments so far.
+    coordinates: Vec<u32>,
     /// For each segment the pair by which the search came to it.
     from: Vec<u16>,
     /// The segments that the search has reached.
@@ -36,12 +36,12 @@ pub(crate) struct Pulling {
 impl Pulling {
     /// No memory yet.
     pub(crate) fn empty(alloc: Global) -> Pulling
-        ensures { result.numbers.items ≡ [] }
+        ensures { result.coordinates.items ≡ [] }
     {
         Pulling {
-            neighbours: Neighbours::empty(alloc),
+            sight_lists: SightLists::empty(alloc),
             excess: Vec::new(alloc),
-            numbers: Vec::new(alloc),
+            coordinates: Vec::new(alloc),
             from: Vec::new(alloc),
             reached: Vec::new(alloc),
             unlooked: Vec::new(alloc),
@@ -49,27 +49,27 @@ impl Pulling {
         }
     }
 
-    /// Whether the numbers found are others than those that the segments had, and not all by the same amount.
+    /// Whether the coordinates found are others than those that the segments had, and not all by the same amount.
     pub(crate) fn has_moved(&self) -> bool {
         self.moved
     }
 
-    /// Gives pairs of neighbours weights that are in balance, and segments numbers with which those with a
-    /// weight are next to each other; whether that was done. The segments are in the order of their numbers.
+    /// Gives pairs of segments weights that are in balance, and segments coordinates with which those with a
+    /// weight are next to each other; whether that was done. The segments are in the order of their coordinates.
     pub(crate) fn balance(
         &mut self,
         segments: &[Segment],
-        edges: &[Edge],
+        wires: &[Wire],
     ) -> Result<bool, AllocError> {
-        self.neighbours.list(segments, edges)?;
-        if self.neighbours.sights.len() > MAX_SIGHTS || segments.len() >= usize::from(ROOT) {
+        self.sight_lists.list(segments, wires)?;
+        if self.sight_lists.sights.len() > MAX_SIGHTS || segments.len() >= usize::from(ROOT) {
             return Ok(false);
         }
-        self.begin(segments, edges)?;
+        self.begin(segments, wires)?;
         if self.excess.iter().all(|units| *units == 0) {
             return Ok(true);
         }
-        self.neighbours.list_pairs(segments.len())?;
+        self.sight_lists.list_pairs(segments.len())?;
         self.from.clear();
         self.from.resize(segments.len(), UNREACHED)?;
         self.reached.clear();
@@ -86,24 +86,24 @@ impl Pulling {
         Ok(true)
     }
 
-    /// Takes the numbers of the segments, and a unit up where each edge begins, and down where it ends, less
+    /// Takes the coordinates of the segments, and a unit up where each wire begins, and down where it ends, less
     /// the weights of pairs that are next to each other. No other pair has a weight then.
-    fn begin(&mut self, segments: &[Segment], edges: &[Edge]) -> Result<(), AllocError> {
+    fn begin(&mut self, segments: &[Segment], wires: &[Wire]) -> Result<(), AllocError> {
         self.moved = false;
-        self.numbers.clear();
+        self.coordinates.clear();
         self.excess.clear();
         for segment in segments {
-            self.numbers.push(u32::from(segment.number))?;
+            self.coordinates.push(u32::from(segment.coordinate))?;
         }
         self.excess.resize(segments.len(), 0)?;
-        let numbers = self.numbers.as_slice();
+        let coordinates = self.coordinates.as_slice();
         let excess = self.excess.as_mut_slice();
-        for edge in edges {
-            add(excess, edge.from, 1);
-            add(excess, edge.to, -1);
+        for wire in wires {
+            add(excess, wire.from, 1);
+            add(excess, wire.to, -1);
         }
-        for sight in self.neighbours.sights.iter_mut() {
-            if room_between(numbers, *sight) != 0 {
+        for sight in self.sight_lists.sights.iter_mut() {
+            if slack_between(coordinates, *sight) != 0 {
                 sight.weight = 0;
             } else if sight.weight != 0 {
                 let units = sight.weight.min(MAX_PULLS as u32) as i32;
@@ -125,7 +125,7 @@ impl Pulling {
         self.reached.clear();
         self.reached.push(root)?;
         for _ in 0..self.from.len() {
-            if let Some(target) = self.spread()? {
+            if let Some(target) = self.search_pairs()? {
                 self.carry(target);
                 return Ok(true);
             }
@@ -138,7 +138,7 @@ impl Pulling {
 
     /// Reaches all segments to which pairs lead, up to the first one that is pulled down. From the last segment
     /// reached it goes on first, which finds one after fewer segments than in their order.
-    fn spread(&mut self) -> Result<Option<u16>, AllocError> {
+    fn search_pairs(&mut self) -> Result<Option<u16>, AllocError> {
         self.unlooked.clear();
         self.unlooked.extend_from_slice(self.reached.as_slice())?;
         for _ in 0..self.from.len() {
@@ -154,9 +154,9 @@ impl Pulling {
 
     /// Reaches the segments to which the pairs of one segment lead, up to the first one that is pulled down.
     fn visit(&mut self, segment: u16) -> Result<Option<u16>, AllocError> {
-        let (from, to) = self.neighbours.span(segment);
+        let (from, to) = self.sight_lists.span(segment);
         for place in from..to {
-            let pair = self.neighbours.pair_at(place);
+            let pair = self.sight_lists.pair_at(place);
             if let Some(next) = self.next(pair, segment) {
                 set(self.from.as_mut_slice(), next, pair);
                 self.reached.push(next)?;
@@ -172,9 +172,9 @@ impl Pulling {
     /// The segment to which a pair leads from this one, where that is not reached: the one behind, where it is
     /// next to this one, or the one before, where the pair has a weight to take back.
     fn next(&self, pair: u16, segment: u16) -> Option<u16> {
-        let sight = self.neighbours.sight(pair)?;
+        let sight = self.sight_lists.sight(pair)?;
         let next = if sight.before == segment {
-            if self.room(sight) != 0 {
+            if self.slack(sight) != 0 {
                 return None;
             }
             sight.behind
@@ -192,37 +192,37 @@ impl Pulling {
 
     /// Moves all segments reached up until one of them is next to one that is not reached; whether there is one.
     fn move_up(&mut self) -> bool {
-        let room = self.room_above();
-        if room == u32::MAX {
+        let slack = self.least_slack();
+        if slack == u32::MAX {
             return false;
         }
         self.moved = true;
-        let numbers = self.numbers.as_mut_slice();
+        let coordinates = self.coordinates.as_mut_slice();
         for segment in self.reached.as_slice() {
-            if let Some(number) = numbers.get_mut(usize::from(*segment)) {
-                *number = number.saturating_add(room);
+            if let Some(coordinate) = coordinates.get_mut(usize::from(*segment)) {
+                *coordinate = coordinate.saturating_add(slack);
             }
         }
         true
     }
 
-    /// How far all segments reached can move up together, and the greatest number where none is in their way.
-    fn room_above(&self) -> u32 {
+    /// How far all segments reached can move up together, and the greatest coordinate where none is in their way.
+    fn least_slack(&self) -> u32 {
         let mut least = u32::MAX;
         for segment in self.reached.as_slice() {
-            least = least.min(self.room_of(*segment));
+            least = least.min(self.slack_of(*segment));
         }
         least
     }
 
     /// How far this segment can move up to those that are not reached.
-    fn room_of(&self, segment: u16) -> u32 {
-        let (from, to) = self.neighbours.span(segment);
+    fn slack_of(&self, segment: u16) -> u32 {
+        let (from, to) = self.sight_lists.span(segment);
         let mut least = u32::MAX;
         for place in from..to {
-            if let Some(sight) = self.neighbours.sight(self.neighbours.pair_at(place)) {
+            if let Some(sight) = self.sight_lists.sight(self.sight_lists.pair_at(place)) {
                 if sight.before == segment && !self.is_reached(sight.behind) {
-                    least = least.min(self.room(sight));
+                    least = least.min(self.slack(sight));
                 }
             }
         }
@@ -235,7 +235,7 @@ impl Pulling {
         let mut segment = target;
         for _ in 0..self.from.len() {
             let pair = self.from_at(segment);
-            let Some(sight) = self.neighbours.sights.get_mut(usize::from(pair)) else {
+            let Some(sight) = self.sight_lists.sights.get_mut(usize::from(pair)) else {
                 break;
             };
             if sight.behind == segment {
@@ -256,7 +256,7 @@ impl Pulling {
         let mut units = self.excess_at(target).unsigned_abs();
         let mut segment = target;
         for _ in 0..self.from.len() {
-            let Some(sight) = self.neighbours.sight(self.from_at(segment)) else {
+            let Some(sight) = self.sight_lists.sight(self.from_at(segment)) else {
                 break;
             };
             if sight.behind == segment {
@@ -270,8 +270,8 @@ impl Pulling {
     }
 
     /// How far the segments of a pair can come nearer to each other.
-    fn room(&self, sight: Sight) -> u32 {
-        room_between(self.numbers.as_slice(), sight)
+    fn slack(&self, sight: Sight) -> u32 {
+        slack_between(self.coordinates.as_slice(), sight)
     }
 
     fn is_reached(&self, segment: u16) -> bool {
@@ -286,16 +286,16 @@ impl Pulling {
         self.excess.get(usize::from(segment)).copied().unwrap_or(0)
     }
 
-    /// Lists the numbers of all segments, the least of them as 0.
-    pub(crate) fn write(&self, numbers: &mut Vec<u16>) -> Result<(), AllocError> {
+    /// Lists the coordinates of all segments, the least of them as 0.
+    pub(crate) fn write(&self, coordinates: &mut Vec<u16>) -> Result<(), AllocError> {
         let mut least = u32::MAX;
-        for number in self.numbers.as_slice() {
-            least = least.min(*number);
+        for coordinate in self.coordinates.as_slice() {
+            least = least.min(*coordinate);
         }
-        numbers.clear();
-        for number in self.numbers.as_slice() {
-            let above = number.saturating_sub(least);
-            numbers.push(above.min(u32::from(u16::MAX)) as u16)?;
+        coordinates.clear();
+        for coordinate in self.coordinates.as_slice() {
+            let above = coordinate.saturating_sub(least);
+            coordinates.push(above.min(u32::from(u16::MAX)) as u16)?;
         }
         Ok(())
     }
@@ -315,13 +315,13 @@ fn add(list: &mut [i32], segment: u16, amount: i32) {
     }
 }
 
-/// How far the segments of a pair can come nearer to each other with these numbers.
-fn room_between(numbers: &[u32], sight: Sight) -> u32 {
-    let before = number_of(numbers, sight.before).saturating_add(1);
-    number_of(numbers, sight.behind).saturating_sub(before)
+/// How far the segments of a pair can come nearer to each other with these coordinates.
+fn slack_between(coordinates: &[u32], sight: Sight) -> u32 {
+    let before = coordinate_of(coordinates, sight.before).saturating_add(1);
+    coordinate_of(coordinates, sight.behind).saturating_sub(before)
 }
 
-/// The number of a segment.
-fn number_of(numbers: &[u32], segment: u16) -> u32 {
-    numbers.get(usize::from(segment)).copied().unwrap_or(0)
+/// The coordinate of a segment.
+fn coordinate_of(coordinates: &[u32], segment: u16) -> u32 {
+    coordinates.get(usize::from(segment)).copied().unwrap_or(0)
 }

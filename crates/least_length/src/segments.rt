@@ -1,23 +1,23 @@
-//! Segments, edges between them, and pairs that stand on one level.
+//! Segments, wires between them, and pairs that stand on one level.
 
-/// How many edges there are at most.
-pub const MAX_EDGES: usize = 65_536;
+/// How many wires there are at most.
+pub const MAX_WIRES: usize = 65_536;
 
 /// How many pairs of segments have a weight at most.
 pub const MAX_SIGHTS: usize = 4_096;
 
-/// A segment: its number along the axis, and the levels that it crosses, from the lowest to the highest.
+/// A segment: its coordinate along the axis, and the levels that it crosses, from the lowest to the highest.
 #[derive(Clone, Copy, Debug, PartialEq, Eq)]
 pub struct Segment {
-    pub number: u16,
+    pub coordinate: u16,
     pub low: u16,
     pub high: u16,
 }
 
-/// An edge along the axis, by the segments at its ends. The level on which it runs tells a search where to
+/// A wire along the axis, by the segments at its ends. The level on which it runs tells a search where to
 /// begin, and what is found is the same with any level.
 #[derive(Clone, Copy, Debug, PartialEq, Eq)]
-pub struct Edge {
+pub struct Wire {
     pub from: u16,
     pub to: u16,
     pub level: u16,

@@ -1,7 +1,7 @@
 //! A sweep along the axis that sees whether segments keep their order.
 
 ghost use Rattle.std.specs.Prelude.{◌≡◌, ◌<◌, ◌≤◌, ◌+◌, ◌^◌, ◌↔◌, ℕ, [], length, true, IfOk, slice_index};
-ghost use Rattle.least_length.specs.Lengths.{numbers_in, Crosses, KeepsOrder};
+ghost use Rattle.least_length.specs.Lengths.{coordinates_in, HasLevel, KeepsOrder};
 
 use crate::certificate::keep_order;
 use crate::segments::Segment;
@@ -10,7 +10,7 @@ use std::alloc::{AllocError, Global};
 /// Memory for the sweep.
 #[derive(Drop)]
 pub(crate) struct Sweep {
-    /// For each level one more than the greatest number met there.
+    /// For each level one more than the greatest coordinate met there.
     frontier: Vec<u32>,
 }
 
@@ -24,66 +24,66 @@ impl Sweep {
         }
     }
 
-    /// Whether segments keep their order with these numbers. Where they are listed in the order of the numbers
+    /// Whether segments keep their order with these coordinates. Where they are listed in the order of the coordinates
     /// that they have, the time is linear in their levels, else quadratic in the segments.
     pub(crate) fn keep_order(
         &mut self,
         segments: &[Segment],
-        numbers: &[u16],
+        coordinates: &[u16],
     ) -> Result<bool, AllocError>
-        requires { length numbers.now ≡ length segments.now }
-        ensures { IfOk result (λ kept. (kept ≡ true) ↔ KeepsOrder segments.now (numbers_in numbers.now)) }
+        requires { length coordinates.now ≡ length segments.now }
+        ensures { IfOk result (λ kept. (kept ≡ true) ↔ KeepsOrder segments.now (coordinates_in coordinates.now)) }
     {
         self.frontier.clear();
         self.frontier.resize(usize::from(highest(segments)) + 1, 0)?;
-        Ok(keep_order_in(self.frontier.as_mut_slice(), segments, numbers))
+        Ok(keep_order_in(self.frontier.as_mut_slice(), segments, coordinates))
     }
 }
 
 /// Whether segments keep their order, by a sweep or segment by segment.
-fn keep_order_in(frontier: &mut [u32], segments: &[Segment], numbers: &[u16]) -> bool
-    requires { length numbers.now ≡ length segments.now }
-    ensures { (result ≡ true) ↔ KeepsOrder segments.now (numbers_in numbers.now) }
+fn keep_order_in(frontier: &mut [u32], segments: &[Segment], coordinates: &[u16]) -> bool
+    requires { length coordinates.now ≡ length segments.now }
+    ensures { (result ≡ true) ↔ KeepsOrder segments.now (coordinates_in coordinates.now) }
 {
-    if is_swept(frontier, segments, numbers) {
+    if is_swept(frontier, segments, coordinates) {
         return true;
     }
-    keep_order(segments, numbers)
+    keep_order(segments, coordinates)
 }
 
-/// Whether each segment, in the order in which they are listed, has a number above those of all segments before
-/// it on its levels; and whether that is the order of the numbers that they have.
-fn is_swept(frontier: &mut [u32], segments: &[Segment], numbers: &[u16]) -> bool
-    requires { length numbers.now ≡ length segments.now }
-    ensures { result ≡ true → KeepsOrder segments.now (numbers_in numbers.now) }
+/// Whether each segment, in the order in which they are listed, has a coordinate above those of all segments before
+/// it on its levels; and whether that is the order of the coordinates that they have.
+fn is_swept(frontier: &mut [u32], segments: &[Segment], coordinates: &[u16]) -> bool
+    requires { length coordinates.now ≡ length segments.now }
+    ensures { result ≡ true → KeepsOrder segments.now (coordinates_in coordinates.now) }
 {
     let mut last = 0;
     for place in 0..segments.len() {
         let segment = segments[place];
-        if segment.number < last || usize::from(segment.high) >= frontier.len() {
+        if segment.coordinate < last || usize::from(segment.high) >= frontier.len() {
             return false;
         }
-        last = segment.number;
-        if !pass(frontier, segment, u32::from(numbers[place])) {
+        last = segment.coordinate;
+        if !pass(frontier, segment, u32::from(coordinates[place])) {
             return false;
         }
     }
     true
 }
 
-/// Whether no level of a segment has met a number as great as this one; it is met there now.
-fn pass(frontier: &mut [u32], segment: Segment, number: u32) -> bool
+/// Whether no level of a segment has met a coordinate as great as this one; it is met there now.
+fn pass(frontier: &mut [u32], segment: Segment, coordinate: u32) -> bool
     requires levels { segment.high < length frontier.old }
-    requires number { number < 2 ^ 16 }
-    ensures passed { result ≡ true → (level : ℕ) → Crosses segment level → slice_index frontier.old level ≤ number }
-    ensures met { result ≡ true → (level : ℕ) → Crosses segment level → slice_index frontier.new level ≡ number + 1 }
+    requires coordinate { coordinate < 2 ^ 16 }
+    ensures passed { result ≡ true → (level : ℕ) → HasLevel segment level → slice_index frontier.old level ≤ coordinate }
+    ensures met { result ≡ true → (level : ℕ) → HasLevel segment level → slice_index frontier.new level ≡ coordinate + 1 }
     ensures risen { result ≡ true → (level : ℕ) → slice_index frontier.old level ≤ slice_index frontier.new level }
 {
     for level in usize::from(segment.low)..usize::from(segment.high) + 1 {
-        if frontier[level] > number {
+        if frontier[level] > coordinate {
             return false;
         }
-        frontier[level] = number + 1;
+        frontier[level] = coordinate + 1;
     }
     true
 }

@@ -10,7 +10,7 @@ use Rattle.networks.specs.declared.arc.Cap.{Cap}
 use Rattle.networks.specs.declared.arc.Cap.TheVariants.{AtMost, Any}
 use Rattle.networks.specs.declared.residual.ResidualArc.{ResidualArc}
 use Rattle.networks.specs.Networks.{NetworkModel, node_count, arc_count, arc_at, HasUnitCosts, IsNetwork}
-use Rattle.networks.specs.Flow.{leaves, enters, IsWithin, IsUnsaturated, IsResidual, HasPotentials, start_of, end_of, unit_cost, reduced_cost}
+use Rattle.networks.specs.Flow.{leaves, enters, IsWithinCap, IsUnsaturated, IsResidual, HasPotentials, start_of, end_of, unit_cost, reduced_cost}
 use Rattle.networks.specs.declared.state.Visit.{Visit}
 use Rattle.networks.specs.Search.{enter_at, place_at, no_visit}
 use Rattle.std.proofs.lemmas.List.{get_or_read}
@@ -20,7 +20,7 @@ use Rattle.min_cost_flow.specs.Residual.{IsMoved}
 use Rattle.networks.specs.declared.residual.Residual.{Residual}
 use Rattle.networks.specs.ResidualArcs.{end_at, cost_at, reverse_at, capacity_at, StartsAt, number_of, HasResidualArcs, units_of, IsCosted, AreResidualArcs, carried}
 use Rattle.networks.specs.Residuals.{IsResidualNetwork, IsSetTo, flow_of}
-use Rattle.min_cost_flow.specs.Path.{IsTight, HasPath, path_node, IsOnPath}
+use Rattle.min_cost_flow.specs.Path.{IsTight, HasTightPath, path_node, IsOnPath}
 use Rattle.min_cost_flow.specs.Round.{IsLess, carrying}
 use Rattle.min_cost_flow.specs.declared.state.Solver.{Solver}
 use Rattle.min_cost_flow.specs.Stand.{potential_at, enters_in, places_in, CanAugment, HasUnitCost, IsPaired, IsPushedAlong}
@@ -49,10 +49,10 @@ opposite_is net first reverse forward i false l b = refl
 opposite_is net first reverse forward i true l b = l.undone i b
 
 -- what a push along residual arc k changes
-pub record IsPushed (reverse capacity room' : ℕ → ℕ) (k amount : ℕ) : Type 0 where
-  pub less : room' k + amount ≡ capacity k
-  pub more : room' (reverse k) ≡ capacity (reverse k) + amount
-  pub others : (j : ℕ) → j ≢ k → j ≢ reverse k → room' j ≡ capacity j
+pub record IsPushed (reverse capacity capacity' : ℕ → ℕ) (k amount : ℕ) : Type 0 where
+  pub less : capacity' k + amount ≡ capacity k
+  pub more : capacity' (reverse k) ≡ capacity (reverse k) + amount
+  pub others : (j : ℕ) → j ≢ k → j ≢ reverse k → capacity' j ≡ capacity j
 
 pub number_below : (net : NetworkModel) (first : List ℕ) (reverse : ℕ → ℕ) (forward : List ℕ) (v k : ℕ) → HasResidualArcs net first reverse forward → v < node_count net → StartsAt first v k → k < arc_count net + arc_count net
 number_below net first reverse forward v k l b s = omega (arith, s.below, l.inside v b)
@@ -67,7 +67,7 @@ reverse_place net first reverse forward k i back l b e = ap reverse (sym e) ∙ 
 -- the reverse of one of a node's residual arcs has a number too
 pub reverse_below : (net : NetworkModel) (first : List ℕ) (reverse : ℕ → ℕ) (forward : List ℕ) (v k : ℕ) → IsNetwork net → HasResidualArcs net first reverse forward → v < node_count net → StartsAt first v k → reverse k < arc_count net + arc_count net
 reverse_below net first reverse forward v k n l b s =
-    let o = l.cover v k b s in
+    let o = l.origins v k b s in
     let e : reverse k ≡ number_of reverse forward o.arc (opposite o.back) = reverse_place net first reverse forward k o.arc o.back l o.inside o.place in
     omega (arith, e, place_below net first reverse forward o.arc (opposite o.back) n l o.inside)
 
@@ -79,7 +79,7 @@ not_other_way false h = cc
 -- no residual arc is its own reverse
 pub not_reverse : (net : NetworkModel) (first : List ℕ) (reverse : ℕ → ℕ) (forward : List ℕ) (v k : ℕ) → HasResidualArcs net first reverse forward → v < node_count net → StartsAt first v k → k ≢ reverse k
 not_reverse net first reverse forward v k l b s h =
-    let o = l.cover v k b s in
+    let o = l.origins v k b s in
     let e : reverse k ≡ number_of reverse forward o.arc (opposite o.back) = reverse_place net first reverse forward k o.arc o.back l o.inside o.place in
     not_other_way o.back (l.alone o.arc o.arc o.back (opposite o.back) o.inside o.inside (o.place ∙ h ∙ e)).1
 
@@ -120,14 +120,14 @@ is_paired net r v k n s b st =
     let first = r.first.items in
     let reverse = reverse_at r.capacities.items in
     let forward = r.forward.items in
-    let o = l.cover v k b st in
+    let o = l.origins v k b st in
     let e : reverse k ≡ number_of reverse forward o.arc (opposite o.back) = reverse_place net first reverse forward k o.arc o.back l o.inside o.place in
     let there : capacity_at r.capacities.items (reverse k) ≡ capacity_at r.capacities.items (number_of reverse forward o.arc (opposite o.back)) = ap (capacity_at r.capacities.items) e in
     let here : capacity_at r.capacities.items (number_of reverse forward o.arc o.back) ≡ capacity_at r.capacities.items k = ap (capacity_at r.capacities.items) o.place in
     let low : k < arc_count net + arc_count net = number_below net first reverse forward v k l b st in
     let back : reverse k < arc_count net + arc_count net = reverse_below net first reverse forward v k n l b st in
     record {
-      sizes = s.room_size ∙ sym f.arc_size;
+      sizes = s.capacities_size ∙ sym f.arc_size;
       here = omega (arith, f.arc_size);
       there = omega (arith, f.arc_size);
       apart = not_reverse net first reverse forward v k l b st;
@@ -152,24 +152,24 @@ still_unit_cost r r' k units j s (z, low, high, costed) = (z, low, high, still_c
 moved_fits : (a b a' b' m k : ℕ) → a + b ≡ k → a' + m ≡ a → b' ≡ b + m → a' + b' ≡ k
 moved_fits a b a' b' m k h x y = omega arith
 
--- the rooms along and against an arc, in either order
+-- the capacities along and against an arc, in either order
 either_order : (reverse : ℕ → ℕ) (forward : List ℕ) (capacity : ℕ → ℕ) (i k : ℕ) (b : Bool) → capacity (number_of reverse forward i b) + capacity (number_of reverse forward i (opposite b)) ≡ k → capacity (number_of reverse forward i false) + capacity (number_of reverse forward i true) ≡ k
 unfolding opposite
 either_order reverse forward capacity i k false h = h
 either_order reverse forward capacity i k true h = omega arith
 
-pushed_fits : (net : NetworkModel) (first : List ℕ) (reverse : ℕ → ℕ) (forward : List ℕ) (capacity room' : ℕ → ℕ) (arcs : List ResidualArc) (i j : ℕ) (b : Bool) (k amount : ℕ) → HasResidualArcs net first reverse forward → AreResidualArcs net reverse forward capacity arcs → i < arc_count net → number_of reverse forward i b ≡ k → IsPushed reverse capacity room' k amount → j < arc_count net → room' (number_of reverse forward j false) + room' (number_of reverse forward j true) ≡ units_of (arc_at net j).cap
-pushed_fits net first reverse forward capacity room' arcs i j b k amount l f inside e s inside' =
+pushed_fits : (net : NetworkModel) (first : List ℕ) (reverse : ℕ → ℕ) (forward : List ℕ) (capacity capacity' : ℕ → ℕ) (arcs : List ResidualArc) (i j : ℕ) (b : Bool) (k amount : ℕ) → HasResidualArcs net first reverse forward → AreResidualArcs net reverse forward capacity arcs → i < arc_count net → number_of reverse forward i b ≡ k → IsPushed reverse capacity capacity' k amount → j < arc_count net → capacity' (number_of reverse forward j false) + capacity' (number_of reverse forward j true) ≡ units_of (arc_at net j).cap
+pushed_fits net first reverse forward capacity capacity' arcs i j b k amount l f inside e s inside' =
     let back = reverse_place net first reverse forward k i b l inside e in
     elim (cases_eq j i) [
       | inl q ↦
-          subst (λ (t : ℕ). room' (number_of reverse forward t false) + room' (number_of reverse forward t true) ≡ units_of (arc_at net t).cap) (sym q)
-          (either_order reverse forward room' i (units_of (arc_at net i).cap) b
-          (moved_fits (capacity (number_of reverse forward i b)) (capacity (number_of reverse forward i (opposite b))) (room' (number_of reverse forward i b)) (room' (number_of reverse forward i (opposite b))) amount (units_of (arc_at net i).cap) (both_fit net reverse forward capacity arcs i b f inside)
-          (subst (λ (t : ℕ). room' t + amount ≡ capacity t) (sym e) s.less)
-          (subst (λ (t : ℕ). room' t ≡ capacity t + amount) back s.more)))
+          subst (λ (t : ℕ). capacity' (number_of reverse forward t false) + capacity' (number_of reverse forward t true) ≡ units_of (arc_at net t).cap) (sym q)
+          (either_order reverse forward capacity' i (units_of (arc_at net i).cap) b
+          (moved_fits (capacity (number_of reverse forward i b)) (capacity (number_of reverse forward i (opposite b))) (capacity' (number_of reverse forward i b)) (capacity' (number_of reverse forward i (opposite b))) amount (units_of (arc_at net i).cap) (both_fit net reverse forward capacity arcs i b f inside)
+          (subst (λ (t : ℕ). capacity' t + amount ≡ capacity t) (sym e) s.less)
+          (subst (λ (t : ℕ). capacity' t ≡ capacity t + amount) back s.more)))
       | inr ne ↦
-          let same : (c : Bool) → room' (number_of reverse forward j c) ≡ capacity (number_of reverse forward j c) =
+          let same : (c : Bool) → capacity' (number_of reverse forward j c) ≡ capacity (number_of reverse forward j c) =
           λ c. s.others (number_of reverse forward j c) (λ h. ne (l.alone j i c b inside' inside (h ∙ sym e)).0) (λ h. ne (l.alone j i c (opposite b) inside' inside (h ∙ back)).0) in
           omega (arith, same false, same true, f.fits j inside')
     ]
@@ -182,7 +182,7 @@ pushed_along r r' r'' k amount less more ne one two le me =
       first = two.first ∙ one.first;
       forward = two.forward ∙ one.forward;
       arc_size = two.arc_size ∙ one.arc_size;
-      room_size = two.room_size ∙ one.room_size;
+      capacities_size = two.capacities_size ∙ one.capacities_size;
       ends = λ j. two.end j ∙ one.end j;
       reverse = λ j. two.reverse j ∙ one.reverse j;
       costs = λ j z h. still_costs r' r'' back more j z two (still_costs r r' k less j z one h);
@@ -199,7 +199,7 @@ pub pushed_network : (net : NetworkModel) (r r' : Residual) (v k amount : ℕ) �
 pushed_network net r r' v k amount s b st p =
     let l = s.arcs_built in
     let f = s.filled in
-    let o = l.cover v k b st in
+    let o = l.origins v k b st in
     let filled : AreResidualArcs net (reverse_at r.capacities.items) r.forward.items (capacity_at r'.capacities.items) r'.arcs.items = record {
       arc_size = p.arc_size ∙ f.arc_size;
       end = λ j c h. p.ends (number_of (reverse_at r.capacities.items) r.forward.items j c) ∙ f.end j c h;
@@ -209,7 +209,7 @@ pushed_network net r r' v k amount s b st p =
     record {
       arcs_built = rw (p.first, p.forward) (subst (λ (backward : ℕ → ℕ). HasResidualArcs net r.first.items backward r.forward.items) (sym (fun_ext p.reverse)) l);
       filled = rw p.forward (subst (λ (backward : ℕ → ℕ). AreResidualArcs net backward r.forward.items (capacity_at r'.capacities.items) r'.arcs.items) (sym (fun_ext p.reverse)) filled);
-      room_size = p.room_size ∙ s.room_size;
+      capacities_size = p.capacities_size ∙ s.capacities_size;
       limits = s.limits;
     }
 
@@ -265,9 +265,9 @@ pushed_carries net x y e i k back b moved others c =
     (moved_carries net x z e i k back b (subst (λ (t : ℕ). IsMoved back (x i) k t) (sym (changed_here i (y i) x)) moved) (changed_others i (y i) x) c)
 
 pushed_priced : (net : NetworkModel) (x y : ℕ → ℕ) (p : ℕ → ℤ) (i : ℕ) (back : Bool) → SameOthers net i x y → reduced_cost net p i back ≡ pos 0 → HasPotentials net x p → HasPotentials net y p
-pushed_priced net x y p i back others free h =
+pushed_priced net x y p i back others at_zero h =
     let z = changed i (y i) x in
-    let stay : HasPotentials net z p = potentials_stay net x z p i back (changed_others i (y i) x) free h in
+    let stay : HasPotentials net z p = potentials_stay net x z p i back (changed_others i (y i) x) at_zero h in
     record { residual = λ j other b r. stay.residual j other b (residual_too net z y j other (is_changed net i x y others j b) r) }
 
 one_most : (b : Bool) → cond b 0 1 ≤ 1
@@ -305,9 +305,9 @@ end_beyond net on place i u v true e beyond a b c d =
     omega arith
 
 pub sent_on : (net : NetworkModel) (p e : ℕ → ℤ) (on : ℕ → Bool) (place : ℕ → ℕ) (x y z : ℕ → ℕ) (i : ℕ) (back : Bool) (u v amount most : ℕ) → i < arc_count net → IsMoved back (y i) amount (z i) → SameOthers net i y z → reduced_cost net p i back ≡ pos 0 → start_of net i back ≡ u → end_of net i back ≡ v → y i ≡ x i → (on v ≡ true → place u < place v) → ((j : ℕ) → j < arc_count net → on (arc_at net j).from ≡ true → on (arc_at net j).to ≡ true → place (arc_at net j).from ≤ place u → place (arc_at net j).to ≤ place u → y j ≡ x j) → Carries net y e v amount → HasPotentials net y p → ((j : ℕ) → j < arc_count net → y j ≤ x j + amount) → carrying net y + place u + 1 ≤ most → IsSending net p e on place x z u amount most
-sent_on net p e on place x y z i back u v amount most b moved others free start finish own beyond kept carries priced grown few = record {
+sent_on net p e on place x y z i back u v amount most b moved others at_zero start finish own beyond kept carries priced grown few = record {
   carries = subst (λ (t : ℕ). Carries net z e t amount) start (pushed_carries net y z e i amount back b moved others (subst (λ (t : ℕ). Carries net y e t amount) (sym finish) carries));
-  priced = pushed_priced net y z p i back others free priced;
+  priced = pushed_priced net y z p i back others at_zero priced;
   kept = λ j c f t d g. elim (cases_eq j i) [
     | inl q ↦ absurd (end_beyond net on place i u v back finish beyond (subst (λ (n : ℕ). on (arc_at net n).from ≡ true) q f) (subst (λ (n : ℕ). on (arc_at net n).to ≡ true) q t) (subst (λ (n : ℕ). place (arc_at net n).from ≤ place u) q d) (subst (λ (n : ℕ). place (arc_at net n).to ≤ place u) q g))
     | inr ne ↦ others j c ne ∙ kept j c f t d g
@@ -322,7 +322,7 @@ sent_on net p e on place x y z i back u v amount most b moved others free start 
 -- ---- one residual arc of the path
 
 -- residual arc k leads from u to v, something fits along it, and it costs nothing
-pub record IsLink (net : NetworkModel) (reverse : ℕ → ℕ) (forward : List ℕ) (capacity : ℕ → ℕ) (p : ℕ → ℤ) (u k v : ℕ) : Type 0 where
+pub record IsTightArc (net : NetworkModel) (reverse : ℕ → ℕ) (forward : List ℕ) (capacity : ℕ → ℕ) (p : ℕ → ℤ) (u k v : ℕ) : Type 0 where
   pub arc : ℕ
   pub back : Bool
   pub inside : arc < arc_count net
@@ -330,7 +330,7 @@ pub record IsLink (net : NetworkModel) (reverse : ℕ → ℕ) (forward : List �
   pub start : start_of net arc back ≡ u
   pub end : end_of net arc back ≡ v
   pub some : 0 < capacity k
-  pub free : reduced_cost net p arc back ≡ pos 0
+  pub at_zero : reduced_cost net p arc back ≡ pos 0
 
 some_coded : (z c : ℤ) (r : ℕ) → negsuc 0 ≤ℤ z → c ≡ coded z r → c ≤ℤ pos 1 → 0 < r
 some_coded z c r least e h =
@@ -339,15 +339,15 @@ some_coded z c r least e h =
       | inr ne ↦ omega arith
     ]
 
-free_cost : (c z a b a' b' : ℤ) → c +ℤ a -ℤ b ≡ pos 0 → c ≡ z → a' ≡ a → b' ≡ b → z +ℤ a' -ℤ b' ≡ pos 0
-free_cost c z a b a' b' h e f g = omega (arith, ints)
+zero_cost : (c z a b a' b' : ℤ) → c +ℤ a -ℤ b ≡ pos 0 → c ≡ z → a' ≡ a → b' ≡ b → z +ℤ a' -ℤ b' ≡ pos 0
+zero_cost c z a b a' b' h e f g = omega (arith, ints)
 
-pub tight_link : (net : NetworkModel) (first : List ℕ) (reverse : ℕ → ℕ) (forward : List ℕ) (capacity : ℕ → ℕ) (arcs : List ResidualArc) (p : ℕ → ℤ) (u k v : ℕ) → IsNetwork net → HasResidualArcs net first reverse forward → AreResidualArcs net reverse forward capacity arcs → u < node_count net → IsTight first arcs p u k v → IsLink net reverse forward capacity p u k v
-tight_link net first reverse forward capacity arcs p u k v n l f b t =
-    let o = l.cover u k b t.leaves in
+pub tight_arc_of : (net : NetworkModel) (first : List ℕ) (reverse : ℕ → ℕ) (forward : List ℕ) (capacity : ℕ → ℕ) (arcs : List ResidualArc) (p : ℕ → ℤ) (u k v : ℕ) → IsNetwork net → HasResidualArcs net first reverse forward → AreResidualArcs net reverse forward capacity arcs → u < node_count net → IsTight first arcs p u k v → IsTightArc net reverse forward capacity p u k v
+tight_arc_of net first reverse forward capacity arcs p u k v n l f b t =
+    let o = l.origins u k b t.leaves in
     let z = unit_cost net o.arc o.back in
     let cost : cost_at arcs k ≡ coded z (capacity k) = subst (λ (q : ℕ). cost_at arcs q ≡ coded z (capacity q)) o.place (code_is net reverse forward capacity arcs o.arc o.back f o.inside) in
-    let some : 0 < capacity k = some_coded z (cost_at arcs k) (capacity k) (unit_cost_least net o.arc o.back n.costs o.inside) cost t.unblocked in
+    let some : 0 < capacity k = some_coded z (cost_at arcs k) (capacity k) (unit_cost_least net o.arc o.back n.costs o.inside) cost t.has_capacity in
     let finish : end_of net o.arc o.back ≡ v = sym (f.end o.arc o.back o.inside) ∙ ap (end_at arcs) o.place ∙ t.arrives in
     record {
       arc = o.arc;
@@ -357,25 +357,25 @@ tight_link net first reverse forward capacity arcs p u k v n l f b t =
       start = o.start;
       end = finish;
       some = some;
-      free = free_cost (cost_at arcs k) z (p u) (p v) (p (start_of net o.arc o.back)) (p (end_of net o.arc o.back)) t.free (cost ∙ coded_some z (capacity k) some) (ap p o.start) (ap p finish);
+      at_zero = zero_cost (cost_at arcs k) z (p u) (p v) (p (start_of net o.arc o.back)) (p (end_of net o.arc o.back)) t.at_zero (cost ∙ coded_some z (capacity k) some) (ap p o.start) (ap p finish);
     }
 
 -- what a push does to the amount of its own arc, and to the others
-moved_by : (net : NetworkModel) (first : List ℕ) (reverse : ℕ → ℕ) (forward : List ℕ) (capacity room' : ℕ → ℕ) (i : ℕ) (b : Bool) (k amount : ℕ) → HasResidualArcs net first reverse forward → i < arc_count net → number_of reverse forward i b ≡ k → IsPushed reverse capacity room' k amount → IsMoved b (carried reverse forward capacity i) amount (carried reverse forward room' i)
+moved_by : (net : NetworkModel) (first : List ℕ) (reverse : ℕ → ℕ) (forward : List ℕ) (capacity capacity' : ℕ → ℕ) (i : ℕ) (b : Bool) (k amount : ℕ) → HasResidualArcs net first reverse forward → i < arc_count net → number_of reverse forward i b ≡ k → IsPushed reverse capacity capacity' k amount → IsMoved b (carried reverse forward capacity i) amount (carried reverse forward capacity' i)
 unfolding opposite
-moved_by net first reverse forward capacity room' i false k amount l b e s = subst (λ (t : ℕ). room' t ≡ capacity t + amount) (reverse_place net first reverse forward k i false l b e) s.more
-moved_by net first reverse forward capacity room' i true k amount l b e s = sym (subst (λ (t : ℕ). room' t + amount ≡ capacity t) (sym e) s.less)
+moved_by net first reverse forward capacity capacity' i false k amount l b e s = subst (λ (t : ℕ). capacity' t ≡ capacity t + amount) (reverse_place net first reverse forward k i false l b e) s.more
+moved_by net first reverse forward capacity capacity' i true k amount l b e s = sym (subst (λ (t : ℕ). capacity' t + amount ≡ capacity t) (sym e) s.less)
 
-kept_by : (net : NetworkModel) (first : List ℕ) (reverse : ℕ → ℕ) (forward : List ℕ) (capacity room' : ℕ → ℕ) (i : ℕ) (b : Bool) (k amount : ℕ) → HasResidualArcs net first reverse forward → i < arc_count net → number_of reverse forward i b ≡ k → IsPushed reverse capacity room' k amount → SameOthers net i (carried reverse forward capacity) (carried reverse forward room')
-kept_by net first reverse forward capacity room' i b k amount l inside e s j c ne =
+kept_by : (net : NetworkModel) (first : List ℕ) (reverse : ℕ → ℕ) (forward : List ℕ) (capacity capacity' : ℕ → ℕ) (i : ℕ) (b : Bool) (k amount : ℕ) → HasResidualArcs net first reverse forward → i < arc_count net → number_of reverse forward i b ≡ k → IsPushed reverse capacity capacity' k amount → SameOthers net i (carried reverse forward capacity) (carried reverse forward capacity')
+kept_by net first reverse forward capacity capacity' i b k amount l inside e s j c ne =
     s.others (number_of reverse forward j true)
     (λ h. ne (l.alone j i true b c inside (h ∙ sym e)).0)
     (λ h. ne (l.alone j i true (opposite b) c inside (h ∙ reverse_place net first reverse forward k i b l inside e)).0)
 
 -- where an arc carries what it carried, the same fits along it
-same_capacity : (net : NetworkModel) (reverse : ℕ → ℕ) (forward : List ℕ) (capacity room' : ℕ → ℕ) (arcs arcs' : List ResidualArc) (i : ℕ) (back : Bool) → AreResidualArcs net reverse forward capacity arcs → AreResidualArcs net reverse forward room' arcs' → i < arc_count net → carried reverse forward room' i ≡ carried reverse forward capacity i → room' (number_of reverse forward i back) ≡ capacity (number_of reverse forward i back)
-same_capacity net reverse forward capacity room' arcs arcs' i true f f' b h = h
-same_capacity net reverse forward capacity room' arcs arcs' i false f f' b h = omega (arith, f.fits i b, f'.fits i b)
+same_capacity : (net : NetworkModel) (reverse : ℕ → ℕ) (forward : List ℕ) (capacity capacity' : ℕ → ℕ) (arcs arcs' : List ResidualArc) (i : ℕ) (back : Bool) → AreResidualArcs net reverse forward capacity arcs → AreResidualArcs net reverse forward capacity' arcs' → i < arc_count net → carried reverse forward capacity' i ≡ carried reverse forward capacity i → capacity' (number_of reverse forward i back) ≡ capacity (number_of reverse forward i back)
+same_capacity net reverse forward capacity capacity' arcs arcs' i true f f' b h = h
+same_capacity net reverse forward capacity capacity' arcs arcs' i false f f' b h = omega (arith, f.fits i b, f'.fits i b)
 
 both_ends : (net : NetworkModel) (on : ℕ → Bool) (place : ℕ → ℕ) (x y : ℕ → ℕ) (i : ℕ) (back : Bool) (u v : ℕ) → start_of net i back ≡ u → end_of net i back ≡ v → on u ≡ true → on v ≡ true → place u < place v → (on (arc_at net i).from ≡ true → on (arc_at net i).to ≡ true → place (arc_at net i).from ≤ place v → place (arc_at net i).to ≤ place v → y i ≡ x i) → y i ≡ x i
 both_ends net on place x y i false u v s e a b less kept =
@@ -387,35 +387,35 @@ both_ends net on place x y i true u v s e a b less kept =
     let f : place (arc_at net i).from ≡ place v = ap place e in
     kept (ap on e ∙ b) (ap on s ∙ a) (omega arith) (omega arith)
 
-link_kept : (net : NetworkModel) (reverse : ℕ → ℕ) (forward : List ℕ) (capacity : ℕ → ℕ) (p e : ℕ → ℤ) (on : ℕ → Bool) (place : ℕ → ℕ) (x y : ℕ → ℕ) (u k v amount most : ℕ) → (t : IsLink net reverse forward capacity p u k v) → on u ≡ true → on v ≡ true → place u < place v → IsSending net p e on place x y v amount most → y t.arc ≡ x t.arc
-link_kept net reverse forward capacity p e on place x y u k v amount most t a b less s =
+arc_kept : (net : NetworkModel) (reverse : ℕ → ℕ) (forward : List ℕ) (capacity : ℕ → ℕ) (p e : ℕ → ℤ) (on : ℕ → Bool) (place : ℕ → ℕ) (x y : ℕ → ℕ) (u k v amount most : ℕ) → (t : IsTightArc net reverse forward capacity p u k v) → on u ≡ true → on v ≡ true → place u < place v → IsSending net p e on place x y v amount most → y t.arc ≡ x t.arc
+arc_kept net reverse forward capacity p e on place x y u k v amount most t a b less s =
     both_ends net on place x y t.arc t.back u v t.start t.end a b less (s.kept t.arc t.inside)
 
 -- what fitted along the next residual arc still does
-pub still_fits : (net : NetworkModel) (reverse : ℕ → ℕ) (forward : List ℕ) (capacity room' : ℕ → ℕ) (arcs arcs' : List ResidualArc) (p e : ℕ → ℤ) (on : ℕ → Bool) (place : ℕ → ℕ) (u k v amount most : ℕ) → AreResidualArcs net reverse forward capacity arcs → AreResidualArcs net reverse forward room' arcs' → IsLink net reverse forward capacity p u k v → on u ≡ true → on v ≡ true → place u < place v → IsSending net p e on place (carried reverse forward capacity) (carried reverse forward room') v amount most → amount ≤ capacity k → amount ≤ room' k
-still_fits net reverse forward capacity room' arcs arcs' p e on place u k v amount most f f' t a b less s fits =
-    let own = link_kept net reverse forward capacity p e on place (carried reverse forward capacity) (carried reverse forward room') u k v amount most t a b less s in
-    let same : room' k ≡ capacity k = subst (λ (q : ℕ). room' q ≡ capacity q) t.place (same_capacity net reverse forward capacity room' arcs arcs' t.arc t.back f f' t.inside own) in
+pub still_fits : (net : NetworkModel) (reverse : ℕ → ℕ) (forward : List ℕ) (capacity capacity' : ℕ → ℕ) (arcs arcs' : List ResidualArc) (p e : ℕ → ℤ) (on : ℕ → Bool) (place : ℕ → ℕ) (u k v amount most : ℕ) → AreResidualArcs net reverse forward capacity arcs → AreResidualArcs net reverse forward capacity' arcs' → IsTightArc net reverse forward capacity p u k v → on u ≡ true → on v ≡ true → place u < place v → IsSending net p e on place (carried reverse forward capacity) (carried reverse forward capacity') v amount most → amount ≤ capacity k → amount ≤ capacity' k
+still_fits net reverse forward capacity capacity' arcs arcs' p e on place u k v amount most f f' t a b less s fits =
+    let own = arc_kept net reverse forward capacity p e on place (carried reverse forward capacity) (carried reverse forward capacity') u k v amount most t a b less s in
+    let same : capacity' k ≡ capacity k = subst (λ (q : ℕ). capacity' q ≡ capacity q) t.place (same_capacity net reverse forward capacity capacity' arcs arcs' t.arc t.back f f' t.inside own) in
     omega arith
 
 -- a push along the next residual arc
-pub sending_more : (net : NetworkModel) (first : List ℕ) (reverse : ℕ → ℕ) (forward : List ℕ) (capacity room' room'' : ℕ → ℕ) (p e : ℕ → ℤ) (on : ℕ → Bool) (place : ℕ → ℕ) (u k v amount most : ℕ) → HasResidualArcs net first reverse forward → IsLink net reverse forward capacity p u k v → on u ≡ true → on v ≡ true → place u < place v → IsSending net p e on place (carried reverse forward capacity) (carried reverse forward room') v amount most → IsPushed reverse room' room'' k amount → IsSending net p e on place (carried reverse forward capacity) (carried reverse forward room'') u amount most
-sending_more net first reverse forward capacity room' room'' p e on place u k v amount most l t a b less s pushed =
-    sent_on net p e on place (carried reverse forward capacity) (carried reverse forward room') (carried reverse forward room'') t.arc t.back u v amount most t.inside
-    (moved_by net first reverse forward room' room'' t.arc t.back k amount l t.inside t.place pushed)
-    (kept_by net first reverse forward room' room'' t.arc t.back k amount l t.inside t.place pushed)
-    t.free t.start t.end
-    (link_kept net reverse forward capacity p e on place (carried reverse forward capacity) (carried reverse forward room') u k v amount most t a b less s)
+pub sending_more : (net : NetworkModel) (first : List ℕ) (reverse : ℕ → ℕ) (forward : List ℕ) (capacity capacity' capacity'' : ℕ → ℕ) (p e : ℕ → ℤ) (on : ℕ → Bool) (place : ℕ → ℕ) (u k v amount most : ℕ) → HasResidualArcs net first reverse forward → IsTightArc net reverse forward capacity p u k v → on u ≡ true → on v ≡ true → place u < place v → IsSending net p e on place (carried reverse forward capacity) (carried reverse forward capacity') v amount most → IsPushed reverse capacity' capacity'' k amount → IsSending net p e on place (carried reverse forward capacity) (carried reverse forward capacity'') u amount most
+sending_more net first reverse forward capacity capacity' capacity'' p e on place u k v amount most l t a b less s pushed =
+    sent_on net p e on place (carried reverse forward capacity) (carried reverse forward capacity') (carried reverse forward capacity'') t.arc t.back u v amount most t.inside
+    (moved_by net first reverse forward capacity' capacity'' t.arc t.back k amount l t.inside t.place pushed)
+    (kept_by net first reverse forward capacity' capacity'' t.arc t.back k amount l t.inside t.place pushed)
+    t.at_zero t.start t.end
+    (arc_kept net reverse forward capacity p e on place (carried reverse forward capacity) (carried reverse forward capacity') u k v amount most t a b less s)
     (λ _. less) (λ j c f g d h. s.kept j c f g (omega arith) (omega arith)) s.carries s.priced s.grown (omega (arith, s.few))
 
 -- the push along the last residual arc
-pub sending_first : (net : NetworkModel) (first : List ℕ) (reverse : ℕ → ℕ) (forward : List ℕ) (capacity room' : ℕ → ℕ) (p e : ℕ → ℤ) (on : ℕ → Bool) (place : ℕ → ℕ) (u k v amount : ℕ) → HasResidualArcs net first reverse forward → IsLink net reverse forward capacity p u k v → on v ≡ false → Carries net (carried reverse forward capacity) e v amount → HasPotentials net (carried reverse forward capacity) p → IsPushed reverse capacity room' k amount → IsSending net p e on place (carried reverse forward capacity) (carried reverse forward room') u amount (carrying net (carried reverse forward capacity) + place u + 1)
-sending_first net first reverse forward capacity room' p e on place u k v amount l t off carries priced pushed =
+pub sending_first : (net : NetworkModel) (first : List ℕ) (reverse : ℕ → ℕ) (forward : List ℕ) (capacity capacity' : ℕ → ℕ) (p e : ℕ → ℤ) (on : ℕ → Bool) (place : ℕ → ℕ) (u k v amount : ℕ) → HasResidualArcs net first reverse forward → IsTightArc net reverse forward capacity p u k v → on v ≡ false → Carries net (carried reverse forward capacity) e v amount → HasPotentials net (carried reverse forward capacity) p → IsPushed reverse capacity capacity' k amount → IsSending net p e on place (carried reverse forward capacity) (carried reverse forward capacity') u amount (carrying net (carried reverse forward capacity) + place u + 1)
+sending_first net first reverse forward capacity capacity' p e on place u k v amount l t off carries priced pushed =
     let x = carried reverse forward capacity in
-    sent_on net p e on place x x (carried reverse forward room') t.arc t.back u v amount (carrying net x + place u + 1) t.inside
-    (moved_by net first reverse forward capacity room' t.arc t.back k amount l t.inside t.place pushed)
-    (kept_by net first reverse forward capacity room' t.arc t.back k amount l t.inside t.place pushed)
-    t.free t.start t.end refl
+    sent_on net p e on place x x (carried reverse forward capacity') t.arc t.back u v amount (carrying net x + place u + 1) t.inside
+    (moved_by net first reverse forward capacity capacity' t.arc t.back k amount l t.inside t.place pushed)
+    (kept_by net first reverse forward capacity capacity' t.arc t.back k amount l t.inside t.place pushed)
+    t.at_zero t.start t.end refl
     (λ h. absurd (both_ways (on v) off h)) (λ j c f g d h. refl) carries priced (λ j c. omega arith) (omega arith)
 
 -- ---- the way back along the path
@@ -477,7 +477,7 @@ narrowed_all next place capacity v w amount h none u on some =
 
 -- ---- the end
 
-within_limit : (c : Cap) (a b : ℕ) → a + b ≡ units_of c → IsWithin c b
+within_limit : (c : Cap) (a b : ℕ) → a + b ≡ units_of c → IsWithinCap c b
 within_limit (AtMost k) a b h = omega arith
 within_limit Any a b h = tt
 
@@ -537,9 +537,9 @@ pub record IsStep (net : NetworkModel) (first : List ℕ) (reverse : ℕ → ℕ
   pub member : on (end_at arcs (reverse k)) ≡ true
   pub before : place (end_at arcs (reverse k)) < place v
   pub leaves : StartsAt first (end_at arcs (reverse k)) k
-  pub link : IsLink net reverse forward capacity p (end_at arcs (reverse k)) k v
+  pub tight_arc : IsTightArc net reverse forward capacity p (end_at arcs (reverse k)) k v
 
-pub path_step : (net : NetworkModel) (first : List ℕ) (reverse : ℕ → ℕ) (forward : List ℕ) (capacity : ℕ → ℕ) (arcs : List ResidualArc) (p : ℕ → ℤ) (enter place : ℕ → ℕ) (root found : ℕ) → IsNetwork net → HasResidualArcs net first reverse forward → AreResidualArcs net reverse forward capacity arcs → (h : HasPath (node_count net) first arcs p enter place root found) → (v : ℕ) → h.on v ≡ true → 0 < place v → IsStep net first reverse forward capacity arcs p h.on place v (enter v)
+pub path_step : (net : NetworkModel) (first : List ℕ) (reverse : ℕ → ℕ) (forward : List ℕ) (capacity : ℕ → ℕ) (arcs : List ResidualArc) (p : ℕ → ℤ) (enter place : ℕ → ℕ) (root found : ℕ) → IsNetwork net → HasResidualArcs net first reverse forward → AreResidualArcs net reverse forward capacity arcs → (h : HasTightPath (node_count net) first arcs p enter place root found) → (v : ℕ) → h.on v ≡ true → 0 < place v → IsStep net first reverse forward capacity arcs p h.on place v (enter v)
 path_step net first reverse forward capacity arcs p enter place root found n l f h v on some =
     let a = h.after v on some in
     let b : a.start < node_count net = h.node a.start a.member in
@@ -549,7 +549,7 @@ path_step net first reverse forward capacity arcs p enter place root found n l f
       member = ap h.on s ∙ a.member;
       before = subst (λ (t : ℕ). place t < place v) (sym s) a.before;
       leaves = subst (λ (t : ℕ). StartsAt first t (enter v)) (sym s) a.step.leaves;
-      link = subst (λ (t : ℕ). IsLink net reverse forward capacity p t (enter v) v) (sym s) (tight_link net first reverse forward capacity arcs p a.start (enter v) v n l f b a.step);
+      tight_arc = subst (λ (t : ℕ). IsTightArc net reverse forward capacity p t (enter v) v) (sym s) (tight_arc_of net first reverse forward capacity arcs p a.start (enter v) v n l f b a.step);
     }
 
 -- the last residual arc of the path leads off it
@@ -557,9 +557,9 @@ pub record IsLast (net : NetworkModel) (first : List ℕ) (reverse : ℕ → ℕ
   pub node : end_at arcs (reverse k) < node_count net
   pub member : on (end_at arcs (reverse k)) ≡ true
   pub leaves : StartsAt first (end_at arcs (reverse k)) k
-  pub link : IsLink net reverse forward capacity p (end_at arcs (reverse k)) k (end_at arcs k)
+  pub tight_arc : IsTightArc net reverse forward capacity p (end_at arcs (reverse k)) k (end_at arcs k)
 
-pub path_last : (net : NetworkModel) (first : List ℕ) (reverse : ℕ → ℕ) (forward : List ℕ) (capacity : ℕ → ℕ) (arcs : List ResidualArc) (p : ℕ → ℤ) (enter place : ℕ → ℕ) (root found : ℕ) → IsNetwork net → HasResidualArcs net first reverse forward → AreResidualArcs net reverse forward capacity arcs → (h : HasPath (node_count net) first arcs p enter place root found) → IsLast net first reverse forward capacity arcs p h.on found
+pub path_last : (net : NetworkModel) (first : List ℕ) (reverse : ℕ → ℕ) (forward : List ℕ) (capacity : ℕ → ℕ) (arcs : List ResidualArc) (p : ℕ → ℤ) (enter place : ℕ → ℕ) (root found : ℕ) → IsNetwork net → HasResidualArcs net first reverse forward → AreResidualArcs net reverse forward capacity arcs → (h : HasTightPath (node_count net) first arcs p enter place root found) → IsLast net first reverse forward capacity arcs p h.on found
 path_last net first reverse forward capacity arcs p enter place root found n l f h =
     let b : h.last < node_count net = h.node h.last h.member in
     let s : end_at arcs (reverse found) ≡ h.last = start_is net first reverse forward capacity arcs h.last found l f b h.step.leaves in
@@ -567,11 +567,11 @@ path_last net first reverse forward capacity arcs p enter place root found n l f
       node = subst (λ (t : ℕ). t < node_count net) (sym s) b;
       member = ap h.on s ∙ h.member;
       leaves = subst (λ (t : ℕ). StartsAt first t found) (sym s) h.step.leaves;
-      link = subst (λ (t : ℕ). IsLink net reverse forward capacity p t found (end_at arcs found)) (sym s) (tight_link net first reverse forward capacity arcs p h.last found (end_at arcs found) n l f b h.step);
+      tight_arc = subst (λ (t : ℕ). IsTightArc net reverse forward capacity p t found (end_at arcs found)) (sym s) (tight_arc_of net first reverse forward capacity arcs p h.last found (end_at arcs found) n l f b h.step);
     }
 
-pub link_end : (net : NetworkModel) (reverse : ℕ → ℕ) (forward : List ℕ) (capacity : ℕ → ℕ) (p : ℕ → ℤ) (u k v : ℕ) → IsNetwork net → IsLink net reverse forward capacity p u k v → v < node_count net
-link_end net reverse forward capacity p u k v n t = subst (λ (q : ℕ). q < node_count net) t.end (end_in net t.arc t.back n.ends t.inside)
+pub tight_arc_end : (net : NetworkModel) (reverse : ℕ → ℕ) (forward : List ℕ) (capacity : ℕ → ℕ) (p : ℕ → ℤ) (u k v : ℕ) → IsNetwork net → IsTightArc net reverse forward capacity p u k v → v < node_count net
+tight_arc_end net reverse forward capacity p u k v n t = subst (λ (q : ℕ). q < node_count net) t.end (end_in net t.arc t.back n.ends t.inside)
 
 -- the same of the solver's own lists
 pub own_step : (net : NetworkModel) (s : Solver) (root : ℕ) → (h : CanAugment net s root) → (v : ℕ) → h.path.on v ≡ true → 0 < places_in s v → IsStep net s.residual.first.items (reverse_at s.residual.capacities.items) s.residual.forward.items (capacity_at s.residual.capacities.items) s.residual.arcs.items (potential_at s) h.path.on (places_in s) v (enters_in s v)
@@ -583,7 +583,7 @@ own_last net s root h =
     path_last net s.residual.first.items (reverse_at s.residual.capacities.items) s.residual.forward.items (capacity_at s.residual.capacities.items) s.residual.arcs.items (potential_at s) (enters_in s) (places_in s) root s.found h.ready.network h.ready.residual.arcs_built h.ready.residual.filled h.path
 
 pub own_end : (net : NetworkModel) (s : Solver) (root : ℕ) → CanAugment net s root → end_at s.residual.arcs.items s.found < node_count net
-own_end net s root h = link_end net (reverse_at s.residual.capacities.items) s.residual.forward.items (capacity_at s.residual.capacities.items) (potential_at s) (end_at s.residual.arcs.items (reverse_at s.residual.capacities.items s.found)) s.found (end_at s.residual.arcs.items s.found) h.ready.network (own_last net s root h).link
+own_end net s root h = tight_arc_end net (reverse_at s.residual.capacities.items) s.residual.forward.items (capacity_at s.residual.capacities.items) (potential_at s) (end_at s.residual.arcs.items (reverse_at s.residual.capacities.items s.found)) s.found (end_at s.residual.arcs.items s.found) h.ready.network (own_last net s root h).tight_arc
 
 pub last_pair : (net : NetworkModel) (s : Solver) (root : ℕ) → CanAugment net s root → IsPaired s.residual s.found
 last_pair net s root h = let l = own_last net s root h in is_paired net s.residual (end_at s.residual.arcs.items (reverse_at s.residual.capacities.items s.found)) s.found h.ready.network h.ready.residual l.node l.leaves

@@ -111,17 +111,17 @@ not_under : (z : ℤ) → z ≡ pos 0 → pos 0 ≤ℤ z
 not_under z h = omega (arith, ints)
 
 -- an arc of reduced cost 0 costs nothing under the potentials either way
-free_both_ways : (net : NetworkModel) (p : ℕ → ℤ) (i : ℕ) (back other : Bool) → reduced_cost net p i back ≡ pos 0 → pos 0 ≤ℤ reduced_cost net p i other
-free_both_ways net p i false false h = not_under (reduced_cost net p i false) h
-free_both_ways net p i true true h = not_under (reduced_cost net p i true) h
-free_both_ways net p i false true h = negated (pos (arc_at net i).cost) (p (arc_at net i).from) (p (arc_at net i).to) h
-free_both_ways net p i true false h = unnegated (pos (arc_at net i).cost) (p (arc_at net i).from) (p (arc_at net i).to) h
+zero_both_ways : (net : NetworkModel) (p : ℕ → ℤ) (i : ℕ) (back other : Bool) → reduced_cost net p i back ≡ pos 0 → pos 0 ≤ℤ reduced_cost net p i other
+zero_both_ways net p i false false h = not_under (reduced_cost net p i false) h
+zero_both_ways net p i true true h = not_under (reduced_cost net p i true) h
+zero_both_ways net p i false true h = negated (pos (arc_at net i).cost) (p (arc_at net i).from) (p (arc_at net i).to) h
+zero_both_ways net p i true false h = unnegated (pos (arc_at net i).cost) (p (arc_at net i).from) (p (arc_at net i).to) h
 
 -- an arc of reduced cost 0 may change as it will
 pub potentials_stay : (net : NetworkModel) (x y : ℕ → ℕ) (p : ℕ → ℤ) (i : ℕ) (back : Bool) → SameBut i x y → reduced_cost net p i back ≡ pos 0 → HasPotentials net x p → HasPotentials net y p
-potentials_stay net x y p i back others free h = record {
+potentials_stay net x y p i back others at_zero h = record {
   residual = λ j other b r. elim (cases_eq j i) [
-    | inl q ↦ let P : ℕ → Type 0 = λ t. pos 0 ≤ℤ reduced_cost net p t other in subst P (sym q) (free_both_ways net p i back other free)
+    | inl q ↦ let P : ℕ → Type 0 = λ t. pos 0 ≤ℤ reduced_cost net p t other in subst P (sym q) (zero_both_ways net p i back other at_zero)
     | inr ne ↦ h.residual j other b (residual_same net x y j other (others j ne) r)
   ];
 }

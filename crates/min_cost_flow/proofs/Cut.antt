@@ -8,12 +8,12 @@ use Rattle.common.proofs.Sums.{sum_below-le, sum_below-lt, sum_below-add}
 use Rattle.networks.specs.declared.arc.Cap.{Cap}
 use Rattle.networks.specs.declared.arc.Cap.TheVariants.{AtMost, Any}
 use Rattle.networks.specs.Networks.{NetworkModel, node_count, arc_count, arc_at, supply_at, HasEnds}
-use Rattle.networks.specs.Flow.{leaves, enters, IsWithin, IsUnsaturated, HasNoFlow}
+use Rattle.networks.specs.Flow.{leaves, enters, IsWithinCap, IsUnsaturated, HasNoFlow}
 use Rattle.min_cost_flow.specs.Excess.{Leaves, IsClosedOut, IsClosedIn}
 use Rattle.min_cost_flow.proofs.Duality.{at_starts, at_ends, sides_are}
 
 -- no room: no amount within the capacity is larger
-pub full_most : (c : Cap) (x y : ℕ) → (IsUnsaturated c x → ⊥) → IsWithin c y → y ≤ x
+pub full_most : (c : Cap) (x y : ℕ) → (IsUnsaturated c x → ⊥) → IsWithinCap c y → y ≤ x
 full_most (AtMost k) x y full h = omega arith
 full_most Any x y full h = absurd (full tt)
 

@@ -10,7 +10,7 @@ use Rattle.common.proofs.Sums.{sum_below-same, sum_below-le, sum_below-add, exch
 use Rattle.networks.specs.declared.arc.Cap.{Cap}
 use Rattle.networks.specs.declared.arc.Cap.TheVariants.{AtMost, Any}
 use Rattle.networks.specs.Networks.{NetworkModel, node_count, arc_count, arc_at, supply_at, HasEnds}
-use Rattle.networks.specs.Flow.{leaves, enters, balance, cost_of, IsWithin, IsUnsaturated, Flow, IsLeastCost, HasPotentials}
+use Rattle.networks.specs.Flow.{leaves, enters, balance, cost_of, IsWithinCap, IsUnsaturated, Flow, IsLeastCost, HasPotentials}
 
 -- amounts weighed by the numbers of the arcs' starts, and of their ends
 abbrev pub at_starts : NetworkModel → (ℕ → ℕ) → (ℕ → ℕ) → ℕ
@@ -68,9 +68,9 @@ arc_part x y a b more less =
     ]
 
 -- a larger amount within the capacity shows room for one unit more
-pub room_below : (c : Cap) (x y : ℕ) → IsWithin c y → x < y → IsUnsaturated c x
-room_below (AtMost k) x y h l = omega arith
-room_below Any x y h l = tt
+pub unsaturated_below : (c : Cap) (x y : ℕ) → IsWithinCap c y → x < y → IsUnsaturated c x
+unsaturated_below (AtMost k) x y h l = omega arith
+unsaturated_below Any x y h l = tt
 
 five : (m : ℕ) (a b c d e : ℕ → ℕ) → sum_below m (λ i. a i + b i + c i + (d i + e i)) ≡ sum_below m a + sum_below m b + sum_below m c + (sum_below m d + sum_below m e)
 five zero a b c d e = omega arith
@@ -97,7 +97,7 @@ least_by_potentials net x p ends fx hp y fy =
     let right : ℕ → ℕ = λ i. cost i * y i + up (s i) * y i + down (t i) * y i + (up (t i) * x i + down (s i) * x i) in
     let part : (i : ℕ) → i < m → left i ≤ right i = λ i b.
     one_arc (cost i) (x i) (y i) (up (s i)) (down (s i)) (up (t i)) (down (t i))
-    (λ l. forward_part (cost i) (s i) (t i) (hp.residual i false b (room_below (arc_at net i).cap (x i) (y i) (fy.within i b) l)))
+    (λ l. forward_part (cost i) (s i) (t i) (hp.residual i false b (unsaturated_below (arc_at net i).cap (x i) (y i) (fy.within i b) l)))
     (λ l. backward_part (cost i) (s i) (t i) (hp.residual i true b (omega arith))) in
     let whole : sum_below m left ≤ sum_below m right = sum_below-le m left right part in
     let by_left : sum_below m left ≡ cost_of net x + at_starts net (λ v. up (p v)) x + at_ends net (λ v. down (p v)) x + (at_ends net (λ v. up (p v)) y + at_starts net (λ v. down (p v)) y) =

@@ -9,7 +9,7 @@ use Rattle.common.proofs.Sums.{sum_below-same, sum_below-changed, sum_below-some
 use Rattle.networks.specs.declared.arc.Cap.{Cap}
 use Rattle.networks.specs.declared.arc.Cap.TheVariants.{AtMost, Any}
 use Rattle.networks.specs.Networks.{NetworkModel, node_count, arc_count, arc_at, supply_at, HasEnds}
-use Rattle.networks.specs.Flow.{leaves, enters, balance, IsWithin, Flow}
+use Rattle.networks.specs.Flow.{leaves, enters, balance, IsWithinCap, Flow}
 use Rattle.min_cost_flow.specs.Excess.{KeepsCaps, Leaves, Carries}
 use Rattle.min_cost_flow.specs.Existence.{IsClosedAny, HasUnlimitedPaths, SuppliesSumToZero}
 use Rattle.min_cost_flow.proofs.Changes.{SameBut, moved_carries, carried_leaves, taken_carries}
@@ -43,14 +43,14 @@ one_more_same : (i : ℕ) (x : ℕ → ℕ) → SameBut i x (one_more i x)
 unfolding one_more
 one_more_same i x j ne = cond-false {A = ℕ} (eqb j i) (x j + 1) (x j) (ne_eqb j i ne)
 
-any_within : (c : Cap) (k : ℕ) → c ≡ Any → IsWithin c k
-any_within c k e = let P : Cap → Type 0 = λ t. IsWithin t k in subst P (sym e) tt
+any_within : (c : Cap) (k : ℕ) → c ≡ Any → IsWithinCap c k
+any_within c k e = let P : Cap → Type 0 = λ t. IsWithinCap t k in subst P (sym e) tt
 
 one_more_within : (net : NetworkModel) (i : ℕ) (x : ℕ → ℕ) → (arc_at net i).cap ≡ Any → KeepsCaps net x → KeepsCaps net (one_more i x)
 one_more_within net i x any caps j b =
     elim (cases_eq j i) [
-      | inl e ↦ let P : ℕ → Type 0 = λ t. IsWithin (arc_at net t).cap (one_more i x j) in subst P (sym e) (any_within (arc_at net i).cap (one_more i x j) any)
-      | inr ne ↦ let P : ℕ → Type 0 = λ k. IsWithin (arc_at net j).cap k in subst P (sym (one_more_same i x j ne)) (caps j b)
+      | inl e ↦ let P : ℕ → Type 0 = λ t. IsWithinCap (arc_at net t).cap (one_more i x j) in subst P (sym e) (any_within (arc_at net i).cap (one_more i x j) any)
+      | inr ne ↦ let P : ℕ → Type 0 = λ k. IsWithinCap (arc_at net j).cap k in subst P (sym (one_more_same i x j ne)) (caps j b)
     ]
 
 -- past an arc of no limit

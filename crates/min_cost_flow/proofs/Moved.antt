@@ -130,7 +130,7 @@ laid_still net first reverse forward f t k l =
       rising = λ v b. l.rising v (omega arith);
       inside = λ v b. l.inside v (omega arith);
       block = λ i back b. l.block i back b;
-      cover = λ v j b st. let o = l.cover v j (omega arith) st in record { arc = o.arc; back = o.back; inside = o.inside; place = o.place; start = o.start };
+      origins = λ v j b st. let o = l.origins v j (omega arith) st in record { arc = o.arc; back = o.back; inside = o.inside; place = o.place; start = o.start };
       alone = λ i j b c ib jb e. l.alone i j b c ib jb e;
       undone = λ i b. l.undone i b;
     }
@@ -155,10 +155,10 @@ pub can_read : (net : NetworkModel) (s : Solver) → IsReady net s → CanRead s
 can_read net s r =
     let l = r.residual.arcs_built in
     record {
-      forwards = λ i b. omega (arith, forward_in net _ _ _ i r.network l (omega (arith, l.forwards)), r.residual.room_size);
-      reverses = λ i b. omega (arith, reverse_in net _ _ _ i r.network l (omega (arith, l.forwards)), r.residual.room_size);
+      forwards = λ i b. omega (arith, forward_in net _ _ _ i r.network l (omega (arith, l.forwards)), r.residual.capacities_size);
+      reverses = λ i b. omega (arith, reverse_in net _ _ _ i r.network l (omega (arith, l.forwards)), r.residual.capacities_size);
       small = omega (arith, l.forwards, r.network.small);
-      size = omega (arith, r.residual.room_size, r.network.small);
+      size = omega (arith, r.residual.capacities_size, r.network.small);
     }
 
 -- ---- where nothing is left over or wanting, the flow is one of least cost
@@ -210,7 +210,7 @@ sized_moved net l l' f t k r fair re pe ee he =
         starts = rw re (omega (arith, w.starts));
         forwards = rw re w.forwards;
         arc_size = rw re r.residual.filled.arc_size;
-        room_size = rw re r.residual.room_size;
+        capacities_size = rw re r.residual.capacities_size;
       };
       potentials = omega (arith, r.potentials);
       excesses = rw ee (omega (arith, r.excesses));
@@ -218,7 +218,7 @@ sized_moved net l l' f t k r fair re pe ee he =
       blank = λ v b. rw he (r.blank v (omega (arith, long, b)));
     }
 
--- potentials in reach can be lowered by one of them
+-- confined potentials can be lowered by one of them
 pub low_bounds : (n : ℕ) (z : ℤ) → n ≤ 1024 → (pos 0 ≤ℤ (z +ℤ pos (2 * n))) × (z ≤ℤ pos (2 * n)) → (negsuc 2047 ≤ℤ z) × (z ≤ℤ pos 2048)
 low_bounds n z s (a, b) = (grind (arith, ints), grind (arith, ints))
 
@@ -238,7 +238,7 @@ ready_moved net l potential excess f t k st fair fb tb few base low capacity pe 
     let here : IsResidualNetwork (shifted net f t k) l.residual = record {
       arcs_built = laid;
       filled = record { arc_size = w.arc_size; end = λ i b c. w.end i b c; cost = λ i b c. w.cost i b c; fits = λ i b. w.fits i b };
-      room_size = r.residual.room_size;
+      capacities_size = r.residual.capacities_size;
       limits = λ i b. r.residual.limits i b;
     } in
     record {

@@ -20,10 +20,10 @@ is_unsaturated : Cap → ℕ → Bool
 is_unsaturated (AtMost k) x = ltb x k
 is_unsaturated Any x = true
 
-room_is : (c : Cap) (x : ℕ) → is_unsaturated c x ≡ true → IsUnsaturated c x
+unsaturated_is : (c : Cap) (x : ℕ) → is_unsaturated c x ≡ true → IsUnsaturated c x
 unfolding is_unsaturated
-room_is (AtMost k) x h = ltb-true x k h
-room_is Any x h = tt
+unsaturated_is (AtMost k) x h = ltb-true x k h
+unsaturated_is Any x h = tt
 
 is_room : (c : Cap) (x : ℕ) → IsUnsaturated c x → is_unsaturated c x ≡ true
 unfolding is_unsaturated
@@ -35,7 +35,7 @@ is_residual net x i back = cond back (ltb 0 (x i)) (is_unsaturated (arc_at net i
 
 residual_is : (net : NetworkModel) (x : ℕ → ℕ) (i : ℕ) (back : Bool) → is_residual net x i back ≡ true → IsResidual net x i back
 unfolding is_residual
-residual_is net x i false h = room_is (arc_at net i).cap (x i) h
+residual_is net x i false h = unsaturated_is (arc_at net i).cap (x i) h
 residual_is net x i true h = ltb-true 0 (x i) h
 
 is_residual_at : (net : NetworkModel) (x : ℕ → ℕ) (i : ℕ) (back : Bool) → IsResidual net x i back → is_residual net x i back ≡ true

@@ -10,7 +10,7 @@ use Rattle.common.proofs.Sums.{sum_below-same, sum_below-le, sum_below-changed, 
 use Rattle.networks.specs.declared.arc.Cap.{Cap}
 use Rattle.networks.specs.declared.arc.Cap.TheVariants.{AtMost, Any}
 use Rattle.networks.specs.Networks.{NetworkModel, node_count, arc_count, arc_at, supply_at, HasEnds, IsNetwork}
-use Rattle.networks.specs.Flow.{leaves, enters, balance, IsWithin, IsUnsaturated, Flow, HasNoFlow, IsResidual, HasPotentials, reduced_cost}
+use Rattle.networks.specs.Flow.{leaves, enters, balance, IsWithinCap, IsUnsaturated, Flow, HasNoFlow, IsResidual, HasPotentials, reduced_cost}
 use Rattle.min_cost_flow.specs.Excess.{KeepsCaps, Leaves}
 use Rattle.min_cost_flow.specs.Round.{remaining_units, supply_sum, carrying, IsRound, IsLess, IsWork, IsRoundDone}
 use Rattle.std.proofs.Math.Nat.{add-mul, one-mul}
@@ -141,7 +141,7 @@ sent_round net x y p e e' u k s priced r =
 at_start : (l n : ℕ) (e s : ℤ) → l ≡ 0 → n ≡ 0 → e ≡ s → (pos l -ℤ pos n) +ℤ e ≡ s
 at_start l n e s a b h = omega (arith, ints)
 
-empty_within : (c : Cap) (x : ℕ) → x ≡ 0 → IsWithin c x
+empty_within : (c : Cap) (x : ℕ) → x ≡ 0 → IsWithinCap c x
 empty_within (AtMost k) x h = omega arith
 empty_within Any x h = tt
 
@@ -232,7 +232,7 @@ pub done_at : (net : NetworkModel) (x : ℕ → ℕ) (p e : ℕ → ℤ) (s l : 
 done_at net x p e s l r w none full = record {
   flow = flow_at net x e r.caps r.leaves none full;
   potentials = r.priced;
-  reach = r.low;
+  confined = r.low;
   few = omega (arith, w.few);
   bounded = w.bounded;
   carried = w.carried;
@@ -256,7 +256,7 @@ still_residual net x y i true e h = omega arith
 
 pub flow_same : (net : NetworkModel) (x y : ℕ → ℕ) → ((i : ℕ) → i < arc_count net → y i ≡ x i) → Flow net x → Flow net y
 flow_same net x y same f = record {
-  within = λ i b. subst (λ (t : ℕ). IsWithin (arc_at net i).cap t) (sym (same i b)) (f.within i b);
+  within = λ i b. subst (λ (t : ℕ). IsWithinCap (arc_at net i).cap t) (sym (same i b)) (f.within i b);
   meets = λ v b. same_balance (leaves net x v) (leaves net y v) (enters net x v) (enters net y v) (supply_at net v) (same_side net x y (λ i. (arc_at net i).from) v same) (same_side net x y (λ i. (arc_at net i).to) v same) (f.meets v b);
 }
 
@@ -267,7 +267,7 @@ pub done_same : (net : NetworkModel) (x y : ℕ → ℕ) (p : ℕ → ℤ) (s l 
 done_same net x y p s l same d = record {
   flow = flow_same net x y same d.flow;
   potentials = potentials_same net x y p same d.potentials;
-  reach = d.reach;
+  confined = d.confined;
   few = d.few;
   bounded = d.bounded;
   carried = omega (arith, d.carried, sum_below-same (arc_count net) (λ i. cond {A = ℕ} (eqb (y i) 0) 0 1) (λ i. cond {A = ℕ} (eqb (x i) 0) 0 1) (λ i b. ap (λ (t : ℕ). cond {A = ℕ} (eqb t 0) 0 1) (same i b)));

@@ -24,7 +24,7 @@ use Rattle.networks.specs.declared.state.Visit.{Visit}
 use Rattle.min_cost_flow.specs.Stand.{IsReadyIn, CanAugmentIn, IsCleared}
 use Rattle.networks.specs.ResidualArcs.{end_at, cost_at, reverse_at, capacity_at, StartsAt, number_of, units_of, HasResidualArcs, AreResidualArcs, carried}
 use Rattle.networks.specs.Search.{far, IsArcCost, HasResidualCapacity, IsGraph, AreFeasiblePotentials, IsNear, IsReached, IsHit, IsNearest, IsServed, IsRemaining, IsPut, IsWithinFar, degree, looked, place_at, labels, enters, orders, places}
-use Rattle.min_cost_flow.specs.Path.{HasPath}
+use Rattle.min_cost_flow.specs.Path.{HasTightPath}
 use Rattle.min_cost_flow.proofs.Cut.{no_flow_out}
 use Rattle.networks.proofs.Ends.{start_in, end_in}
 use Rattle.min_cost_flow.proofs.Reverses.{other_way, start_is}
@@ -32,7 +32,7 @@ use Rattle.networks.proofs.Signs.{plain_lt, fits_within, label_fits}
 use Rattle.min_cost_flow.proofs.Comparisons.{lt_true}
 use Rattle.networks.proofs.Reaching.{below_or_not, not_less}
 
--- ---- costs, rooms and residual arcs
+-- ---- costs, capacities and residual arcs
 
 unit_cost_low : (net : NetworkModel) (i : ℕ) (back : Bool) → HasUnitCosts net → i < arc_count net → (negsuc 0 ≤ℤ unit_cost net i back) × (unit_cost net i back ≤ℤ pos 1)
 unit_cost_low net i false costs b = (omega (arith, ints), omega (arith, ints, costs i b))
@@ -52,23 +52,23 @@ not_open c z h (a, b) o = omega (arith, ints)
 pub code_cases : (net : NetworkModel) (reverse : ℕ → ℕ) (forward : List ℕ) (capacity : ℕ → ℕ) (arcs : List ResidualArc) (i : ℕ) (back : Bool) → IsNetwork net → AreResidualArcs net reverse forward capacity arcs → i < arc_count net → ((capacity (number_of reverse forward i back) ≡ 0) × (cost_at arcs (number_of reverse forward i back) ≡ unit_cost net i back +ℤ SATURATED)) ⊎ ((0 < capacity (number_of reverse forward i back)) × (cost_at arcs (number_of reverse forward i back) ≡ unit_cost net i back))
 code_cases net reverse forward capacity arcs i back k f b = code_when (capacity (number_of reverse forward i back)) (unit_cost net i back) (cost_at arcs (number_of reverse forward i back)) (f.cost i back b) (unit_cost_low net i back k.costs b)
 
-room_open : (c : Cap) (r x : ℕ) → r + x ≡ units_of c → x ≤ 2097152 → IsUnsaturated c x → 0 < r
-room_open (AtMost k) r x h l o = omega arith
-room_open Any r x h l o = let big : units_of Any ≡ 1073741824 = refl in omega arith
+unsaturated_capacity : (c : Cap) (r x : ℕ) → r + x ≡ units_of c → x ≤ 2097152 → IsUnsaturated c x → 0 < r
+unsaturated_capacity (AtMost k) r x h l o = omega arith
+unsaturated_capacity Any r x h l o = let big : units_of Any ≡ 1073741824 = refl in omega arith
 
-open_room : (c : Cap) (r x : ℕ) → r + x ≡ units_of c → 0 < r → IsUnsaturated c x
-open_room (AtMost k) r x h o = omega arith
-open_room Any r x h o = tt
+capacity_unsaturated : (c : Cap) (r x : ℕ) → r + x ≡ units_of c → 0 < r → IsUnsaturated c x
+capacity_unsaturated (AtMost k) r x h o = omega arith
+capacity_unsaturated Any r x h o = tt
 
-pub residual_open : (net : NetworkModel) (reverse : ℕ → ℕ) (forward : List ℕ) (capacity : ℕ → ℕ) (arcs : List ResidualArc) (i : ℕ) (back : Bool) → AreResidualArcs net reverse forward capacity arcs → i < arc_count net → carried reverse forward capacity i ≤ 2097152 → IsResidual net (carried reverse forward capacity) i back → 0 < capacity (number_of reverse forward i back)
-residual_open net reverse forward capacity arcs i false f b l r = room_open (arc_at net i).cap (capacity (number_of reverse forward i false)) (carried reverse forward capacity i) (f.fits i b) l r
-residual_open net reverse forward capacity arcs i true f b l r = r
+pub has_residual : (net : NetworkModel) (reverse : ℕ → ℕ) (forward : List ℕ) (capacity : ℕ → ℕ) (arcs : List ResidualArc) (i : ℕ) (back : Bool) → AreResidualArcs net reverse forward capacity arcs → i < arc_count net → carried reverse forward capacity i ≤ 2097152 → IsResidual net (carried reverse forward capacity) i back → 0 < capacity (number_of reverse forward i back)
+has_residual net reverse forward capacity arcs i false f b l r = unsaturated_capacity (arc_at net i).cap (capacity (number_of reverse forward i false)) (carried reverse forward capacity i) (f.fits i b) l r
+has_residual net reverse forward capacity arcs i true f b l r = r
 
-pub open_residual : (net : NetworkModel) (reverse : ℕ → ℕ) (forward : List ℕ) (capacity : ℕ → ℕ) (arcs : List ResidualArc) (i : ℕ) (back : Bool) → AreResidualArcs net reverse forward capacity arcs → i < arc_count net → 0 < capacity (number_of reverse forward i back) → IsResidual net (carried reverse forward capacity) i back
-open_residual net reverse forward capacity arcs i false f b o = open_room (arc_at net i).cap (capacity (number_of reverse forward i false)) (carried reverse forward capacity i) (f.fits i b) o
-open_residual net reverse forward capacity arcs i true f b o = o
+pub with_capacity : (net : NetworkModel) (reverse : ℕ → ℕ) (forward : List ℕ) (capacity : ℕ → ℕ) (arcs : List ResidualArc) (i : ℕ) (back : Bool) → AreResidualArcs net reverse forward capacity arcs → i < arc_count net → 0 < capacity (number_of reverse forward i back) → IsResidual net (carried reverse forward capacity) i back
+with_capacity net reverse forward capacity arcs i false f b o = capacity_unsaturated (arc_at net i).cap (capacity (number_of reverse forward i false)) (carried reverse forward capacity i) (f.fits i b) o
+with_capacity net reverse forward capacity arcs i true f b o = o
 
--- a residual arc along which something fits is open, and its cost is what a unit costs
+-- a residual arc along which something fits has capacity, and its cost is what a unit costs
 pub unit_cost_open : (net : NetworkModel) (reverse : ℕ → ℕ) (forward : List ℕ) (capacity : ℕ → ℕ) (arcs : List ResidualArc) (i : ℕ) (back : Bool) → IsNetwork net → AreResidualArcs net reverse forward capacity arcs → i < arc_count net → 0 < capacity (number_of reverse forward i back) → (cost_at arcs (number_of reverse forward i back) ≡ unit_cost net i back) × HasResidualCapacity arcs (number_of reverse forward i back)
 unit_cost_open net reverse forward capacity arcs i back k f b o =
     elim (code_cases net reverse forward capacity arcs i back k f b) [
@@ -93,9 +93,9 @@ is_graph net first reverse forward capacity arcs k l f =
       starts = l.starts;
       rising = l.rising;
       inside = λ v b. omega (arith, l.inside v b);
-      end = λ v j b st. let o = l.cover v j b st in subst (λ (t : ℕ). end_at arcs t < node_count net) o.place (subst (λ (t : ℕ). t < node_count net) (sym (f.end o.arc o.back o.inside)) (end_in net o.arc o.back k.ends o.inside));
+      end = λ v j b st. let o = l.origins v j b st in subst (λ (t : ℕ). end_at arcs t < node_count net) o.place (subst (λ (t : ℕ). t < node_count net) (sym (f.end o.arc o.back o.inside)) (end_in net o.arc o.back k.ends o.inside));
       cost = λ v j b st.
-          let o = l.cover v j b st in
+          let o = l.origins v j b st in
           subst (λ (t : ℕ). IsArcCost (cost_at arcs t)) o.place (elim (code_cases net reverse forward capacity arcs o.arc o.back k f o.inside) [
             | inl h ↦ inr (saturated_cost (unit_cost net o.arc o.back) (cost_at arcs (number_of reverse forward o.arc o.back)) h.1 (unit_cost_low net o.arc o.back k.costs o.inside))
             | inr h ↦ inl (subst (λ (z : ℤ). (negsuc 0 ≤ℤ z) × (z ≤ℤ pos 1)) (sym h.1) (unit_cost_low net o.arc o.back k.costs o.inside))
@@ -105,12 +105,12 @@ is_graph net first reverse forward capacity arcs k l f =
 -- reduced costs by number, and by arc
 pub reduced_by_number : (net : NetworkModel) (first : List ℕ) (reverse : ℕ → ℕ) (forward : List ℕ) (capacity : ℕ → ℕ) (arcs : List ResidualArc) (p : ℕ → ℤ) → IsNetwork net → HasResidualArcs net first reverse forward → AreResidualArcs net reverse forward capacity arcs → HasPotentials net (carried reverse forward capacity) p → (v k : ℕ) → v < node_count net → StartsAt first v k → HasResidualCapacity arcs k → pos 0 ≤ℤ (cost_at arcs k +ℤ p v -ℤ p (end_at arcs k))
 reduced_by_number net first reverse forward capacity arcs p n l f h v k b st op =
-    let o = l.cover v k b st in
+    let o = l.origins v k b st in
     let i = o.arc in
     let back = o.back in
     let here : HasResidualCapacity arcs (number_of reverse forward i back) = subst (λ (t : ℕ). HasResidualCapacity arcs t) (sym o.place) op in
     let (fits, unit_is) = open_unit_cost net reverse forward capacity arcs i back n f o.inside here in
-    let red : pos 0 ≤ℤ reduced_cost net p i back = h.residual i back o.inside (open_residual net reverse forward capacity arcs i back f o.inside fits) in
+    let red : pos 0 ≤ℤ reduced_cost net p i back = h.residual i back o.inside (with_capacity net reverse forward capacity arcs i back f o.inside fits) in
     let two : pos 0 ≤ℤ (cost_at arcs (number_of reverse forward i back) +ℤ p (start_of net i back) -ℤ p (end_at arcs (number_of reverse forward i back))) = rw (unit_is, f.end i back o.inside) red in
     let one : pos 0 ≤ℤ (cost_at arcs (number_of reverse forward i back) +ℤ p v -ℤ p (end_at arcs (number_of reverse forward i back))) = subst (λ (t : ℕ). pos 0 ≤ℤ (cost_at arcs (number_of reverse forward i back) +ℤ p t -ℤ p (end_at arcs (number_of reverse forward i back)))) o.start two in
     subst (λ (t : ℕ). pos 0 ≤ℤ (cost_at arcs t +ℤ p v -ℤ p (end_at arcs t))) o.place one
@@ -118,7 +118,7 @@ reduced_by_number net first reverse forward capacity arcs p n l f h v k b st op 
 pub potentials_by_arc : (net : NetworkModel) (first : List ℕ) (reverse : ℕ → ℕ) (forward : List ℕ) (capacity : ℕ → ℕ) (arcs : List ResidualArc) (p : ℕ → ℤ) → IsNetwork net → HasResidualArcs net first reverse forward → AreResidualArcs net reverse forward capacity arcs → ((i : ℕ) → i < arc_count net → carried reverse forward capacity i ≤ 2097152) → ((v k : ℕ) → v < node_count net → StartsAt first v k → HasResidualCapacity arcs k → pos 0 ≤ℤ (cost_at arcs k +ℤ p v -ℤ p (end_at arcs k))) → HasPotentials net (carried reverse forward capacity) p
 potentials_by_arc net first reverse forward capacity arcs p n l f few h = record {
   residual = λ i back b r.
-      let fits : 0 < capacity (number_of reverse forward i back) = residual_open net reverse forward capacity arcs i back f b (few i b) r in
+      let fits : 0 < capacity (number_of reverse forward i back) = has_residual net reverse forward capacity arcs i back f b (few i b) r in
       let (unit_is, op) = unit_cost_open net reverse forward capacity arcs i back n f b fits in
       let red : pos 0 ≤ℤ (cost_at arcs (number_of reverse forward i back) +ℤ p (start_of net i back) -ℤ p (end_at arcs (number_of reverse forward i back))) = h (start_of net i back) (number_of reverse forward i back) (start_in net i back n.ends b) (l.block i back b) op in
       rw (unit_is, f.end i back b) at red;
@@ -231,7 +231,7 @@ moved_low n first arcs p p' e s q enter order place scanned ordered reached radi
 pub wanting_far : (n : ℕ) (first : List ℕ) (arcs : List ResidualArc) (p e : ℕ → ℤ) (s : ℕ) (q : ℕ → ℤ) (enter order place : ℕ → ℕ) (scanned ordered reached : ℕ) (radius : ℤ) (v : ℕ) → IsReached n first arcs p e s q enter order place scanned ordered reached radius → v < n → e v <ℤ pos 0 → far ≤ℤ q v
 wanting_far n first arcs p e s q enter order place scanned ordered reached radius v r b w =
     elim (below_or_not (q v) far) [
-      | inl l ↦ absurd (not_less (e v) (pos 0) w (r.plain v b l))
+      | inl l ↦ absurd (not_less (e v) (pos 0) w (r.nonnegative v b l))
       | inr f ↦ f
     ]
 
@@ -269,7 +269,7 @@ is_on order place scanned v h back = and_from (ltb (place v) scanned) (eqb (orde
 on_is : (order place : ℕ → ℕ) (scanned v : ℕ) → on_path order place scanned v ≡ true → (place v < scanned) × (order (place v) ≡ v)
 on_is order place scanned v h = let (a, b) = and_parts (ltb (place v) scanned) (eqb (order (place v)) v) h in (ltb-true (place v) scanned a, eqb-true (order (place v)) v b)
 
-pub has_path : (n : ℕ) (first : List ℕ) (arcs : List ResidualArc) (p p' e : ℕ → ℤ) (s : ℕ) (q : ℕ → ℤ) (enter order place : ℕ → ℕ) (scanned ordered reached : ℕ) (radius bound : ℤ) (f : ℕ) → IsGraph n first arcs → IsReached n first arcs p e s q enter order place scanned ordered reached radius → IsNearest n first arcs p e s q place scanned radius bound f → bound <ℤ far → IsMovedTo n p p' q place scanned bound → HasPath n first arcs p' enter place s f
+pub has_path : (n : ℕ) (first : List ℕ) (arcs : List ResidualArc) (p p' e : ℕ → ℤ) (s : ℕ) (q : ℕ → ℤ) (enter order place : ℕ → ℕ) (scanned ordered reached : ℕ) (radius bound : ℤ) (f : ℕ) → IsGraph n first arcs → IsReached n first arcs p e s q enter order place scanned ordered reached radius → IsNearest n first arcs p e s q place scanned radius bound f → bound <ℤ far → IsMovedTo n p p' q place scanned bound → HasTightPath n first arcs p' enter place s f
 has_path n first arcs p p' e s q enter order place scanned ordered reached radius bound f g r near hit m =
     let le : scanned ≤ reached = omega (arith, r.counts) in
     let h = near.hit hit in
@@ -292,9 +292,9 @@ has_path n first arcs p p' e s q enter order place scanned ordered reached radiu
             before = x.before;
             step = record {
               leaves = x.leaves;
-              unblocked = x.unblocked;
+              has_capacity = x.has_capacity;
               arrives = x.arrives;
-              free = tight_step (cost_at arcs (enter v)) (p' x.start) (p' v) (q x.start) (q v) bound (m.are_scanned x.start x.node x.labelled xh) (m.are_scanned v vb vl vh) x.label;
+              at_zero = tight_step (cost_at arcs (enter v)) (p' x.start) (p' v) (q x.start) (q v) bound (m.are_scanned x.start x.node x.labelled xh) (m.are_scanned v vb vl vh) x.label;
             };
           };
       last = h.start;
@@ -305,9 +305,9 @@ has_path n first arcs p p' e s q enter order place scanned ordered reached radiu
       ];
       step = record {
         leaves = h.leaves;
-        unblocked = h.unblocked;
+        has_capacity = h.has_capacity;
         arrives = refl;
-        free = tight_end (cost_at arcs f) (p' h.start) (p' (end_at arcs f)) (q h.start) (p (end_at arcs f)) bound (m.are_scanned h.start h.node h.labelled h.are_scanned) (m.unlabelled (end_at arcs f) eb off) h.distance;
+        at_zero = tight_end (cost_at arcs f) (p' h.start) (p' (end_at arcs f)) (q h.start) (p (end_at arcs f)) bound (m.are_scanned h.start h.node h.labelled h.are_scanned) (m.unlabelled (end_at arcs f) eb off) h.distance;
       };
     }
 
@@ -336,7 +336,7 @@ nothing_found net first reverse forward capacity arcs p e s q enter order place 
           let j = number_of reverse forward i back in
           let ub : u < n = start_in net i back k.ends b in
           let m : q u <ℤ far = plain_lt (q u) far so in
-          let fits : 0 < capacity j = residual_open net reverse forward capacity arcs i back fl b (omega (arith, rd.capacity i b)) res in
+          let fits : 0 < capacity j = has_residual net reverse forward capacity arcs i back fl b (omega (arith, rd.capacity i b)) res in
           let op : HasResidualCapacity arcs j = (unit_cost_open net reverse forward capacity arcs i back k fl b fits).1 in
           let st : StartsAt first u j = l.block i back b in
           let ends : end_at arcs j ≡ end_of net i back = fl.end i back b in
@@ -345,7 +345,7 @@ nothing_found net first reverse forward capacity arcs p e s q enter order place 
           let less : q (end_at arcs j) ≤ℤ (q u +ℤ cost_at arcs j) = sv.served u j ub m (are_scanned u ub m) st op near in
           subst (λ (t : ℕ). lt_z (q t) far ≡ true) ends (lt_true (q (end_at arcs j)) far (label_step (p s) (q u) (cost_at arcs j) (q (end_at arcs j)) n scanned k.small.0 le low (r.near u ub m) op less));
     })
-    (λ v b m. r.plain v b (plain_lt (q v) far m))
+    (λ v b m. r.nonnegative v b (plain_lt (q v) far m))
     r.root.0 (lt_true (q s) far r.root.1) over
 
 -- ---- each scanned node has a residual arc
@@ -358,7 +358,7 @@ other_way_start net i true = refl
 -- the end of a residual arc has one of its own
 has_own : (net : NetworkModel) (first : List ℕ) (reverse : ℕ → ℕ) (forward : List ℕ) (capacity : ℕ → ℕ) (arcs : List ResidualArc) (u k : ℕ) → HasResidualArcs net first reverse forward → AreResidualArcs net reverse forward capacity arcs → u < node_count net → StartsAt first u k → 0 < degree first (end_at arcs k)
 has_own net first reverse forward capacity arcs u k l f b st =
-    let o = l.cover u k b st in
+    let o = l.origins u k b st in
     let ends : end_at arcs k ≡ end_of net o.arc o.back = ap (end_at arcs) (sym o.place) ∙ f.end o.arc o.back o.inside in
     let own : StartsAt first (start_of net o.arc (other_way o.back)) (number_of reverse forward o.arc (other_way o.back)) = l.block o.arc (other_way o.back) o.inside in
     let here : StartsAt first (end_at arcs k) (number_of reverse forward o.arc (other_way o.back)) = subst (λ (t : ℕ). StartsAt first t (number_of reverse forward o.arc (other_way o.back))) (other_way_start net o.arc o.back ∙ sym ends) own in
@@ -472,7 +472,7 @@ can_augment net res potential excess potential' visits visits' root t t' r b ove
     let ln = subst (λ (k : ℕ). IsRemaining k p (labels t) (places t) t.scanned t.bound) n remaining in
     let mn = subst (λ (k : ℕ). IsMovedTo k p p' (labels t) (places t) t.scanned t.bound) n m in
     let path = has_path _ _ _ _ p' _ _ _ _ _ _ _ _ _ _ _ t.found g h near hit m in
-    let way = subst (λ (k : ℕ). HasPath k first arcs p' (enters t) (places t) root t.found) n path in
+    let way = subst (λ (k : ℕ). HasTightPath k first arcs p' (enters t) (places t) root t.found) n path in
     let round = moved_round net first (reverse_at capacities) res.forward.items (capacity_at capacities) arcs p p' x root (labels t) (enters t) (orders t) (places t) t.scanned t.ordered t.reached t.radius t.bound t.found r.network r.residual.arcs_built r.residual.filled r.round re nt sn ln hit mn in
     record {
       ready = record {

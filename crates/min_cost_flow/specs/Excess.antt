@@ -1,10 +1,10 @@
 -- Amounts on the way to a flow: what each node still has to send out, or still wants.
 use Rattle.std.specs.Prelude.{ℕ, zero, suc, ◌<◌, ◌==◌, ◌≡◌, ℤ, pos, ◌+ℤ◌, ◌<ℤ◌, Bool, true, if◌then◌else◌}
 use Rattle.networks.specs.Networks.{NetworkModel, node_count, arc_count, arc_at, supply_at}
-use Rattle.networks.specs.Flow.{balance, IsWithin, IsResidual, start_of, end_of}
+use Rattle.networks.specs.Flow.{balance, IsWithinCap, IsResidual, start_of, end_of}
 
 abbrev pub KeepsCaps : NetworkModel → (ℕ → ℕ) → Type 0
-KeepsCaps net x = (i : ℕ) → i < arc_count net → IsWithin (arc_at net i).cap (x i)
+KeepsCaps net x = (i : ℕ) → i < arc_count net → IsWithinCap (arc_at net i).cap (x i)
 
 -- x leaves each node v the excess e v: above 0 it is left over there, below 0 it is wanting
 pub record Leaves (net : NetworkModel) (x : ℕ → ℕ) (e : ℕ → ℤ) : Type 0 where
@@ -14,15 +14,15 @@ pub record Leaves (net : NetworkModel) (x : ℕ → ℕ) (e : ℕ → ℤ) : Typ
 pub record Carries (net : NetworkModel) (x : ℕ → ℕ) (e : ℕ → ℤ) (v k : ℕ) : Type 0 where
   pub at_node : (w : ℕ) → w < node_count net → balance net x w +ℤ e w ≡ supply_at net w +ℤ pos (if v == w then k else 0)
 
--- no open residual arc leads out of the set
+-- no unsaturated residual arc leads out of the set
 pub record IsClosedOut (net : NetworkModel) (x : ℕ → ℕ) (s : ℕ → Bool) : Type 0 where
   pub stays : (i : ℕ) (back : Bool) → i < arc_count net → IsResidual net x i back → s (start_of net i back) ≡ true → s (end_of net i back) ≡ true
 
--- no open residual arc leads into the set
+-- no unsaturated residual arc leads into the set
 pub record IsClosedIn (net : NetworkModel) (x : ℕ → ℕ) (s : ℕ → Bool) : Type 0 where
   pub stays : (i : ℕ) (back : Bool) → i < arc_count net → IsResidual net x i back → s (end_of net i back) ≡ true → s (start_of net i back) ≡ true
 
--- a residual path from u to v: k open residual arcs
+-- a residual path from u to v: k unsaturated residual arcs
 abbrev pub IsResidualPath : NetworkModel → (ℕ → ℕ) → ℕ → ℕ → ℕ → Type 0
 IsResidualPath net x u v zero = u ≡ v
 IsResidualPath net x u v (suc k) = (i : ℕ) × (back : Bool) × (i < arc_count net) × IsResidual net x i back × (end_of net i back ≡ v) × IsResidualPath net x u (start_of net i back) k

@@ -1,4 +1,4 @@
--- A path of open residual arcs of reduced cost 0, from a node where units are left over to one where
+-- A path of unsaturated residual arcs of reduced cost 0, from a node where units are left over to one where
 -- units are wanting.
 use Rattle.std.specs.Prelude.{ℕ, zero, suc, ◌<◌, ◌≡◌, ℤ, pos, ◌+ℤ◌, ◌-ℤ◌, Bool, true, false, List}
 use Rattle.networks.specs.declared.residual.ResidualArc.{ResidualArc}
@@ -6,12 +6,12 @@ use Rattle.networks.specs.declared.residual.ResidualCapacity.{ResidualCapacity}
 use Rattle.networks.specs.ResidualArcs.{end_at, cost_at, reverse_at, capacity_at, StartsAt}
 use Rattle.networks.specs.Search.{HasResidualCapacity}
 
--- residual arc k leads from node u to node v, is open, and its reduced cost is 0
+-- residual arc k leads from node u to node v, has capacity, and its reduced cost is 0
 pub record IsTight (first : List ℕ) (arcs : List ResidualArc) (p : ℕ → ℤ) (u k v : ℕ) : Type 0 where
   pub leaves : StartsAt first u k
-  pub unblocked : HasResidualCapacity arcs k
+  pub has_capacity : HasResidualCapacity arcs k
   pub arrives : end_at arcs k ≡ v
-  pub free : cost_at arcs k +ℤ p u -ℤ p v ≡ pos 0
+  pub at_zero : cost_at arcs k +ℤ p u -ℤ p v ≡ pos 0
 
 -- node v was entered along residual arc k, from a node of the set that has a lesser place
 pub record IsAfter (first : List ℕ) (arcs : List ResidualArc) (p : ℕ → ℤ) (on : ℕ → Bool) (place : ℕ → ℕ) (v k : ℕ) : Type 0 where
@@ -22,7 +22,7 @@ pub record IsAfter (first : List ℕ) (arcs : List ResidualArc) (p : ℕ → ℤ
 
 -- residual arc `found` leads from node `last` to a node off the path, and each node of the path was
 -- entered along `enter`, back to the root at place 0
-pub record HasPath (n : ℕ) (first : List ℕ) (arcs : List ResidualArc) (p : ℕ → ℤ) (enter place : ℕ → ℕ) (root found : ℕ) : Type 0 where
+pub record HasTightPath (n : ℕ) (first : List ℕ) (arcs : List ResidualArc) (p : ℕ → ℤ) (enter place : ℕ → ℕ) (root found : ℕ) : Type 0 where
   pub on : ℕ → Bool
   pub node : (v : ℕ) → on v ≡ true → v < n
   pub root_is : (v : ℕ) → on v ≡ true → place v ≡ 0 → v ≡ root
@@ -49,5 +49,5 @@ pub record IsOnPath (next place : ℕ → ℕ) (v w : ℕ) : Type 0 where
 abbrev pub previous_of : List ResidualArc → List ResidualCapacity → (ℕ → ℕ) → ℕ → ℕ
 previous_of arcs capacities enter w = end_at arcs (reverse_at capacities (enter w))
 
-abbrev pub room_into : List ResidualCapacity → (ℕ → ℕ) → ℕ → ℕ
-room_into capacities enter w = capacity_at capacities (enter w)
+abbrev pub capacity_into : List ResidualCapacity → (ℕ → ℕ) → ℕ → ℕ
+capacity_into capacities enter w = capacity_at capacities (enter w)

@@ -54,7 +54,7 @@ pub record IsWork (net : NetworkModel) (x : ℕ → ℕ) (e : ℕ → ℤ) (sear
 pub record IsRoundDone (net : NetworkModel) (x : ℕ → ℕ) (p : ℕ → ℤ) (searches looks : ℕ) : Type 0 where
   pub flow : Flow net x
   pub potentials : HasPotentials net x p
-  pub reach : IsConfined net p
+  pub confined : IsConfined net p
   pub few : searches ≤ supply_sum net
   pub bounded : looks ≤ searches * (2 * arc_count net)
   pub carried : carrying net x ≤ looks

@@ -12,7 +12,7 @@ use Rattle.networks.specs.declared.state.Search.{Search}
 use Rattle.networks.specs.declared.state.Visit.{Visit}
 use Rattle.networks.specs.Search.{far, label_at, enter_at, place_at, labels, enters, orders, places, IsWithinFar}
 use Rattle.min_cost_flow.specs.declared.state.Solver.{Solver}
-use Rattle.min_cost_flow.specs.Path.{HasPath, IsOnPath, previous_of, room_into}
+use Rattle.min_cost_flow.specs.Path.{HasTightPath, IsOnPath, previous_of, capacity_into}
 use Rattle.min_cost_flow.specs.Round.{IsRound, IsLess, IsWork, carrying}
 
 -- what is left over at a node, or below 0 is wanting there
@@ -61,7 +61,7 @@ pub record IsAllSent (net : NetworkModel) (s : Solver) : Type 0 where
   pub sent : (v : ℕ) → v < node_count net → excess_at s v ≡ pos 0
 
 -- whether all units could be sent
-pub record IsAnswer (net : NetworkModel) (s : Solver) (sent : Bool) : Type 0 where
+pub record IsVerdict (net : NetworkModel) (s : Solver) (sent : Bool) : Type 0 where
   pub all_sent : sent ≡ true → IsAllSent net s
   pub no_flow : sent ≡ false → HasNoFlow net
 
@@ -96,7 +96,7 @@ last_node s = end_at s.residual.arcs.items (reverse_at s.residual.capacities.ite
 -- arc is `found`
 pub record CanAugmentIn (net : NetworkModel) (r : Residual) (potential excess : List ℤ) (visits : List Visit) (found from : ℕ) : Type 0 where
   pub ready : IsReadyIn net r potential excess visits
-  pub path : HasPath (node_count net) r.first.items r.arcs.items (at_nodes potential) (enter_at visits) (place_at visits) from found
+  pub path : HasTightPath (node_count net) r.first.items r.arcs.items (at_nodes potential) (enter_at visits) (place_at visits) from found
   pub root : from < node_count net
   pub remaining : pos 0 <ℤ at_nodes excess from
   pub wanting : at_nodes excess (end_at r.arcs.items found) <ℤ pos 0
@@ -115,7 +115,7 @@ pub record IsFitting (s : Solver) (root amount : ℕ) : Type 0 where
   pub found : amount ≤ capacity_at s.residual.capacities.items s.found
   pub remaining : pos amount ≤ℤ excess_at s root
   pub short : (excess_at s (end_at s.residual.arcs.items s.found) +ℤ pos amount) ≤ℤ pos 0
-  pub fits : (v : ℕ) → IsOnPath (previous_of s.residual.arcs.items s.residual.capacities.items (enters_in s)) (places_in s) (last_node s) v → 0 < places_in s v → amount ≤ room_into s.residual.capacities.items (enters_in s) v
+  pub fits : (v : ℕ) → IsOnPath (previous_of s.residual.arcs.items s.residual.capacities.items (enters_in s)) (places_in s) (last_node s) v → 0 < places_in s v → amount ≤ capacity_into s.residual.capacities.items (enters_in s) v
 
 -- so many units can go along the path, and no more
 pub record IsBottleneck (s : Solver) (root amount : ℕ) : Type 0 where
@@ -144,7 +144,7 @@ pub record IsPushedAlong (r r' : Residual) (k amount : ℕ) : Type 0 where
   pub first : r'.first ≡ r.first
   pub forward : r'.forward ≡ r.forward
   pub arc_size : length r'.arcs.items ≡ length r.arcs.items
-  pub room_size : length r'.capacities.items ≡ length r.capacities.items
+  pub capacities_size : length r'.capacities.items ≡ length r.capacities.items
   pub ends : (j : ℕ) → end_at r'.arcs.items j ≡ end_at r.arcs.items j
   pub reverse : (j : ℕ) → reverse_at r'.capacities.items j ≡ reverse_at r.capacities.items j
   pub costs : (j : ℕ) (z : ℤ) → IsCosted r.arcs.items r.capacities.items j z → IsCosted r'.arcs.items r'.capacities.items j z
@@ -164,7 +164,7 @@ pub record CanUpdate (potential : List ℤ) (s : Search) : Type 0 where
   pub bound : IsWithinFar s.bound
 
 -- the nodes that were reached are in the order
-pub record HasOrder (s : Search) : Type 0 where
+pub record HasReachedOrder (s : Search) : Type 0 where
   pub order : s.reached ≤ length s.visits.now
   pub small : length s.visits.now ≤ MAX_NODES
   pub nodes : (j : ℕ) → j < s.reached → orders s j < length s.visits.now

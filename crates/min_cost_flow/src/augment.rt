@@ -2,8 +2,8 @@
 //! many units as fit along it, but no more than are left over where it starts or are wanting where it ends.
 //!
 //! It goes over the residual arcs of the path twice, and takes no memory. Potentials stay: along the path reduced
-//! costs are 0, so the residual arcs back, which it opens, have reduced costs of 0 too. Amounts are at most 2,048
-//! units.
+//! costs are 0, so the residual arcs back, which it gives capacity, have reduced costs of 0 too. Amounts are at
+//! most 2,048 units.
 ghost use Rattle.std.specs.Prelude.{◌≡◌, ◌<◌, ◌≤◌, ℕ, length, pos, ◌≤ℤ◌, ◌<ℤ◌, ◌+ℤ◌};
 ghost use Rattle.networks.specs.Networks.{NetworkModel};
 ghost use Rattle.networks.specs.Flow.{at_nodes};
@@ -68,7 +68,7 @@ fn most_between(excess: &[i32], root: usize, target: usize) -> u32
         .min(excess[target].unsigned_abs())
 }
 
-/// Sends along a residual arc, and so makes room for as much along its reverse.
+/// Sends along a residual arc, and so gives as much capacity to its reverse.
 fn push(residual: &mut Residual, number: usize, amount: u32)
     requires pair { IsPaired residual.old number }
     requires some { 0 < amount }

@@ -6,7 +6,7 @@ ghost use Rattle.min_cost_flow.specs.Existence.{SuppliesSumToZero, HasUnlimitedP
 ghost use Rattle.networks.specs.Flow.{Flow, HasNoFlow, HasPotentials, IsLeastCost};
 ghost use Rattle.networks.specs.Networks.{HasEnds, NetworkModel, node_count};
 
-/// A flow whose open residual arcs all have a reduced cost of at least 0, under some potentials, costs no
+/// A flow whose unsaturated residual arcs all have a reduced cost of at least 0, under some potentials, costs no
 /// more than any other flow.
 pub fn potentials_show_least_cost()
     ensures { (net : NetworkModel) (x : ℕ → ℕ) (p : ℕ → ℤ) → HasEnds net → Flow net x → HasPotentials net x p → IsLeastCost net x }

@@ -1,7 +1,7 @@
 //! Least-cost flow in small networks: each node supplies or wants units, each arc carries units up
 //! to its capacity at a cost of 0 or 1 each, and the solver sends all of them at least cost.
 //!
-//! The method keeps, from the first unit on, potentials under which no open residual arc has a reduced
+//! The method keeps, from the first unit on, potentials under which no unsaturated residual arc has a reduced
 //! cost below 0. (Successive shortest paths: Ahuja, Magnanti and Orlin, Network Flows, 1993.)
 #![tactic(auto)]
 

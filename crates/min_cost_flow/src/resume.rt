@@ -10,7 +10,7 @@ ghost use Rattle.min_cost_flow.specs.declared.resume.TheConstants.{MAX_CARRIED};
 ghost use Rattle.networks.specs.Networks.{NetworkModel, node_count, HasFairSupplies, shifted};
 ghost use Rattle.networks.specs.Flow.{at_nodes};
 ghost use Rattle.networks.specs.ResidualArcs.{reverse_at, capacity_at, carried};
-ghost use Rattle.min_cost_flow.specs.Stand.{excess_at, IsReady, IsAllSent, IsAnswer, CanRead};
+ghost use Rattle.min_cost_flow.specs.Stand.{excess_at, IsReady, IsAllSent, IsVerdict, CanRead};
 
 use crate::solver::{carried_along, has_deficit};
 use crate::state::Solver;
@@ -30,7 +30,7 @@ impl Solver {
         requires few { amount ≤ MAX_SUPPLY }
         requires fair { HasFairSupplies (shifted network.old from to amount) }
         ensures network { network.new ≡ shifted network.old from to amount }
-        ensures answer { IsAnswer network.new self.new result }
+        ensures answer { IsVerdict network.new self.new result }
     {
         network.shift(from, to, amount);
         let residual = &self.residual;
@@ -49,7 +49,7 @@ impl Solver {
         requires ready { (net : NetworkModel) × IsReady net self.old }
         requires root { root < length self.old.nodes.excess.items }
         requires others { (v : ℕ) → v < length self.old.nodes.excess.items → v ≢ root → excess_at self.old v ≤ℤ pos 0 }
-        ensures { (net : NetworkModel) → IsReady net self.old → IsAnswer net self.new result }
+        ensures { (net : NetworkModel) → IsReady net self.old → IsVerdict net self.new result }
     {
         'units: while self.nodes.excess[root] > 0 {
             self.looks = 0;
@@ -76,7 +76,7 @@ fn carries_little(capacities: &[ResidualCapacity], forward: &[u32], amount: u32)
     true
 }
 
-/// Takes the potential of a node for 0; whether all are within reach then.
+/// Takes the potential of a node for 0; whether all are confined then.
 fn rebase(potential: &mut [i32], node: usize) -> bool
     requires node { node < length potential.old }
     requires small { length potential.old ≤ MAX_NODES }
@@ -105,9 +105,9 @@ fn is_confined(potential: &[i32]) -> bool
     requires small { length potential.now ≤ MAX_NODES }
     ensures { result ≡ true → (v : ℕ) → v < length potential.now → (pos 0 ≤ℤ (at_nodes potential.now v +ℤ pos (2 * length potential.now))) × (at_nodes potential.now v ≤ℤ pos (2 * length potential.now)) }
 {
-    let reach = 2 * potential.len() as i32;
-    let low = -reach;
+    let limit = 2 * potential.len() as i32;
+    let low = -limit;
     !potential
         .iter()
-        .any(|at_node| *at_node < low || *at_node > reach)
+        .any(|at_node| *at_node < low || *at_node > limit)
 }

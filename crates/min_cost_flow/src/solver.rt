@@ -13,7 +13,7 @@ ghost use Rattle.networks.specs.Flow.{amounts, at_nodes, HasNoFlow, Solves};
 ghost use Rattle.networks.specs.ResidualArcs.{reverse_at, capacity_at, carried, end_at};
 ghost use Rattle.networks.specs.Search.{far, labels, orders, label_at, IsPut, IsWithinFar, place_at};
 ghost use Rattle.min_cost_flow.specs.Round.{carrying, supply_sum, IsRoundDone, HasSupply, IsConfined};
-ghost use Rattle.min_cost_flow.specs.Stand.{excess_at, potential_at, flow_in, IsSized, IsReady, IsBetweenSearches, IsAnswer, HasSentFrom, IsAugmented, CanUpdate, HasOrder, CanRead, IsCleared, IsReadyIn, CanAugmentIn};
+ghost use Rattle.min_cost_flow.specs.Stand.{excess_at, potential_at, flow_in, IsSized, IsReady, IsBetweenSearches, IsVerdict, HasSentFrom, IsAugmented, CanUpdate, HasReachedOrder, CanRead, IsCleared, IsReadyIn, CanAugmentIn};
 
 use crate::scratch::Scratch;
 use crate::solved::Solved;
@@ -58,7 +58,7 @@ pub fn solve(alloc: Global, network: &Network) -> Result<Solved, SolveFault>
     ensures looks { IfOk result (λ solved. solved.looks ≤ solved.searches * (2 * arc_count network.now)) }
     ensures begun { IfOk result (λ solved. HasSupply network.now → 1 ≤ solved.searches) }
     ensures carrying { IfOk result (λ solved. carrying network.now (amounts solved.flow) ≤ solved.looks) }
-    ensures reach { IfOk result (λ solved. IsConfined network.now (at_nodes solved.potential)) }
+    ensures confined { IfOk result (λ solved. IsConfined network.now (at_nodes solved.potential)) }
 {
     let mut scratch = Scratch::empty(alloc);
     solve_in(alloc, &mut scratch, network)
@@ -78,7 +78,7 @@ pub fn solve_in(
     ensures looks { IfOk result (λ solved. solved.looks ≤ solved.searches * (2 * arc_count network.now)) }
     ensures begun { IfOk result (λ solved. HasSupply network.now → 1 ≤ solved.searches) }
     ensures carrying { IfOk result (λ solved. carrying network.now (amounts solved.flow) ≤ solved.looks) }
-    ensures reach { IfOk result (λ solved. IsConfined network.now (at_nodes solved.potential)) }
+    ensures confined { IfOk result (λ solved. IsConfined network.now (at_nodes solved.potential)) }
 {
     let solver = &mut scratch.solver;
     solver.prepare(network)?;
@@ -96,7 +96,7 @@ impl Solver {
     pub(crate) fn solve(&mut self, network: &Network) -> bool
         requires { IsSized network.now self.old }
         ensures done { result ≡ true → IsRoundDone network.now (flow_in self.new) (potential_at self.new) self.new.searches self.new.looks }
-        ensures answer { IsAnswer network.now self.new result }
+        ensures answer { IsVerdict network.now self.new result }
     {
         self.initialise(network);
         for root in 0..self.nodes.excess.len() {
@@ -227,7 +227,7 @@ fn write_potential(potential: &mut [i32], node: usize, label: i16, bound: i32)
 
 /// Takes the labels of the nodes that were reached away.
 fn clear(search: &mut Search<'_>)
-    requires { HasOrder search.old }
+    requires { HasReachedOrder search.old }
     ensures cleared { IsCleared search.old search.new }
     ensures list { search.new.visits.ghost_name ≡ search.old.visits.ghost_name }
 {

@@ -8,7 +8,7 @@ use std::alloc::{AllocError, Global};
 /// What is known of each node of a network.
 #[derive(Drop)]
 pub struct Nodes {
-    /// Under these no open residual arc has a reduced cost below 0, and where units are wanting they are 0.
+    /// Under these no unsaturated residual arc has a reduced cost below 0, and where units are wanting they are 0.
     pub potential: Vec<i32>,
     /// How many units are left over at a node, or, below 0, are wanting there.
     pub excess: Vec<i32>,

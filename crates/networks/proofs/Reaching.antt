@@ -73,7 +73,7 @@ offered_entered n first arcs p s q q' place place' scanned radius k v x o here k
       are_scanned = omega (arith, same.1, o.are_scanned);
       before = omega (arith, same.1, o.are_scanned);
       leaves = o.leaves;
-      unblocked = o.unblocked;
+      has_capacity = o.has_capacity;
       arrives = o.arrives;
       label = rw same.0 (here ∙ o.label);
     }
@@ -92,7 +92,7 @@ kept_entered n first arcs q q' place place' scanned v k o here kept behind =
       are_scanned = omega arith;
       before = elim behind [ inl h ↦ omega arith | inr h ↦ omega arith ];
       leaves = o.leaves;
-      unblocked = o.unblocked;
+      has_capacity = o.has_capacity;
       arrives = o.arrives;
       label = rw (here, same.0) o.label;
     }
@@ -135,9 +135,9 @@ relabelled n first arcs p e s q q' enter enter' order place scanned ordered reac
           | inr ne ↦ subst (λ (z : ℤ). IsNear (p s) scanned z) (sym (put.others w ne)) (r.near w c (was w c m))
         ];
         root = (r.root.0, now s r.root.0 r.root.1, r.root.2);
-        plain = λ w c m. elim (cases_eq w v) [
+        nonnegative = λ w c m. elim (cases_eq w v) [
           | inl t ↦ subst (λ (t : ℕ). pos 0 ≤ℤ e t) (sym t) fair
-          | inr ne ↦ r.plain w c (was w c m)
+          | inr ne ↦ r.nonnegative w c (was w c m)
         ];
         entered = λ w c m ne. elim (cases_eq w v) [
           | inl t ↦ subst (λ (t : ℕ). IsEntered n first arcs q' place scanned t (enter' t)) (sym t) (subst (λ (i : ℕ). IsEntered n first arcs q' place scanned v i) (sym entered.here) (offered_entered n first arcs p s q q' place place scanned radius k v x o put.here kept (omega arith)))
@@ -200,9 +200,9 @@ enlisted n first arcs p e s q q' enter enter' order order' place place' scanned 
           | inr ne ↦ subst (λ (z : ℤ). IsNear (p s) scanned z) (sym (put.others w ne)) (r.near w c (was w ne m))
         ];
         root = (r.root.0, rw (put.others s (fresh s r.root.1)) r.root.1, placed.others s (fresh s r.root.1) ∙ r.root.2);
-        plain = λ w c m. elim (cases_eq w v) [
+        nonnegative = λ w c m. elim (cases_eq w v) [
           | inl t ↦ subst (λ (t : ℕ). pos 0 ≤ℤ e t) (sym t) fair
-          | inr ne ↦ r.plain w c (was w ne m)
+          | inr ne ↦ r.nonnegative w c (was w ne m)
         ];
         entered = λ w c m ne. elim (cases_eq w v) [
           | inl t ↦ subst (λ (t : ℕ). IsEntered n first arcs q' place' scanned t (enter' t)) (sym t) (subst (λ (i : ℕ). IsEntered n first arcs q' place' scanned v i) (sym entered.here) (offered_entered n first arcs p s q q' place place' scanned radius k v x o put.here kept (omega arith)))
@@ -306,7 +306,7 @@ swapped n first arcs p e s q enter order order' place place' scanned ordered rea
         ];
         near = r.near;
         root = (r.root.0, r.root.1, sw.stay s s_v s_o ∙ s_at);
-        plain = r.plain;
+        nonnegative = r.nonnegative;
         entered = λ w c m ne. kept_entered n first arcs q q place place' scanned w (enter w) (r.entered w c m ne) refl kept (
             elim (cases_eq w v) [
               | inl t ↦ let e : place' w ≡ ordered = ap place' t ∙ sw.stands in inl (omega arith)
@@ -329,7 +329,7 @@ entered_more n first arcs q place scanned v k o = record {
   are_scanned = omega (arith, o.are_scanned);
   before = o.before;
   leaves = o.leaves;
-  unblocked = o.unblocked;
+  has_capacity = o.has_capacity;
   arrives = o.arrives;
   label = o.label;
 }
@@ -347,7 +347,7 @@ headed n first arcs p e s q enter order place scanned ordered reached radius r m
   here = λ w c m h. r.here w c m (omega arith);
   near = λ w c m. near_more (p s) scanned (q w) (r.near w c m);
   root = r.root;
-  plain = r.plain;
+  nonnegative = r.nonnegative;
   entered = λ w c m ne. entered_more n first arcs q place scanned w (enter w) (r.entered w c m ne);
 }
 
@@ -361,7 +361,7 @@ headed_nearest n first arcs p e s q place scanned radius bound k r = record {
     labelled = h.labelled;
     are_scanned = omega (arith, h.are_scanned);
     leaves = h.leaves;
-    unblocked = h.unblocked;
+    has_capacity = h.has_capacity;
     wanting = h.wanting;
     distance = h.distance;
     near = near_more (p s) scanned bound h.near;
@@ -386,7 +386,7 @@ climbed n first arcs p e s q enter order place scanned ordered reached radius to
   here = λ w c m h. let (b, back) = r.listed w c m in subst (λ (i : ℕ). to ≤ℤ (q i -ℤ p i)) back (least (place w) (omega arith) b);
   near = r.near;
   root = r.root;
-  plain = r.plain;
+  nonnegative = r.nonnegative;
   entered = r.entered;
 }
 
@@ -436,7 +436,7 @@ nearest_kept n first arcs p e s q q' place place' scanned radius radius' bound k
         labelled = subst (λ (z : ℤ). z <ℤ far) (sym e) h.labelled;
         are_scanned = subst (λ (i : ℕ). i < scanned) (sym f) h.are_scanned;
         leaves = h.leaves;
-        unblocked = h.unblocked;
+        has_capacity = h.has_capacity;
         wanting = h.wanting;
         distance = rw e h.distance;
         near = h.near;
@@ -463,7 +463,7 @@ nearest_offered n first arcs p e s q place scanned radius bound bound' k k' j v 
         labelled = o.labelled;
         are_scanned = o.are_scanned;
         leaves = o.leaves;
-        unblocked = o.unblocked;
+        has_capacity = o.has_capacity;
         wanting = subst (λ (i : ℕ). e i <ℤ pos 0) (sym o.arrives) wants;
         distance = rw (o.arrives, o.label) refl;
         near = near_lowered (p s) scanned x (p v) o.near none;
@@ -480,9 +480,9 @@ no_more : (a a' c b b' : ℤ) → a' ≡ a → b' ≤ℤ b → b ≤ℤ (a +ℤ 
 no_more a a' c b b' h k l = omega (arith, ints)
 
 pub serves_kept : (arcs : List ResidualArc) (p q q' : ℕ → ℤ) (bound bound' : ℤ) (u k : ℕ) → q' u ≡ q u → q' (end_at arcs k) ≤ℤ q (end_at arcs k) → bound' ≤ℤ bound → Serves arcs p q bound u k → Serves arcs p q' bound' u k
-serves_kept arcs p q q' bound bound' u k same lower less sv unblocked near =
+serves_kept arcs p q q' bound bound' u k same lower less sv has_capacity near =
     let was : (q u +ℤ cost_at arcs k -ℤ p (end_at arcs k)) <ℤ bound = nearer (q u) (q' u) (cost_at arcs k) (p (end_at arcs k)) bound bound' same near less in
-    no_more (q u) (q' u) (cost_at arcs k) (q (end_at arcs k)) (q' (end_at arcs k)) same lower (sv unblocked was)
+    no_more (q u) (q' u) (cost_at arcs k) (q (end_at arcs k)) (q' (end_at arcs k)) same lower (sv has_capacity was)
 
 pub served_kept : (n : ℕ) (first : List ℕ) (arcs : List ResidualArc) (p q q' : ℕ → ℤ) (place place' : ℕ → ℕ) (bound bound' : ℤ) (h : ℕ) → IsGraph n first arcs → IsServed n first arcs p q place bound h → AreLowered n h q place q' place' → bound' ≤ℤ bound → IsServed n first arcs p q' place' bound' h
 served_kept n first arcs p q q' place place' bound bound' h g sv kept less = record {
@@ -583,7 +583,7 @@ offer_made n first arcs p e s q enter order place scanned ordered reached radius
       labelled = lu;
       are_scanned = omega arith;
       leaves = st;
-      unblocked = o.1;
+      has_capacity = o.1;
       arrives = sym ends;
       label = sum;
       near = subst (λ (i : ℕ). IsNear (p s) i x) at close;
@@ -687,7 +687,7 @@ root_reached n first arcs p e s q q' enter order place small sb low remaining bl
       here = λ w b l h. subst (λ (i : ℕ). pos 0 ≤ℤ (q' i -ℤ p i)) (sym (only w b l)) (no_distance (q' s) (p s) put.here).1;
       near = λ w b l. subst (λ (i : ℕ). IsNear (p s) 0 (q' i)) (sym (only w b l)) (near_self (q' s) (p s) put.here);
       root = (sb, ls, pat);
-      plain = λ w b l. subst (λ (i : ℕ). pos 0 ≤ℤ e i) (sym (only w b l)) (more_than_none (e s) remaining);
+      nonnegative = λ w b l. subst (λ (i : ℕ). pos 0 ≤ℤ e i) (sym (only w b l)) (more_than_none (e s) remaining);
       entered = λ w b l ne. absurd (ne (only w b l));
     }
 

@@ -7,7 +7,7 @@ use mir.Syntax.{w16, w32}
 use mir.Val.{of_z, to_z}
 use Rattle.networks.specs.declared.state.SearchInput.{SearchInput}
 use Rattle.networks.specs.declared.state.Search.{Search}
-use Rattle.networks.specs.declared.state.Step.{Step}
+use Rattle.networks.specs.declared.state.Offer.{Offer}
 use Rattle.networks.specs.declared.state.Visit.{Visit}
 use Rattle.networks.specs.ResidualArcs.{StartsAt, end_at, cost_at}
 use Rattle.networks.specs.Search.{far, nodes_of, first_of, arcs_of, IsScanning, potential_of, excess_of, labels, orders, places, Reaches, HasLowered, IsSearch, IsOffered, IsLabelled, IsRelaxed, AreLowered, IsSwapped, IsReordered, HasServed, IsSearchInput, Serves, IsServed, looked, degree, SameBesideBound, SameBesideOrder, IsWithinFar}
@@ -49,20 +49,20 @@ pub room_remaining : (g : SearchInput) (s : Search) (v : ℕ) → IsSearch g s �
 room_remaining g s v h b l = omega (arith, h.size, order_room _ _ _ _ _ _ _ _ _ _ _ _ _ _ v h.reached b l)
 
 -- what a new label leaves
-pub record IsTaken (g : SearchInput) (s s' : Search) (step : Step) : Type 0 where
+pub record IsTaken (g : SearchInput) (s s' : Search) (step : Offer) : Type 0 where
   pub reached : Reaches g s'
   pub kept : HasLowered g s.scanned s s'
   pub place : s.ordered ≤ places s' step.end
 
-pub taken : (g : SearchInput) (s s' : Search) (step : Step) → IsOffered g s step → pos 0 ≤ℤ excess_of g step.end → IsLabelled s s' step → IsTaken g s s' step
-taken g s s' step o plain m =
+pub taken : (g : SearchInput) (s s' : Search) (step : Offer) → IsOffered g s step → pos 0 ≤ℤ excess_of g step.end → IsLabelled s s' step → IsTaken g s s' step
+taken g s s' step o nonnegative m =
     let h = o.search in
     let b : step.end < nodes_of g = offer_end _ _ _ _ _ _ _ _ _ _ _ _ h.input.graph o.offer in
     let q = m.progress in
     elim (below_or_not (labels s step.end) far) [
       | inl l ↦
           let e = m.again l in
-          let all = relabelled _ _ _ _ _ _ _ _ _ _ _ _ _ _ _ _ _ _ _ h.reached o.offer b l plain m.label m.enter in
+          let all = relabelled _ _ _ _ _ _ _ _ _ _ _ _ _ _ _ _ _ _ _ h.reached o.offer b l nonnegative m.label m.enter in
           record {
             reached = rw (fun_ext e.order, fun_ext e.place, q.scanned, q.ordered, e.reached, q.radius) all.0;
             kept = rw (fun_ext e.place) all.1;
@@ -71,7 +71,7 @@ taken g s s' step o plain m =
       | inr l ↦
           let e = m.anew l in
           let d : s.reached < nodes_of g = order_room _ _ _ _ _ _ _ _ _ _ _ _ _ _ step.end h.reached b l in
-          let all = enlisted _ _ _ _ _ _ _ _ _ _ _ _ _ _ _ _ _ _ _ _ _ h.reached o.offer b l plain d m.label m.enter e.0 e.1 in
+          let all = enlisted _ _ _ _ _ _ _ _ _ _ _ _ _ _ _ _ _ _ _ _ _ h.reached o.offer b l nonnegative d m.label m.enter e.0 e.1 in
           let at : places s' step.end ≡ s.reached = e.1.here in
           record {
             reached = rw (q.scanned, q.ordered, e.2, q.radius) all.0;
@@ -81,14 +81,14 @@ taken g s s' step o plain m =
     ]
 
 -- the label that is offered is in range
-pub offer_within : (g : SearchInput) (s : Search) (step : Step) → IsOffered g s step → IsWithinFar step.label
+pub offer_within : (g : SearchInput) (s : Search) (step : Offer) → IsOffered g s step → IsWithinFar step.label
 offer_within g s step o = offer_fits _ _ _ _ _ _ _ _ _ _ _ _ _ _ _ _ _ o.search.input.graph o.search.input.priced o.search.reached o.offer
 
-pub end_in : (g : SearchInput) (s : Search) (step : Step) → IsOffered g s step → step.end < nodes_of g
+pub end_in : (g : SearchInput) (s : Search) (step : Offer) → IsOffered g s step → step.end < nodes_of g
 end_in g s step o = offer_end _ _ _ _ _ _ _ _ _ _ _ _ o.search.input.graph o.offer
 
 -- units are wanting at the end, which may be the nearest such node now
-pub offered : (g : SearchInput) (s s' : Search) (step : Step) (away : ℤ) → IsOffered g s step → excess_of g step.end <ℤ pos 0 → away ≡ step.label -ℤ potential_of g step.end → SameBesideBound s s' → s'.bound ≤ℤ s.bound → ((s'.bound ≡ s.bound) × (s'.found ≡ s.found)) ⊎ ((s'.bound ≡ away) × (s'.found ≡ step.number)) → IsRelaxed g s s'
+pub offered : (g : SearchInput) (s s' : Search) (step : Offer) (away : ℤ) → IsOffered g s step → excess_of g step.end <ℤ pos 0 → away ≡ step.label -ℤ potential_of g step.end → SameBesideBound s s' → s'.bound ≤ℤ s.bound → ((s'.bound ≡ s.bound) × (s'.found ≡ s.found)) ⊎ ((s'.bound ≡ away) × (s'.found ≡ step.number)) → IsRelaxed g s s'
 offered g s s' step away o wants at a bound either =
     let h = o.search in
     let v = step.end in
@@ -109,11 +109,11 @@ offered g s s' step away o wants at a bound either =
     }
 
 -- the end has got its label, further off than the radius
-pub node_labelled_behind : (g : SearchInput) (s t : Search) (step : Step) → IsOffered g s step → pos 0 ≤ℤ excess_of g step.end → IsLabelled s t step → IsRelaxed g s t
-node_labelled_behind g s t step o plain m =
+pub node_labelled_behind : (g : SearchInput) (s t : Search) (step : Offer) → IsOffered g s step → pos 0 ≤ℤ excess_of g step.end → IsLabelled s t step → IsRelaxed g s t
+node_labelled_behind g s t step o nonnegative m =
     let h = o.search in
     let p = m.progress in
-    let k = taken g s t step o plain m in
+    let k = taken g s t step o nonnegative m in
     record {
       search = record {
         input = h.input;
@@ -139,12 +139,12 @@ pub record IsListed (g : SearchInput) (t : Search) (v : ℕ) : Type 0 where
   pub other : orders t t.ordered < nodes_of g
   pub at : places t (orders t t.ordered) ≡ t.ordered
 
-pub listed : (g : SearchInput) (s t : Search) (step : Step) → IsOffered g s step → pos 0 ≤ℤ excess_of g step.end → IsLabelled s t step → IsListed g t step.end
-listed g s t step o plain m =
+pub listed : (g : SearchInput) (s t : Search) (step : Offer) → IsOffered g s step → pos 0 ≤ℤ excess_of g step.end → IsLabelled s t step → IsListed g t step.end
+listed g s t step o nonnegative m =
     let h = o.search in
     let v = step.end in
     let b : v < nodes_of g = end_in g s step o in
-    let k = taken g s t step o plain m in
+    let k = taken g s t step o nonnegative m in
     let r = k.reached in
     let l : labels t v <ℤ far = subst (λ (z : ℤ). z <ℤ far) (sym m.label.here) (offer_below _ _ _ _ _ _ _ _ _ _ _ _ _ _ _ _ _ h.reached o.offer b) in
     let (inside, back) = r.listed v b l in
@@ -162,14 +162,14 @@ listed g s t step o plain m =
     }
 
 -- the same at the radius, where it was put behind those that are ordered
-pub node_labelled : (g : SearchInput) (s t u : Search) (step : Step) (away : ℤ) → IsOffered g s step → pos 0 ≤ℤ excess_of g step.end → IsLabelled s t step → away ≡ step.label -ℤ potential_of g step.end → away ≡ t.radius → IsSwapped (orders t) (places t) (orders u) (places u) step.end (places t step.end) t.ordered → SameBesideOrder t u → u.ordered ≡ t.ordered + 1 → IsRelaxed g s u
-node_labelled g s t u step away o plain m at same swap z up =
+pub node_labelled : (g : SearchInput) (s t u : Search) (step : Offer) (away : ℤ) → IsOffered g s step → pos 0 ≤ℤ excess_of g step.end → IsLabelled s t step → away ≡ step.label -ℤ potential_of g step.end → away ≡ t.radius → IsSwapped (orders t) (places t) (orders u) (places u) step.end (places t step.end) t.ordered → SameBesideOrder t u → u.ordered ≡ t.ordered + 1 → IsRelaxed g s u
+node_labelled g s t u step away o nonnegative m at same swap z up =
     let h = o.search in
     let v = step.end in
     let b : v < nodes_of g = end_in g s step o in
     let p = m.progress in
-    let k = taken g s t step o plain m in
-    let w = listed g s t step o plain m in
+    let k = taken g s t step o nonnegative m in
+    let w = listed g s t step o nonnegative m in
     let near : (labels t v -ℤ potential_of g v) ≤ℤ t.radius = at_radius (labels t v) (potential_of g v) step.label away t.radius m.label.here at same in
     let (moved, kept) = swapped _ _ _ _ _ _ _ _ _ _ _ _ _ _ _ _ v (places t v) k.reached b w.labelled refl w.ordered near swap in
     let both = kept_then _ _ _ _ _ _ _ _ k.kept (subst (λ (i : ℕ). AreLowered (nodes_of g) i (labels t) (places t) (labels t) (places u)) p.scanned kept) in
@@ -188,7 +188,7 @@ node_labelled g s t u step away o plain m at same swap z up =
     }
 
 -- residual arc k of the scanned node u offers x to its end v
-pub offering : (g : SearchInput) (s : Search) (u : ℕ) (step : Step) → IsScanning g s u → StartsAt (first_of g) u step.number → step.end ≡ end_at (arcs_of g) step.number → step.label ≡ labels s u +ℤ cost_at (arcs_of g) step.number → step.label <ℤ labels s step.end → IsOffered g s step
+pub offering : (g : SearchInput) (s : Search) (u : ℕ) (step : Offer) → IsScanning g s u → StartsAt (first_of g) u step.number → step.end ≡ end_at (arcs_of g) step.number → step.label ≡ labels s u +ℤ cost_at (arcs_of g) step.number → step.label <ℤ labels s step.end → IsOffered g s step
 offering g s u step n k e x l = record {
   search = n.search;
   offer = offer_made _ _ _ _ _ _ _ _ _ _ _ _ _ _ u _ _ _ n.search.input.graph n.search.input.priced n.search.reached n.node n.labelled n.place n.near n.radius k e x l;

@@ -23,13 +23,13 @@ abbrev pub cost_of : NetworkModel → (ℕ → ℕ) → ℕ
 cost_of net x = sum_below (arc_count net) (λ i. (arc_at net i).cost * x i)
 
 -- the amount is within the capacity
-abbrev pub IsWithin : Cap → ℕ → Type 0
-IsWithin (AtMost k) amount = amount ≤ k
-IsWithin Any amount = Unit {0}
+abbrev pub IsWithinCap : Cap → ℕ → Type 0
+IsWithinCap (AtMost k) amount = amount ≤ k
+IsWithinCap Any amount = Unit {0}
 
 -- x is a flow: it keeps the capacities, and each node sends out its supply
 pub record Flow (net : NetworkModel) (x : ℕ → ℕ) : Type 0 where
-  pub within : (i : ℕ) → i < arc_count net → IsWithin (arc_at net i).cap (x i)
+  pub within : (i : ℕ) → i < arc_count net → IsWithinCap (arc_at net i).cap (x i)
   pub meets : (v : ℕ) → v < node_count net → balance net x v ≡ supply_at net v
 
 abbrev pub HasNoFlow : NetworkModel → Type 0
@@ -46,7 +46,7 @@ abbrev pub IsUnsaturated : Cap → ℕ → Type 0
 IsUnsaturated (AtMost k) amount = amount < k
 IsUnsaturated Any amount = Unit {0}
 
--- the residual arc is open: one more unit can go along it
+-- the residual arc has capacity: one more unit can go along it
 abbrev pub IsResidual : NetworkModel → (ℕ → ℕ) → ℕ → Bool → Type 0
 IsResidual net x i false = IsUnsaturated (arc_at net i).cap (x i)
 IsResidual net x i true = 0 < x i
@@ -68,7 +68,7 @@ unit_cost net i true = pos 0 -ℤ pos (arc_at net i).cost
 abbrev pub reduced_cost : NetworkModel → (ℕ → ℤ) → ℕ → Bool → ℤ
 reduced_cost net p i back = unit_cost net i back +ℤ p (start_of net i back) -ℤ p (end_of net i back)
 
--- each open residual arc has a reduced cost of at least 0
+-- each unsaturated residual arc has a reduced cost of at least 0
 pub record HasPotentials (net : NetworkModel) (x : ℕ → ℕ) (p : ℕ → ℤ) : Type 0 where
   pub residual : (i : ℕ) (back : Bool) → i < arc_count net → IsResidual net x i back → pos 0 ≤ℤ reduced_cost net p i back
 

@@ -15,8 +15,8 @@ numbers xs i = slice_index xs i
 abbrev pub no_residual_arc : ResidualArc
 no_residual_arc = record { end = 0; cost = pos 0 }
 
-abbrev pub no_residual_room : ResidualCapacity
-no_residual_room = record { reverse = 0; capacity = 0 }
+abbrev pub no_residual_capacity : ResidualCapacity
+no_residual_capacity = record { reverse = 0; capacity = 0 }
 
 abbrev pub end_at : List ResidualArc → ℕ → ℕ
 end_at arcs k = (slice_index_or arcs k no_residual_arc).end
@@ -26,11 +26,11 @@ cost_at arcs k = (slice_index_or arcs k no_residual_arc).cost
 
 -- the number of the residual arc the other way
 abbrev pub reverse_at : List ResidualCapacity → ℕ → ℕ
-reverse_at capacities k = (slice_index_or capacities k no_residual_room).reverse
+reverse_at capacities k = (slice_index_or capacities k no_residual_capacity).reverse
 
 -- how many more units fit
 abbrev pub capacity_at : List ResidualCapacity → ℕ → ℕ
-capacity_at capacities k = (slice_index_or capacities k no_residual_room).capacity
+capacity_at capacities k = (slice_index_or capacities k no_residual_capacity).capacity
 
 -- number k is one of the residual arcs that start at node v
 pub record StartsAt (first : List ℕ) (v k : ℕ) : Type 0 where
@@ -57,7 +57,7 @@ pub record HasResidualArcs (net : NetworkModel) (first : List ℕ) (reverse : �
   pub rising : (v : ℕ) → v < node_count net → numbers first v ≤ numbers first (v + 1)
   pub inside : (v : ℕ) → v < node_count net → numbers first (v + 1) ≤ arc_count net + arc_count net
   pub block : (i : ℕ) (back : Bool) → i < arc_count net → StartsAt first (start_of net i back) (number_of reverse forward i back)
-  pub cover : (v k : ℕ) → v < node_count net → StartsAt first v k → HasOrigin net reverse forward v k
+  pub origins : (v k : ℕ) → v < node_count net → StartsAt first v k → HasOrigin net reverse forward v k
   pub alone : (i j : ℕ) (b c : Bool) → i < arc_count net → j < arc_count net → number_of reverse forward i b ≡ number_of reverse forward j c → (i ≡ j) × (b ≡ c)
   pub undone : (i : ℕ) → i < arc_count net → reverse (reverse (numbers forward i)) ≡ numbers forward i
 

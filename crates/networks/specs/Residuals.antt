@@ -9,13 +9,13 @@ pub record HasSizes (net : NetworkModel) (r : Residual) : Type 0 where
   pub starts : length r.first.items ≡ node_count net + 1
   pub forwards : length r.forward.items ≡ arc_count net
   pub arc_size : length r.arcs.items ≡ arc_count net + arc_count net
-  pub room_size : length r.capacities.items ≡ arc_count net + arc_count net
+  pub capacities_size : length r.capacities.items ≡ arc_count net + arc_count net
 
 -- the residual arcs are those of the network, and what fits along them is within its capacities
 pub record IsResidualNetwork (net : NetworkModel) (r : Residual) : Type 0 where
   pub arcs_built : HasResidualArcs net r.first.items (reverse_at r.capacities.items) r.forward.items
   pub filled : AreResidualArcs net (reverse_at r.capacities.items) r.forward.items (capacity_at r.capacities.items) r.arcs.items
-  pub room_size : length r.capacities.items ≡ arc_count net + arc_count net
+  pub capacities_size : length r.capacities.items ≡ arc_count net + arc_count net
   pub limits : (i : ℕ) → i < arc_count net → units_of (arc_at net i).cap < 2 ^ 32
 
 -- what each arc carries
@@ -32,7 +32,7 @@ pub record IsSetTo (r r' : Residual) (k units : ℕ) : Type 0 where
   pub first : r'.first ≡ r.first
   pub forward : r'.forward ≡ r.forward
   pub arc_size : length r'.arcs.items ≡ length r.arcs.items
-  pub room_size : length r'.capacities.items ≡ length r.capacities.items
+  pub capacities_size : length r'.capacities.items ≡ length r.capacities.items
   pub end : (j : ℕ) → end_at r'.arcs.items j ≡ end_at r.arcs.items j
   pub reverse : (j : ℕ) → reverse_at r'.capacities.items j ≡ reverse_at r.capacities.items j
   pub here : capacity_at r'.capacities.items k ≡ units

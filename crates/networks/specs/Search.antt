@@ -8,7 +8,7 @@ use Rattle.common.specs.Sums.{sum_below}
 use Rattle.networks.specs.declared.residual.ResidualArc.{ResidualArc}
 use Rattle.networks.specs.declared.state.SearchInput.{SearchInput}
 use Rattle.networks.specs.declared.state.Search.{Search}
-use Rattle.networks.specs.declared.state.Step.{Step}
+use Rattle.networks.specs.declared.state.Offer.{Offer}
 use Rattle.networks.specs.declared.state.Visit.{Visit}
 use Rattle.networks.specs.Flow.{at_nodes}
 use Rattle.networks.specs.ResidualArcs.{numbers, end_at, cost_at, StartsAt}
@@ -35,11 +35,11 @@ pub record IsGraph (n : ℕ) (first : List ℕ) (arcs : List ResidualArc) : Type
   pub end : (v k : ℕ) → v < n → StartsAt first v k → end_at arcs k < n
   pub cost : (v k : ℕ) → v < n → StartsAt first v k → IsArcCost (cost_at arcs k)
 
--- residual arc k is open: a unit more fits along it
+-- residual arc k has capacity: a unit more fits along it
 abbrev pub HasResidualCapacity : List ResidualArc → ℕ → Type 0
 HasResidualCapacity arcs k = cost_at arcs k ≤ℤ pos 1
 
--- potentials with which a search can begin: under them no open residual arc has a reduced cost below 0
+-- potentials with which a search can begin: under them no unsaturated residual arc has a reduced cost below 0
 pub record AreFeasiblePotentials (n : ℕ) (first : List ℕ) (arcs : List ResidualArc) (p e : ℕ → ℤ) : Type 0 where
   pub reduced : (v k : ℕ) → v < n → StartsAt first v k → HasResidualCapacity arcs k → pos 0 ≤ℤ (cost_at arcs k +ℤ p v -ℤ p (end_at arcs k))
   pub low : (v : ℕ) → v < n → (pos 0 ≤ℤ (p v +ℤ pos (2 * n))) × (p v ≤ℤ pos (2 * n))
@@ -57,7 +57,7 @@ pub record IsEntered (n : ℕ) (first : List ℕ) (arcs : List ResidualArc) (q :
   pub are_scanned : place start < scanned
   pub before : place start < place v
   pub leaves : StartsAt first start k
-  pub unblocked : HasResidualCapacity arcs k
+  pub has_capacity : HasResidualCapacity arcs k
   pub arrives : end_at arcs k ≡ v
   pub label : q v ≡ q start +ℤ cost_at arcs k
 
@@ -75,7 +75,7 @@ pub record IsReached (n : ℕ) (first : List ℕ) (arcs : List ResidualArc) (p e
   pub here : (v : ℕ) → v < n → q v <ℤ far → scanned ≤ place v → radius ≤ℤ (q v -ℤ p v)
   pub near : (v : ℕ) → v < n → q v <ℤ far → IsNear (p s) scanned (q v)
   pub root : (s < n) × (q s <ℤ far) × (place s ≡ 0)
-  pub plain : (v : ℕ) → v < n → q v <ℤ far → pos 0 ≤ℤ e v
+  pub nonnegative : (v : ℕ) → v < n → q v <ℤ far → pos 0 ≤ℤ e v
   pub entered : (v : ℕ) → v < n → q v <ℤ far → v ≢ s → IsEntered n first arcs q place scanned v (enter v)
 
 -- residual arc k leads from a scanned node to one where units are wanting, at distance `bound`
@@ -85,7 +85,7 @@ pub record IsHit (n : ℕ) (first : List ℕ) (arcs : List ResidualArc) (p e : �
   pub labelled : q start <ℤ far
   pub are_scanned : place start < scanned
   pub leaves : StartsAt first start k
-  pub unblocked : HasResidualCapacity arcs k
+  pub has_capacity : HasResidualCapacity arcs k
   pub wanting : e (end_at arcs k) <ℤ pos 0
   pub distance : bound ≡ q start +ℤ cost_at arcs k -ℤ p (end_at arcs k)
   pub near : IsNear (p s) scanned bound
@@ -296,7 +296,7 @@ pub record IsOffer (n : ℕ) (first : List ℕ) (arcs : List ResidualArc) (p : �
   pub labelled : q start <ℤ far
   pub are_scanned : place start < scanned
   pub leaves : StartsAt first start k
-  pub unblocked : HasResidualCapacity arcs k
+  pub has_capacity : HasResidualCapacity arcs k
   pub arrives : end_at arcs k ≡ v
   pub label : x ≡ q start +ℤ cost_at arcs k
   pub near : IsNear (p s) scanned x
@@ -304,12 +304,12 @@ pub record IsOffer (n : ℕ) (first : List ℕ) (arcs : List ResidualArc) (p : �
   pub less : x <ℤ q v
 
 -- the step is such an offer in a search
-pub record IsOffered (g : SearchInput) (s : Search) (step : Step) : Type 0 where
+pub record IsOffered (g : SearchInput) (s : Search) (step : Offer) : Type 0 where
   pub search : IsSearch g s
   pub offer : IsOffer (nodes_of g) (first_of g) (arcs_of g) (potential_of g) g.root (labels s) (places s) s.scanned s.radius step.number step.end step.label
 
 -- the step ends at a node of the search
-pub record HasEnd (s : Search) (step : Step) : Type 0 where
+pub record HasEnd (s : Search) (step : Offer) : Type 0 where
   pub few : length s.visits.now ≤ MAX_NODES
   pub node : step.end < length s.visits.now
   pub number : step.number < MAX_RESIDUAL_ARCS
@@ -346,7 +346,7 @@ pub record IsSwapped (order place order' place' : ℕ → ℕ) (v from to : ℕ)
 
 -- a node has got a label and the residual arc on which it was entered, and where it had no label a place behind
 -- all others
-pub record IsLabelled (s s' : Search) (step : Step) : Type 0 where
+pub record IsLabelled (s s' : Search) (step : Offer) : Type 0 where
   pub label : IsPut (labels s) (labels s') step.end step.label
   pub enter : IsPut (enters s) (enters s') step.end step.number
   pub progress : SameProgress s s'

@@ -8,14 +8,14 @@ ghost use Rattle.networks.specs.ResidualArcs.{StartsAt};
 ghost use Rattle.networks.specs.Search.{far, nodes_of, first_of, arcs_of, potential_of, excess_of, labels, orders, degree, looked, IsSearchInput, IsSearch, IsBlank, HasLowered, HasServed, HasRemaining, Serves, IsNextRadius, IsReordered, IsWaiting, IsScanning, IsRelaxed, IsWithinFar, IsArcCost, HasSameList};
 
 use crate::reach::distance;
-use crate::state::{FAR, Search, SearchInput, Step, Visit};
+use crate::state::{FAR, Offer, Search, SearchInput, Visit};
 
 impl<'a> Search<'a> {
     /// Labels the nodes round a root, in order of their distance by reduced costs, up to the nearest one
     /// where units are wanting.
     ///
     /// Then `bound` is the distance of that node, and `found` the last residual arc on the way there;
-    /// where open residual arcs lead to no such node, `bound` is `FAR`. A node's label is the root's
+    /// where unsaturated residual arcs lead to no such node, `bound` is `FAR`. A node's label is the root's
     /// potential and the costs of the residual arcs on the way; less its own potential it is its distance.
     /// Each node that was reached has the residual arc on which it was entered, and a place in the order,
     /// the root the first. Those at its first `scanned` places were scanned, and the others that were reached
@@ -56,7 +56,7 @@ impl<'a> Search<'a> {
             bound: FAR as i32,
             found: 0,
         };
-        search.relabel(Step {
+        search.relabel(Offer {
             number: 0,
             end: input.root,
             label: input.potential[input.root] as i16,
@@ -167,7 +167,7 @@ impl<'a> Search<'a> {
         let end = arc.end as usize;
         let label = self.visits[node].label + arc.cost;
         if label < self.visits[end].label {
-            self.reach(input, Step { number, end, label });
+            self.reach(input, Offer { number, end, label });
         }
     }
 }

@@ -5,12 +5,12 @@
 ghost use Rattle.std.specs.Prelude.{◌≡◌, ◌⊎◌, ◌<◌, ◌+◌, length, pos, ◌≤ℤ◌, ◌<ℤ◌, ◌-ℤ◌};
 ghost use Rattle.networks.specs.Search.{far, potential_of, excess_of, labels, enters, orders, places, HasEnd, CanAdvance, CanPut, IsOffered, IsRelaxed, IsLabelled, SameBesideBound, SameBesideOrder, SameOrder, SameProgress, IsPut, IsSwapped, IsWithinFar};
 
-use crate::state::{FAR, Search, SearchInput, Step};
+use crate::state::{FAR, Offer, Search, SearchInput};
 
 impl Search<'_> {
     /// Takes up what a residual arc offers to its end: where units are wanting there, it may be the nearest such
     /// node now, and else it gets the label if that is nearer than the bound.
-    pub(crate) fn reach(&mut self, input: SearchInput<'_>, step: Step)
+    pub(crate) fn reach(&mut self, input: SearchInput<'_>, step: Offer)
         requires offer { IsOffered input self.old step }
         ensures relaxed { IsRelaxed input.entry self.old self.new }
         ensures served { (step.label -ℤ potential_of input.entry step.end) <ℤ self.new.bound → labels self.new step.end ≤ℤ step.label }
@@ -28,9 +28,9 @@ impl Search<'_> {
 
     /// Gives a node where no units are wanting a label, and puts it behind those that are ordered if it is at
     /// the radius.
-    fn label_node(&mut self, input: SearchInput<'_>, step: Step)
+    fn label_node(&mut self, input: SearchInput<'_>, step: Offer)
         requires offer { IsOffered input self.old step }
-        requires plain { pos 0 ≤ℤ excess_of input step.end }
+        requires nonnegative { pos 0 ≤ℤ excess_of input step.end }
         ensures relaxed { IsRelaxed input.entry self.old self.new }
         ensures label { labels self.new step.end ≡ step.label }
     {
@@ -57,7 +57,7 @@ impl Search<'_> {
     }
 
     /// Gives a node a label, and a place behind all that were reached if it has none.
-    fn set_label(&mut self, step: Step)
+    fn set_label(&mut self, step: Offer)
         requires end { HasEnd self.old step }
         requires room { far ≤ℤ labels self.old step.end → self.old.reached < length self.old.visits.now }
         ensures has_label { IsLabelled self.old self.new step }
@@ -70,7 +70,7 @@ impl Search<'_> {
     }
 
     /// Gives a node that was not reached before a label, and a place behind all others.
-    fn enlist(&mut self, step: Step)
+    fn enlist(&mut self, step: Offer)
         requires end { HasEnd self.old step }
         requires room { self.old.reached < length self.old.visits.now }
         ensures label { IsPut (labels self.old) (labels self.new) step.end step.label }
@@ -86,7 +86,7 @@ impl Search<'_> {
     }
 
     /// Writes the label of a node, and the residual arc by which it was reached.
-    pub(crate) fn relabel(&mut self, step: Step)
+    pub(crate) fn relabel(&mut self, step: Offer)
         requires { HasEnd self.old step }
         ensures label { IsPut (labels self.old) (labels self.new) step.end step.label }
         ensures enter { IsPut (enters self.old) (enters self.new) step.end step.number }

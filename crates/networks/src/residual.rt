@@ -82,7 +82,7 @@ impl Residual {
         }
     }
 
-    /// Makes capacity for so many units more, at least one, along a residual arc, and opens it where nothing fitted.
+    /// Makes capacity for so many units more, at least one, along a residual arc, which may have been saturated.
     pub fn give_capacity(&mut self, number: usize, units: u32)
         requires arc { HasNumber self.old number }
         requires cost { (z : ℤ) × (negsuc 0 ≤ℤ z) × (z ≤ℤ pos 1) × IsCosted self.old.arcs.items self.old.capacities.items number z }
@@ -91,9 +91,9 @@ impl Residual {
         ensures { IsSetTo self.old self.new number (capacity_at self.old.capacities.items number + units) }
     {
         let along = &mut self.capacities[number];
-        let was_closed = along.capacity == 0;
+        let was_saturated = along.capacity == 0;
         along.capacity += units;
-        if was_closed {
+        if was_saturated {
             self.arcs[number].cost -= SATURATED;
         }
     }

@@ -10,7 +10,7 @@ pub struct SearchInput<'a> {
     /// The residual arcs that start at node v have the numbers from `first[v]` up to `first[v + 1]`.
     pub first: &'a [u32],
     pub arcs: &'a [ResidualArc],
-    /// Under these no open residual arc has a reduced cost below 0, and where units are wanting they are 0.
+    /// Under these no unsaturated residual arc has a reduced cost below 0, and where units are wanting they are 0.
     pub potential: &'a [i32],
     /// How many units are left over at a node, or, below 0, are wanting there.
     pub excess: &'a [i32],
@@ -54,7 +54,7 @@ pub struct Search<'a> {
 
 /// A residual arc that was looked at, and the label that it offers to its end.
 #[derive(Clone, Copy, Debug, PartialEq, Eq)]
-pub(crate) struct Step {
+pub(crate) struct Offer {
     pub number: usize,
     pub end: usize,
     pub label: i16,

@@ -13,7 +13,7 @@ use Rattle.ortho_rep.specs.Turns.{lefts, rights}
 use Rattle.ortho_rep.specs.Representation.{Rep, whole_turn}
 use Rattle.ortho_rep.specs.Prices.{IsPriced, Prove}
 use Rattle.ortho_rep.proofs.TurnCounts.{lefts-add-rights}
-use Rattle.ortho_rep.proofs.WeakDuality.{weighed, part_at, paired, gains, losses, turning-split, lefts_of, rights_are}
+use Rattle.ortho_rep.proofs.WeakDuality.{weighed, part_at, paired, left_sums, right_sums, turning-split, lefts_of, rights_are}
 
 -- 1 where the price is at most k
 abbrev low : ℤ → ℤ → ℕ
@@ -72,11 +72,11 @@ low_angles p a s w ends rep few =
 low_faces : (p : PlaneModel) (a : ℕ → ℕ) (s : ℕ → List Turn) (w : ℕ → ℕ) → HasEnds p → Rep p a s → ((f : ℕ) → w f ≤ 1) →
     weighed (darts p) (λ d. w (face_at p d)) (λ d. 2 + lefts (s d)) ≤ weighed (darts p) (λ d. w (face_at p d)) (λ d. a d + rights (s d)) + 4 * p.faces
 low_faces p a s w ends rep few =
-    let gain : sum_below p.faces (λ f. w f * gains p a s f) ≡ weighed (darts p) (λ d. w (face_at p d)) (λ d. 2 + lefts (s d)) = exchanged (darts p) p.faces (face_at p) (λ d. 2 + lefts (s d)) w ends.face_named in
-    let loss : sum_below p.faces (λ f. w f * losses p a s f) ≡ weighed (darts p) (λ d. w (face_at p d)) (λ d. a d + rights (s d)) = exchanged (darts p) p.faces (face_at p) (λ d. a d + rights (s d)) w ends.face_named in
-    let each : sum_below p.faces (λ f. w f * gains p a s f) ≤ sum_below p.faces (λ f. w f * losses p a s f + 4) =
-    sum_below-le p.faces (λ f. w f * gains p a s f) (λ f. w f * losses p a s f + 4) (λ f b. near (w f) (gains p a s f) (losses p a s f) (few f) (close f b)) in
-    omega (arith, gain, loss, each, sum_below-add p.faces (λ f. w f * losses p a s f) (λ f. 4), sum_below-constant p.faces 4)
+    let left_sum : sum_below p.faces (λ f. w f * left_sums p a s f) ≡ weighed (darts p) (λ d. w (face_at p d)) (λ d. 2 + lefts (s d)) = exchanged (darts p) p.faces (face_at p) (λ d. 2 + lefts (s d)) w ends.face_named in
+    let right_sum : sum_below p.faces (λ f. w f * right_sums p a s f) ≡ weighed (darts p) (λ d. w (face_at p d)) (λ d. a d + rights (s d)) = exchanged (darts p) p.faces (face_at p) (λ d. a d + rights (s d)) w ends.face_named in
+    let each : sum_below p.faces (λ f. w f * left_sums p a s f) ≤ sum_below p.faces (λ f. w f * right_sums p a s f + 4) =
+    sum_below-le p.faces (λ f. w f * left_sums p a s f) (λ f. w f * right_sums p a s f + 4) (λ f b. near (w f) (left_sums p a s f) (right_sums p a s f) (few f) (close f b)) in
+    omega (arith, left_sum, right_sum, each, sum_below-add p.faces (λ f. w f * right_sums p a s f) (λ f. 4), sum_below-constant p.faces 4)
   where
     near : (x y z : ℕ) → x ≤ 1 → y ≤ z + 4 → x * y ≤ x * z + 4
     near zero y z h k = omega arith
@@ -86,9 +86,9 @@ low_faces p a s w ends rep few =
     whole_turn-le true = omega (arith, ints)
     whole_turn-le false = omega (arith, ints)
 
-    close : (f : ℕ) → f < p.faces → gains p a s f ≤ losses p a s f + 4
+    close : (f : ℕ) → f < p.faces → left_sums p a s f ≤ right_sums p a s f + 4
     close f b =
-        let same : pos (gains p a s f) -ℤ pos (losses p a s f) ≡ whole_turn p f = sym (turning-split p a s f) ∙ rep.faces f b in
+        let same : pos (left_sums p a s f) -ℤ pos (right_sums p a s f) ≡ whole_turn p f = sym (turning-split p a s f) ∙ rep.faces f b in
         let top : whole_turn p f ≤ℤ pos 4 = whole_turn-le (eqb f p.outer) in
         omega (arith, ints)
 
@@ -144,9 +144,9 @@ few_lefts p a s v q ends rep prove e b =
     let back : weighed n over (lefts_of s) ≡ weighed n own (λ d. lefts_of s (reverse_dart p d)) = paired n (reverse_dart p) own (lefts_of s) ends.reverse_dart_inside ends.reverse_dart_back in
     let rights_here : sum_below n (λ d. own d * rights (s d)) ≡ weighed n own (λ d. lefts_of s (reverse_dart p d)) =
     sum_below-same n (λ d. own d * rights (s d)) (λ d. own d * lefts_of s (reverse_dart p d)) (λ d c. ap (λ (z : ℕ). own d * z) (rights_are p a s rep d c)) in
-    let gain : weighed n own (λ d. 2 + lefts (s d)) ≡ sum_below n (λ d. own d * 2) + sum_below n (λ d. own d * lefts_of s d) =
+    let left_sum : weighed n own (λ d. 2 + lefts (s d)) ≡ sum_below n (λ d. own d * 2) + sum_below n (λ d. own d * lefts_of s d) =
     sum_below-same n (λ d. own d * (2 + lefts (s d))) (λ d. own d * 2 + own d * lefts_of s d) (λ d c. omega arith) ∙ sum_below-add n (λ d. own d * 2) (λ d. own d * lefts_of s d) in
-    let loss : weighed n own (λ d. a d + rights (s d)) ≡ sum_below n (λ d. own d * a d) + sum_below n (λ d. own d * rights (s d)) =
+    let right_sum : weighed n own (λ d. a d + rights (s d)) ≡ sum_below n (λ d. own d * a d) + sum_below n (λ d. own d * rights (s d)) =
     sum_below-same n (λ d. own d * (a d + rights (s d))) (λ d. own d * a d + own d * rights (s d)) (λ d c. omega arith) ∙ sum_below-add n (λ d. own d * a d) (λ d. own d * rights (s d)) in
     omega (
       arith,
@@ -154,8 +154,8 @@ few_lefts p a s v q ends rep prove e b =
       crossings,
       back,
       rights_here,
-      gain,
-      loss,
+      left_sum,
+      right_sum,
       sum_below-add n (λ d. at_head d * a d) (λ d. 1),
       sum_below-constant n 1,
       low_angles p a s (λ u. low k (v u)) ends rep (λ u. low-few k (v u)),

@@ -9,7 +9,7 @@ use Rattle.common.proofs.Sums.{sum_below-same, sum_below-add, sum_below-none, su
 use Rattle.faces.specs.Planes.{PlaneModel, HasEnds, darts, vertices, head, reverse_dart, face_at, degree}
 use Rattle.networks.specs.declared.arc.Arc.{Arc}
 use Rattle.networks.specs.Networks.{NetworkModel, arc_count, arc_at}
-use Rattle.networks.specs.Flow.{Flow, HasPotentials, IsWithin, IsUnsaturated, leaves, enters, balance}
+use Rattle.networks.specs.Flow.{Flow, HasPotentials, IsWithinCap, IsUnsaturated, leaves, enters, balance}
 use Rattle.ortho_rep.specs.declared.turn.Turn.{Turn}
 use Rattle.ortho_rep.specs.declared.turn.Turn.TheVariants.{Left, Right}
 use Rattle.flow_network.specs.FaceNet.{IsFaceNet, arrivals}
@@ -20,7 +20,7 @@ use Rattle.ortho_rep.specs.Prices.{PricesModel, Prove, IsProof, vertex_price, fa
 use Rattle.ortho_rep.specs.Shapes.{ShapeModel, angle_at, turns_at}
 use Rattle.ortho_rep.proofs.FewTurns.{few_turns}
 use Rattle.ortho_rep.proofs.TurnCounts.{lefts-cons, rights-cons}
-use Rattle.ortho_rep.proofs.WeakDuality.{part_at, gains, losses, turning-split, least_by_prices}
+use Rattle.ortho_rep.proofs.WeakDuality.{part_at, left_sums, right_sums, turning-split, least_by_prices}
 use Rattle.ortho_rep.proofs.SameAtDarts.{rep-alike, prove-alike}
 
 pub lefts-lefts_then_rights : (l r : ℕ) → lefts (lefts_then_rights l r) ≡ l
@@ -135,14 +135,14 @@ around_face p net x f ends is flow below =
     (λ d b. ap (λ (e : ℕ). cond (eqb (face (reverse_dart p d)) f) (x (n + e)) 0) (sym (ends.reverse_dart_back d b)))
     ∙ sum_below-turned n (reverse_dart p) (λ d. cond (eqb (face d) f) (right d) 0) ends.reverse_dart_inside ends.reverse_dart_back in
     let meets : balance net x k ≡ whole_turn p f -ℤ pos (degree p f) = flow.meets k (omega (arith, is.nodes)) ∙ is.at_face f below in
-    let gain : gains p (angles_of x) (strings_of p x) f ≡ part_at n face (λ d. 1) f + part_at n face (λ d. 1) f + part_at n face left f =
+    let left_sum : left_sums p (angles_of x) (strings_of p x) f ≡ part_at n face (λ d. 1) f + part_at n face (λ d. 1) f + part_at n face left f =
     omega (
       arith,
       part-same n face (λ d. 2 + lefts (strings_of p x d)) (λ d. 1 + 1 + left d) f (λ d. omega (arith, lefts-lefts_then_rights (left d) (right d))),
       part-add n face (λ d. 1) (λ d. 1) f,
       part-add n face (λ d. 1 + 1) left f,
     ) in
-    let loss : losses p (angles_of x) (strings_of p x) f ≡ part_at n face x f + part_at n face (λ d. 1) f + part_at n face right f =
+    let right_sum : right_sums p (angles_of x) (strings_of p x) f ≡ part_at n face x f + part_at n face (λ d. 1) f + part_at n face right f =
     omega (
       arith,
       part-same n face (λ d. angles_of x d + rights (strings_of p x d)) (λ d. x d + 1 + right d) f (λ d. omega (arith, rights-lefts_then_rights (left d) (right d))),
@@ -159,8 +159,8 @@ around_face p net x f ends is flow below =
       out_corner,
       back,
       meets,
-      gain,
-      loss,
+      left_sum,
+      right_sum,
       leaves-parts p net x k is,
       enters-parts p net x k is,
     )
@@ -176,7 +176,7 @@ rep_of_flow p net x ends is flow = record {
   where
     angle_within : (d : ℕ) → d < darts p → x d + 1 ≤ 4
     angle_within d b =
-        let within : x d ≤ 3 = subst (λ (arc : Arc). IsWithin arc.cap (x d)) (is.corner d b) (flow.within d (omega (arith, is.arcs))) in
+        let within : x d ≤ 3 = subst (λ (arc : Arc). IsWithinCap arc.cap (x d)) (is.corner d b) (flow.within d (omega (arith, is.arcs))) in
         omega arith
 
 -- the potentials fit an arc that carries an amount
@@ -201,7 +201,7 @@ prove_of_potentials p net x q ends is fit = λ d b.
 -- a corner carries at most three units
 pub corner_few : (p : PlaneModel) (net : NetworkModel) (x : ℕ → ℕ) (d : ℕ) → IsFaceNet p net → Flow net x → d < darts p → x d ≤ 3
 corner_few p net x d is flow b =
-    subst (λ (arc : Arc). IsWithin arc.cap (x d)) (is.corner d b) (flow.within d (omega (arith, is.arcs)))
+    subst (λ (arc : Arc). IsWithinCap arc.cap (x d)) (is.corner d b) (flow.within d (omega (arith, is.arcs)))
 
 -- a least-cost flow crosses no edge both ways: each crossing that is used gains what the bend costs
 pub one_sided_of_flow : (p : PlaneModel) (net : NetworkModel) (x : ℕ → ℕ) (q : ℕ → ℤ) → HasEnds p → IsFaceNet p net → HasPotentials net x q → (d : ℕ) → d < darts p → 0 < x (darts p + d) → x (darts p + reverse_dart p d) ≡ 0

@@ -3,8 +3,8 @@ use Rattle.std.proofs.Common.{◌≡◌, ◌≤◌, ◌<◌, ℕ, zero, suc, ◌
 use Rattle.std.specs.Prelude.{slice_range}
 use Rattle.std.proofs.lemmas.Bool.{cases_eq}
 use Rattle.std.proofs.lemmas.List.{get_or_append_left, get_or_at, drop-append-le, drop_at, take-append-le, take_all, length-drop, append_assoc}
-use Rattle.ortho_rep.specs.Storage.{cut, AreStarts}
-use Rattle.ortho_rep.proofs.Pieces.{length-cut, get_or-cut}
+use Rattle.ortho_rep.specs.Storage.{pieces_at, AreStarts}
+use Rattle.ortho_rep.proofs.Pieces.{length-pieces_at, get_or-pieces_at}
 
 -- n pieces stand in the list, and the next one starts at its end
 pub record IsConcatenated {A : Type 0} (starts : List ℕ) (items : List A) (n : ℕ) (IsPiece : ℕ → List A → Type 0) : Type 0 where
@@ -98,7 +98,7 @@ concatenated-two {A} starts starts' items middle items' one two n m piece_at is 
     concatenated-pushed starts starts' items items' (one ++ two) n m (λ k piece. piece ≡ piece_at k) is all
     (λ piece h. all ∙ ap (λ (z : List A). items ++ z) (this ∙ sym h)) long longer
 
--- so the list can be cut there
+-- so the list can be pieces_at there
 pub concatenated-AreStarts : {A : Type 0} (starts : List ℕ) (items : List A) (n : ℕ) (IsPiece : ℕ → List A → Type 0) → IsConcatenated starts items n IsPiece → AreStarts starts items
 concatenated-AreStarts starts items n IsPiece is = record {
   some = omega (arith, is.count);
@@ -107,9 +107,9 @@ concatenated-AreStarts starts items n IsPiece is = record {
 }
 
 -- into those pieces
-pub concatenated-cut : {A : Type 0} (starts : List ℕ) (items : List A) (n : ℕ) (IsPiece : ℕ → List A → Type 0) → IsConcatenated starts items n IsPiece →
-    (length (cut starts items) ≡ n) × ((k : ℕ) → k < n → (piece : List A) → IsPiece k piece → get_or (cut starts items) k [] ≡ piece)
-concatenated-cut starts items n IsPiece is = (
-  omega (arith, length-cut starts items (omega (arith, is.count)), is.count),
-  λ k b piece h. get_or-cut starts items k (omega (arith, is.count)) ∙ is.pieces k b piece h,
+pub concatenated-pieces_at : {A : Type 0} (starts : List ℕ) (items : List A) (n : ℕ) (IsPiece : ℕ → List A → Type 0) → IsConcatenated starts items n IsPiece →
+    (length (pieces_at starts items) ≡ n) × ((k : ℕ) → k < n → (piece : List A) → IsPiece k piece → get_or (pieces_at starts items) k [] ≡ piece)
+concatenated-pieces_at starts items n IsPiece is = (
+  omega (arith, length-pieces_at starts items (omega (arith, is.count)), is.count),
+  λ k b piece h. get_or-pieces_at starts items k (omega (arith, is.count)) ∙ is.pieces k b piece h,
 )

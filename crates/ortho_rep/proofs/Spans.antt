@@ -6,9 +6,9 @@ use Rattle.std.proofs.lemmas.List.{ext_get_or, get_or-map, length-map, drop_at}
 use Rattle.std.proofs.lemmas.List.FromFn.{get_or-map-range_with_len, length-map-range_with_len}
 use Rattle.ortho_rep.specs.declared.points.Point.{Point}
 use Rattle.ortho_rep.specs.Points.{origin}
-use Rattle.ortho_rep.specs.Storage.{cut, AreStarts}
+use Rattle.ortho_rep.specs.Storage.{pieces_at, AreStarts}
 use Rattle.ortho_rep.specs.FlatPoints.{span_at, spans_of, spans_in, points_in, AreConcatenated}
-use Rattle.ortho_rep.proofs.Pieces.{length-cut, get_or-cut}
+use Rattle.ortho_rep.proofs.Pieces.{length-pieces_at, get_or-pieces_at}
 use Rattle.ortho_rep.proofs.PushedLists.{slice_range-append}
 
 length-spans : (starts : List ℕ) → length (spans_of starts) ≡ length starts - 1
@@ -25,24 +25,24 @@ spans-last vs cs starts =
 
 -- the corners of an edge
 piece-is : (cs : List Point) (starts : List ℕ) (e : ℕ) → AreStarts starts cs → e < length starts - 1 →
-    slice_range (cs ++ spans_of starts) (get_or starts e 0) (get_or starts (e + 1) 0) ≡ get_or (cut starts cs) e []
+    slice_range (cs ++ spans_of starts) (get_or starts e 0) (get_or starts (e + 1) 0) ≡ get_or (pieces_at starts cs) e []
 piece-is cs starts e places b =
     slice_range-append cs (spans_of starts) (get_or starts e 0) (get_or starts (e + 1) 0) (places.ordered e (omega arith)) (places.inside (e + 1) (omega arith))
-    ∙ sym (get_or-cut starts cs e (omega arith))
+    ∙ sym (get_or-pieces_at starts cs e (omega arith))
 
 corners-are : (cs : List Point) (starts : List ℕ) → AreStarts starts cs →
-    map (λ (span : Point). slice_range (cs ++ spans_of starts) span.x span.y) (spans_of starts) ≡ cut starts cs
+    map (λ (span : Point). slice_range (cs ++ spans_of starts) span.x span.y) (spans_of starts) ≡ pieces_at starts cs
 corners-are cs starts places =
     let piece : Point → List Point = λ span. slice_range (cs ++ spans_of starts) span.x span.y in
     let count : length (map piece (spans_of starts)) ≡ length starts - 1 = length-map (spans_of starts) piece ∙ length-spans starts in
-    ext_get_or [] (map piece (spans_of starts)) (cut starts cs) (omega (arith, count, length-cut starts cs places.some))
+    ext_get_or [] (map piece (spans_of starts)) (pieces_at starts cs) (omega (arith, count, length-pieces_at starts cs places.some))
     (λ e b.
     get_or-map piece (spans_of starts) e origin [] (omega (arith, count, length-spans starts))
     ∙ (ap piece (span-is starts e origin (omega (arith, count))) ∙ piece-is cs starts e places (omega (arith, count))))
 
 -- it stands for the points and the corners that were put into it
 pub concatenated-is : (vs cs : List Point) (starts : List ℕ) → AreStarts starts cs →
-    points_in ((vs ++ cs) ++ spans_of starts) (length vs) (length starts - 1) ≡ record { vertices = vs; corners = cut starts cs }
+    points_in ((vs ++ cs) ++ spans_of starts) (length vs) (length starts - 1) ≡ record { vertices = vs; corners = pieces_at starts cs }
 concatenated-is vs cs starts places =
     let all = append_assoc vs cs (spans_of starts) in
     let front : take (length vs) ((vs ++ cs) ++ spans_of starts) ≡ vs = ap (take (length vs)) all ∙ take-append_seam vs (cs ++ spans_of starts) in

@@ -13,11 +13,11 @@ use Rattle.networks.specs.Networks.{NetworkModel, arc_at}
 use Rattle.networks.specs.Flow.{Flow, at_nodes, cost_of}
 use Rattle.min_cost_flow.specs.Stand.{IsShown}
 use Rattle.flow_network.specs.FaceNet.{IsFaceNet}
-use Rattle.ortho_rep.specs.declared.best.Lead.{Lead}
+use Rattle.ortho_rep.specs.declared.best.Incumbent.{Incumbent}
 use Rattle.ortho_rep.specs.Representation.{bends_of}
 use Rattle.ortho_rep.specs.OfFlow.{angles_of, strings_of}
 use Rattle.ortho_rep.specs.Best.{HasRep, NeedsBends, IsBest}
-use Rattle.ortho_rep.specs.Tries.{IsLead, IsAhead, IsNoBetter, AreBounds}
+use Rattle.ortho_rep.specs.Tries.{IsIncumbent, IsAhead, IsNoBetter, AreBounds}
 use Rattle.ortho_rep.proofs.WeakDuality.{lefts_of, lengths-twice, least_by_prices, more_by_prices}
 use Rattle.ortho_rep.proofs.FromFlow.{lefts-lefts_then_rights, rep_of_flow, prove_of_potentials}
 
@@ -61,9 +61,9 @@ ends_turned p outer ends = record {
 }
 
 -- the plane with the best face outside
-pub best_of : (p : PlaneModel) (lead : Lead) → IsLead p lead → ((f : ℕ) → f < p.faces → IsNoBetter p lead.bends lead.face f) → IsBest (with_outer p lead.face)
-best_of p lead is all = record {
-  bends = lead.bends;
+pub best_of : (p : PlaneModel) (incumbent : Incumbent) → IsIncumbent p incumbent → ((f : ℕ) → f < p.faces → IsNoBetter p incumbent.bends incumbent.face f) → IsBest (with_outer p incumbent.face)
+best_of p incumbent is all = record {
+  bends = incumbent.bends;
   some = is.some;
   fewest = λ f b. (all f b).fewest;
   first = λ f b. (all f b).first;
@@ -78,15 +78,15 @@ pub turned_own : (p q : PlaneModel) (face : ℕ) → q ≡ with_outer p face →
 turned_own p q face once = once ∙ sym (ap (λ (m : PlaneModel). with_outer p m.outer) once)
 
 -- what is known of faces of the plane turned some way is known of the plane, and the other way
-pub lead_turned : (p q : PlaneModel) (outer : ℕ) (lead : Lead) → q ≡ with_outer p outer → IsLead q lead → IsLead p lead
-lead_turned p q outer lead turned is =
-    let was = subst (λ (m : PlaneModel). IsLead m lead) turned is in
+pub incumbent_turned : (p q : PlaneModel) (outer : ℕ) (incumbent : Incumbent) → q ≡ with_outer p outer → IsIncumbent q incumbent → IsIncumbent p incumbent
+incumbent_turned p q outer incumbent turned is =
+    let was = subst (λ (m : PlaneModel). IsIncumbent m incumbent) turned is in
     record { named = was.named; some = was.some; needs = was.needs }
 
-pub lead_turning : (p q : PlaneModel) (outer : ℕ) (lead : Lead) → q ≡ with_outer p outer → IsLead p lead → IsLead q lead
-lead_turning p q outer lead turned is =
-    let will : IsLead (with_outer p outer) lead = record { named = is.named; some = is.some; needs = is.needs } in
-    subst (λ (m : PlaneModel). IsLead m lead) (sym turned) will
+pub incumbent_turning : (p q : PlaneModel) (outer : ℕ) (incumbent : Incumbent) → q ≡ with_outer p outer → IsIncumbent p incumbent → IsIncumbent q incumbent
+incumbent_turning p q outer incumbent turned is =
+    let will : IsIncumbent (with_outer p outer) incumbent = record { named = is.named; some = is.some; needs = is.needs } in
+    subst (λ (m : PlaneModel). IsIncumbent m incumbent) (sym turned) will
 
 pub tried_turned : (p q : PlaneModel) (outer bends face f : ℕ) → q ≡ with_outer p outer → IsNoBetter q bends face f → IsNoBetter p bends face f
 tried_turned p q outer bends face f turned is =
@@ -99,9 +99,9 @@ tried_turning p q outer bends face f turned is =
     subst (λ (m : PlaneModel). IsNoBetter m bends face f) (sym turned) will
 
 -- faces that were tried before, and one that is tried now
-pub tried_next : (p : PlaneModel) (lead other : Lead) (face : ℕ) → IsAhead lead other → ((f : ℕ) → f < face → IsNoBetter p other.bends other.face f) → IsNoBetter p lead.bends lead.face face → (f : ℕ) → f < face + 1 → IsNoBetter p lead.bends lead.face f
-tried_next p lead other face ahead all here =
-    below_more _ _ (λ f b. no_better_still p other.bends other.face lead.bends lead.face f ahead.fewer ahead.first (all f b)) here
+pub tried_next : (p : PlaneModel) (incumbent other : Incumbent) (face : ℕ) → IsAhead incumbent other → ((f : ℕ) → f < face → IsNoBetter p other.bends other.face f) → IsNoBetter p incumbent.bends incumbent.face face → (f : ℕ) → f < face + 1 → IsNoBetter p incumbent.bends incumbent.face f
+tried_next p incumbent other face ahead all here =
+    below_more _ _ (λ f b. no_better_still p other.bends other.face incumbent.bends incumbent.face f ahead.fewer ahead.first (all f b)) here
 
 -- the bends of a flow are what it costs
 pub bends_are_cost : (p : PlaneModel) (net : NetworkModel) (x : ℕ → ℕ) → HasEnds p → IsFaceNet p net → Flow net x → bends_of (darts p) (strings_of p x) ≡ cost_of net x

@@ -112,13 +112,13 @@ pub rights_are : (p : PlaneModel) (a : ℕ → ℕ) (s : ℕ → List Turn) → 
 rights_are p a s rep d b = sym (ap lefts (rep.strings d b) ∙ lefts-mirrored (s d))
 
 -- each face's turning, as two sums of natural numbers: what its darts turn to the left, and to the right
-abbrev pub gains : PlaneModel → (ℕ → ℕ) → (ℕ → List Turn) → ℕ → ℕ
-gains p a s f = part_at (darts p) (face_at p) (λ d. 2 + lefts (s d)) f
+abbrev pub left_sums : PlaneModel → (ℕ → ℕ) → (ℕ → List Turn) → ℕ → ℕ
+left_sums p a s f = part_at (darts p) (face_at p) (λ d. 2 + lefts (s d)) f
 
-abbrev pub losses : PlaneModel → (ℕ → ℕ) → (ℕ → List Turn) → ℕ → ℕ
-losses p a s f = part_at (darts p) (face_at p) (λ d. a d + rights (s d)) f
+abbrev pub right_sums : PlaneModel → (ℕ → ℕ) → (ℕ → List Turn) → ℕ → ℕ
+right_sums p a s f = part_at (darts p) (face_at p) (λ d. a d + rights (s d)) f
 
-pub turning-split : (p : PlaneModel) (a : ℕ → ℕ) (s : ℕ → List Turn) (f : ℕ) → turning_around p a s f ≡ pos (gains p a s f) -ℤ pos (losses p a s f)
+pub turning-split : (p : PlaneModel) (a : ℕ → ℕ) (s : ℕ → List Turn) (f : ℕ) → turning_around p a s f ≡ pos (left_sums p a s f) -ℤ pos (right_sums p a s f)
 turning-split p a s f =
     total_below-parts (darts p) (λ d. cond (eqb (face_at p d) f) (turning_of (a d) (s d)) (pos 0)) (λ d. cond (eqb (face_at p d) f) (2 + lefts (s d)) 0) (λ d. cond (eqb (face_at p d) f) (a d + rights (s d)) 0) (λ d b. split_one (eqb (face_at p d) f) (a d) (lefts (s d)) (rights (s d)))
   where
@@ -143,9 +143,9 @@ crossed b s t d = 2 + lefts (s d) + (b d + rights (t d))
 -- round each face two representations turn alike, but for the eight quarter turns that an outer face has less
 same_turning : (p : PlaneModel) (h : ℕ) (a b : ℕ → ℕ) (s t : ℕ → List Turn) → Rep p a s → Rep (with_outer p h) b t → (f : ℕ) → f < p.faces → part_at (darts p) (face_at p) (crossed b s t) f + eight_at p.outer f ≡ part_at (darts p) (face_at p) (crossed a t s) f + eight_at h f
 same_turning p h a b s t one two f below =
-    let turns_s : pos (gains p a s f) -ℤ pos (losses p a s f) ≡ whole_turn p f = sym (turning-split p a s f) ∙ one.faces f below in
-    let turns_t : pos (gains p b t f) -ℤ pos (losses p b t f) ≡ whole_turn (with_outer p h) f = sym (turning-split p b t f) ∙ two.faces f below in
-    let mixed = balanced (gains p a s f) (losses p a s f) (gains p b t f) (losses p b t f) (eight_at p.outer f) (eight_at h f) (whole_turn p f) (whole_turn (with_outer p h) f) turns_s turns_t (inner_turn p.outer f) (inner_turn h f) in
+    let turns_s : pos (left_sums p a s f) -ℤ pos (right_sums p a s f) ≡ whole_turn p f = sym (turning-split p a s f) ∙ one.faces f below in
+    let turns_t : pos (left_sums p b t f) -ℤ pos (right_sums p b t f) ≡ whole_turn (with_outer p h) f = sym (turning-split p b t f) ∙ two.faces f below in
+    let mixed = balanced (left_sums p a s f) (right_sums p a s f) (left_sums p b t f) (right_sums p b t f) (eight_at p.outer f) (eight_at h f) (whole_turn p f) (whole_turn (with_outer p h) f) turns_s turns_t (inner_turn p.outer f) (inner_turn h f) in
     omega (arith, joined p b s t f, joined p a t s f, mixed)
   where
     inner_turn : (e f : ℕ) → cond (eqb f e) (negsuc 3) (pos 4) +ℤ pos (eight_at e f) ≡ pos 4

@@ -9,15 +9,15 @@ use Rattle.ortho_rep.specs.declared.turn.Turn.{Turn}
 abbrev pub lists_in : {A : Type 0} → List (Vec A Global) → List (List A)
 lists_in vectors = map (λ v. v.items) vectors
 
--- the pieces of a list from place `start` on, cut at each of the further places
-abbrev pub cut_from : {A : Type 0} → ℕ → List ℕ → List A → List (List A)
-cut_from start [] items = []
-cut_from start (end ∷ ends) items = slice_range items start end ∷ cut_from end ends items
+-- the pieces of a list from place `start` on, pieces_at at each of the further places
+abbrev pub pieces_from : {A : Type 0} → ℕ → List ℕ → List A → List (List A)
+pieces_from start [] items = []
+pieces_from start (end ∷ ends) items = slice_range items start end ∷ pieces_from end ends items
 
 -- the pieces of a list between each two places that follow one another
-abbrev pub cut : {A : Type 0} → List ℕ → List A → List (List A)
-cut [] items = []
-cut (start ∷ ends) items = cut_from start ends items
+abbrev pub pieces_at : {A : Type 0} → List ℕ → List A → List (List A)
+pieces_at [] items = []
+pieces_at (start ∷ ends) items = pieces_from start ends items
 
 -- the places stand in order within the list
 pub record AreStarts {A : Type 0} (starts : List ℕ) (items : List A) : Type 0 where
@@ -26,6 +26,6 @@ pub record AreStarts {A : Type 0} (starts : List ℕ) (items : List A) : Type 0 
   pub inside : (k : ℕ) → k < length starts → slice_index starts k ≤ length items
 
 -- a string for each of at most 1,020 darts, of at most 1,000,000 turns
-pub record IsShort (strings : List (Vec Turn Global)) : Type 0 where
+pub record HasFewTurns (strings : List (Vec Turn Global)) : Type 0 where
   pub few : length strings ≤ MAX_DARTS
   pub short : All (λ string. vec_len string ≤ MAX_TURNS) strings

@@ -2,7 +2,7 @@
 use Rattle.std.specs.Prelude.{◌≡◌, ℕ, ◌<◌, ◌≤◌, List, slice_index}
 use Rattle.faces.specs.Planes.{PlaneModel, with_outer}
 use Rattle.flow_network.specs.FaceNet.{IsNetOf}
-use Rattle.ortho_rep.specs.declared.best.Lead.{Lead}
+use Rattle.ortho_rep.specs.declared.best.Incumbent.{Incumbent}
 use Rattle.ortho_rep.specs.declared.best.Moving.{Moving}
 use Rattle.ortho_rep.specs.Best.{HasRep, NeedsBends}
 
@@ -12,15 +12,15 @@ pub record IsMoving (p : PlaneModel) (moving : Moving) : Type 0 where
   pub same : moving.standing ≡ moving.net.network
 
 -- a face, and how many bends are needed with it as the outer one
-pub record IsLead (p : PlaneModel) (lead : Lead) : Type 0 where
-  pub named : lead.face < p.faces
-  pub some : HasRep (with_outer p lead.face) lead.bends
-  pub needs : NeedsBends (with_outer p lead.face) lead.bends
+pub record IsIncumbent (p : PlaneModel) (incumbent : Incumbent) : Type 0 where
+  pub named : incumbent.face < p.faces
+  pub some : HasRep (with_outer p incumbent.face) incumbent.bends
+  pub needs : NeedsBends (with_outer p incumbent.face) incumbent.bends
 
--- a lead is another one, or better: fewer bends, or as many and a lesser number
-pub record IsAhead (lead other : Lead) : Type 0 where
-  pub fewer : lead.bends ≤ other.bends
-  pub first : lead.bends ≡ other.bends → lead.face ≤ other.face
+-- an incumbent is another one, or better: fewer bends, or as many and a lesser number
+pub record IsAhead (incumbent other : Incumbent) : Type 0 where
+  pub fewer : incumbent.bends ≤ other.bends
+  pub first : incumbent.bends ≡ other.bends → incumbent.face ≤ other.face
 
 -- the face f is no better than one with so many bends: at least as many are needed with it, and where as few
 -- suffice it has no lesser number

@@ -6,7 +6,7 @@ ghost use Rattle.min_cost_flow.specs.Stand.{IsShown};
 ghost use Rattle.ortho_rep.specs.Representation.{IsShape, IsLeast};
 ghost use Rattle.ortho_rep.specs.Prices.{IsProof};
 ghost use Rattle.ortho_rep.specs.Best.{HasRep, NeedsBends, IsBest};
-ghost use Rattle.ortho_rep.specs.Tries.{IsMoving, IsLead, IsAhead, IsNoBetter, AreBounds};
+ghost use Rattle.ortho_rep.specs.Tries.{IsMoving, IsIncumbent, IsAhead, IsNoBetter, AreBounds};
 
 use crate::least::shape_in;
 use crate::prices::Prices;
@@ -20,12 +20,12 @@ use std::alloc::{AllocError, Global};
 
 /// The best face so far, and how many bends are needed with it as the outer one.
 #[derive(Clone, Copy)]
-struct Lead {
+struct Incumbent {
     face: u16,
     bends: u64,
 }
 
-impl Lead {
+impl Incumbent {
     /// Whether so many bends with a face are better: fewer, or as few and the face has a lesser number.
     fn loses_to(&self, bends: u64, face: u16) -> bool
         ensures yes { IsTrue result → bends ≤ self.now.bends }
@@ -74,9 +74,9 @@ fn best_found(alloc: Global, plane: &mut Plane) -> Result<(Shape, Prices), Alloc
     ensures proof { IfOk result (λ found. IsProof plane.new found.0 found.1) }
 {
     let moving = begin(alloc, plane)?;
-    let (moving, lead) = best_lead(plane, moving);
-    let moving = turned(moving, plane, lead.face);
-    plane.turn_out(lead.face);
+    let (moving, incumbent) = best_incumbent(plane, moving);
+    let moving = turned(moving, plane, incumbent.face);
+    plane.turn_out(incumbent.face);
     let solved = moving.standing.solved(alloc)?;
     let mut lists = ShapeLists::empty(alloc);
     shape_in(alloc, &mut lists, plane, &moving.net, &solved)
@@ -121,7 +121,7 @@ fn turned(moving: Moving, plane: &Plane, face: u16) -> Moving
 }
 
 /// The best face. The outer face is left as it was turned last.
-fn best_lead(plane: &mut Plane, moving: Moving) -> (Moving, Lead)
+fn best_incumbent(plane: &mut Plane, moving: Moving) -> (Moving, Incumbent)
     requires moving { IsMoving plane.old moving }
     ensures turned { plane.new ≡ with_outer plane.old plane.new.outer }
     ensures moving { IsMoving plane.new result.0 }
@@ -132,12 +132,12 @@ fn best_lead(plane: &mut Plane, moving: Moving) -> (Moving, Lead)
     let mut bounds = [0; MAX_FACES];
     let bends = bends_and_bounds(plane, &moving, &mut bounds);
     let face = plane.outer();
-    let mut lead = Lead { face, bends };
-    let mut moving = tour(plane, moving, &mut lead, &mut bounds);
+    let mut incumbent = Incumbent { face, bends };
+    let mut moving = tour(plane, moving, &mut incumbent, &mut bounds);
     for face in 0..faces {
-        moving = visit(plane, moving, &mut lead, &mut bounds, face);
+        moving = visit(plane, moving, &mut incumbent, &mut bounds, face);
     }
-    (moving, lead)
+    (moving, incumbent)
 }
 
 /// Tries faces in depth-first order over shared edges, so that each move is short. Which faces it
@@ -145,14 +145,14 @@ fn best_lead(plane: &mut Plane, moving: Moving) -> (Moving, Lead)
 ///
 /// It walks round the outer face, and through each edge behind which it has not been yet. It walks round
 /// each face that it enters so, and goes back through the edge by which it came.
-fn tour(plane: &mut Plane, moving: Moving, lead: &mut Lead, bounds: &mut [u64]) -> Moving
+fn tour(plane: &mut Plane, moving: Moving, incumbent: &mut Incumbent, bounds: &mut [u64]) -> Moving
     requires moving { IsMoving plane.old moving }
-    requires lead { IsLead plane.old lead.old }
+    requires incumbent { IsIncumbent plane.old incumbent.old }
     requires room { plane.old.faces ≤ length bounds.old }
     requires bounds { AreBounds plane.old bounds.old }
     ensures turned { plane.new ≡ with_outer plane.old plane.new.outer }
     ensures moving { IsMoving plane.new result }
-    ensures lead { IsLead plane.new lead.new }
+    ensures incumbent { IsIncumbent plane.new incumbent.new }
     ensures bounds { AreBounds plane.new bounds.new }
 {
     let darts = plane.graph().darts();
@@ -163,10 +163,10 @@ fn tour(plane: &mut Plane, moving: Moving, lead: &mut Lead, bounds: &mut [u64]) 
     let mut dart = plane.least_dart(outer);
     let mut moving = moving;
     for _step in 0..darts {
-        let (next, face) = step(plane, dart, &mut seen, &mut doors);
+        let (next, face) = next_of_tour(plane, dart, &mut seen, &mut doors);
         dart = next;
         if let Some(face) = face {
-            moving = visit(plane, moving, lead, bounds, face);
+            moving = visit(plane, moving, incumbent, bounds, face);
         }
     }
     moving
@@ -174,7 +174,12 @@ fn tour(plane: &mut Plane, moving: Moving, lead: &mut Lead, bounds: &mut [u64]) 
 
 /// The dart to look at after one, and the face across if it has not been seen yet. Then the edge
 /// becomes a door: both of its darts lead on to what comes after their reverse.
-fn step(plane: &Plane, dart: u16, seen: &mut [bool], doors: &mut [bool]) -> (u16, Option<u16>)
+fn next_of_tour(
+    plane: &Plane,
+    dart: u16,
+    seen: &mut [bool],
+    doors: &mut [bool],
+) -> (u16, Option<u16>)
     requires dart { dart < darts plane.now }
     requires seen { plane.now.faces ≤ length seen.old }
     requires doors { darts plane.now ≤ length doors.old }
@@ -202,30 +207,30 @@ fn step(plane: &Plane, dart: u16, seen: &mut [bool], doors: &mut [bool]) -> (u16
 fn visit(
     plane: &mut Plane,
     moving: Moving,
-    lead: &mut Lead,
+    incumbent: &mut Incumbent,
     bounds: &mut [u64],
     face: u16,
 ) -> Moving
     requires face { face < plane.old.faces }
     requires moving { IsMoving plane.old moving }
-    requires lead { IsLead plane.old lead.old }
+    requires incumbent { IsIncumbent plane.old incumbent.old }
     requires room { plane.old.faces ≤ length bounds.old }
     requires bounds { AreBounds plane.old bounds.old }
     ensures turned { plane.new ≡ with_outer plane.old plane.new.outer }
     ensures moving { IsMoving plane.new result }
-    ensures lead { IsLead plane.new lead.new }
+    ensures incumbent { IsIncumbent plane.new incumbent.new }
     ensures bounds { AreBounds plane.new bounds.new }
-    ensures ahead { IsAhead lead.new lead.old }
-    ensures tried { IsNoBetter plane.new lead.new.bends lead.new.face face }
+    ensures ahead { IsAhead incumbent.new incumbent.old }
+    ensures tried { IsNoBetter plane.new incumbent.new.bends incumbent.new.face face }
 {
-    if !lead.loses_to(bounds[usize::from(face)], face) {
+    if !incumbent.loses_to(bounds[usize::from(face)], face) {
         return moving;
     }
     let moving = turned(moving, plane, face);
     plane.turn_out(face);
     let bends = bends_and_bounds(plane, &moving, bounds);
-    if lead.loses_to(bends, face) {
-        *lead = Lead { face, bends };
+    if incumbent.loses_to(bends, face) {
+        *incumbent = Incumbent { face, bends };
     }
     moving
 }

@@ -101,12 +101,12 @@ fn turns_faces(plane: &Plane, shape: &Shape) -> bool
         ≡ whole_turn plane.now f) }
 {
     let faces = plane.face_count();
-    let mut gains = [0; MAX_FACES];
-    let mut losses = [0; MAX_FACES];
-    add_turns(plane, shape, &mut gains, &mut losses);
+    let mut left_sums = [0; MAX_FACES];
+    let mut right_sums = [0; MAX_FACES];
+    add_turns(plane, shape, &mut left_sums, &mut right_sums);
     for face in 0..faces {
         let place = usize::from(face);
-        if !turns_once(gains[place], losses[place], face == plane.outer()) {
+        if !turns_once(left_sums[place], right_sums[place], face == plane.outer()) {
             return false;
         }
     }
@@ -114,32 +114,32 @@ fn turns_faces(plane: &Plane, shape: &Shape) -> bool
 }
 
 /// Whether so many turns to the left, and so many to the right, are one turn round a face.
-fn turns_once(gain: u64, loss: u64, is_outer: bool) -> bool
-    ensures { IsTrue result ↔ ((pos gain -ℤ pos loss) ≡ (if is_outer then negsuc 3 else pos 4)) }
+fn turns_once(left_sum: u64, right_sum: u64, is_outer: bool) -> bool
+    ensures { IsTrue result ↔ ((pos left_sum -ℤ pos right_sum) ≡ (if is_outer then negsuc 3 else pos 4)) }
 {
     if is_outer {
-        loss >= 4 && loss - 4 == gain
+        right_sum >= 4 && right_sum - 4 == left_sum
     } else {
-        gain >= 4 && gain - 4 == loss
+        left_sum >= 4 && left_sum - 4 == right_sum
     }
 }
 
 /// Sums round each face what its darts turn to the left, and what they turn to the right.
-fn add_turns(plane: &Plane, shape: &Shape, gains: &mut [u64], losses: &mut [u64])
+fn add_turns(plane: &Plane, shape: &Shape, left_sums: &mut [u64], right_sums: &mut [u64])
     requires darts { HasDarts plane.now shape.now }
-    requires gain_room { plane.now.faces ≤ length gains.old }
-    requires loss_room { plane.now.faces ≤ length losses.old }
-    requires clear_gains { gains.old ≡ replicate (length gains.old) 0 }
-    requires clear_losses { losses.old ≡ replicate (length losses.old) 0 }
+    requires left_sum_room { plane.now.faces ≤ length left_sums.old }
+    requires right_sum_room { plane.now.faces ≤ length right_sums.old }
+    requires clear_left_sums { left_sums.old ≡ replicate (length left_sums.old) 0 }
+    requires clear_right_sums { right_sums.old ≡ replicate (length right_sums.old) 0 }
     ensures { (f : ℕ) → f < plane.now.faces
         → turning_around plane.now (angle_at shape.now) (turns_at shape.now) f
-        ≡ (pos (slice_index gains.new f) -ℤ pos (slice_index losses.new f)) }
+        ≡ (pos (slice_index left_sums.new f) -ℤ pos (slice_index right_sums.new f)) }
 {
     for dart in 0..plane.graph().darts() {
         let face = usize::from(plane.face_of(dart));
         let turns = shape.turns(dart);
         let lefts = count_lefts(turns);
-        gains[face] += 2 + lefts as u64;
-        losses[face] += u64::from(shape.angle(dart)) + (turns.len() - lefts) as u64;
+        left_sums[face] += 2 + lefts as u64;
+        right_sums[face] += u64::from(shape.angle(dart)) + (turns.len() - lefts) as u64;
     }
 }

@@ -46,7 +46,7 @@ impl Model for Shape {
 
 impl Shape {
     /// Whether there are at most 1,020 strings of at most 1,000,000 turns, as `new` requires.
-    pub fn are_short(strings: &[Vec<Turn>]) -> bool
+    pub fn have_few_turns(strings: &[Vec<Turn>]) -> bool
         ensures { IsTrue result ↔ ((length strings.now ≤ MAX_DARTS)
             × All (λ string. vec_len string ≤ MAX_TURNS) strings.now) }
     {

@@ -4,7 +4,7 @@ ghost use Rattle.std.specs.Prelude.{◌≡◌, ◌*◌, ◌<◌, ◌≤◌, [], 
 ghost use Rattle.common.specs.Sums.{sum_below};
 ghost use Rattle.embedding.specs.declared.graphs.TheConstants.{MAX_DARTS};
 ghost use Rattle.ortho_rep.specs.declared.strings.TheConstants.{MAX_TURNS};
-ghost use Rattle.ortho_rep.specs.Storage.{lists_in, IsShort};
+ghost use Rattle.ortho_rep.specs.Storage.{lists_in, HasFewTurns};
 
 use crate::turn::Turn;
 use std::marker::Model;
@@ -22,13 +22,13 @@ pub(crate) struct Strings {
 impl Model for Strings {
     ghost use Rattle.std.specs.Prelude.{List};
     ghost use Rattle.ortho_rep.specs.declared.turn.Turn.{Turn};
-    ghost use Rattle.ortho_rep.specs.Storage.{lists_in, IsShort};
+    ghost use Rattle.ortho_rep.specs.Storage.{lists_in, HasFewTurns};
 
     ghost Value = { List (List Turn) };
 
     ghost view = { λ a. lists_in a.lists.items };
 
-    ghost invariant = { λ a. IsShort a.lists.items };
+    ghost invariant = { λ a. HasFewTurns a.lists.items };
 }
 
 impl Strings {

@@ -1,4 +1,4 @@
--- What a framer's place says of its stream: how the stream splits, and whether it is open.
+-- What a framer's state says of its stream: how the stream splits, and whether it is open.
 use Rattle.std.proofs.Common.{◌≡◌, ◌≢◌, ℕ, ◌+◌, ◌≤◌, List, [], ◌∷◌, ◌++◌, inl, inr, length, refl, sym, ap, subst, ◌∙◌, arith, append_assoc, append-nil, length-append, Result, Ok, Err, IsOk, ◌↔◌}
 use Rattle.std.specs.List.{concat}
 use Rattle.std.proofs.lemmas.Bool.{false≢true}
@@ -8,9 +8,9 @@ use Rattle.planar_code.specs.declared.ending.Ending.TheVariants as ending
 use Rattle.planar_code.specs.declared.fault.FeedFault.{FeedFault}
 use Rattle.planar_code.specs.declared.fault.FeedFault.TheVariants as fault
 use Rattle.planar_code.specs.Split.{IsSplit, MayGoOn, ending_of}
-use Rattle.planar_code.specs.Place.{Place, Early, After, Failed, StandsAt, IsRunning, LosesRecord, Reads, Feeds, HasMore, beyond}
+use Rattle.planar_code.specs.FramerState.{FramerState, Early, After, Failed, StandsAt, HasNotFailed, LosesRecord, Reads, Feeds, HasMore, beyond}
 use Rattle.planar_code.proofs.Records.{nothing_after}
-use Rattle.planar_code.proofs.Cuts.{front_of-cut}
+use Rattle.planar_code.proofs.Divisions.{front_of-divided}
 use Rattle.planar_code.proofs.Splits.{split_same, body_same}
 use Rattle.planar_code.proofs.LeadsTo.{standing-header}
 
@@ -26,15 +26,15 @@ split-early stream records front s = inl (record {
 
 -- with no bytes of a record after the last, the stream is complete
 pub split-complete : (stream : List ℕ) (records : List (List ℕ)) (count : ℕ) (rest : List ℕ) → rest ≡ [] → StandsAt stream records (After count rest) → IsSplit stream records ending.Complete
-split-complete stream records count rest none s = inr (record { body = s.body; rest = rest; headed = s.headed; cut = s.cut; ends = none })
+split-complete stream records count rest none s = inr (record { body = s.body; rest = rest; with_header = s.with_header; divided = s.divided; ends = none })
 
--- with some, it is cut
+-- with some, it has not ended
 pub split-truncated : (stream : List ℕ) (records : List (List ℕ)) (count : ℕ) (rest : List ℕ) → rest ≢ [] → StandsAt stream records (After count rest) → IsSplit stream records ending.Truncated
 split-truncated stream records count rest some s = inr (record {
   body = s.body;
   rest = rest;
-  headed = s.headed;
-  cut = s.cut;
+  with_header = s.with_header;
+  divided = s.divided;
   ends = (s.open_record, some, λ full. some (s.full (sym s.counted ∙ full)));
 })
 
@@ -43,7 +43,7 @@ pub split-failed : (stream : List ℕ) (records : List (List ℕ)) (f : FeedFaul
 split-failed stream records f s = subst (λ z. IsSplit z records (ending_of f)) (append-nil stream) (s [])
 
 -- where a framer runs, its stream is open
-pub open-running : (p : Place) (stream : List ℕ) (records : List (List ℕ)) → IsRunning p → StandsAt stream records p → MayGoOn stream
+pub open-running : (p : FramerState) (stream : List ℕ) (records : List (List ℕ)) → HasNotFailed p → StandsAt stream records p → MayGoOn stream
 open-running (Early front) stream records running s = inl (s.missing, ap (λ z. z ++ s.missing) s.same ∙ s.whole)
 open-running (After count []) stream records running s = inr (inl (records, split-complete stream records count [] refl s))
 open-running (After count (x ∷ rest)) stream records running s = inr (inr (records, split-truncated stream records count (x ∷ rest) (λ e. (cc)) s))
@@ -80,27 +80,27 @@ failed-closed f stream records s (inr (inr h)) =
 -- no stream has more than 1,000,000 records
 pub length-split : (stream : List ℕ) (records : List (List ℕ)) (end : Ending) → IsSplit stream records end → length records ≤ MAX_RECORDS
 length-split stream records end (inl h) = omega (arith, ap length h.none)
-length-split stream records end (inr h) = h.cut.few
+length-split stream records end (inr h) = h.divided.few
 
-pub length-standing : (p : Place) (stream : List ℕ) (records : List (List ℕ)) → StandsAt stream records p → length records ≤ MAX_RECORDS
+pub length-standing : (p : FramerState) (stream : List ℕ) (records : List (List ℕ)) → StandsAt stream records p → length records ≤ MAX_RECORDS
 length-standing (Early front) stream records s = omega (arith, ap length s.none)
-length-standing (After count rest) stream records s = s.cut.few
+length-standing (After count rest) stream records s = s.divided.few
 length-standing (Failed f) stream records s = length-split stream records (ending_of f) (split-failed stream records f s)
 
 -- the records so far begin those of the stream, however it goes on
-pub standing-front : (p : Place) (stream : List ℕ) (records : List (List ℕ)) → StandsAt stream records p → (more : List ℕ) (all : List (List ℕ)) (end : Ending) → IsSplit (stream ++ more) all end → (later : List (List ℕ)) × (all ≡ records ++ later)
+pub standing-front : (p : FramerState) (stream : List ℕ) (records : List (List ℕ)) → StandsAt stream records p → (more : List ℕ) (all : List (List ℕ)) (end : Ending) → IsSplit (stream ++ more) all end → (later : List (List ℕ)) × (all ≡ records ++ later)
 standing-front (Early front) stream records s more all end split = (all, ap (λ z. z ++ all) (sym s.none))
 standing-front (After count rest) stream records s more all end (inl h) =
-    absurd (h.header (s.body ++ more) (ap (λ z. z ++ more) s.headed ∙ append_assoc HEADER s.body more))
+    absurd (h.header (s.body ++ more) (ap (λ z. z ++ more) s.with_header ∙ append_assoc HEADER s.body more))
 standing-front (After count rest) stream records s more all end (inr h) =
     let body : h.body ≡ s.body ++ more
-    = body_same h.body (s.body ++ more) (sym h.headed ∙ ap (λ z. z ++ more) s.headed ∙ append_assoc HEADER s.body more) in
-    front_of-cut h.body all h.rest h.cut records (rest ++ more) (body ∙ ap (λ z. z ++ more) s.cut.concatenated ∙ append_assoc (concat records) rest more) s.cut.each s.cut.few
+    = body_same h.body (s.body ++ more) (sym h.with_header ∙ ap (λ z. z ++ more) s.with_header ∙ append_assoc HEADER s.body more) in
+    front_of-divided h.body all h.rest h.divided records (rest ++ more) (body ∙ ap (λ z. z ++ more) s.divided.concatenated ∙ append_assoc (concat records) rest more) s.divided.each s.divided.few
 standing-front (Failed f) stream records s more all end split =
     ([], (split_same (stream ++ more) all records end (ending_of f) split (s more)).0 ∙ sym (append-nil records))
 
 -- what was lost is a record of the stream
-pub more-lost : (old : Place) (piece : List ℕ) (added : List (List ℕ)) → LosesRecord old piece added → (stream : List ℕ) (records : List (List ℕ)) → StandsAt stream records old → HasMore (stream ++ piece) (records ++ added)
+pub more-lost : (old : FramerState) (piece : List ℕ) (added : List (List ℕ)) → LosesRecord old piece added → (stream : List ℕ) (records : List (List ℕ)) → StandsAt stream records old → HasMore (stream ++ piece) (records ++ added)
 more-lost old piece added h stream records s more all end split =
     let bytes : (stream ++ piece) ++ more ≡ (stream ++ h.front) ++ (h.back ++ more)
     = ap (λ z. (stream ++ z) ++ more) h.parts ∙ ap (λ z. z ++ more) (sym (append_assoc stream h.front h.back)) ∙ append_assoc (stream ++ h.front) h.back more in
@@ -112,7 +112,7 @@ beyond-append : (before added : List (List ℕ)) → beyond before (before ++ ad
 beyond-append [] added = refl
 beyond-append (b ∷ before) added = beyond-append before added
 
-module _ (old new : Place) (piece : List ℕ) (before after : List (List ℕ)) where
+module _ (old new : FramerState) (piece : List ℕ) (before after : List (List ℕ)) where
   beyond-added : (result : Result Unit FeedFault) (h : Feeds old piece before after new result) → beyond before after ≡ h.added
   beyond-added result h = ap (beyond before) h.appended ∙ beyond-append before h.added
 

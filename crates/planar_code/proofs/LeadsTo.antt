@@ -10,9 +10,9 @@ use Rattle.planar_code.specs.declared.fault.FeedFault.TheVariants as fault
 use Rattle.planar_code.specs.Stream.{IsEntry, IsList, IsRecord, IsUnfinished, NoRecordFirst}
 use Rattle.planar_code.specs.Split.{BeginsWithZero, EndsAs, IsSplit, ending_of}
 use Rattle.planar_code.specs.Started.{IsOversize}
-use Rattle.planar_code.specs.Place.{Place, Early, After, Failed, StandsAt, Goes}
+use Rattle.planar_code.specs.FramerState.{FramerState, Early, After, Failed, StandsAt, Goes}
 use Rattle.planar_code.proofs.Records.{no_record-unfinished}
-use Rattle.planar_code.proofs.Cuts.{IsStuck, concat-push, cut_from}
+use Rattle.planar_code.proofs.Divisions.{IsStuck, concat-push, divided_from}
 
 -- no bytes begin a record
 pub unfinished-none : IsUnfinished []
@@ -29,27 +29,27 @@ unfinished-none = record {
 }
 
 -- two pieces, one after the other
-pub goes_on : (p q r : Place) (a b : List ℕ) (x y : List (List ℕ)) → Goes p a x q → Goes q b y r → Goes p (a ++ b) (x ++ y) r
+pub goes_on : (p q r : FramerState) (a b : List ℕ) (x y : List (List ℕ)) → Goes p a x q → Goes q b y r → Goes p (a ++ b) (x ++ y) r
 goes_on p q r a b x y first second stream records s =
     subst (λ z. StandsAt z (records ++ (x ++ y)) r) (append_assoc stream a b)
     (subst (λ z. StandsAt ((stream ++ a) ++ b) z r) (append_assoc records x y) (second (stream ++ a) (records ++ x) (first stream records s)))
 
 -- no piece at all
-pub goes_nowhere : (p : Place) → Goes p [] [] p
+pub goes_nowhere : (p : FramerState) → Goes p [] [] p
 goes_nowhere p stream records s =
     subst (λ z. StandsAt z (records ++ []) p) (sym (append-nil stream))
     (subst (λ z. StandsAt stream z p) (sym (append-nil records)) s)
 
 -- it is enough to add no records
-adds_none : (records : List (List ℕ)) (stream : List ℕ) (p : Place) → StandsAt stream records p → StandsAt stream (records ++ []) p
+adds_none : (records : List (List ℕ)) (stream : List ℕ) (p : FramerState) → StandsAt stream records p → StandsAt stream (records ++ []) p
 adds_none records stream p s = subst (λ z. StandsAt stream z p) (sym (append-nil records)) s
 
 -- the open record goes on
 pub goes_more : (count : ℕ) (rest text : List ℕ) → count ≢ MAX_RECORDS → IsUnfinished (rest ++ text) → Goes (After count rest) text [] (After count (rest ++ text))
 goes_more count rest text room unfinished stream records s = adds_none records (stream ++ text) (After count (rest ++ text)) (record {
   body = s.body ++ text;
-  headed = ap (λ z. z ++ text) s.headed ∙ append_assoc HEADER s.body text;
-  cut = cut_from (s.body ++ text) records (rest ++ text) (ap (λ z. z ++ text) s.cut.concatenated ∙ append_assoc (concat records) rest text) s.cut.each s.cut.few (inr (no_record-unfinished (rest ++ text) unfinished));
+  with_header = ap (λ z. z ++ text) s.with_header ∙ append_assoc HEADER s.body text;
+  divided = divided_from (s.body ++ text) records (rest ++ text) (ap (λ z. z ++ text) s.divided.concatenated ∙ append_assoc (concat records) rest text) s.divided.each s.divided.few (inr (no_record-unfinished (rest ++ text) unfinished));
   counted = s.counted;
   open_record = unfinished;
   full = λ e. absurd (room e);
@@ -62,10 +62,10 @@ goes_whole count rest text bytes room same whole stream records s =
     let counted = s.counted in
     record {
       body = s.body ++ text;
-      headed = ap (λ z. z ++ text) s.headed ∙ append_assoc HEADER s.body text;
-      cut = cut_from (s.body ++ text) (records ++ bytes ∷ []) []
-          (ap (λ z. z ++ text) s.cut.concatenated ∙ append_assoc (concat records) rest text ∙ ap (λ z. concat records ++ z) (sym same) ∙ sym (concat-push records bytes) ∙ sym (append-nil (concat (records ++ bytes ∷ []))))
-          (All-push IsRecord records bytes s.cut.each whole)
+      with_header = ap (λ z. z ++ text) s.with_header ∙ append_assoc HEADER s.body text;
+      divided = divided_from (s.body ++ text) (records ++ bytes ∷ []) []
+          (ap (λ z. z ++ text) s.divided.concatenated ∙ append_assoc (concat records) rest text ∙ ap (λ z. concat records ++ z) (sym same) ∙ sym (concat-push records bytes) ∙ sym (append-nil (concat (records ++ bytes ∷ []))))
+          (All-push IsRecord records bytes s.divided.each whole)
           (omega arith)
           (inr (no_record-unfinished [] unfinished-none));
       counted = omega arith;
@@ -78,8 +78,8 @@ fails : (count : ℕ) (rest text : List ℕ) (f : FeedFault) → ((more : List �
 fails count rest text f stuck ends stream records s = adds_none records (stream ++ text) (Failed f) (λ more. inr (record {
   body = s.body ++ (text ++ more);
   rest = rest ++ (text ++ more);
-  headed = append_assoc stream text more ∙ ap (λ z. z ++ (text ++ more)) s.headed ∙ append_assoc HEADER s.body (text ++ more);
-  cut = cut_from (s.body ++ (text ++ more)) records (rest ++ (text ++ more)) (ap (λ z. z ++ (text ++ more)) s.cut.concatenated ∙ append_assoc (concat records) rest (text ++ more)) s.cut.each s.cut.few (subst (λ n. IsStuck n (rest ++ (text ++ more))) (sym s.counted) (stuck more));
+  with_header = append_assoc stream text more ∙ ap (λ z. z ++ (text ++ more)) s.with_header ∙ append_assoc HEADER s.body (text ++ more);
+  divided = divided_from (s.body ++ (text ++ more)) records (rest ++ (text ++ more)) (ap (λ z. z ++ (text ++ more)) s.divided.concatenated ∙ append_assoc (concat records) rest (text ++ more)) s.divided.each s.divided.few (subst (λ n. IsStuck n (rest ++ (text ++ more))) (sym s.counted) (stuck more));
   ends = subst (λ n. EndsAs n (rest ++ (text ++ more)) (ending_of f)) (sym s.counted) (ends more);
 }))
 
@@ -153,16 +153,16 @@ goes_early passed x room same stream records s = adds_none records (stream ++ x 
 pub standing-header : StandsAt HEADER [] (After 0 [])
 standing-header = record {
   body = [];
-  headed = refl;
-  cut = cut_from [] [] [] refl (All-nil IsRecord) (omega arith) (inr (no_record-unfinished [] unfinished-none));
+  with_header = refl;
+  divided = divided_from [] [] [] refl (All-nil IsRecord) (omega arith) (inr (no_record-unfinished [] unfinished-none));
   counted = refl;
   open_record = unfinished-none;
   full = λ e. refl;
 }
 
 -- the last byte of the header
-pub goes_headed : (passed x : ℕ) → passed + 1 ≡ 15 → x ≡ get_or HEADER passed 0 → Goes (Early (take passed HEADER)) (x ∷ []) [] (After 0 [])
-goes_headed passed x last same stream records s = adds_none records (stream ++ x ∷ []) (After 0 [])
+pub goes_with_header : (passed x : ℕ) → passed + 1 ≡ 15 → x ≡ get_or HEADER passed 0 → Goes (Early (take passed HEADER)) (x ∷ []) [] (After 0 [])
+goes_with_header passed x last same stream records s = adds_none records (stream ++ x ∷ []) (After 0 [])
     (subst (λ z. StandsAt (stream ++ x ∷ []) z (After 0 [])) (sym s.none)
     (subst (λ z. StandsAt z [] (After 0 []))
     (sym (ap (λ z. z ++ x ∷ []) s.same ∙ ap (λ y. take passed HEADER ++ y ∷ []) same ∙ sym (take_more HEADER passed 0 (omega arith)) ∙ ap (λ n. take n HEADER) last))

@@ -1,6 +1,6 @@
 pub mod Lists
 pub mod Records
-pub mod Cuts
+pub mod Divisions
 pub mod Splits
 pub mod Started
 pub mod Scanning

@@ -8,7 +8,7 @@ use Rattle.planar_code.specs.declared.ending.Ending.TheVariants as ending
 use Rattle.planar_code.specs.Stream.{IsEntry, IsRecord, IsUnfinished, NoRecordFirst, HasLongList, ended}
 use Rattle.planar_code.specs.Split.{IsSplit}
 use Rattle.planar_code.specs.Started.{IsStarted}
-use Rattle.planar_code.proofs.Cuts.{stuck-cut}
+use Rattle.planar_code.proofs.Divisions.{stuck-divided}
 use Rattle.planar_code.proofs.Started.{started-first, started-entry, started-end, started-whole, started-unfinished}
 
 -- one byte moves from the text to the bytes before it
@@ -69,10 +69,10 @@ long_list-oversize stream records bytes (inl h) = absurd (let e = h.ends in (cc)
 long_list-oversize stream records bytes (inr h) = go h.rest refl
   where
     whole : stream ≡ (HEADER ++ concat records) ++ h.rest
-    whole = h.headed ∙ ap (λ z. HEADER ++ z) h.cut.concatenated ∙ sym (append_assoc HEADER (concat records) h.rest)
+    whole = h.with_header ∙ ap (λ z. HEADER ++ z) h.divided.concatenated ∙ sym (append_assoc HEADER (concat records) h.rest)
 
     stops : NoRecordFirst h.rest
-    stops = elim (stuck-cut h.body records h.rest h.cut) [ inl full ↦ absurd (h.ends.3 full) | inr none ↦ none ]
+    stops = elim (stuck-divided h.body records h.rest h.divided) [ inl full ↦ absurd (h.ends.3 full) | inr none ↦ none ]
 
     go : (rest : List ℕ) → h.rest ≡ rest → HasLongList stream
     go [] e = absurd (h.ends.2 e)

@@ -13,13 +13,13 @@ use Rattle.planar_code.specs.Split.{EndsAs}
 use Rattle.planar_code.specs.Started.{IsStarted, IsOversize}
 use Rattle.planar_code.specs.Plain.{EndsList, SplitsBody, HasSplit}
 use Rattle.planar_code.proofs.Records.{no_record-unfinished}
-use Rattle.planar_code.proofs.Cuts.{IsStuck, concat-push, cut_from}
+use Rattle.planar_code.proofs.Divisions.{IsStuck, concat-push, divided_from}
 use Rattle.planar_code.proofs.Scanning.{zero_first, empty-length}
 use Rattle.planar_code.proofs.LeadsTo.{unfinished-none, no_record-zero, no_record-oversize}
 
 -- records that cannot be continued, and what they end in
 splits-body : (body : List ℕ) (records : List (List ℕ)) (rest : List ℕ) (e : Ending) → HasSplit body records rest → IsStuck (length records) rest → EndsAs (length records) rest e → SplitsBody body records e
-splits-body body records rest e h stuck ends = record { rest = rest; cut = cut_from body records rest h.concatenated h.each h.few stuck; ends = ends }
+splits-body body records rest e h stuck ends = record { rest = rest; divided = divided_from body records rest h.concatenated h.each h.few stuck; ends = ends }
 
 -- some bytes are left
 some-remaining : (rest : List ℕ) → 0 < length rest → rest ≢ []

@@ -4,12 +4,12 @@ use Rattle.std.proofs.lemmas.List.{take-append-drop}
 use Rattle.std.proofs.lemmas.Bool.{false≢true}
 use Rattle.planar_code.specs.declared.fault.FeedFault.{FeedFault}
 use Rattle.planar_code.specs.declared.fault.FeedFault.TheVariants as fault
-use Rattle.planar_code.specs.Place.{Place, Failed, Goes, IsRunning, LosesRecord, Feeds}
-use Rattle.planar_code.specs.Step.{Steps, HasRead, Runs}
+use Rattle.planar_code.specs.FramerState.{FramerState, Failed, Goes, HasNotFailed, LosesRecord, Feeds}
+use Rattle.planar_code.specs.Step.{FramerSteps, HasRead, Runs}
 use Rattle.planar_code.proofs.LeadsTo.{goes_on, goes_nowhere, goes_failed}
 
 -- no step yet
-pub has_read-none : (p : Place) (piece : List ℕ) (before : List (List ℕ)) → IsRunning p → HasRead p piece piece before before p
+pub has_read-none : (p : FramerState) (piece : List ℕ) (before : List (List ℕ)) → HasNotFailed p → HasRead p piece piece before before p
 has_read-none p piece before running = record {
   taken = [];
   added = [];
@@ -19,13 +19,13 @@ has_read-none p piece before running = record {
   goes = goes_nowhere p;
 }
 
-module _ (old mid : Place) (piece text : List ℕ) (before after : List (List ℕ)) (h : HasRead old piece text before after mid) where
+module _ (old mid : FramerState) (piece text : List ℕ) (before after : List (List ℕ)) (h : HasRead old piece text before after mid) where
   -- the piece, where the next step takes a beginning of the text
   parts-more : (front back : List ℕ) → text ≡ front ++ back → piece ≡ (h.taken ++ front) ++ back
   parts-more front back e = h.parts ∙ ap (λ z. h.taken ++ z) e ∙ sym (append_assoc h.taken front back)
 
   -- one step more
-  pub has_read-more : (new : Place) (n : ℕ) (next : Option (List ℕ)) (later : List (List ℕ)) → Steps mid text new (Ok (n, next)) → later ≡ after ++ option_to_list next → HasRead old piece (drop n text) before later new
+  pub has_read-more : (new : FramerState) (n : ℕ) (next : Option (List ℕ)) (later : List (List ℕ)) → FramerSteps mid text new (Ok (n, next)) → later ≡ after ++ option_to_list next → HasRead old piece (drop n text) before later new
   has_read-more new n next later s e = record {
     taken = h.taken ++ take n text;
     added = h.added ++ option_to_list next;
@@ -54,7 +54,7 @@ module _ (old mid : Place) (piece text : List ℕ) (before after : List (List �
       (subst (λ z. Goes old (h.taken ++ text) z (Failed f)) (append-nil h.added) (goes_on old mid (Failed f) h.taken text h.added [] h.goes g))
 
   -- a lost record of a beginning of the text is one of the piece
-  loses-more : (front back : List ℕ) (lost : List ℕ) (next : Place) → text ≡ front ++ back → Goes mid front (lost ∷ []) next → LosesRecord old piece h.added
+  loses-more : (front back : List ℕ) (lost : List ℕ) (next : FramerState) → text ≡ front ++ back → Goes mid front (lost ∷ []) next → LosesRecord old piece h.added
   loses-more front back lost next e g = record {
     front = h.taken ++ front;
     back = back;
@@ -64,7 +64,7 @@ module _ (old mid : Place) (piece text : List ℕ) (before after : List (List �
     goes = goes_on old mid next h.taken front h.added (lost ∷ []) h.goes g;
   }
 
-  pub runs-err : (p new : Place) (f : FeedFault) → Steps mid text p (Err f) → Runs old piece before after new (Err f)
+  pub runs-err : (p new : FramerState) (f : FeedFault) → FramerSteps mid text p (Err f) → Runs old piece before after new (Err f)
   runs-err p new fault.Header s = record { added = h.added; appended = h.appended; reads = goes-fault fault.Header s }
   runs-err p new fault.Large s = record { added = h.added; appended = h.appended; reads = goes-fault fault.Large s }
   runs-err p new fault.Oversize s = record { added = h.added; appended = h.appended; reads = goes-fault fault.Oversize s }
@@ -72,7 +72,7 @@ module _ (old mid : Place) (piece text : List ℕ) (before after : List (List �
   runs-err p new fault.Many s = record { added = h.added; appended = h.appended; reads = goes-fault fault.Many s }
 
   -- the list had no room for the next record
-  pub runs-memory : (next new : Place) (n : ℕ) (o : Option (List ℕ)) (later : List (List ℕ)) → Steps mid text next (Ok (n, o)) → IsSome o → later ≡ after → Runs old piece before later new (Err fault.Memory)
+  pub runs-memory : (next new : FramerState) (n : ℕ) (o : Option (List ℕ)) (later : List (List ℕ)) → FramerSteps mid text next (Ok (n, o)) → IsSome o → later ≡ after → Runs old piece before later new (Err fault.Memory)
   runs-memory next new n None later s some e = absurd (false≢true some)
   runs-memory next new n (Some lost) later s some e = record {
     added = h.added;
@@ -89,7 +89,7 @@ feeds-failed fault.Memory piece before = record { added = []; appended = sym (ap
 feeds-failed fault.Many piece before = record { added = []; appended = sym (append-nil before); reads = (refl, goes_failed fault.Many piece) }
 
 -- a framer that fails now keeps the fault
-pub feeds-err : (old mid : Place) (piece : List ℕ) (before after : List (List ℕ)) (f : FeedFault) → Runs old piece before after mid (Err f) → Feeds old piece before after (Failed f) (Err f)
+pub feeds-err : (old mid : FramerState) (piece : List ℕ) (before after : List (List ℕ)) (f : FeedFault) → Runs old piece before after mid (Err f) → Feeds old piece before after (Failed f) (Err f)
 feeds-err old mid piece before after fault.Header r = record { added = r.added; appended = r.appended; reads = (refl, r.reads) }
 feeds-err old mid piece before after fault.Large r = record { added = r.added; appended = r.appended; reads = (refl, r.reads) }
 feeds-err old mid piece before after fault.Oversize r = record { added = r.added; appended = r.appended; reads = (refl, r.reads) }
@@ -97,5 +97,5 @@ feeds-err old mid piece before after fault.Memory r = record { added = r.added; 
 feeds-err old mid piece before after fault.Many r = record { added = r.added; appended = r.appended; reads = (refl, r.reads) }
 
 -- a framer that read all of the piece
-pub feeds-ok : (old new : Place) (piece : List ℕ) (before after : List (List ℕ)) (u : Unit {0}) → Runs old piece before after new (Ok u) → Feeds old piece before after new (Ok u)
+pub feeds-ok : (old new : FramerState) (piece : List ℕ) (before after : List (List ℕ)) (u : Unit {0}) → Runs old piece before after new (Ok u) → Feeds old piece before after new (Ok u)
 feeds-ok old new piece before after u r = record { added = r.added; appended = r.appended; reads = r.reads }

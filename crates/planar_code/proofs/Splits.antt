@@ -4,8 +4,8 @@ use Rattle.planar_code.specs.declared.TheConstants.{HEADER}
 use Rattle.planar_code.specs.declared.ending.Ending.{Ending}
 use Rattle.planar_code.specs.declared.ending.Ending.TheVariants as ending
 use Rattle.planar_code.specs.Stream.{IsUnfinished}
-use Rattle.planar_code.specs.Split.{IsCut, BeginsWithZero, EndsAs, IsSplit}
-use Rattle.planar_code.proofs.Cuts.{cut_same}
+use Rattle.planar_code.specs.Split.{IsDivided, BeginsWithZero, EndsAs, IsSplit}
+use Rattle.planar_code.proofs.Divisions.{divided_same}
 
 complete_same : (count : ℕ) (rest : List ℕ) → EndsAs count rest ending.Complete → (end : Ending) → EndsAs count rest end → ending.Complete ≡ end
 complete_same count rest h ending.Complete k = refl
@@ -78,10 +78,10 @@ body_same a b e = cc
 -- a stream has one list of records and one ending
 pub split_same : (stream : List ℕ) (rs ss : List (List ℕ)) (a b : Ending) → IsSplit stream rs a → IsSplit stream ss b → (rs ≡ ss) × (a ≡ b)
 split_same stream rs ss a b (inl h) (inl k) = (h.none ∙ sym k.none, h.ends ∙ sym k.ends)
-split_same stream rs ss a b (inl h) (inr k) = absurd (h.header k.body k.headed)
-split_same stream rs ss a b (inr h) (inl k) = absurd (k.header h.body h.headed)
+split_same stream rs ss a b (inl h) (inr k) = absurd (h.header k.body k.with_header)
+split_same stream rs ss a b (inr h) (inl k) = absurd (k.header h.body h.with_header)
 split_same stream rs ss a b (inr h) (inr k) =
-    let body = body_same h.body k.body (sym h.headed ∙ k.headed) in
-    let same = cut_same h.body rs ss h.rest k.rest h.cut (subst (λ z. IsCut z ss k.rest) (sym body) k.cut) in
+    let body = body_same h.body k.body (sym h.with_header ∙ k.with_header) in
+    let same = divided_same h.body rs ss h.rest k.rest h.divided (subst (λ z. IsDivided z ss k.rest) (sym body) k.divided) in
     let ends = subst (λ z. EndsAs z k.rest b) (sym (ap length same.0)) k.ends in
     (same.0, ends_same (length rs) h.rest a b h.ends (subst (λ z. EndsAs (length rs) z b) (sym same.1) ends))

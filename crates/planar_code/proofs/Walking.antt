@@ -1,4 +1,4 @@
--- Every stream of bytes splits: byte for byte, it leads to some place.
+-- Every stream of bytes splits: byte for byte, it leads to some state.
 use Rattle.std.proofs.Common.{◌≢◌, ℕ, ◌+◌, ◌-◌, ◌<◌, ◌≤◌, List, [], ◌∷◌, ◌++◌, inl, inr, All, take, get_or, refl, sym, ap, subst, arith}
 use Rattle.std.proofs.lemmas.Bool.{cases_eq}
 use Rattle.std.proofs.lemmas.List.Elements.{All-head, All-tail}
@@ -10,29 +10,29 @@ use Rattle.planar_code.specs.declared.fault.FeedFault.TheVariants as fault
 use Rattle.planar_code.specs.Stream.{IsRecord}
 use Rattle.planar_code.specs.Split.{IsSplit, ending_of, BeginsWithZero}
 use Rattle.planar_code.specs.Started.{IsStarted, HasBegun}
-use Rattle.planar_code.specs.Place.{Place, Early, After, Failed, StandsAt, Goes}
+use Rattle.planar_code.specs.FramerState.{FramerState, Early, After, Failed, StandsAt, Goes}
 use Rattle.planar_code.proofs.Started.{started-first, started-entry, started-end, started-whole, started-unfinished, started-oversize}
-use Rattle.planar_code.proofs.LeadsTo.{goes_on, goes_nowhere, goes_more, goes_whole, goes_early, goes_headed, goes_failed, fails_many, fails_large, fails_oversize, fails_header}
+use Rattle.planar_code.proofs.LeadsTo.{goes_on, goes_nowhere, goes_more, goes_whole, goes_early, goes_with_header, goes_failed, fails_many, fails_large, fails_oversize, fails_header}
 use Rattle.planar_code.proofs.Feeding.{split-early, split-complete, split-truncated, split-failed}
 
 -- places of which enough is known to go on
-data Known : Place → Type 0 where
+data Known : FramerState → Type 0 where
   early : (passed : ℕ) → passed < 15 → Known (Early (take passed HEADER))
   after : (count : ℕ) (rest : List ℕ) (remaining entries : ℕ) → HasBegun rest remaining entries → count ≤ MAX_RECORDS → Known (After count rest)
   failed : (f : FeedFault) → Known (Failed f)
 
 -- where some bytes lead
-record Leads (p : Place) (bytes : List ℕ) : Type 0 where
+record Leads (p : FramerState) (bytes : List ℕ) : Type 0 where
   added : List (List ℕ)
-  place : Place
-  known : Known place
-  goes : Goes p bytes added place
+  state : FramerState
+  known : Known state
+  goes : Goes p bytes added state
 
 -- the record goes on
 leads-more : (count : ℕ) (rest : List ℕ) (x remaining entries : ℕ) → count ≢ MAX_RECORDS → count ≤ MAX_RECORDS → IsStarted (rest ++ x ∷ []) remaining entries → Leads (After count rest) (x ∷ [])
 leads-more count rest x remaining entries room few s = record {
   added = [];
-  place = After count (rest ++ x ∷ []);
+  state = After count (rest ++ x ∷ []);
   known = after count (rest ++ x ∷ []) remaining entries (inr s) few;
   goes = goes_more count rest (x ∷ []) room (started-unfinished (rest ++ x ∷ []) remaining entries s);
 }
@@ -42,7 +42,7 @@ leads-after : (count : ℕ) (rest : List ℕ) (remaining entries x : ℕ) → Ha
 leads-after count rest remaining entries x (inl none) few room byte = elim (cases_eq x 0) [
   | inl z ↦ record {
     added = [];
-    place = Failed fault.Large;
+    state = Failed fault.Large;
     known = failed fault.Large;
     goes = fails_large count rest (x ∷ []) room (subst (λ r. BeginsWithZero (r ++ x ∷ [])) (sym none) ([], ap (λ y. y ∷ []) z));
   }
@@ -52,7 +52,7 @@ leads-after count rest remaining entries x (inr s) few room byte = elim (cases_e
   | inl z ↦ elim (cases_eq remaining 1) [
     | inl last ↦ record {
       added = (rest ++ x ∷ []) ∷ [];
-      place = After (count + 1) [];
+      state = After (count + 1) [];
       known = after (count + 1) [] 0 0 (inl refl) (omega (arith, room));
       goes = goes_whole count rest (x ∷ []) (rest ++ x ∷ []) (omega (arith, room)) refl (subst (λ y. IsRecord (rest ++ y ∷ [])) (sym z) (started-whole rest remaining entries s last));
     }
@@ -62,7 +62,7 @@ leads-after count rest remaining entries x (inr s) few room byte = elim (cases_e
   | inr some ↦ elim (cases_eq entries 254) [
     | inl full ↦ record {
       added = [];
-      place = Failed fault.Oversize;
+      state = Failed fault.Oversize;
       known = failed fault.Oversize;
       goes = fails_oversize count rest (x ∷ []) room (started-oversize rest remaining entries x [] s (omega (arith, some), byte) full);
     }
@@ -72,39 +72,39 @@ leads-after count rest remaining entries x (inr s) few room byte = elim (cases_e
 ]
 
 -- one byte
-leads-byte : (p : Place) → Known p → (x : ℕ) → x < 256 → Leads p (x ∷ [])
+leads-byte : (p : FramerState) → Known p → (x : ℕ) → x < 256 → Leads p (x ∷ [])
 leads-byte _ (early passed room) x byte = elim (cases_eq x (get_or HEADER passed 0)) [
   | inl same ↦ elim (cases_eq (passed + 1) 15) [
-    | inl last ↦ record { added = []; place = After 0 []; known = after 0 [] 0 0 (inl refl) (omega arith); goes = goes_headed passed x last same }
-    | inr short ↦ record { added = []; place = Early (take (passed + 1) HEADER); known = early (passed + 1) (omega (arith, short)); goes = goes_early passed x (omega (arith, short)) same }
+    | inl last ↦ record { added = []; state = After 0 []; known = after 0 [] 0 0 (inl refl) (omega arith); goes = goes_with_header passed x last same }
+    | inr short ↦ record { added = []; state = Early (take (passed + 1) HEADER); known = early (passed + 1) (omega (arith, short)); goes = goes_early passed x (omega (arith, short)) same }
   ]
-  | inr other ↦ record { added = []; place = Failed fault.Header; known = failed fault.Header; goes = fails_header passed x [] room other }
+  | inr other ↦ record { added = []; state = Failed fault.Header; known = failed fault.Header; goes = fails_header passed x [] room other }
 ]
 leads-byte _ (after count rest remaining entries begun few) x byte = elim (cases_eq count MAX_RECORDS) [
-  | inl full ↦ record { added = []; place = Failed fault.Many; known = failed fault.Many; goes = fails_many count rest (x ∷ []) full (λ e. (cc)) }
+  | inl full ↦ record { added = []; state = Failed fault.Many; known = failed fault.Many; goes = fails_many count rest (x ∷ []) full (λ e. (cc)) }
   | inr room ↦ leads-after count rest remaining entries x begun few room byte
 ]
-leads-byte _ (failed f) x byte = record { added = []; place = Failed f; known = failed f; goes = goes_failed f (x ∷ []) }
+leads-byte _ (failed f) x byte = record { added = []; state = Failed f; known = failed f; goes = goes_failed f (x ∷ []) }
 
 -- any bytes
-leads : (bytes : List ℕ) → All (λ x. x < 256) bytes → (p : Place) → Known p → Leads p bytes
-leads [] each p k = record { added = []; place = p; known = k; goes = goes_nowhere p }
+leads : (bytes : List ℕ) → All (λ x. x < 256) bytes → (p : FramerState) → Known p → Leads p bytes
+leads [] each p k = record { added = []; state = p; known = k; goes = goes_nowhere p }
 leads (x ∷ bytes) each p k =
     let first = leads-byte p k x (All-head (λ x. x < 256) x bytes each) in
-    let later = leads bytes (All-tail (λ x. x < 256) x bytes each) first.place first.known in
+    let later = leads bytes (All-tail (λ x. x < 256) x bytes each) first.state first.known in
     record {
       added = first.added ++ later.added;
-      place = later.place;
+      state = later.state;
       known = later.known;
-      goes = goes_on p first.place later.place (x ∷ []) bytes first.added later.added first.goes later.goes;
+      goes = goes_on p first.state later.state (x ∷ []) bytes first.added later.added first.goes later.goes;
     }
 
 -- no bytes stand at the beginning
 pub standing-none : StandsAt [] [] (Early [])
 standing-none = record { none = refl; same = refl; missing = HEADER; more = λ e. (cc); whole = refl }
 
--- a place that a stream has led to splits it
-split-standing : (p : Place) (stream : List ℕ) (records : List (List ℕ)) → StandsAt stream records p → (end : Ending) × IsSplit stream records end
+-- a state that a stream has led to splits it
+split-standing : (p : FramerState) (stream : List ℕ) (records : List (List ℕ)) → StandsAt stream records p → (end : Ending) × IsSplit stream records end
 split-standing (Early front) stream records s = (ending.Header, split-early stream records front s)
 split-standing (After count []) stream records s = (ending.Complete, split-complete stream records count [] refl s)
 split-standing (After count (x ∷ rest)) stream records s = (ending.Truncated, split-truncated stream records count (x ∷ rest) (λ e. (cc)) s)
@@ -113,5 +113,5 @@ split-standing (Failed f) stream records s = (ending_of f, split-failed stream r
 pub split-exists : (stream : List ℕ) → All (λ x. x < 256) stream → (records : List (List ℕ)) × (end : Ending) × IsSplit stream records end
 split-exists stream each =
     let l = leads stream each (Early []) (early 0 (omega arith)) in
-    let s = split-standing l.place stream l.added (l.goes [] [] standing-none) in
+    let s = split-standing l.state stream l.added (l.goes [] [] standing-none) in
     (l.added, s.0, s.1)

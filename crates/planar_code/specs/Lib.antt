@@ -1,6 +1,6 @@
 pub mod Stream
 pub mod Split
-pub mod Place
+pub mod FramerState
 pub mod Started
 pub mod Scan
 pub mod Framer

@@ -6,7 +6,7 @@ use Rattle.planar_code.specs.declared.ending.Ending.{Ending}
 use Rattle.planar_code.specs.declared.plain.End.{End}
 use Rattle.planar_code.specs.declared.plain.End.TheVariants as end
 use Rattle.planar_code.specs.Stream.{IsRecord, IsUnfinished}
-use Rattle.planar_code.specs.Split.{IsCut, EndsAs}
+use Rattle.planar_code.specs.Split.{IsDivided, EndsAs}
 use Rattle.planar_code.specs.Started.{IsStarted, IsOversize}
 
 -- where the next list ends, after bytes of a record that has that many lists left
@@ -24,7 +24,7 @@ EndsRecord bytes end.Oversize = IsOversize bytes
 -- the records after the header, and what they end in
 pub record SplitsBody (body : List ℕ) (records : List (List ℕ)) (end : Ending) : Type 0 where
   pub rest : List ℕ
-  pub cut : IsCut body records rest
+  pub divided : IsDivided body records rest
   pub ends : EndsAs (length records) rest end
 
 -- the records so far, and the bytes that are left

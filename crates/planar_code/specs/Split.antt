@@ -8,9 +8,9 @@ use Rattle.planar_code.specs.declared.fault.FeedFault.{FeedFault}
 use Rattle.planar_code.specs.declared.fault.FeedFault.TheVariants as fault
 use Rattle.planar_code.specs.Stream.{IsRecord, IsUnfinished}
 
--- the bytes after the header are cut into the longest list of whole records, at most 1,000,000 of
+-- the bytes after the header are divided into the longest list of whole records, at most 1,000,000 of
 -- them, and a rest
-pub record IsCut (body : List ℕ) (records : List (List ℕ)) (rest : List ℕ) : Type 0 where
+pub record IsDivided (body : List ℕ) (records : List (List ℕ)) (rest : List ℕ) : Type 0 where
   pub concatenated : body ≡ concat records ++ rest
   pub each : All IsRecord records
   pub few : length records ≤ MAX_RECORDS
@@ -34,8 +34,8 @@ EndsAs count rest ending.Memory = ⊥
 pub record IsSplitAfterHeader (stream : List ℕ) (records : List (List ℕ)) (end : Ending) : Type 0 where
   pub body : List ℕ
   pub rest : List ℕ
-  pub headed : stream ≡ HEADER ++ body
-  pub cut : IsCut body records rest
+  pub with_header : stream ≡ HEADER ++ body
+  pub divided : IsDivided body records rest
   pub ends : EndsAs (length records) rest end
 
 -- a stream that does not begin with the whole header: it has no records

@@ -2,32 +2,32 @@
 use Rattle.std.specs.Prelude.{◌≡◌, ℕ, ◌<◌, ◌≤◌, List, [], ◌++◌, length, take, Option, option_to_list, Result, Ok, Err}
 use Rattle.planar_code.specs.declared.fault.FeedFault.{FeedFault}
 use Rattle.planar_code.specs.declared.fault.FeedFault.TheVariants as fault
-use Rattle.planar_code.specs.Place.{Place, Failed, Goes, IsRunning, LosesRecord}
+use Rattle.planar_code.specs.FramerState.{FramerState, Failed, Goes, HasNotFailed, LosesRecord}
 
--- a step takes some bytes of a text and gives a record or none; where it fails, the place that the
+-- a step takes some bytes of a text and gives a record or none; where it fails, the state that the
 -- whole text leads to is the fault
-abbrev pub Steps : Place → List ℕ → Place → Result (ℕ × Option (List ℕ)) FeedFault → Type 0
-Steps old text new (Ok taken) = (0 < taken.0) × (taken.0 ≤ length text) × IsRunning new × Goes old (take taken.0 text) (option_to_list taken.1) new
-Steps old text new (Err fault.Memory) = LosesRecord old text []
-Steps old text new (Err f) = Goes old text [] (Failed f)
+abbrev pub FramerSteps : FramerState → List ℕ → FramerState → Result (ℕ × Option (List ℕ)) FeedFault → Type 0
+FramerSteps old text new (Ok taken) = (0 < taken.0) × (taken.0 ≤ length text) × HasNotFailed new × Goes old (take taken.0 text) (option_to_list taken.1) new
+FramerSteps old text new (Err fault.Memory) = LosesRecord old text []
+FramerSteps old text new (Err f) = Goes old text [] (Failed f)
 
 -- several steps have taken the piece up to a text that is left, and have put the added records after
 -- those that the list had before
-pub record HasRead (old : Place) (piece text : List ℕ) (before after : List (List ℕ)) (new : Place) : Type 0 where
+pub record HasRead (old : FramerState) (piece text : List ℕ) (before after : List (List ℕ)) (new : FramerState) : Type 0 where
   pub taken : List ℕ
   pub added : List (List ℕ)
   pub parts : piece ≡ taken ++ text
   pub appended : after ≡ before ++ added
-  pub running : IsRunning new
+  pub running : HasNotFailed new
   pub goes : Goes old taken added new
 
 -- all of the piece was read, or a fault was met; the framer does not keep the fault yet
-abbrev pub ReadsUpTo : Place → List ℕ → List (List ℕ) → Place → Result Unit FeedFault → Type 0
-ReadsUpTo old piece added new (Ok _) = IsRunning new × Goes old piece added new
+abbrev pub ReadsUpTo : FramerState → List ℕ → List (List ℕ) → FramerState → Result Unit FeedFault → Type 0
+ReadsUpTo old piece added new (Ok _) = HasNotFailed new × Goes old piece added new
 ReadsUpTo old piece added new (Err fault.Memory) = LosesRecord old piece added
 ReadsUpTo old piece added new (Err f) = Goes old piece added (Failed f)
 
-pub record Runs (old : Place) (piece : List ℕ) (before after : List (List ℕ)) (new : Place) (result : Result Unit FeedFault) : Type 0 where
+pub record Runs (old : FramerState) (piece : List ℕ) (before after : List (List ℕ)) (new : FramerState) (result : Result Unit FeedFault) : Type 0 where
   pub added : List (List ℕ)
   pub appended : after ≡ before ++ added
   pub reads : ReadsUpTo old piece added new result

@@ -1,8 +1,8 @@
 ghost use Rattle.std.specs.Prelude.{◌≡◌, ◌≢◌, ◌⊎◌, ℕ, ◌+◌, ◌<◌, ◌≤◌, List, [], ◌++◌, length, IfOk, OnOk, OnErr, IsSome, IsOk, Err, ◌↔◌, option_to_list};
 ghost use Rattle.planar_code.specs.declared.TheConstants.{MAX_RECORDS};
 ghost use Rattle.planar_code.specs.Split.{IsSplit, MayGoOn, ending_of};
-ghost use Rattle.planar_code.specs.Place.{Place, Early, After, Failed, StandsAt, IsRunning, Feeds, HasMore, beyond};
-ghost use Rattle.planar_code.specs.Step.{Steps, Runs};
+ghost use Rattle.planar_code.specs.FramerState.{FramerState, Early, After, Failed, StandsAt, HasNotFailed, Feeds, HasMore, beyond};
+ghost use Rattle.planar_code.specs.Step.{FramerSteps, Runs};
 ghost use Rattle.planar_code.specs.declared.fault.FeedFault.{FeedFault};
 
 use crate::ending::Ending;
@@ -13,9 +13,9 @@ use crate::{HEADER, MAX_RECORDS};
 use std::alloc::{AllocError, Global};
 use std::marker::Model;
 
-/// Which part of the stream comes next.
+/// Which phase of the stream comes next.
 #[derive(Clone, Copy, Debug)]
-enum Part {
+enum Phase {
     /// The header, of which so many bytes have passed.
     Header { passed: usize },
     /// Records.
@@ -24,25 +24,25 @@ enum Part {
     Failed(FeedFault),
 }
 
-/// Cuts a stream that comes in pieces into records.
+/// Divides a stream that comes in pieces into records.
 ///
-/// It keeps the place that the stream has led to and nothing else of the past: of the header how far
+/// It keeps the state that the stream has led to and nothing else of the past: of the header how far
 /// it has come, then how many records there were and the bytes of the open one, or its fault.
 #[derive(Debug, Drop)]
 pub struct Framer {
-    part: Part,
+    phase: Phase,
     records: u32,
     current: OpenRecord,
 }
 
 impl Model for Framer {
-    ghost use Rattle.planar_code.specs.Place.{Place};
+    ghost use Rattle.planar_code.specs.FramerState.{FramerState};
 
-    ghost Value = { Place };
+    ghost Value = { FramerState };
 
-    ghost use Rattle.planar_code.specs.Framer.{place_of, IsFramer};
+    ghost use Rattle.planar_code.specs.Framer.{framer_state_of, IsFramer};
 
-    ghost view = { place_of };
+    ghost view = { framer_state_of };
 
     ghost invariant = { IsFramer };
 }
@@ -73,7 +73,7 @@ impl Framer {
         ensures stands { IfOk result (λ framer. StandsAt [] [] framer) }
     {
         Ok(Framer {
-            part: Part::Header { passed: 0 },
+            phase: Phase::Header { passed: 0 },
             records: 0,
             current: OpenRecord::new(alloc)?,
         })
@@ -83,23 +83,23 @@ impl Framer {
     /// it took, and the record.
     fn step(&mut self, alloc: Global, text: &[u8]) -> Result<(usize, Option<Record>), FeedFault>
         requires some { 0 < length text.now }
-        requires running { IsRunning self.old }
-        ensures { Steps self.old text.now self.new result }
+        requires running { HasNotFailed self.old }
+        ensures { FramerSteps self.old text.now self.new result }
     {
-        match self.part {
-            Part::Failed(fault) => Err(fault),
-            Part::Header { passed } => {
+        match self.phase {
+            Phase::Failed(fault) => Err(fault),
+            Phase::Header { passed } => {
                 if text[0] != HEADER[passed] {
                     return Err(FeedFault::Header);
                 }
-                self.part = if passed + 1 == HEADER.len() {
-                    Part::Records
+                self.phase = if passed + 1 == HEADER.len() {
+                    Phase::Records
                 } else {
-                    Part::Header { passed: passed + 1 }
+                    Phase::Header { passed: passed + 1 }
                 };
                 Ok((1, None))
             }
-            Part::Records => {
+            Phase::Records => {
                 if self.records == MAX_RECORDS {
                     return Err(FeedFault::Many);
                 }
@@ -117,7 +117,7 @@ impl Framer {
 
     /// Reads all of `piece`.
     fn read(&mut self, alloc: Global, piece: &[u8], out: &mut Vec<Record>) -> Result<(), FeedFault>
-        requires { IsRunning self.old }
+        requires { HasNotFailed self.old }
         ensures { Runs self.old piece.now out.old.items out.new.items self.new result }
     {
         let mut text = piece;
@@ -132,8 +132,8 @@ impl Framer {
     /// Reads the next piece of the stream, and puts each record that it ends at the end of `out`, in
     /// order.
     ///
-    /// The stream may be cut anywhere, also within the header or a record. The work is linear in its
-    /// bytes: a record that lies whole in a piece is copied once, and one that is cut is copied twice. Want
+    /// The stream may be divided anywhere, also within the header or a record. The work is linear in its
+    /// bytes: a record that lies whole in a piece is copied once, and one that is divided is copied twice. Want
     /// of memory is answered only where the piece ends a record, for its bytes or its place in `out`.
     ///
     /// # Errors
@@ -183,13 +183,13 @@ impl Framer {
             → StandsAt stream records self.old
             → length records + length out.new.items ≤ MAX_RECORDS + length out.old.items }
     {
-        if let Part::Failed(fault) = self.part {
+        if let Phase::Failed(fault) = self.phase {
             return Err(fault);
         }
         match self.read(alloc, piece, out) {
             Ok(()) => Ok(()),
             Err(fault) => {
-                self.part = Part::Failed(fault);
+                self.phase = Phase::Failed(fault);
                 Err(fault)
             }
         }
@@ -204,11 +204,11 @@ impl Framer {
             → IsSplit stream records result }
         ensures failed { (fault : FeedFault) → self ≡ Failed fault → result ≡ ending_of fault }
     {
-        match self.part {
-            Part::Header { .. } => Ending::Header,
-            Part::Records if self.current.is_empty() => Ending::Complete,
-            Part::Records => Ending::Truncated,
-            Part::Failed(fault) => Ending::from(fault),
+        match self.phase {
+            Phase::Header { .. } => Ending::Header,
+            Phase::Records if self.current.is_empty() => Ending::Complete,
+            Phase::Records => Ending::Truncated,
+            Phase::Failed(fault) => Ending::from(fault),
         }
     }
 }

@@ -5,7 +5,7 @@ ghost use Rattle.planar_code.specs.declared.ending.Ending.{Ending};
 ghost use Rattle.planar_code.specs.declared.parse.ParseFault.{ParseFault};
 ghost use Rattle.planar_code.specs.Stream.{IsRecord, HasLongList, lists_of};
 ghost use Rattle.planar_code.specs.Split.{IsSplit, MayGoOn};
-ghost use Rattle.planar_code.specs.Place.{Place, StandsAt, IsRunning};
+ghost use Rattle.planar_code.specs.FramerState.{FramerState, StandsAt, HasNotFailed};
 ghost use Rattle.planar_code.specs.Parse.{IsParseFault};
 
 use crate::HEADER;
@@ -58,8 +58,8 @@ pub fn few_records()
 
 /// The records so far begin the records of the stream, however it goes on.
 pub fn records_begin()
-    ensures { (place : Place) (stream : List ℕ) (records : List (List ℕ))
-        → StandsAt stream records place
+    ensures { (state : FramerState) (stream : List ℕ) (records : List (List ℕ))
+        → StandsAt stream records state
         → (more : List ℕ) (all : List (List ℕ)) (end : Ending)
         → IsSplit (stream ++ more) all end
         → (later : List (List ℕ)) × (all ≡ records ++ later) }
@@ -67,9 +67,9 @@ pub fn records_begin()
 
 /// Where a framer has not failed, its stream is open.
 pub fn running_is_open()
-    ensures { (place : Place) (stream : List ℕ) (records : List (List ℕ))
-        → IsRunning place
-        → StandsAt stream records place
+    ensures { (state : FramerState) (stream : List ℕ) (records : List (List ℕ))
+        → HasNotFailed state
+        → StandsAt stream records state
         → MayGoOn stream }
 {}
 

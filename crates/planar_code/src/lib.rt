@@ -1,4 +1,4 @@
-//! Planar code: a stream of embedded graphs, cut into records.
+//! Planar code: a stream of embedded graphs, divided into records.
 //!
 //! A stream is the 15 bytes `>>planar_code<<` and then records, one directly after another. A record
 //! is one byte n from 1 to 255 and n neighbour lists, each of at most 254 bytes other than 0 with one

@@ -20,7 +20,7 @@ fn check_memory(fed: Result<(), FeedFault>) -> Result<(), AllocError>
 }
 
 /// The records and the ending of a stream that comes in pieces: those of all pieces together,
-/// wherever the stream is cut.
+/// wherever the stream is divided.
 ///
 /// # Errors
 ///

@@ -12,7 +12,7 @@ use std::alloc::{AllocError, Global};
 pub enum End {
     /// After so many bytes.
     After(usize),
-    /// Not yet: it is cut.
+    /// Not yet: it has not ended.
     Truncated,
     /// Nowhere: a list has more than 254 entries.
     Oversize,

@@ -78,7 +78,7 @@ fn strings_in(alloc: Global, strings: &[&[Turn]]) -> Result<Vec<Vec<Turn>>, Allo
 fn shape_in(alloc: Global, figure: &Figure) -> Option<Shape> {
     let strings = strings_in(alloc, figure.strings).ok()?;
     let angles = figure.angles.to_vec(alloc).ok()?;
-    if Shape::are_short(&strings) {
+    if Shape::have_few_turns(&strings) {
         Some(Shape::new(angles, strings))
     } else {
         None

@@ -35,33 +35,33 @@ counted_one file entry came next w w' more count mark was = record {
 }
 
 -- where nothing more has come of the first files, they have ended as before
-marked_same : (came next : ℕ → Came) (front : ℕ) → ((k : ℕ) → k < front → next k ≡ came k) → ((k : ℕ) → k < front → HasMark (came k)) → (k : ℕ) → k < front → HasMark (next k)
-marked_same came next front same was k below = subst HasMark (sym (same k below)) (was k below)
+marked_same : (came next : ℕ → Came) (current : ℕ) → ((k : ℕ) → k < current → next k ≡ came k) → ((k : ℕ) → k < current → HasMark (came k)) → (k : ℕ) → k < current → HasMark (next k)
+marked_same came next current same was k below = subst HasMark (sym (same k below)) (was k below)
 
--- the text so far, with one line of the front more
-pub front_more : (form : Form) (front : ℕ) (came next : ℕ → Came) (entry : Entry) (line : List ℕ) → line_in form entry ≡ line → HasEntryMore front entry came next
-    → (ended_texts form came front ++ begun form front (came front)) ++ line ≡ ended_texts form next front ++ begun form front (next front)
-front_more form front came next entry line is more =
-    let T = ended_texts form came front in
-    let H = preamble_in form (front + 1) in
-    let L = lines_in form (came front).entries in
+-- the text so far, with one line of the current file more
+pub current_more : (form : Form) (current : ℕ) (came next : ℕ → Came) (entry : Entry) (line : List ℕ) → line_in form entry ≡ line → HasEntryMore current entry came next
+    → (ended_texts form came current ++ begun form current (came current)) ++ line ≡ ended_texts form next current ++ begun form current (next current)
+current_more form current came next entry line is more =
+    let T = ended_texts form came current in
+    let H = preamble_in form (current + 1) in
+    let L = lines_in form (came current).entries in
     append_assoc T (H ++ L) line
-    ∙ ap (λ l. T ++ l) (append_assoc H L line ∙ ap (λ l. H ++ l) (ap (λ l. L ++ l) (sym is) ∙ sym (lines-more form (came front).entries entry)) ∙ ap (begun form front) (sym more.here))
-    ∙ ap (λ t. t ++ begun form front (next front)) (texts_same form came next front (λ k lt. more.others k (λ e. absurd (omega (arith, lt, e)))))
+    ∙ ap (λ l. T ++ l) (append_assoc H L line ∙ ap (λ l. H ++ l) (ap (λ l. L ++ l) (sym is) ∙ sym (lines-more form (came current).entries entry)) ∙ ap (begun form current) (sym more.here))
+    ∙ ap (λ t. t ++ begun form current (next current)) (texts_same form came next current (λ k lt. more.others k (λ e. absurd (omega (arith, lt, e)))))
 
--- a line of the front went on its way
-pub written_front : (form : Form) (start old new : Option (List ℕ)) (buffer buffered : List ℕ) (front : ℕ) (waiting after : List Waiting) (came next : ℕ → Came) (entry : Entry) (line : List ℕ)
-    → front < length waiting → line_in form entry ≡ line → HasEntryMore front entry came next → ChangesAt front IsCountedOne waiting after → GoesOn old buffer new buffered line
-    → AreWritten form start old buffer front waiting came → AreWritten form start new buffered front after next
-written_front form start old new buffer buffered front waiting after came next entry line below is more changed goes was =
+-- a line of the current file went on its way
+pub written_current : (form : Form) (start old new : Option (List ℕ)) (buffer buffered : List ℕ) (current : ℕ) (waiting after : List Waiting) (came next : ℕ → Came) (entry : Entry) (line : List ℕ)
+    → current < length waiting → line_in form entry ≡ line → HasEntryMore current entry came next → ChangesAt current IsCountedOne waiting after → GoesOn old buffer new buffered line
+    → AreWritten form start old buffer current waiting came → AreWritten form start new buffered current after next
+written_current form start old new buffer buffered current waiting after came next entry line below is more changed goes was =
     record {
       within = omega (arith, was.within, changed.count);
-      marked = marked_same came next front (λ k lt. more.others k (λ e. absurd (omega (arith, lt, e)))) was.marked;
-      counted = after_change IsCounted (λ k. front ≤ k) front waiting after came next IsCountedOne changed more.others below
-          (λ _ w w' c. counted_one front entry came next w w' more c.count c.mark) was.counted;
-      lines = after_change (λ w c. w.lines ≡ lines_in form c.entries) (λ k. front < k) front waiting after came next IsCountedOne changed more.others below
+      marked = marked_same came next current (λ k lt. more.others k (λ e. absurd (omega (arith, lt, e)))) was.marked;
+      counted = after_change IsCounted (λ k. current ≤ k) current waiting after came next IsCountedOne changed more.others below
+          (λ _ w w' c. counted_one current entry came next w w' more c.count c.mark) was.counted;
+      lines = after_change (λ w c. w.lines ≡ lines_in form c.entries) (λ k. current < k) current waiting after came next IsCountedOne changed more.others below
           (λ lt. absurd (omega (arith, lt))) was.lines;
-      going = λ _. subst (IsInTransit start new buffered) (front_more form front came next entry line is more) (goes start (ended_texts form came front ++ begun form front (came front)) (was.going below));
+      going = λ _. subst (IsInTransit start new buffered) (current_more form current came next entry line is more) (goes start (ended_texts form came current ++ begun form current (came current)) (was.going below));
       over = λ past. absurd (omega (arith, past, changed.count, below));
     }
 
@@ -72,28 +72,28 @@ HasLineMore line w w' = (w'.lines ≡ w.lines ++ line) × (w'.count ≡ w.count 
 line_more : (line : List ℕ) (u v w : Waiting) → IsCountedOne u v → GetsLine line v w → HasLineMore line u w
 line_more line u v w p q = (q.lines ∙ ap (λ l. l ++ line) p.lines, q.count ∙ p.count, q.mark ∙ p.mark)
 
--- what has come of the front stays
-front_same : (form : Form) (file front : ℕ) (came next : ℕ → Came) → front < file → ((other : ℕ) → other ≢ file → next other ≡ came other)
-    → ended_texts form came front ++ begun form front (came front) ≡ ended_texts form next front ++ begun form front (next front)
-front_same form file front came next before others =
-    ap (λ t. t ++ begun form front (came front)) (texts_same form came next front (λ k lt. others k (λ e. absurd (omega (arith, lt, before, e)))))
-    ∙ ap (λ c. ended_texts form next front ++ begun form front c) (sym (others front (λ e. absurd (omega (arith, before, e)))))
+-- what has come of the current file stays
+current_same : (form : Form) (file current : ℕ) (came next : ℕ → Came) → current < file → ((other : ℕ) → other ≢ file → next other ≡ came other)
+    → ended_texts form came current ++ begun form current (came current) ≡ ended_texts form next current ++ begun form current (next current)
+current_same form file current came next before others =
+    ap (λ t. t ++ begun form current (came current)) (texts_same form came next current (λ k lt. others k (λ e. absurd (omega (arith, lt, before, e)))))
+    ∙ ap (λ c. ended_texts form next current ++ begun form current c) (sym (others current (λ e. absurd (omega (arith, before, e)))))
 
 -- a line of a later file waits
-pub written_behind : (form : Form) (start now : Option (List ℕ)) (buffer : List ℕ) (file front : ℕ) (waiting mid after : List Waiting) (came next : ℕ → Came) (entry : Entry) (line : List ℕ)
-    → file < length waiting → front < file → line_in form entry ≡ line → HasEntryMore file entry came next → ChangesAt file IsCountedOne waiting mid → ChangesAt file (GetsLine line) mid after
-    → AreWritten form start now buffer front waiting came → AreWritten form start now buffer front after next
-written_behind form start now buffer file front waiting mid after came next entry line below before is more first then_more was =
+pub written_behind : (form : Form) (start now : Option (List ℕ)) (buffer : List ℕ) (file current : ℕ) (waiting mid after : List Waiting) (came next : ℕ → Came) (entry : Entry) (line : List ℕ)
+    → file < length waiting → current < file → line_in form entry ≡ line → HasEntryMore file entry came next → ChangesAt file IsCountedOne waiting mid → ChangesAt file (GetsLine line) mid after
+    → AreWritten form start now buffer current waiting came → AreWritten form start now buffer current after next
+written_behind form start now buffer file current waiting mid after came next entry line below before is more first then_more was =
     let changed = changes_both waiting mid after file IsCountedOne (GetsLine line) (HasLineMore line) (line_more line) first then_more in
     record {
       within = omega (arith, was.within, changed.count);
-      marked = marked_same came next front (λ k lt. more.others k (λ e. absurd (omega (arith, lt, before, e)))) was.marked;
-      counted = after_change IsCounted (λ k. front ≤ k) file waiting after came next (HasLineMore line) changed more.others below
+      marked = marked_same came next current (λ k lt. more.others k (λ e. absurd (omega (arith, lt, before, e)))) was.marked;
+      counted = after_change IsCounted (λ k. current ≤ k) file waiting after came next (HasLineMore line) changed more.others below
           (λ _ w w' c. counted_one file entry came next w w' more c.1 c.2) was.counted;
-      lines = after_change (λ w c. w.lines ≡ lines_in form c.entries) (λ k. front < k) file waiting after came next (HasLineMore line) changed more.others below
+      lines = after_change (λ w c. w.lines ≡ lines_in form c.entries) (λ k. current < k) file waiting after came next (HasLineMore line) changed more.others below
           (λ _ w w' c same. c.0 ∙ ap (λ l. l ++ line) same ∙ ap (λ l. lines_in form (came file).entries ++ l) (sym is) ∙ sym (lines-more form (came file).entries entry)
           ∙ ap (λ (c : Came). lines_in form c.entries) (sym more.here)) was.lines;
-      going = λ lt. subst (IsInTransit start now buffer) (front_same form file front came next before more.others) (was.going (omega (arith, lt, changed.count)));
+      going = λ lt. subst (IsInTransit start now buffer) (current_same form file current came next before more.others) (was.going (omega (arith, lt, changed.count)));
       over = λ past. absurd (omega (arith, past, changed.count, below, before));
     }
 
@@ -105,22 +105,22 @@ entries_same file mark came next more k =
     ]
 
 -- a mark is kept
-pub written_marked : (form : Form) (start now : Option (List ℕ)) (buffer : List ℕ) (file front : ℕ) (waiting after : List Waiting) (came next : ℕ → Came) (many : ℕ) (mark : Mark)
-    → file < length waiting → front ≤ file → HasMarkMore file mark came next → ChangesAt file (GetsMark many mark) waiting after
-    → AreWritten form start now buffer front waiting came → AreWritten form start now buffer front after next
-written_marked form start now buffer file front waiting after came next many mark below before more changed was =
-    let text : ended_texts form came front ++ begun form front (came front) ≡ ended_texts form next front ++ begun form front (next front) =
-    ap (λ t. t ++ begun form front (came front)) (texts_same form came next front (λ k lt. more.others k (λ e. absurd (omega (arith, lt, before, e)))))
-    ∙ ap (λ l. ended_texts form next front ++ (preamble_in form (front + 1) ++ lines_in form l)) (entries_same file mark came next more front) in
+pub written_marked : (form : Form) (start now : Option (List ℕ)) (buffer : List ℕ) (file current : ℕ) (waiting after : List Waiting) (came next : ℕ → Came) (many : ℕ) (mark : Mark)
+    → file < length waiting → current ≤ file → HasMarkMore file mark came next → ChangesAt file (GetsMark many mark) waiting after
+    → AreWritten form start now buffer current waiting came → AreWritten form start now buffer current after next
+written_marked form start now buffer file current waiting after came next many mark below before more changed was =
+    let text : ended_texts form came current ++ begun form current (came current) ≡ ended_texts form next current ++ begun form current (next current) =
+    ap (λ t. t ++ begun form current (came current)) (texts_same form came next current (λ k lt. more.others k (λ e. absurd (omega (arith, lt, before, e)))))
+    ∙ ap (λ l. ended_texts form next current ++ (preamble_in form (current + 1) ++ lines_in form l)) (entries_same file mark came next more current) in
     record {
       within = omega (arith, was.within, changed.count);
-      marked = marked_same came next front (λ k lt. more.others k (λ e. absurd (omega (arith, lt, before, e)))) was.marked;
-      counted = after_change IsCounted (λ k. front ≤ k) file waiting after came next (GetsMark many mark) changed more.others below
+      marked = marked_same came next current (λ k lt. more.others k (λ e. absurd (omega (arith, lt, before, e)))) was.marked;
+      counted = after_change IsCounted (λ k. current ≤ k) file waiting after came next (GetsMark many mark) changed more.others below
           (λ _ w w' c had. record {
             count = c.count ∙ had.count ∙ ap (λ (l : List Entry). length l) (entries_same file mark came next more file);
             mark = c.mark ∙ ap (λ (c : Came). c.mark) (sym more.here);
           }) was.counted;
-      lines = after_change (λ w c. w.lines ≡ lines_in form c.entries) (λ k. front < k) file waiting after came next (GetsMark many mark) changed more.others below
+      lines = after_change (λ w c. w.lines ≡ lines_in form c.entries) (λ k. current < k) file waiting after came next (GetsMark many mark) changed more.others below
           (λ _ w w' c same. c.lines ∙ same ∙ ap (lines_in form) (entries_same file mark came next more file)) was.lines;
       going = λ lt. subst (IsInTransit start now buffer) text (was.going (omega (arith, lt, changed.count)));
       over = λ past. absurd (omega (arith, past, changed.count, below, before));

@@ -13,7 +13,7 @@ use Rattle.printing.specs.declared.waiting.Waiting.{Waiting}
 use Rattle.printing.specs.Came.{Came, HasMark, HasEntryMore}
 use Rattle.printing.specs.Written.{GoesOn, begun, ended_texts, AreWritten, AreRemaining, BreaksIn, BreaksOff}
 use Rattle.printing.proofs.Waits.{some_waiting}
-use Rattle.printing.proofs.Adding.{front_more}
+use Rattle.printing.proofs.Adding.{current_more}
 use Rattle.printing.proofs.Moving.{marked_next, ended_more}
 
 -- one text begins with the other
@@ -43,12 +43,12 @@ writes_front A old new text failed Memory writes = absurd writes
 -- of the files below this one all was on its way, and they have ended
 pub breaks_at : (form : Form) (start now : Option (List ℕ)) (came : ℕ → Came) (n files : ℕ) → n ≤ files → ((k : ℕ) → k < n → HasMark (came k))
     → AppendsFront start now (ended_texts form came n) → BreaksOff form start now files came
-breaks_at form start now came n files within marked added = record { front = n; within = within; marked = marked; text = inl added }
+breaks_at form start now came n files within marked added = record { current = n; within = within; marked = marked; text = inl added }
 
 -- and of this one its first line and its lines so far
 pub breaks_in : (form : Form) (start now : Option (List ℕ)) (came : ℕ → Came) (n files : ℕ) → n < files → ((k : ℕ) → k < n → HasMark (came k))
     → AppendsFront start now (ended_texts form came n ++ begun form n (came n)) → BreaksOff form start now files came
-breaks_in form start now came n files below marked added = record { front = n; within = omega (arith, below); marked = marked; text = inr (below, added) }
+breaks_in form start now came n files below marked added = record { current = n; within = omega (arith, below); marked = marked; text = inr (below, added) }
 
 -- or its first line alone
 pub breaks_preamble : (form : Form) (start now : Option (List ℕ)) (came : ℕ → Came) (n files : ℕ) → n < files → ((k : ℕ) → k < n → HasMark (came k))
@@ -59,65 +59,65 @@ breaks_preamble form start now came n files below marked added =
     (lines_in form (came n).entries, sym (append_assoc (ended_texts form came n) (preamble_in form (n + 1)) (lines_in form (came n).entries))) added)
 
 -- where a beginning was added of what was on its way
-breaks_way : (form : Form) (start now new : Option (List ℕ)) (buffer : List ℕ) (front : ℕ) (waiting : List Waiting) (came : ℕ → Came)
+breaks_way : (form : Form) (start now new : Option (List ℕ)) (buffer : List ℕ) (current : ℕ) (waiting : List Waiting) (came : ℕ → Came)
     → ((text : List ℕ) → IsInTransit start now buffer text → AppendsFront start new text)
-    → AreWritten form start now buffer front waiting came → BreaksOff form start new (length waiting) came
-breaks_way form start now new buffer front waiting came added was =
-    elim (cases_lt front (length waiting)) [
-      | inl below ↦ breaks_in form start new came front (length waiting) below was.marked (added _ (was.going below))
-      | inr past ↦ breaks_at form start new came front (length waiting) was.within was.marked (added _ (was.over past))
+    → AreWritten form start now buffer current waiting came → BreaksOff form start new (length waiting) came
+breaks_way form start now new buffer current waiting came added was =
+    elim (cases_lt current (length waiting)) [
+      | inl below ↦ breaks_in form start new came current (length waiting) below was.marked (added _ (was.going below))
+      | inr past ↦ breaks_at form start new came current (length waiting) was.within was.marked (added _ (was.over past))
     ]
 
 -- where nothing more was put on its way
-pub breaks_written : (form : Form) (start now : Option (List ℕ)) (buffer : List ℕ) (front : ℕ) (waiting : List Waiting) (came : ℕ → Came)
-    → AreWritten form start now buffer front waiting came → BreaksOff form start now (length waiting) came
-breaks_written form start now buffer front waiting came was = breaks_way form start now now buffer front waiting came (way_front start now buffer) was
+pub breaks_written : (form : Form) (start now : Option (List ℕ)) (buffer : List ℕ) (current : ℕ) (waiting : List Waiting) (came : ℕ → Came)
+    → AreWritten form start now buffer current waiting came → BreaksOff form start now (length waiting) came
+breaks_written form start now buffer current waiting came was = breaks_way form start now now buffer current waiting came (way_front start now buffer) was
 
 -- where what was buffered was to be put
-pub breaks_flushed : (form : Form) (start now new : Option (List ℕ)) (buffer : List ℕ) (front : ℕ) (waiting : List Waiting) (came : ℕ → Came)
-    → AppendsFront now new buffer → AreWritten form start now buffer front waiting came → BreaksOff form start new (length waiting) came
-breaks_flushed form start now new buffer front waiting came put was =
-    breaks_way form start now new buffer front waiting came
+pub breaks_flushed : (form : Form) (start now new : Option (List ℕ)) (buffer : List ℕ) (current : ℕ) (waiting : List Waiting) (came : ℕ → Came)
+    → AppendsFront now new buffer → AreWritten form start now buffer current waiting came → BreaksOff form start new (length waiting) came
+breaks_flushed form start now new buffer current waiting came put was =
+    breaks_way form start now new buffer current waiting came
     (λ text way. (way.sent ++ put.0, put.1, way.split ∙ ap (λ l. way.sent ++ l) put.2 ∙ sym (append_assoc way.sent put.0 put.1), added_both start now new way.sent put.0 way.added put.3)) was
 
-pub breaks_left : (form : Form) (start now : Option (List ℕ)) (buffer : List ℕ) (front : ℕ) (waiting : List Waiting) (came : ℕ → Came)
-    → AreRemaining form start now buffer front waiting came → BreaksOff form start now (length waiting) came
-breaks_left form start now buffer front waiting came was =
-    breaks_at form start now came front (length waiting) was.within was.marked (way_front start now buffer _ was.text)
+pub breaks_left : (form : Form) (start now : Option (List ℕ)) (buffer : List ℕ) (current : ℕ) (waiting : List Waiting) (came : ℕ → Came)
+    → AreRemaining form start now buffer current waiting came → BreaksOff form start now (length waiting) came
+breaks_left form start now buffer current waiting came was =
+    breaks_at form start now came current (length waiting) was.within was.marked (way_front start now buffer _ was.text)
 
--- where a line of the front was to go on its way
-pub breaks_line : (form : Form) (start old new : Option (List ℕ)) (buffer : List ℕ) (front : ℕ) (waiting : List Waiting) (came next : ℕ → Came) (entry : Entry) (line : List ℕ)
-    → front < length waiting → line_in form entry ≡ line → HasEntryMore front entry came next → BreaksIn old buffer new line
-    → AreWritten form start old buffer front waiting came → BreaksOff form start new (length waiting) next
-breaks_line form start old new buffer front waiting came next entry line below is more breaks was =
-    breaks_in form start new next front (length waiting) below (λ k lt. subst HasMark (sym (more.others k (λ e. absurd (omega (arith, lt, e))))) (was.marked k lt))
-    (subst (AppendsFront start new) (front_more form front came next entry line is more) (breaks start _ (was.going below)))
+-- where a line of the current file was to go on its way
+pub breaks_line : (form : Form) (start old new : Option (List ℕ)) (buffer : List ℕ) (current : ℕ) (waiting : List Waiting) (came next : ℕ → Came) (entry : Entry) (line : List ℕ)
+    → current < length waiting → line_in form entry ≡ line → HasEntryMore current entry came next → BreaksIn old buffer new line
+    → AreWritten form start old buffer current waiting came → BreaksOff form start new (length waiting) next
+breaks_line form start old new buffer current waiting came next entry line below is more breaks was =
+    breaks_in form start new next current (length waiting) below (λ k lt. subst HasMark (sym (more.others k (λ e. absurd (omega (arith, lt, e))))) (was.marked k lt))
+    (subst (AppendsFront start new) (current_more form current came next entry line is more) (breaks start _ (was.going below)))
 
--- where the last line of the front was
-pub breaks_end : (form : Form) (start old new : Option (List ℕ)) (buffer : List ℕ) (front : ℕ) (waiting : List Waiting) (came : ℕ → Came) (mark : Mark) (count : ℕ)
-    → front < length waiting → (came front).mark ≡ Some mark → count ≡ length (came front).entries → BreaksIn old buffer new (end_in form (front + 1) mark count)
-    → AreWritten form start old buffer front waiting came → BreaksOff form start new (length waiting) came
-breaks_end form start old new buffer front waiting came mark count below is counted breaks was =
-    breaks_at form start new came (front + 1) (length waiting) (omega (arith, below)) (marked_next came front (front + 1) mark refl is was.marked)
-    (subst (AppendsFront start new) (ended_more form front (front + 1) came mark count refl is counted) (breaks start _ (was.going below)))
+-- where the last line of the current file was
+pub breaks_end : (form : Form) (start old new : Option (List ℕ)) (buffer : List ℕ) (current : ℕ) (waiting : List Waiting) (came : ℕ → Came) (mark : Mark) (count : ℕ)
+    → current < length waiting → (came current).mark ≡ Some mark → count ≡ length (came current).entries → BreaksIn old buffer new (end_in form (current + 1) mark count)
+    → AreWritten form start old buffer current waiting came → BreaksOff form start new (length waiting) came
+breaks_end form start old new buffer current waiting came mark count below is counted breaks was =
+    breaks_at form start new came (current + 1) (length waiting) (omega (arith, below)) (marked_next came current (current + 1) mark refl is was.marked)
+    (subst (AppendsFront start new) (ended_more form current (current + 1) came mark count refl is counted) (breaks start _ (was.going below)))
 
--- where the first line of the front was, or its lines so far
-pub breaks_first : (form : Form) (start old new : Option (List ℕ)) (buffer : List ℕ) (front : ℕ) (waiting : List Waiting) (came : ℕ → Came)
-    → front < length waiting → BreaksIn old buffer new (preamble_in form (front + 1))
-    → AreRemaining form start old buffer front waiting came → BreaksOff form start new (length waiting) came
-breaks_first form start old new buffer front waiting came below breaks was =
-    breaks_preamble form start new came front (length waiting) below was.marked (breaks start _ was.text)
+-- where the first line of the current file was, or its lines so far
+pub breaks_first : (form : Form) (start old new : Option (List ℕ)) (buffer : List ℕ) (current : ℕ) (waiting : List Waiting) (came : ℕ → Came)
+    → current < length waiting → BreaksIn old buffer new (preamble_in form (current + 1))
+    → AreRemaining form start old buffer current waiting came → BreaksOff form start new (length waiting) came
+breaks_first form start old new buffer current waiting came below breaks was =
+    breaks_preamble form start new came current (length waiting) below was.marked (breaks start _ was.text)
 
-pub breaks_lines : (form : Form) (start old mid new : Option (List ℕ)) (buffer between : List ℕ) (front : ℕ) (waiting : List Waiting) (came : ℕ → Came) (lines : List ℕ)
-    → front < length waiting → GoesOn old buffer mid between (preamble_in form (front + 1)) → ((other : Waiting) → lines ≡ (get_or waiting front other).lines)
-    → BreaksIn mid between new lines → AreRemaining form start old buffer front waiting came → BreaksOff form start new (length waiting) came
-breaks_lines form start old mid new buffer between front waiting came lines below preamble are breaks was =
-    let T = ended_texts form came front in
-    let H = preamble_in form (front + 1) in
-    let other = some_waiting waiting front below in
-    let same : lines ≡ lines_in form (came front).entries = are other ∙ was.lines front other (omega arith) below in
-    let text : (T ++ H) ++ lines ≡ T ++ (H ++ lines_in form (came front).entries) = append_assoc T H lines ∙ ap (λ l. T ++ (H ++ l)) same in
-    breaks_in form start new came front (length waiting) below was.marked (subst (AppendsFront start new) text (breaks start (T ++ H) (preamble start T was.text)))
+pub breaks_lines : (form : Form) (start old mid new : Option (List ℕ)) (buffer between : List ℕ) (current : ℕ) (waiting : List Waiting) (came : ℕ → Came) (lines : List ℕ)
+    → current < length waiting → GoesOn old buffer mid between (preamble_in form (current + 1)) → ((other : Waiting) → lines ≡ (get_or waiting current other).lines)
+    → BreaksIn mid between new lines → AreRemaining form start old buffer current waiting came → BreaksOff form start new (length waiting) came
+breaks_lines form start old mid new buffer between current waiting came lines below preamble are breaks was =
+    let T = ended_texts form came current in
+    let H = preamble_in form (current + 1) in
+    let other = some_waiting waiting current below in
+    let same : lines ≡ lines_in form (came current).entries = are other ∙ was.lines current other (omega arith) below in
+    let text : (T ++ H) ++ lines ≡ T ++ (H ++ lines_in form (came current).entries) = append_assoc T H lines ∙ ap (λ l. T ++ (H ++ l)) same in
+    breaks_in form start new came current (length waiting) below was.marked (subst (AppendsFront start new) text (breaks start (T ++ H) (preamble start T was.text)))
 
 -- the same form and as many files
 pub breaks_as : (form now_form : Form) (start now : Option (List ℕ)) (files now_files : ℕ) (came : ℕ → Came) → now_form ≡ form → now_files ≡ files

@@ -14,7 +14,7 @@ use Rattle.planar_code.specs.declared.fault.FeedFault.TheVariants as fault
 use Rattle.planar_code.specs.Stream.{IsEntry, IsList, IsRecord, lists_of}
 use Rattle.planar_code.specs.Split.{IsSplit, ending_of}
 use Rattle.planar_code.specs.Started.{IsStarted}
-use Rattle.planar_code.specs.Place.{After, Failed, StandsAt, Goes}
+use Rattle.planar_code.specs.FramerState.{After, Failed, StandsAt, Goes}
 use Rattle.planar_code.proofs.Started.{started-first, started-unfinished, started-oversize}
 use Rattle.planar_code.proofs.LeadsTo.{goes_more, goes_whole, fails_many, fails_large, fails_oversize, standing-header}
 use Rattle.streams.specs.declared.frames.Mark.{Mark}
@@ -119,7 +119,7 @@ found_at stream records Io s may = record {
   marked = ((refl, open_stands stream records (After (length records) []) s (λ f e. cc)), split_stands stream records (After (length records) []) s);
 }
 found_at stream records (Ended ending.Complete) s may =
-    found_split stream records ending.Complete (inr (record { body = s.body; rest = []; headed = s.headed; cut = s.cut; ends = refl }))
+    found_split stream records ending.Complete (inr (record { body = s.body; rest = []; with_header = s.with_header; divided = s.divided; ends = refl }))
 found_at stream records (Ended ending.Truncated) s may =
     let n = length records in
     let t : StandsAt (stream ++ 1 ∷ []) (records ++ []) (After n (1 ∷ [])) =
@@ -128,8 +128,8 @@ found_at stream records (Ended ending.Truncated) s may =
     (found_split (stream ++ 1 ∷ []) (records ++ []) ending.Truncated (inr (record {
       body = t.body;
       rest = 1 ∷ [];
-      headed = t.headed;
-      cut = t.cut;
+      with_header = t.with_header;
+      divided = t.divided;
       ends = (t.open_record, (λ e. cc), λ full. may (sym t.counted ∙ full));
     })))
 found_at stream [] (Ended ending.Header) s may = found_header

@@ -111,29 +111,29 @@ up_to choice meaning form ns came (suc n) told have =
       );
     }
 
--- the front is past the last file
-past_last : (choice held_choice : Choice) (meaning known : ℕ → Meaning) (form : Form) (start now : Option (List ℕ)) (buffer : List ℕ) (front : ℕ) (waiting : List Waiting) (whole : Bool) (ns : List Note)
-    → HaveFiles choice meaning (length waiting) ns → HoldsNotes held_choice known form start now buffer front waiting whole ns → length waiting ≤ front
-past_last choice held_choice meaning known form start now buffer front waiting whole ns have holds =
-    elim (cases_lt front (length waiting)) [
+-- the current file is past the last one
+past_last : (choice held_choice : Choice) (meaning known : ℕ → Meaning) (form : Form) (start now : Option (List ℕ)) (buffer : List ℕ) (current : ℕ) (waiting : List Waiting) (whole : Bool) (ns : List Note)
+    → HaveFiles choice meaning (length waiting) ns → HoldsNotes held_choice known form start now buffer current waiting whole ns → length waiting ≤ current
+past_last choice held_choice meaning known form start now buffer current waiting whole ns have holds =
+    elim (cases_lt current (length waiting)) [
       | inl below ↦
-          let has = have front below in
-          let some : (holds.came front).mark ≡ Some has.mark = mark_told choice (meaning front) front ns (holds.came front) has (holds.told front below) in
+          let has = have current below in
+          let some : (holds.came current).mark ≡ Some has.mark = mark_told choice (meaning current) current ns (holds.came current) has (holds.told current below) in
           let unended = holds.unended below in
           absurd (let none : ⊥ = cc in none)
       | inr past ↦ past
     ]
 
 -- what was buffered was put, and with it the text of all books
-pub all_written : (choice held_choice : Choice) (meaning known : ℕ → Meaning) (form : Form) (start old new : Option (List ℕ)) (buffer : List ℕ) (front : ℕ) (waiting : List Waiting) (whole : Bool) (ns : List Note) (status : ℕ)
-    → HaveFiles choice meaning (length waiting) ns → HoldsNotes held_choice known form start old buffer front waiting whole ns → Appends old new buffer → ((status ≡ 0) ↔ (whole ≡ true))
+pub all_written : (choice held_choice : Choice) (meaning known : ℕ → Meaning) (form : Form) (start old new : Option (List ℕ)) (buffer : List ℕ) (current : ℕ) (waiting : List Waiting) (whole : Bool) (ns : List Note) (status : ℕ)
+    → HaveFiles choice meaning (length waiting) ns → HoldsNotes held_choice known form start old buffer current waiting whole ns → Appends old new buffer → ((status ≡ 0) ↔ (whole ≡ true))
     → IsAllWritten choice meaning form (length waiting) start new status
-all_written choice held_choice meaning known form start old new buffer front waiting whole ns status have holds put says =
+all_written choice held_choice meaning known form start old new buffer current waiting whole ns status have holds put says =
     let books = up_to choice meaning form ns holds.came (length waiting) holds.told have in
-    let past = past_last choice held_choice meaning known form start old buffer front waiting whole ns have holds in
+    let past = past_last choice held_choice meaning known form start old buffer current waiting whole ns have holds in
     let way = holds.written.over past in
-    let same : front ≡ length waiting = omega (arith, past, holds.written.within) in
-    let text : ended_texts form holds.came front ≡ text_in form books.books =
+    let same : current ≡ length waiting = omega (arith, past, holds.written.within) in
+    let text : ended_texts form holds.came current ≡ text_in form books.books =
     ap (ended_texts form holds.came) same ∙ sym books.text ∙ text_by_lines form choice meaning books.books books.each in
     record {
       books = books.books;

@@ -62,7 +62,7 @@ comes_next choice made meaning file ordinal waiting entry file_is ordinal_is mad
 }
 
 -- with it, all that has come is in order
-ordered_item : (meaning : ℕ → Meaning) (start now : Option (List ℕ)) (lines : Lines) (ns : List Note) (file : ℕ) (entry : Entry) (next : ℕ → Came) → file < length lines.waiting.items → lines.front ≤ file
+ordered_item : (meaning : ℕ → Meaning) (start now : Option (List ℕ)) (lines : Lines) (ns : List Note) (file : ℕ) (entry : Entry) (next : ℕ → Came) → file < length lines.waiting.items → lines.current ≤ file
     → ComesNext lines.choice (meaning file) file lines.waiting.items entry → (held : LinesHold meaning start now lines ns) → HasEntryMore file entry held.came next
     → (k : ℕ) → k < length lines.waiting.items → IsInOrder lines.choice (meaning k) k (next k)
 ordered_item meaning start now lines ns file entry next below from comes held more =
@@ -79,13 +79,13 @@ ordered_as : (meaning : ℕ → Meaning) (before after : Lines) (came : ℕ → 
 ordered_as meaning before after came same was k below = subst (λ c. IsInOrder c (meaning k) k (came k)) (sym same.choice) (was k (omega (arith, below, same.files)))
 
 -- one entry more
-pub held_item : (meaning : ℕ → Meaning) (start old new : Option (List ℕ)) (before after : Lines) (ns : List Note) (file : ℕ) (entry : Entry) → AreLinesOf before after → after.front ≡ before.front
-    → file < length before.waiting.items → before.front ≤ file → ComesNext before.choice (meaning file) file before.waiting.items entry
+pub held_item : (meaning : ℕ → Meaning) (start old new : Option (List ℕ)) (before after : Lines) (ns : List Note) (file : ℕ) (entry : Entry) → AreLinesOf before after → after.current ≡ before.current
+    → file < length before.waiting.items → before.current ≤ file → ComesNext before.choice (meaning file) file before.waiting.items entry
     → ((came next : ℕ → Came) → HasEntryMore file entry came next → LinesWrite start old before came → LinesWrite start new after next)
     → ((came next : ℕ → Came) → HasEntryMore file entry came next → ((before.whole ≡ true) ↔ ((k : ℕ) → k < length before.waiting.items → IsWholeSoFar (came k)))
     → ((after.whole ≡ true) ↔ ((k : ℕ) → k < length before.waiting.items → IsWholeSoFar (next k))))
     → LinesHold meaning start old before ns → LinesHold meaning start new after (ns ++ Item (about_of entry) ∷ [])
-held_item meaning start old new before after ns file entry same front below from comes writes wholes held =
+held_item meaning start old new before after ns file entry same current below from comes writes wholes held =
     let next = entry_more file entry held.came in
     let more = has_entry_more file entry held.came in
     record {
@@ -94,8 +94,8 @@ held_item meaning start old new before after ns file entry same front below from
       ordered = ordered_as meaning before after next same (ordered_item meaning start old before ns file entry next below from comes held more);
       written = writes held.came next more held.written;
       unended = λ lt.
-          let was : (held.came before.front).mark ≡ None = held.unended (omega (arith, lt, same.files, front)) in
-          same_mark file entry held.came next more after.front ∙ ap (λ k. (held.came k).mark) front ∙ was;
+          let was : (held.came before.current).mark ≡ None = held.unended (omega (arith, lt, same.files, current)) in
+          same_mark file entry held.came next more after.current ∙ ap (λ k. (held.came k).mark) current ∙ was;
       all_whole = as_many (length before.waiting.items) (length after.waiting.items) after.whole next same.files (wholes held.came next more held.all_whole);
     }
 
@@ -104,7 +104,7 @@ abbrev pub lacking : Entry → Entry
 lacking entry = record { file = entry.file; ordinal = entry.ordinal; rec = entry.rec; choice = entry.choice; answer = Answer.NoMemory; answers = merely tt }
 
 -- with a mark that the file may have, all that has come is in order
-ordered_end : (meaning : ℕ → Meaning) (start now : Option (List ℕ)) (lines : Lines) (ns : List Note) (file : ℕ) (mark : Mark) (next : ℕ → Came) → file < length lines.waiting.items → lines.front ≤ file
+ordered_end : (meaning : ℕ → Meaning) (start now : Option (List ℕ)) (lines : Lines) (ns : List Note) (file : ℕ) (mark : Mark) (next : ℕ → Came) → file < length lines.waiting.items → lines.current ≤ file
     → ((other : Waiting) → ∥ IsEndAt (meaning file) (get_or lines.waiting.items file other).count mark ∥₁) → (held : LinesHold meaning start now lines ns) → HasMarkMore file mark held.came next
     → (k : ℕ) → k < length lines.waiting.items → IsInOrder lines.choice (meaning k) k (next k)
 ordered_end meaning start now lines ns file mark next below from ends held more =
@@ -114,15 +114,15 @@ ordered_end meaning start now lines ns file mark next below from ends held more 
     order_but lines.choice meaning (length lines.waiting.items) file held.came next more.others
     (subst (IsInOrder lines.choice (meaning file) file) (sym more.here) (order_end lines.choice (meaning file) file (held.came file) mark known (held.ordered file below))) held.ordered
 
--- one mark more: it is kept first, and then the front moves on
+-- one mark more: it is kept first, and then the current file moves on
 pub held_end : (meaning : ℕ → Meaning) (start old new : Option (List ℕ)) (before mid after : Lines) (ns : List Note) (file : ℕ) (mark : Mark) → AreLinesOf mid after → AreLinesOf before mid
     → file < length before.waiting.items
     → ((other : Waiting) → (get_or before.waiting.items file other).mark ≡ None)
-    → ((other : Waiting) → ∥ IsEndAt (meaning file) (get_or before.waiting.items file other).count mark ∥₁) → before.front ≤ file
+    → ((other : Waiting) → ∥ IsEndAt (meaning file) (get_or before.waiting.items file other).count mark ∥₁) → before.current ≤ file
     → ((mid.whole ≡ true) ↔ ((before.whole ≡ true) × (mark ≡ Mark.Ended Ending.Complete))) → after.whole ≡ mid.whole
     → ((came next : ℕ → Came) → HasMarkMore file mark came next → LinesWrite start old before came → LinesWrite start old mid next)
     → ((came : ℕ → Came) → LinesWrite start old mid came → LinesWrite start new after came)
-    → ((other : Waiting) → after.front < length after.waiting.items → (get_or after.waiting.items after.front other).mark ≡ None)
+    → ((other : Waiting) → after.current < length after.waiting.items → (get_or after.waiting.items after.current other).mark ≡ None)
     → LinesHold meaning start old before ns → LinesHold meaning start new after (ns ++ End file mark ∷ [])
 held_end meaning start old new before mid after ns file mark went kept below unmarked ends from says whole keeps moves unended held =
     let next = ended_now file mark held.came in
@@ -137,8 +137,8 @@ held_end meaning start old new before mid after ns file mark went kept below unm
       ordered = ordered_as meaning mid after next went (ordered_as meaning before mid next kept (ordered_end meaning start old before ns file mark next below from ends held more));
       written = written;
       unended = λ lt.
-          let w = some_waiting after.waiting.items after.front lt in
-          sym (written.counted after.front w (omega arith) lt).mark ∙ unended w lt;
+          let w = some_waiting after.waiting.items after.current lt in
+          sym (written.counted after.current w (omega arith) lt).mark ∙ unended w lt;
       all_whole = as_many (length before.waiting.items) (length after.waiting.items) after.whole next count
           (subst (λ b. (b ≡ true) ↔ ((k : ℕ) → k < length before.waiting.items → IsWholeSoFar (next k))) (sym whole)
           (whole_end (length before.waiting.items) file mark held.came next before.whole mid.whole below bare says more held.all_whole));
@@ -172,7 +172,7 @@ left_off_held meaning start now lines ns held = record {
   came = held.came;
   told = held.told;
   ordered = held.ordered;
-  text = breaks_written lines.form start now lines.buffer lines.front lines.waiting.items held.came held.written;
+  text = breaks_written lines.form start now lines.buffer lines.current lines.waiting.items held.came held.written;
 }
 
 -- of the same lines later
@@ -184,7 +184,7 @@ left_off_as meaning start now before after ns same was =
 
 -- where one entry more was to be added
 pub left_off_item : (meaning : ℕ → Meaning) (start old new : Option (List ℕ)) (before after : Lines) (ns : List Note) (file : ℕ) (entry : Entry) → AreLinesOf before after
-    → file < length before.waiting.items → before.front ≤ file → ComesNext before.choice (meaning file) file before.waiting.items entry
+    → file < length before.waiting.items → before.current ≤ file → ComesNext before.choice (meaning file) file before.waiting.items entry
     → ((came next : ℕ → Came) → HasEntryMore file entry came next → LinesWrite start old before came
     → BreaksOff before.form start new (length before.waiting.items) came ⊎ BreaksOff before.form start new (length before.waiting.items) next)
     → LinesHold meaning start old before ns → LinesLeaveOffAt meaning start new after ns (Item (about_of entry))
@@ -201,10 +201,10 @@ left_off_item meaning start old new before after ns file entry same below from c
       }))
     ]
 
--- where the front was to move on after one mark more
+-- where the current file was to move on after one mark more
 pub left_off_end : (meaning : ℕ → Meaning) (start old new : Option (List ℕ)) (before mid after : Lines) (ns : List Note) (file : ℕ) (mark : Mark) → AreLinesOf mid after → AreLinesOf before mid
     → file < length before.waiting.items
-    → ((other : Waiting) → ∥ IsEndAt (meaning file) (get_or before.waiting.items file other).count mark ∥₁) → before.front ≤ file
+    → ((other : Waiting) → ∥ IsEndAt (meaning file) (get_or before.waiting.items file other).count mark ∥₁) → before.current ≤ file
     → ((came next : ℕ → Came) → HasMarkMore file mark came next → LinesWrite start old before came → LinesWrite start old mid next)
     → ((came : ℕ → Came) → LinesWrite start old mid came → BreaksOff mid.form start new (length mid.waiting.items) came)
     → LinesHold meaning start old before ns → LinesLeaveOffAt meaning start new after ns (End file mark)
@@ -224,7 +224,7 @@ left_off_finish meaning start old new lines ns put held = record {
   came = held.came;
   told = held.told;
   ordered = held.ordered;
-  text = breaks_flushed lines.form start old new lines.buffer lines.front lines.waiting.items held.came put held.written;
+  text = breaks_flushed lines.form start old new lines.buffer lines.current lines.waiting.items held.came put held.written;
 }
 
 -- what is known of the end of a file, told of the same file, number and mark

@@ -167,22 +167,22 @@ end_up_to choice meaning form came (suc n) marked order =
     (λ known. ended_one choice meaning form came n here.0 here.1 known.0 known.1)
 
 -- a text that was left off ends with the books of the files that have ended, or with the first entries of the next file
-begun_ended : (choice : Choice) (meaning : ℕ → Meaning) (form : Form) (files : ℕ) (start now : Option (List ℕ)) (came : ℕ → Came) (front : ℕ) → front ≤ files
-    → AppendsFront start now (ended_texts form came front) → AreEnded choice meaning form came front → IsBegun choice meaning form files start now
-begun_ended choice meaning form files start now came front within added up_to =
-    let text : ended_texts form came front ≡ text_in form up_to.books = sym up_to.text ∙ text_by_lines form choice meaning up_to.books up_to.each in
+begun_ended : (choice : Choice) (meaning : ℕ → Meaning) (form : Form) (files : ℕ) (start now : Option (List ℕ)) (came : ℕ → Came) (current : ℕ) → current ≤ files
+    → AppendsFront start now (ended_texts form came current) → AreEnded choice meaning form came current → IsBegun choice meaning form files start now
+begun_ended choice meaning form files start now came current within added up_to =
+    let text : ended_texts form came current ≡ text_in form up_to.books = sym up_to.text ∙ text_by_lines form choice meaning up_to.books up_to.each in
     record { books = up_to.books; of_files = up_to.each; few = omega (arith, within, up_to.count); text = inl (subst (AppendsFront start now) text added) }
 
-begun_next : (choice : Choice) (meaning : ℕ → Meaning) (form : Form) (files : ℕ) (start now : Option (List ℕ)) (came : ℕ → Came) (front : ℕ) → front < files
-    → AppendsFront start now (ended_texts form came front ++ begun form front (came front)) → AreFirst choice (meaning front) front (came front).entries
-    → AreEnded choice meaning form came front → IsBegun choice meaning form files start now
-begun_next choice meaning form files start now came front below added first up_to =
-    let same : front ≡ length up_to.books = sym up_to.count in
-    let text : ended_texts form came front ≡ text_in form up_to.books = sym up_to.text ∙ text_by_lines form choice meaning up_to.books up_to.each in
-    let entries = (came front).entries in
-    let ended : AppendsFront start now (text_in form up_to.books ++ preamble_in form (front + 1) ++ lines_in form entries) =
-    subst (AppendsFront start now) (sym (append_assoc (text_in form up_to.books) (preamble_in form (front + 1)) (lines_in form entries)))
-    (subst (λ l. AppendsFront start now (l ++ begun form front (came front))) text added) in
+begun_next : (choice : Choice) (meaning : ℕ → Meaning) (form : Form) (files : ℕ) (start now : Option (List ℕ)) (came : ℕ → Came) (current : ℕ) → current < files
+    → AppendsFront start now (ended_texts form came current ++ begun form current (came current)) → AreFirst choice (meaning current) current (came current).entries
+    → AreEnded choice meaning form came current → IsBegun choice meaning form files start now
+begun_next choice meaning form files start now came current below added first up_to =
+    let same : current ≡ length up_to.books = sym up_to.count in
+    let text : ended_texts form came current ≡ text_in form up_to.books = sym up_to.text ∙ text_by_lines form choice meaning up_to.books up_to.each in
+    let entries = (came current).entries in
+    let ended : AppendsFront start now (text_in form up_to.books ++ preamble_in form (current + 1) ++ lines_in form entries) =
+    subst (AppendsFront start now) (sym (append_assoc (text_in form up_to.books) (preamble_in form (current + 1)) (lines_in form entries)))
+    (subst (λ l. AppendsFront start now (l ++ begun form current (came current))) text added) in
     record {
       books = up_to.books;
       of_files = up_to.each;
@@ -201,12 +201,12 @@ pub begun_left_off : (choice : Choice) (meaning : ℕ → Meaning) (form : Form)
     → ∥ IsBegun choice meaning form files start now ∥₁
 begun_left_off choice meaning form files start now ns left =
     let off = left.text in
-    let up_to = end_up_to choice meaning form left.came off.front off.marked (λ k below. left.ordered k (omega (arith, below, off.within))) in
+    let up_to = end_up_to choice meaning form left.came off.current off.marked (λ k below. left.ordered k (omega (arith, below, off.within))) in
     elim off.text [
-      | inl added ↦ ∥∥₁_map up_to (begun_ended choice meaning form files start now left.came off.front off.within added)
+      | inl added ↦ ∥∥₁_map up_to (begun_ended choice meaning form files start now left.came off.current off.within added)
       | inr next ↦
-          ∥∥₁_map (both up_to (first_come choice (meaning off.front) off.front (left.came off.front) (left.ordered off.front next.0)))
-          (λ known. begun_next choice meaning form files start now left.came off.front next.0 next.1 known.1 known.0)
+          ∥∥₁_map (both up_to (first_come choice (meaning off.current) off.current (left.came off.current) (left.ordered off.current next.0)))
+          (λ known. begun_next choice meaning form files start now left.came off.current next.0 next.1 known.1 known.0)
     ]
 
 -- where nothing was added, no file has ended

@@ -10,13 +10,13 @@ use Rattle.printing.specs.Came.{Came, IsToldByNotes, IsWholeSoFar}
 use Rattle.printing.specs.Orders.{IsInOrder}
 use Rattle.printing.specs.Written.{AreWritten, AreRemaining, BreaksOff}
 
--- What the notes tell of each file, which means this, is in order, and is written or waits. The front, the first file that has not ended, has no mark. And it is known whether all is whole so far.
-pub record HoldsNotes (choice : Choice) (meaning : ℕ → Meaning) (form : Form) (start now : Option (List ℕ)) (buffer : List ℕ) (front : ℕ) (waiting : List Waiting) (whole : Bool) (ns : List Note) : Type 0 where
+-- What the notes tell of each file, which means this, is in order, and is written or waits. The current file, the first that has not ended, has no mark. And it is known whether all is whole so far.
+pub record HoldsNotes (choice : Choice) (meaning : ℕ → Meaning) (form : Form) (start now : Option (List ℕ)) (buffer : List ℕ) (current : ℕ) (waiting : List Waiting) (whole : Bool) (ns : List Note) : Type 0 where
   pub came : ℕ → Came
   pub told : (file : ℕ) → file < length waiting → IsToldByNotes file ns (came file)
   pub ordered : (file : ℕ) → file < length waiting → IsInOrder choice (meaning file) file (came file)
-  pub written : AreWritten form start now buffer front waiting came
-  pub unended : front < length waiting → (came front).mark ≡ None
+  pub written : AreWritten form start now buffer current waiting came
+  pub unended : current < length waiting → (came current).mark ≡ None
   pub all_whole : (whole ≡ true) ↔ ((file : ℕ) → file < length waiting → IsWholeSoFar (came file))
 
 -- What the notes tell of each of so many files, which means this, is in order, and the text of it was left off.
@@ -38,15 +38,15 @@ files_of lines = length lines.waiting.items
 
 -- what came of the files is written or waits, of a sink that had taken `start` and has now taken `now`
 abbrev pub LinesWrite : Option (List ℕ) → Option (List ℕ) → Lines → (ℕ → Came) → Type 0
-LinesWrite start now lines came = AreWritten lines.form start now lines.buffer lines.front lines.waiting.items came
+LinesWrite start now lines came = AreWritten lines.form start now lines.buffer lines.current lines.waiting.items came
 
 -- the same before anything of the first file that has not ended was put on its way
 abbrev pub LinesLeave : Option (List ℕ) → Option (List ℕ) → Lines → (ℕ → Came) → Type 0
-LinesLeave start now lines came = AreRemaining lines.form start now lines.buffer lines.front lines.waiting.items came
+LinesLeave start now lines came = AreRemaining lines.form start now lines.buffer lines.current lines.waiting.items came
 
 -- what the notes tell of files that mean this is written or waits
 abbrev pub LinesHold : (ℕ → Meaning) → Option (List ℕ) → Option (List ℕ) → Lines → List Note → Type 0
-LinesHold meaning start now lines ns = HoldsNotes lines.choice meaning lines.form start now lines.buffer lines.front lines.waiting.items lines.whole ns
+LinesHold meaning start now lines ns = HoldsNotes lines.choice meaning lines.form start now lines.buffer lines.current lines.waiting.items lines.whole ns
 
 -- the text of what the notes tell was left off
 abbrev pub LinesLeaveOff : (ℕ → Meaning) → Option (List ℕ) → Option (List ℕ) → Lines → List Note → Type 0
@@ -66,5 +66,5 @@ pub record AreLinesOf (before after : Lines) : Type 0 where
 -- the first file that has not ended, and whether all is whole so far, are those of before, too
 pub record StandAt (before after : Lines) : Type 0 where
   pub same : AreLinesOf before after
-  pub front : after.front ≡ before.front
+  pub current : after.current ≡ before.current
   pub whole : after.whole ≡ before.whole

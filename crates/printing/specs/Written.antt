@@ -43,32 +43,32 @@ ended_texts form came (suc file) = ended_texts form came file ++ ended form file
 
 -- Of so many files the first have ended, and a beginning was added of their texts, or of these and what has come of the next file.
 pub record BreaksOff (form : Form) (start now : Option (List ℕ)) (files : ℕ) (came : ℕ → Came) : Type 0 where
-  pub front : ℕ
-  pub within : front ≤ files
-  pub marked : (file : ℕ) → file < front → HasMark (came file)
-  pub text : AppendsFront start now (ended_texts form came front)
-      ⊎ ((front < files) × AppendsFront start now (ended_texts form came front ++ begun form front (came front)))
+  pub current : ℕ
+  pub within : current ≤ files
+  pub marked : (file : ℕ) → file < current → HasMark (came file)
+  pub text : AppendsFront start now (ended_texts form came current)
+      ⊎ ((current < files) × AppendsFront start now (ended_texts form came current ++ begun form current (came current)))
 
 -- the entries are counted and the mark is kept
 pub record IsCounted (waiting : Waiting) (came : Came) : Type 0 where
   pub count : waiting.count ≡ length came.entries
   pub mark : waiting.mark ≡ came.mark
 
--- The texts of the files before the front are on their way, and then what has come of the front. What has come of the files behind it waits.
-pub record AreWritten (form : Form) (start now : Option (List ℕ)) (buffer : List ℕ) (front : ℕ) (waiting : List Waiting) (came : ℕ → Came) : Type 0 where
-  pub within : front ≤ length waiting
-  pub marked : (file : ℕ) → file < front → HasMark (came file)
-  pub counted : (file : ℕ) (other : Waiting) → front ≤ file → file < length waiting → IsCounted (slice_index_or waiting file other) (came file)
-  pub lines : (file : ℕ) (other : Waiting) → front < file → file < length waiting
+-- The texts of the files before the current file are on their way, and then what has come of the current file. What has come of the files behind it waits.
+pub record AreWritten (form : Form) (start now : Option (List ℕ)) (buffer : List ℕ) (current : ℕ) (waiting : List Waiting) (came : ℕ → Came) : Type 0 where
+  pub within : current ≤ length waiting
+  pub marked : (file : ℕ) → file < current → HasMark (came file)
+  pub counted : (file : ℕ) (other : Waiting) → current ≤ file → file < length waiting → IsCounted (slice_index_or waiting file other) (came file)
+  pub lines : (file : ℕ) (other : Waiting) → current < file → file < length waiting
       → (slice_index_or waiting file other).lines ≡ lines_in form (came file).entries
-  pub going : front < length waiting → IsInTransit start now buffer (ended_texts form came front ++ begun form front (came front))
-  pub over : length waiting ≤ front → IsInTransit start now buffer (ended_texts form came front)
+  pub going : current < length waiting → IsInTransit start now buffer (ended_texts form came current ++ begun form current (came current))
+  pub over : length waiting ≤ current → IsInTransit start now buffer (ended_texts form came current)
 
--- The same before anything of the front was put on its way: what has come of it still waits.
-pub record AreRemaining (form : Form) (start now : Option (List ℕ)) (buffer : List ℕ) (front : ℕ) (waiting : List Waiting) (came : ℕ → Came) : Type 0 where
-  pub within : front ≤ length waiting
-  pub marked : (file : ℕ) → file < front → HasMark (came file)
-  pub counted : (file : ℕ) (other : Waiting) → front ≤ file → file < length waiting → IsCounted (slice_index_or waiting file other) (came file)
-  pub lines : (file : ℕ) (other : Waiting) → front ≤ file → file < length waiting
+-- The same before anything of the current file was put on its way: what has come of it still waits.
+pub record AreRemaining (form : Form) (start now : Option (List ℕ)) (buffer : List ℕ) (current : ℕ) (waiting : List Waiting) (came : ℕ → Came) : Type 0 where
+  pub within : current ≤ length waiting
+  pub marked : (file : ℕ) → file < current → HasMark (came file)
+  pub counted : (file : ℕ) (other : Waiting) → current ≤ file → file < length waiting → IsCounted (slice_index_or waiting file other) (came file)
+  pub lines : (file : ℕ) (other : Waiting) → current ≤ file → file < length waiting
       → (slice_index_or waiting file other).lines ≡ lines_in form (came file).entries
-  pub text : IsInTransit start now buffer (ended_texts form came front)
+  pub text : IsInTransit start now buffer (ended_texts form came current)

@@ -5,27 +5,27 @@ use std::alloc::{AllocError, Global};
 use std::marker::Model;
 
 /// As many bytes as a line holds without memory: few lines of a report have more.
-const NEAR: usize = 64;
+const SHORT_TEXT: usize = 64;
 
 /// The text of one line. A short one stands in the value itself, and a longer one in memory.
 #[derive(Drop)]
 pub struct Line {
     alloc: Global,
-    near: [u8; NEAR],
+    short_text: [u8; SHORT_TEXT],
     length: usize,
-    far: Option<Vec<u8>>,
+    long_text: Option<Vec<u8>>,
 }
 
 impl Model for Line {
     ghost use Rattle.std.specs.Prelude.{ℕ, List, ◌≤◌};
     ghost use Rattle.printing.specs.Texts.{text_of};
-    ghost use Rattle.printing.specs.declared.line.TheConstants.{NEAR};
+    ghost use Rattle.printing.specs.declared.line.TheConstants.{SHORT_TEXT};
 
     ghost Value = { List ℕ };
 
-    ghost view = { λ l. text_of l.near l.length l.far };
+    ghost view = { λ l. text_of l.short_text l.length l.long_text };
 
-    ghost invariant = { λ l. l.length ≤ NEAR };
+    ghost invariant = { λ l. l.length ≤ SHORT_TEXT };
 }
 
 impl Line {
@@ -35,9 +35,9 @@ impl Line {
     {
         Line {
             alloc,
-            near: [0; NEAR],
+            short_text: [0; SHORT_TEXT],
             length: 0,
-            far: Some(text),
+            long_text: Some(text),
         }
     }
 
@@ -45,9 +45,9 @@ impl Line {
     pub fn as_slice(&self) -> &[u8]
         ensures value { result.now ≡ self.now }
     {
-        match &self.far {
-            Some(far) => far.as_slice(),
-            None => &self.near[..self.length],
+        match &self.long_text {
+            Some(long_text) => long_text.as_slice(),
+            None => &self.short_text[..self.length],
         }
     }
 
@@ -55,16 +55,16 @@ impl Line {
     pub(crate) fn copied(alloc: Global, text: &[u8]) -> Result<Line, AllocError>
         ensures { IfOk result (λ line. line ≡ text.now) }
     {
-        if text.len() > NEAR {
+        if text.len() > SHORT_TEXT {
             return Ok(Line::of(alloc, Vec::from_slice(alloc, text)?));
         }
-        let mut near = [0; NEAR];
-        near[..text.len()].copy_from_slice(text);
+        let mut short_text = [0; SHORT_TEXT];
+        short_text[..text.len()].copy_from_slice(text);
         Ok(Line {
             alloc,
-            near,
+            short_text,
             length: text.len(),
-            far: None,
+            long_text: None,
         })
     }
 
@@ -74,13 +74,13 @@ impl Line {
     {
         let Line {
             alloc,
-            near,
+            short_text,
             length,
-            far,
+            long_text,
         } = self;
-        match far {
-            Some(far) => Ok(far),
-            None => Vec::from_slice(alloc, &near[..length]),
+        match long_text {
+            Some(long_text) => Ok(long_text),
+            None => Vec::from_slice(alloc, &short_text[..length]),
         }
     }
 }

@@ -35,7 +35,7 @@ pub struct Lines {
     choice: Choice,
     buffer: TextBuffer,
     /// The first file that has not ended.
-    front: u32,
+    current: u32,
     /// What has come of each file.
     waiting: Vec<Waiting>,
     /// How many bytes of memory what waits holds.
@@ -67,7 +67,7 @@ impl Lines {
             form,
             choice,
             buffer,
-            front: 0,
+            current: 0,
             waiting,
             held: 0,
             whole: true,
@@ -75,13 +75,13 @@ impl Lines {
     }
 
     /// The first file that has not ended.
-    pub(crate) fn front(&self) -> u32 {
-        self.front
+    pub(crate) fn current(&self) -> u32 {
+        self.current
     }
 
-    /// The first file behind the front that has not ended.
+    /// The first file behind the current file that has not ended.
     pub(crate) fn next(&self) -> u32 {
-        for file in self.front.saturating_add(1)..u32::MAX {
+        for file in self.current.saturating_add(1)..u32::MAX {
             let place = file as usize;
             if place >= self.waiting.len() || self.waiting[place].mark.is_none() {
                 return file;
@@ -90,7 +90,7 @@ impl Lines {
         u32::MAX
     }
 
-    /// How many bytes of memory what waits of the files behind the front holds.
+    /// How many bytes of memory what waits of the files behind the current file holds.
     pub(crate) fn waits(&self) -> usize {
         self.held
     }
@@ -191,16 +191,16 @@ impl Lines {
 
     /// Whether a file is one of the run and its last line is not on its way yet.
     fn is_open(&self, file: u32) -> bool
-        ensures { IsTrue result ↔ ((self.now.front ≤ file) × (file < length self.now.waiting.items)) }
+        ensures { IsTrue result ↔ ((self.now.current ≤ file) × (file < length self.now.waiting.items)) }
     {
-        self.front <= file && (file as usize) < self.waiting.len()
+        self.current <= file && (file as usize) < self.waiting.len()
     }
 
     /// Whether a file has not ended, and its next entry has this place.
     fn is_next(&self, file: u32, ordinal: u32) -> bool
-        ensures open { IsTrue result → (self.now.front ≤ file) × (file < length self.now.waiting.items) }
+        ensures open { IsTrue result → (self.now.current ≤ file) × (file < length self.now.waiting.items) }
         ensures next { IsTrue result → (other : Waiting) → IsNext ordinal (slice_index_or self.now.waiting.items file other) }
-        ensures due { self.now.front ≤ file → file < length self.now.waiting.items
+        ensures due { self.now.current ≤ file → file < length self.now.waiting.items
             → ((other : Waiting) → IsNext ordinal (slice_index_or self.now.waiting.items file other)) → IsTrue result }
     {
         if !self.is_open(file) {
@@ -210,7 +210,7 @@ impl Lines {
         here.mark.is_none() && here.count == ordinal && ordinal < MAX_RECORDS
     }
 
-    /// Adds a line of one more entry: that of the front straight on its way, another to what waits.
+    /// Adds a line of one more entry: that of the current file straight on its way, another to what waits.
     fn add<S: Sink>(
         &mut self,
         alloc: Global,
@@ -219,7 +219,7 @@ impl Lines {
         line: &[u8],
     ) -> Result<(), Refusal>
         requires stands { S.failed sink.old ≡ false }
-        requires from { self.old.front ≤ file }
+        requires from { self.old.current ≤ file }
         requires below { file < length self.old.waiting.items }
         ensures added { OnOk result ((start : Option (List ℕ)) (before after : ℕ → Came) (entry : Entry)
             → line_in self.old.form entry ≡ line.now → HasEntryMore file entry before after
@@ -232,7 +232,7 @@ impl Lines {
         ensures same { StandAt self.old self.new }
     {
         count_one(&mut self.waiting, file)?;
-        if file == self.front {
+        if file == self.current {
             return put(&mut self.buffer, sink, line);
         }
         let more = keep_line(alloc, &mut self.waiting, file, line)?;
@@ -249,7 +249,7 @@ impl Lines {
         ordinal: u32,
     ) -> Result<(), Refusal>
         requires stands { S.failed sink.old ≡ false }
-        requires from { self.old.front ≤ file }
+        requires from { self.old.current ≤ file }
         requires below { file < length self.old.waiting.items }
         ensures added { OnOk result ((start : Option (List ℕ)) (before after : ℕ → Came) (entry : Entry)
             → entry.file ≡ file → entry.ordinal ≡ ordinal → entry.answer ≡ Answer.NoMemory → HasEntryMore file entry before after
@@ -260,7 +260,7 @@ impl Lines {
             → BreaksOff self.old.form start (S.taken sink.new) (files_of self.old) before ⊎ BreaksOff self.old.form start (S.taken sink.new) (files_of self.old) after) }
         ensures stands { OnOk result (S.failed sink.new ≡ false) }
         ensures gave_up { IfErr result (λ refusal. GivesUp (S.failed sink.new) refusal) }
-        ensures front { self.new.front ≡ self.old.front }
+        ensures current { self.new.current ≡ self.old.current }
         ensures lacking { OnOk result (self.new.whole ≡ false) }
         ensures same { AreLinesOf self.old self.new }
     {
@@ -273,33 +273,33 @@ impl Lines {
         }
     }
 
-    /// Ends the front as long as it has its mark, and moves on.
+    /// Ends the current file as long as it has its mark, and moves on.
     fn advance<S: Sink>(&mut self, alloc: Global, sink: &mut S) -> Result<(), Refusal>
         requires { S.failed sink.old ≡ false }
         ensures written { OnOk result ((start : Option (List ℕ)) (came : ℕ → Came)
             → LinesWrite start (S.taken sink.old) self.old came → LinesWrite start (S.taken sink.new) self.new came) }
         ensures broken { OnErr result ((start : Option (List ℕ)) (came : ℕ → Came)
             → LinesWrite start (S.taken sink.old) self.old came → BreaksOff self.old.form start (S.taken sink.new) (files_of self.old) came) }
-        ensures unended { OnOk result ((other : Waiting) → self.new.front < length self.new.waiting.items
-            → (slice_index_or self.new.waiting.items self.new.front other).mark ≡ None) }
+        ensures unended { OnOk result ((other : Waiting) → self.new.current < length self.new.waiting.items
+            → (slice_index_or self.new.waiting.items self.new.current other).mark ≡ None) }
         ensures stands { OnOk result (S.failed sink.new ≡ false) }
         ensures gave_up { IfErr result (λ refusal. GivesUp (S.failed sink.new) refusal) }
         ensures whole { self.new.whole ≡ self.old.whole }
         ensures same { AreLinesOf self.old self.new }
     {
-        while let Some(mark) = self.front_mark() {
+        while let Some(mark) = self.current_mark() {
             self.leave(alloc, sink, mark)?;
         }
         Ok(())
     }
 
-    /// The mark of the front, where it has one.
-    fn front_mark(&self) -> Option<Mark>
-        ensures below { IsSome result → self.now.front < length self.now.waiting.items }
-        ensures same { (other : Waiting) → self.now.front < length self.now.waiting.items
-            → result ≡ (slice_index_or self.now.waiting.items self.now.front other).mark }
+    /// The mark of the current file, where it has one.
+    fn current_mark(&self) -> Option<Mark>
+        ensures below { IsSome result → self.now.current < length self.now.waiting.items }
+        ensures same { (other : Waiting) → self.now.current < length self.now.waiting.items
+            → result ≡ (slice_index_or self.now.waiting.items self.now.current other).mark }
     {
-        let place = self.front as usize;
+        let place = self.current as usize;
         if place < self.waiting.len() {
             self.waiting[place].mark
         } else {
@@ -307,39 +307,39 @@ impl Lines {
         }
     }
 
-    /// Ends the front with its mark and moves on to the next file.
+    /// Ends the current file with its mark and moves on to the next file.
     fn leave<S: Sink>(&mut self, alloc: Global, sink: &mut S, mark: Mark) -> Result<(), Refusal>
         requires stands { S.failed sink.old ≡ false }
-        requires below { self.old.front < length self.old.waiting.items }
-        requires mark { (other : Waiting) → (slice_index_or self.old.waiting.items self.old.front other).mark ≡ Some mark }
+        requires below { self.old.current < length self.old.waiting.items }
+        requires mark { (other : Waiting) → (slice_index_or self.old.waiting.items self.old.current other).mark ≡ Some mark }
         ensures written { OnOk result ((start : Option (List ℕ)) (came : ℕ → Came)
             → LinesWrite start (S.taken sink.old) self.old came → LinesWrite start (S.taken sink.new) self.new came) }
         ensures broken { OnErr result ((start : Option (List ℕ)) (came : ℕ → Came)
             → LinesWrite start (S.taken sink.old) self.old came → BreaksOff self.old.form start (S.taken sink.new) (files_of self.old) came) }
         ensures stands { OnOk result (S.failed sink.new ≡ false) }
         ensures gave_up { IfErr result (λ refusal. GivesUp (S.failed sink.new) refusal) }
-        ensures front { OnOk result (self.new.front ≡ self.old.front + 1) }
+        ensures current { OnOk result (self.new.current ≡ self.old.current + 1) }
         ensures whole { self.new.whole ≡ self.old.whole }
         ensures same { AreLinesOf self.old self.new }
     {
-        let Some(next) = self.front.checked_add(1) else {
+        let Some(next) = self.current.checked_add(1) else {
             return Err(Refusal::Astray);
         };
-        let count = self.waiting[self.front as usize].count;
+        let count = self.waiting[self.current as usize].count;
         let end = SourceEnd { count, mark };
-        put_end(alloc, &mut self.buffer, sink, self.form, self.front, end)?;
-        self.front = next;
-        if (self.front as usize) < self.waiting.len() {
+        put_end(alloc, &mut self.buffer, sink, self.form, self.current, end)?;
+        self.current = next;
+        if (self.current as usize) < self.waiting.len() {
             self.begin(alloc, sink)
         } else {
             Ok(())
         }
     }
 
-    /// Puts what has come of the front on its way.
+    /// Puts what has come of the current file on its way.
     fn begin<S: Sink>(&mut self, alloc: Global, sink: &mut S) -> Result<(), Refusal>
         requires stands { S.failed sink.old ≡ false }
-        requires below { self.old.front < length self.old.waiting.items }
+        requires below { self.old.current < length self.old.waiting.items }
         ensures begun { OnOk result ((start : Option (List ℕ)) (came : ℕ → Came)
             → LinesLeave start (S.taken sink.old) self.old came → LinesWrite start (S.taken sink.new) self.new came) }
         ensures broken { OnErr result ((start : Option (List ℕ)) (came : ℕ → Came)
@@ -348,8 +348,8 @@ impl Lines {
         ensures gave_up { IfErr result (λ refusal. GivesUp (S.failed sink.new) refusal) }
         ensures same { StandAt self.old self.new }
     {
-        put_preamble(alloc, &mut self.buffer, sink, self.form, self.front)?;
-        let lines = take_lines(alloc, &mut self.waiting, self.front);
+        put_preamble(alloc, &mut self.buffer, sink, self.form, self.current)?;
+        let lines = take_lines(alloc, &mut self.waiting, self.current);
         self.held = self.held.saturating_sub(lines.size());
         lines.put(&mut self.buffer, sink)
     }

@@ -1,4 +1,4 @@
-//! What waits of files that are not in front yet.
+//! What waits of files that are not current yet.
 ghost use Rattle.std.specs.Prelude.{◌≡◌, ◌<◌, IfOk, IfErr, OnOk, All, length, IsTrue, slice_index_or};
 ghost use Rattle.printing.specs.Waits.{ChangesAt, IsNothing, IsCountedOne, GetsLine, GetsMark, IsTaken, IsUnmarked};
 
@@ -11,7 +11,7 @@ use streams::Mark;
 /// What has come of a file.
 #[derive(Drop)]
 pub struct Waiting {
-    /// The lines of its entries, as long as it is not in front.
+    /// The lines of its entries, as long as it is not current.
     pub lines: Chunks,
     /// How many entries have come of it.
     pub count: u32,

@@ -95,7 +95,7 @@ pub(crate) fn point(out: &mut Vec<u8>, later: bool, point: Point) -> Result<(), 
     ensures { OnOk result (out.new.items ≡ out.old.items ++ (comma_if later ++ compact_text (point_data point))) }
 {
     if later && point.x < 10 && point.y < 10 {
-        return near_point(out, point.x as u8, point.y as u8);
+        return small_point(out, point.x as u8, point.y as u8);
     }
     comma(out, later)?;
     bytes(out, b"[")?;
@@ -106,7 +106,7 @@ pub(crate) fn point(out: &mut Vec<u8>, later: bool, point: Point) -> Result<(), 
 
 /// Puts a point whose coordinates have one digit each, behind a comma.
 #[tactic(auto, using(std::proofs::lemmas::Fmt::decimal_digit))]
-fn near_point(out: &mut Vec<u8>, x: u8, y: u8) -> Result<(), AllocError>
+fn small_point(out: &mut Vec<u8>, x: u8, y: u8) -> Result<(), AllocError>
     requires x { x < 10 }
     requires y { y < 10 }
     ensures { OnOk result (out.new.items ≡ out.old.items ++ 44 ∷ 91 ∷ (decimal x ++ 44 ∷ (decimal y ++ 93 ∷ []))) }

@@ -20,18 +20,18 @@ module _ {V : Type 0} where
   sum_le f g (x ∷ xs) each = let here : f x ≤ g x = each zero x refl in let rest = sum_le f g xs (λ i v e. each (suc i) v e) in
       omega (arith, here, rest, sum_by-cons f x xs, sum_by-cons g x xs)
 
-  pub part_le : (f : V → ℕ) (views : List V) (id : ℕ) (v : V) → get_elem? views id ≡ some v → f v ≤ sum_by f views
-  part_le f [] id v e = absurd (some-ne-none v (sym e))
-  part_le f (x ∷ xs) zero v e = let same : f x ≡ f v = ap f (some-injective x v e) in omega (arith, sum_by-cons f x xs)
-  part_le f (x ∷ xs) (suc i) v e = let rest = part_le f xs i v e in omega (arith, rest, sum_by-cons f x xs)
+  pub share_le : (f : V → ℕ) (views : List V) (id : ℕ) (v : V) → get_elem? views id ≡ some v → f v ≤ sum_by f views
+  share_le f [] id v e = absurd (some-ne-none v (sym e))
+  share_le f (x ∷ xs) zero v e = let same : f x ≡ f v = ap f (some-injective x v e) in omega (arith, sum_by-cons f x xs)
+  share_le f (x ∷ xs) (suc i) v e = let rest = share_le f xs i v e in omega (arith, rest, sum_by-cons f x xs)
 
-  -- views without a part count for nothing
+  -- views without a share count for nothing
   none_of : (f g : V → ℕ) (views : List V) → EachView (λ v. g v ≡ 0 → f v ≡ 0) views → sum_by g views ≡ 0 → sum_by f views ≡ 0
   none_of f g [] each none = refl
   none_of f g (x ∷ xs) each none = let here : f x ≡ 0 = each zero x refl (omega (arith, sum_by-cons g x xs)) in
       let rest = none_of f g xs (λ i v e. each (suc i) v e) (omega (arith, sum_by-cons g x xs)) in omega (arith, here, rest, sum_by-cons f x xs)
 
-  -- so one that has all parts counts alone
+  -- so one that has all shares counts alone
   pub alone : (f g : V → ℕ) (views : List V) (id : ℕ) (v : V) → get_elem? views id ≡ some v → EachView (λ u. g u ≡ 0 → f u ≡ 0) views → sum_by g views ≡ g v → sum_by f views ≡ f v
   alone f g [] id v e each whole = absurd (some-ne-none v (sym e))
   alone f g (x ∷ xs) zero v e each whole =
@@ -39,6 +39,6 @@ module _ {V : Type 0} where
       let same' : g x ≡ g v = ap g (some-injective x v e) in
       let rest = none_of f g xs (λ i u e'. each (suc i) u e') (omega (arith, sum_by-cons g x xs)) in omega (arith, rest, sum_by-cons f x xs)
   alone f g (x ∷ xs) (suc i) v e each whole =
-      let part = part_le g xs i v e in
-      let here : f x ≡ 0 = each zero x refl (omega (arith, part, sum_by-cons g x xs)) in
-      let rest = alone f g xs i v e (λ j u e'. each (suc j) u e') (omega (arith, part, sum_by-cons g x xs)) in omega (arith, here, rest, sum_by-cons f x xs)
+      let share = share_le g xs i v e in
+      let here : f x ≡ 0 = each zero x refl (omega (arith, share, sum_by-cons g x xs)) in
+      let rest = alone f g xs i v e (λ j u e'. each (suc j) u e') (omega (arith, share, sum_by-cons g x xs)) in omega (arith, here, rest, sum_by-cons f x xs)

@@ -15,19 +15,19 @@ abbrev pub HasPooled : List Seat → List Seat → Draws → Type 0
 HasPooled all rest v = (done : List Seat) × (all ≡ rest ++ done) × IsPool done v
 
 pub first_pooled : (all rest : List Seat) (s : Seat) → all ≡ rest ++ s ∷ [] → HasPooled all rest s.pass.me.0
-first_pooled all rest s popped = (s ∷ [], popped, (s.part, omega (arith, s.ends, sum_by-cons (λ (r : Seat). cond (has_ended r) 1 0) s []), sym (append-nil (drawn s))))
+first_pooled all rest s popped = (s ∷ [], popped, (s.one_share, omega (arith, s.ends, sum_by-cons (λ (r : Seat). cond (has_ended r) 1 0) s []), sym (append-nil (drawn s))))
 
 pub one_pooled : (all before rest : List Seat) (s : Seat) (v w : Draws) → before ≡ rest ++ s ∷ []
-    → w ≡ draws v.limit (v.parts + s.pass.me.0.parts) (v.ends + s.pass.me.0.ends) (s.pass.me.0.drawn ++ v.drawn) → HasPooled all before v → HasPooled all rest w
+    → w ≡ draws v.limit (v.shares + s.pass.me.0.shares) (v.ends + s.pass.me.0.ends) (s.pass.me.0.drawn ++ v.drawn) → HasPooled all before v → HasPooled all rest w
 one_pooled all before rest s v w popped made h =
-    let parts = ap (λ (u : Draws). u.parts) made in
+    let shares = ap (λ (u : Draws). u.shares) made in
     let ends = ap (λ (u : Draws). u.ends) made in
     let more = sum_by-cons (λ (r : Seat). cond (has_ended r) 1 0) s h.0 in
     let pool = h.2 in (
       s ∷ h.0,
       h.1 ∙ ap (λ l. l ++ h.0) popped ∙ append_assoc rest (s ∷ []) h.0,
       (
-        omega (arith, s.part),
+        omega (arith, s.one_share),
         omega (arith, s.ends),
         ap (λ (u : Draws). u.drawn) made ∙ ap (λ l. drawn s ++ l) pool.2,
       ),

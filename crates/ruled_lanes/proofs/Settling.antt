@@ -27,25 +27,25 @@ module _ {T : Type 0} where
   lane_given g = (lane_of g, given_at g)
 
   -- of all givers the last ones were taken in, and the first, the rest, were not
-  abbrev pub HasJoined : List (ℕ × T) → List (LaneGiver T) → List (LaneGiver T) → FanLog T → Type 0
-  HasJoined taken all rest v = (done : List (LaneGiver T)) × (all ≡ rest ++ done) × (v ≡ fan_log true LANES taken (map lane_given done))
+  abbrev pub HasMerged : List (ℕ × T) → List (LaneGiver T) → List (LaneGiver T) → FanLog T → Type 0
+  HasMerged taken all rest v = (done : List (LaneGiver T)) × (all ≡ rest ++ done) × (v ≡ fan_log true LANES taken (map lane_given done))
 
-  pub none_joined : (taken : List (ℕ × T)) (all : List (LaneGiver T)) (v : FanLog T) → v ≡ fan_log true LANES taken [] → HasJoined taken all all v
-  none_joined taken all v is = ([], sym (append-nil all), is)
+  pub none_merged : (taken : List (ℕ × T)) (all : List (LaneGiver T)) (v : FanLog T) → v ≡ fan_log true LANES taken [] → HasMerged taken all all v
+  none_merged taken all v is = ([], sym (append-nil all), is)
 
   -- one more is taken in
-  pub one_joined : (taken : List (ℕ × T)) (all before rest : List (LaneGiver T)) (g : LaneGiver T) (v w : FanLog T) → before ≡ rest ++ g ∷ []
-      → w ≡ fan_log v.takes v.made v.taken ((view g.pass).lanes ++ v.lanes) → HasJoined taken all before v → HasJoined taken all rest w
-  one_joined taken all before rest g v w popped made h = (
+  pub one_merged : (taken : List (ℕ × T)) (all before rest : List (LaneGiver T)) (g : LaneGiver T) (v w : FanLog T) → before ≡ rest ++ g ∷ []
+      → w ≡ fan_log v.takes v.made v.taken ((view g.pass).lanes ++ v.lanes) → HasMerged taken all before v → HasMerged taken all rest w
+  one_merged taken all before rest g v w popped made h = (
     g ∷ h.0,
     h.1 ∙ ap (λ l. l ++ h.0) popped ∙ append_assoc rest (g ∷ []) h.0,
     made ∙ ap (λ (u : FanLog T). fan_log v.takes v.made v.taken (u.lanes ++ v.lanes)) g.role ∙ ap (λ (u : FanLog T). fan_log u.takes u.made u.taken (lane_given g ∷ u.lanes)) h.2,
   )
 
   -- what the gatherer then learns settles the fan
-  pub all_joined : (taken items : List (ℕ × T)) (all rest : List (LaneGiver T)) (v : FanLog T) → length rest ≡ 0 → HasJoined taken all rest v
+  pub all_merged : (taken items : List (ℕ × T)) (all rest : List (LaneGiver T)) (v : FanLog T) → length rest ≡ 0 → HasMerged taken all rest v
       → Accounts v items → SettlesFan taken all
-  all_joined taken items all rest v none h fact =
+  all_merged taken items all rest v none h fact =
       let learnt : Accounts (fan_log true LANES taken (map lane_given h.0)) items = subst (λ u. Accounts u items) h.2 fact in
       let Whole : LaneGiver T → Type 0 = λ g. of_lane (lane_of g) (taken ++ items) ≡ given_at g in
       let Settled : LaneGiver T → Type 0 = λ g. of_lane (lane_of g) taken ++ of_lane (lane_of g) items ≡ given_at g in

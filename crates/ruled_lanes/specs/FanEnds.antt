@@ -21,8 +21,8 @@ module _ {T : Type 0} where
   gathered f = (view f.pass).taken
 
   -- how many items the fan holds at most
-  abbrev pub room_of_fan : Gatherer T → ℕ
-  room_of_fan f = ruled_capacity (receives_on f.receiver)
+  abbrev pub capacity_of_fan : Gatherer T → ℕ
+  capacity_of_fan f = ruled_capacity (receives_on f.receiver)
 
   -- they give to the fan of this gatherer
   abbrev pub AreGiversOf : Gatherer T → List (LaneGiver T) → Type 0

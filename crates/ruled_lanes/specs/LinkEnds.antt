@@ -15,8 +15,8 @@ module _ {T : Type 0} where
   taken t = (view t.pass).taken
 
   -- how many items the link holds at most
-  abbrev pub room_of : Giver T → ℕ
-  room_of g = ruled_capacity (sends_on g.sender)
+  abbrev pub capacity_of : Giver T → ℕ
+  capacity_of g = ruled_capacity (sends_on g.sender)
 
   -- the two ends of one link
   abbrev pub AreEnds : Giver T → Taker T → Type 0

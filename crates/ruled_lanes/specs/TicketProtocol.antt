@@ -6,7 +6,7 @@ use lib.ListN.{get_elem?}
 use Rattle.ruled_lanes.specs.declared.ticket_protocol.Draws.{Draws}
 
 abbrev pub draws : ℕ → ℕ → ℕ → List ℕ → Draws
-draws limit parts ends drawn = record { limit = limit; parts = parts; ends = ends; drawn = drawn }
+draws limit shares ends drawn = record { limit = limit; shares = shares; ends = ends; drawn = drawn }
 
 -- how often x stands in the list
 abbrev pub times : ℕ → List ℕ → ℕ
@@ -23,17 +23,17 @@ HasOnceBelow n xs = CountsOnceBelow n (λ x. times x xs)
 -- what a seat knows after a draw that found n
 abbrev pub DrawsNext : Draws → ℕ → Draws → Type 0
 DrawsNext v n w =
-    (n < v.limit → w ≡ draws v.limit v.parts v.ends (v.drawn ++ n ∷ [])) × (v.limit ≤ n → w ≡ draws v.limit v.parts (v.ends + 1) v.drawn)
+    (n < v.limit → w ≡ draws v.limit v.shares v.ends (v.drawn ++ n ∷ [])) × (v.limit ≤ n → w ≡ draws v.limit v.shares (v.ends + 1) v.drawn)
 
 -- a pass that stands for no seat knows nothing, and one that stands for some knows the limit
 abbrev pub Stands : ℕ → ℕ → Draws → Type 0
-Stands limit pass v = (v.ends ≤ v.parts) × (v.parts ≡ 0 → v.drawn ≡ []) × (0 < v.parts → v.limit ≡ limit)
+Stands limit pass v = (v.ends ≤ v.shares) × (v.shares ≡ 0 → v.drawn ≡ []) × (0 < v.shares → v.limit ≡ limit)
 
 pub record IsDealt (key : ℕ × ℕ) (words : List ℕ) (views : List Draws) : Type 0 where
   pub word : ℕ
   pub only : words ≡ word ∷ []
   -- each seat is stood for
-  pub parts : sum_by (λ (v : Draws). v.parts) views ≡ key.1
+  pub shares : sum_by (λ (v : Draws). v.shares) views ≡ key.1
   pub once : CountsOnceBelow (min word key.0) (λ x. sum_by (λ (v : Draws). times x v.drawn) views)
   pub count : sum_by (λ (v : Draws). length v.drawn) views ≡ min word key.0
   pub ended : sum_by (λ (v : Draws). v.ends) views + min word key.0 ≡ word

@@ -44,4 +44,4 @@ IsSeatOf t s = SitsAt t.table.shared.table_id t.limit s
 
 -- what a pass knows that stands for all these seats
 abbrev pub IsPool : List Seat → Draws → Type 0
-IsPool seats v = (v.parts ≡ length seats) × (v.ends ≡ count_by has_ended seats) × (v.drawn ≡ all_drawn seats)
+IsPool seats v = (v.shares ≡ length seats) × (v.ends ≡ count_by has_ended seats) × (v.drawn ≡ all_drawn seats)

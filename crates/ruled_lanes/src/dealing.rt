@@ -4,7 +4,7 @@ ghost use Rattle.ruled_lanes.specs.declared.limits.TheConstants.{LANES, MAX_TICK
 
 use crate::errors::Memory;
 use crate::limits::{LANES, MAX_TICKETS};
-use crate::ticket_protocol::{Dealt, Draw, Draws, Parts};
+use crate::ticket_protocol::{Dealt, Draw, Draws, Shares};
 use atomic_table::{Seat as Pass, Table};
 use std::alloc::Global;
 
@@ -26,7 +26,7 @@ pub struct Seat {
     pass: Pass<(), Draws>,
     has_ended: bool,
     ghost idle: { pass.me.1 ≡ [] },
-    ghost part: { pass.me.0.parts ≡ 1 },
+    ghost one_share: { pass.me.0.shares ≡ 1 },
     ghost ends: { pass.me.0.ends ≡ cond has_ended 1 0 },
 }
 
@@ -36,7 +36,7 @@ impl Seat {
     // A seat that has drawn nothing.
     fn of(pass: Pass<(), Draws>) -> Seat
         requires idle { pass.me.1 ≡ [] }
-        requires unused { (pass.me.0.parts ≡ 1) × (pass.me.0.ends ≡ 0) }
+        requires unused { (pass.me.0.shares ≡ 1) × (pass.me.0.ends ≡ 0) }
         ensures { (result.pass ≡ pass) × (result.has_ended ≡ false) }
     {
         Seat {
@@ -70,7 +70,7 @@ impl Tickets {
             Err(_) => return Err(Memory),
         };
         for _lane in 1..lanes {
-            seats.push_reserved(Seat::of(table.shared.split_seat::<Parts>(&mut pass)));
+            seats.push_reserved(Seat::of(table.shared.split_seat::<Shares>(&mut pass)));
         }
         seats.push_reserved(Seat::of(pass));
         Ok(seats)
@@ -89,7 +89,7 @@ impl Tickets {
         };
         while let Some(seat) = seats.pop() {
             let Seat { pass: other, .. } = seat;
-            table.shared.join_seat::<Parts>(&mut pass, other);
+            table.shared.join_seat::<Shares>(&mut pass, other);
         }
         pass
     }

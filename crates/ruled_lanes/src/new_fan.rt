@@ -1,6 +1,6 @@
 //! Making a fan.
 ghost use Rattle.std.specs.Prelude.{◌≡◌, ◌≤◌, [], All, IfOk, vec_len};
-ghost use Rattle.ruled_lanes.specs.FanEnds.{given_at, gathered, room_of_fan, AreGiversOf, StandInOrder};
+ghost use Rattle.ruled_lanes.specs.FanEnds.{given_at, gathered, capacity_of_fan, AreGiversOf, StandInOrder};
 
 use crate::errors::Memory;
 use crate::fan_ends::{Gatherer, LaneGiver};
@@ -17,7 +17,7 @@ pub fn fan_in<T: Send + Drop>(
     capacity: u32,
 ) -> Result<(Vec<LaneGiver<T>>, Gatherer<T>), Memory>
     requires capacity { (1 ≤ capacity) × (capacity ≤ MAX_CAPACITY) }
-    ensures room { IfOk result (λ r. room_of_fan r.1 ≡ capacity) }
+    ensures room { IfOk result (λ r. capacity_of_fan r.1 ≡ capacity) }
     ensures ends { IfOk result (λ r. AreGiversOf r.1 r.0.items) }
     ensures lanes { IfOk result (λ r. (vec_len r.0 ≡ LANES) × StandInOrder r.0.items) }
     ensures unused { IfOk result (λ r. All (λ g. given_at g ≡ []) r.0.items × (gathered r.1 ≡ [])) }

@@ -1,6 +1,6 @@
 //! Making a link.
 ghost use Rattle.std.specs.Prelude.{◌≡◌, ◌≤◌, [], IfOk};
-ghost use Rattle.ruled_lanes.specs.LinkEnds.{given, taken, room_of, AreEnds};
+ghost use Rattle.ruled_lanes.specs.LinkEnds.{given, taken, capacity_of, AreEnds};
 
 use crate::errors::Memory;
 use crate::limits::MAX_CAPACITY;
@@ -13,7 +13,7 @@ use std::alloc::Global;
 /// taken. `Memory` where there is no memory for them.
 pub fn link<T: Send + Drop>(alloc: Global, capacity: u32) -> Result<(Giver<T>, Taker<T>), Memory>
     requires capacity { (1 ≤ capacity) × (capacity ≤ MAX_CAPACITY) }
-    ensures room { IfOk result (λ r. room_of r.0 ≡ capacity) }
+    ensures room { IfOk result (λ r. capacity_of r.0 ≡ capacity) }
     ensures ends { IfOk result (λ r. AreEnds r.0 r.1) }
     ensures unused { IfOk result (λ r. (given r.0 ≡ []) × (taken r.1 ≡ [])) }
 {

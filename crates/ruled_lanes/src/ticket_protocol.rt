@@ -6,7 +6,7 @@ use std::collections::LinkedList;
 // drew. No value of it is made.
 pub struct Draws {
     pub limit: u64,
-    pub parts: u64,
+    pub shares: u64,
     pub ends: u64,
     pub drawn: LinkedList<u32>,
 }
@@ -24,23 +24,23 @@ impl TableRule<(), Draws, (u64, u64)> for Dealt {
 }
 
 // A seat is taken off a pass that stands for several, of which none has drawn yet.
-pub struct Parts;
+pub struct Shares;
 
-impl Split<Draws> for Parts {
+impl Split<Draws> for Shares {
     ghost use Rattle.std.specs.Prelude.{◌-◌, []};
     ghost use Rattle.ruled_lanes.specs.TicketProtocol.{draws};
 
-    ghost left = { λ v. draws v.limit (v.parts - 1) v.ends v.drawn };
+    ghost left = { λ v. draws v.limit (v.shares - 1) v.ends v.drawn };
 
     ghost right = { λ v. draws v.limit 1 0 [] };
 }
 
 // A pass stands for another's seats too.
-impl Join<Draws> for Parts {
+impl Join<Draws> for Shares {
     ghost use Rattle.std.specs.Prelude.{◌+◌, ◌++◌, []};
     ghost use Rattle.ruled_lanes.specs.TicketProtocol.{draws};
 
-    ghost both = { λ v w. draws v.limit (v.parts + w.parts) (v.ends + w.ends) (w.drawn ++ v.drawn) };
+    ghost both = { λ v w. draws v.limit (v.shares + w.shares) (v.ends + w.ends) (w.drawn ++ v.drawn) };
 
     ghost spent = { draws 0 0 0 [] };
 }

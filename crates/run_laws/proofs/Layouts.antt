@@ -6,7 +6,7 @@ use Rattle.std.proofs.lemmas.List.{same_lists, get_or_default}
 use Rattle.std.proofs.lemmas.List.FromFn.{length-map-range_with_len, get_or-map-range_with_len}
 use Rattle.dissect.specs.DartMaps.{DartMap}
 use Rattle.dissect.specs.Faces.{Below}
-use Rattle.dissect.specs.Paths.{turn_to, turning_places}
+use Rattle.dissect.specs.Paths.{turn_to, turning_vertices}
 use Rattle.ortho_rep.specs.declared.points.Point.{Point}
 use Rattle.ortho_rep.specs.Points.{PointsModel}
 use Rattle.dissect.specs.Boxes.{BoxesModel, AreBoxes, dart_map}
@@ -15,17 +15,17 @@ use Rattle.dissect.specs.Ordered.{AreLaidOut, point_at}
 -- where two pairs of numbers agree at the vertices of a map, the points of a path's turns do
 turns_agree : (w : DartMap) (x y x1 y1 : ℕ → ℕ) → ((a : ℕ) → a < w.darts → point_at x y (w.head a) ≡ point_at x1 y1 (w.head a))
     → (a : ℕ) (rest : List ℕ) → a < w.darts → Below w.darts rest
-    → map (point_at x y) (turning_places w a rest) ≡ map (point_at x1 y1) (turning_places w a rest)
+    → map (point_at x y) (turning_vertices w a rest) ≡ map (point_at x1 y1) (turning_vertices w a rest)
 turns_agree w x y x1 y1 agree a [] a_in below = refl
 turns_agree w x y x1 y1 agree a (b ∷ bs) a_in below =
     let later = turns_agree w x y x1 y1 agree b bs below.0 below.1 in
     elim (cases_eq (turn_to w a b) 0) [
       | inl none ↦
-          let on = cond-true {A = List ℕ} (eqb (turn_to w a b) 0) (turning_places w b bs) (w.head a ∷ turning_places w b bs) (eq-eqb (turn_to w a b) 0 none) in
+          let on = cond-true {A = List ℕ} (eqb (turn_to w a b) 0) (turning_vertices w b bs) (w.head a ∷ turning_vertices w b bs) (eq-eqb (turn_to w a b) 0 none) in
           ap (map (point_at x y)) on ∙ later ∙ sym (ap (map (point_at x1 y1)) on)
       | inr some ↦
-          let on = cond-false {A = List ℕ} (eqb (turn_to w a b) 0) (turning_places w b bs) (w.head a ∷ turning_places w b bs) (ne_eqb (turn_to w a b) 0 some) in
-          ap (map (point_at x y)) on ∙ ap (λ (q : Point). q ∷ map (point_at x y) (turning_places w b bs)) (agree a a_in)
+          let on = cond-false {A = List ℕ} (eqb (turn_to w a b) 0) (turning_vertices w b bs) (w.head a ∷ turning_vertices w b bs) (ne_eqb (turn_to w a b) 0 some) in
+          ap (map (point_at x y)) on ∙ ap (λ (q : Point). q ∷ map (point_at x y) (turning_vertices w b bs)) (agree a a_in)
           ∙ ap (λ (qs : List Point). point_at x1 y1 (w.head a) ∷ qs) later ∙ sym (ap (map (point_at x1 y1)) on)
     ]
 

@@ -20,7 +20,7 @@ use Rattle.drawing_check.specs.Draws.{Draws}
 use Rattle.entries.specs.declared.cause.Cause.{Cause}
 use Rattle.entries.specs.Answers.{IsLaid}
 use Rattle.entries.specs.Drawn.{HasPoints, IsDrawn}
-use Rattle.run_laws.specs.Laid.{Represents, IsFirstBest, HasOuter, ProveLeast, AreDrawn, IsShown, IsLayout}
+use Rattle.run_laws.specs.Laid.{Represents, IsFirstBest, HasOuter, ProveLeast, AreDrawn, IsCauseShown, IsLayout}
 
 -- ---- representations, in both words
 
@@ -119,7 +119,7 @@ are_drawn p shape points has draws = record {
 }
 
 drawn_means : (p : PlaneModel) (shape : ShapeModel) (drawing : Result PointsModel Cause) → IsDrawn p shape drawing
-    → (IfOk drawing (AreDrawn p shape)) × (IfErr drawing (IsShown p shape))
+    → (IfOk drawing (AreDrawn p shape)) × (IfErr drawing (IsCauseShown p shape))
 drawn_means p shape (Ok points) drawn = (are_drawn p shape points drawn.0 drawn.1, tt)
 drawn_means p shape (Err cause) drawn = (tt, record { boxes = drawn.boxes; boxed = drawn.boxed; shown = drawn.shown })
 

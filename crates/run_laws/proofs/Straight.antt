@@ -7,7 +7,7 @@ use Rattle.dissect.specs.Paths.{Follows, HasPath, turn_to, bends}
 use Rattle.dissect.proofs.StraightPaths.{straight_on}
 use Rattle.dissect.proofs.Backwards.{path_unique}
 use Rattle.dissect.specs.Ordered.{IsOrdered, tail}
-use Rattle.dissect.specs.Rectangle.{IsPlaceOn}
+use Rattle.dissect.specs.Rectangle.{IsInsideChain}
 
 -- the vertex v lies from u in the direction k, straight
 abbrev pub Goes : ℕ → (ℕ → ℕ) → (ℕ → ℕ) → ℕ → ℕ → Type 0
@@ -108,10 +108,10 @@ module _ (w : DartMap) (x y : ℕ → ℕ) (sound : IsSound w) (ordered : IsOrde
       (chain_goes k chain.first chain.rest chain.path.first_in chain.path.rest_in chain.path.follows chain.turns (first_way k end back chain way) few).1)
 
   -- and a place on it lies between them
-  pub path_passes : (k end back at : ℕ) → w.darts ≤ no_dart → HasPath w end back [] → w.direction end ≡ k → k < 4 → IsPlaceOn w end at
+  pub path_passes : (k end back at : ℕ) → w.darts ≤ no_dart → HasPath w end back [] → w.direction end ≡ k → k < 4 → IsInsideChain w end at
       → Goes k x y (w.head back) (w.head at) × Goes k x y (w.head at) (w.head end)
-  path_passes k end back at narrow chain way few place =
-      let same = path_unique w end place.first chain.first place.rest chain.rest narrow place.path chain.path in
+  path_passes k end back at darts_fit chain way few place =
+      let same = path_unique w end place.first chain.first place.rest chain.rest darts_fit place.path chain.path in
       let on : In at (chain.first ∷ chain.rest) =
       subst (λ (xs : List ℕ). In at (chain.first ∷ xs)) same.rests (subst (λ (c : ℕ). In at (c ∷ place.rest)) same.first place.passes) in
       elim (chain_passes k chain.first at chain.rest chain.path.first_in chain.path.rest_in chain.path.follows chain.turns (first_way k end back chain way) few on) [

@@ -10,7 +10,7 @@ use Rattle.faces.specs.Planes.{PlaneModel, IsPlane, vertices, degree}
 use Rattle.networks.specs.Networks.{NetworkModel, supply_at}
 use Rattle.flow_network.specs.FaceNet.{FaceNetModel, IsNetOf, arrivals}
 use Rattle.min_cost_flow.specs.Round.{supply_sum}
-use Rattle.run_laws.specs.Supplies.{is_inner_triangle, free_quarters, inner_triangles}
+use Rattle.run_laws.specs.Supplies.{is_inner_triangle, supplied_quarters, inner_triangles}
 use Rattle.run_laws.proofs.ShortFaces.{three_darts}
 
 up_less : (z : ℤ) (m k : ℕ) → z ≡ pos m -ℤ pos k → up z ≡ m - k
@@ -36,11 +36,11 @@ face_units false z k is many =
       | inr other ↦ omega (arith, units, other, many refl) ∙ sym (cond-false {A = ℕ} ((k == 3) && true) 1 0 (ap (λ (b : Bool). b && true) (ne_eqb k 3 other)))
     ]
 
-pub units : (p : PlaneModel) (n : FaceNetModel) → IsPlane p → IsNetOf p n → supply_sum n.network ≡ free_quarters p + inner_triangles p
+pub units : (p : PlaneModel) (n : FaceNetModel) → IsPlane p → IsNetOf p n → supply_sum n.network ≡ supplied_quarters p + inner_triangles p
 units p n plane is =
     let net : NetworkModel = n.network in
     let f : ℕ → ℕ = λ v. up (supply_at net v) in
-    let at_vertices : sum_below (vertices p) f ≡ free_quarters p =
+    let at_vertices : sum_below (vertices p) f ≡ supplied_quarters p =
     sum_below-same (vertices p) f (λ k. 4 - arrivals p (k + 1))
     (λ k k_in.
     let back : k + 1 - 1 ≡ k = omega arith in
@@ -52,7 +52,7 @@ units p n plane is =
     (λ inner. three_darts p plane k k_in (λ same. outside k inner same))) in
     ap (λ (m : ℕ). sum_below m f) is.network.nodes ∙ sum_below-split (vertices p) p.faces f
     ∙ ap (λ (m : ℕ). m + sum_below p.faces (λ k. f (vertices p + k))) at_vertices
-    ∙ ap (λ (m : ℕ). free_quarters p + m) at_faces
+    ∙ ap (λ (m : ℕ). supplied_quarters p + m) at_faces
   where
     outside : (k : ℕ) → eqb k p.outer ≡ false → k ≡ p.outer → ⊥
     outside k inner same = true_false (sym (eq-eqb k p.outer same) ∙ inner)

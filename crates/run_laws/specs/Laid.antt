@@ -126,7 +126,7 @@ pub record AreDrawn (plane : PlaneModel) (shape : ShapeModel) (points : PointsMo
   pub apart : AllPairs (λ a b. a ≢ b) (points.vertices ++ flat_map inner (paths plane points))
 
 -- some boxes that dissect the shape show why it is not drawn
-pub record IsShown (plane : PlaneModel) (shape : ShapeModel) (cause : Cause) : Type 0 where
+pub record IsCauseShown (plane : PlaneModel) (shape : ShapeModel) (cause : Cause) : Type 0 where
   pub boxes : BoxesModel
   pub boxed : IsBoxed plane shape boxes
   pub shown : ShowsCause plane shape boxes cause
@@ -152,4 +152,4 @@ pub record IsLayout (choice : Choice) (bytes : List ℕ) (plane : PlaneModel) (s
   pub proof : ProveLeast plane shape prices
   -- points, where given, draw the shape; a cause in their place is shown
   pub drawn : IfOk drawing (AreDrawn plane shape)
-  pub shown : IfErr drawing (IsShown plane shape)
+  pub shown : IfErr drawing (IsCauseShown plane shape)

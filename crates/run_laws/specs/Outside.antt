@@ -10,31 +10,31 @@ use Rattle.dissect.specs.Ordered.{IsOrdered}
 use Rattle.drawing_laws.specs.Parts.{IsPart}
 
 -- four vertices that are the corners of a rectangle along the axes
-pub record Corners : Type 0 where
+pub record RectangleCorners : Type 0 where
   pub south_west : ℕ
   pub south_east : ℕ
   pub north_east : ℕ
   pub north_west : ℕ
 
-pub record AreCorners (x y : ℕ → ℕ) (c : Corners) : Type 0 where
+pub record AreRectangleCorners (x y : ℕ → ℕ) (c : RectangleCorners) : Type 0 where
   pub west : x c.north_west ≡ x c.south_west
   pub east : x c.north_east ≡ x c.south_east
   pub south : y c.south_east ≡ y c.south_west
   pub north : y c.north_west ≡ y c.north_east
-  pub wide : x c.south_west < x c.south_east
-  pub high : y c.south_west < y c.north_west
+  pub has_width : x c.south_west < x c.south_east
+  pub has_height : y c.south_west < y c.north_west
 
 -- the number of v lies strictly between those of u and t
 abbrev pub Between : (ℕ → ℕ) → ℕ → ℕ → ℕ → Type 0
 Between x u v t = (x u < x v) × (x v < x t)
 
--- a place on a side of the rectangle, between two corners, lies straight in front of the vertex v: to its south, east, north or west
-abbrev pub LiesBefore : (ℕ → ℕ) → (ℕ → ℕ) → Corners → ℕ → ℕ → Type 0
-LiesBefore x y c place v =
-    (Between x c.south_west place c.south_east × (y place ≡ y c.south_west) × (x place ≡ x v) × (y place < y v))
-    ⊎ ((Between y c.south_east place c.north_east × (x place ≡ x c.south_east) × (y place ≡ y v) × (x v < x place))
-    ⊎ ((Between x c.north_west place c.north_east × (y place ≡ y c.north_east) × (x place ≡ x v) × (y v < y place))
-    ⊎ (Between y c.south_west place c.north_west × (x place ≡ x c.north_west) × (y place ≡ y v) × (x place < x v))))
+-- the foot, a vertex on a side of the rectangle between two corners, lies straight in front of the vertex v: to its south, east, north or west
+abbrev pub LiesBefore : (ℕ → ℕ) → (ℕ → ℕ) → RectangleCorners → ℕ → ℕ → Type 0
+LiesBefore x y c foot v =
+    (Between x c.south_west foot c.south_east × (y foot ≡ y c.south_west) × (x foot ≡ x v) × (y foot < y v))
+    ⊎ ((Between y c.south_east foot c.north_east × (x foot ≡ x c.south_east) × (y foot ≡ y v) × (x v < x foot))
+    ⊎ ((Between x c.north_west foot c.north_east × (y foot ≡ y c.north_east) × (x foot ≡ x v) × (y v < y foot))
+    ⊎ (Between y c.south_west foot c.north_west × (x foot ≡ x c.north_west) × (y foot ≡ y v) × (x foot < x v))))
 
 -- the walk round the face of the dart a comes to each dart of the plane's outer face: each set of darts that is closed under "next" and
 -- holds a holds them
@@ -56,8 +56,8 @@ pub record LooksOut (p : PlaneModel) (shape : ShapeModel) (b : BoxesModel) : Typ
   pub inside : right < enclosed_map.darts
   pub turns : 2 < enclosed_map.angle right
   pub on_outer : IsOnOuterFace p enclosed_map right
-  -- in whatever numbers, the corners are those of a rectangle, and a place on a side of it lies straight in front of that turn
-  pub corners : Corners
-  pub place : ℕ
-  pub rectangle : (x y : ℕ → ℕ) → IsOrdered (dart_map b) x y → AreCorners x y corners
-  pub before : (x y : ℕ → ℕ) → IsOrdered (dart_map b) x y → LiesBefore x y corners place (enclosed_map.head right)
+  -- in whatever coordinates, the corners are those of a rectangle, and the foot, on a side of it, lies straight in front of that turn
+  pub corners : RectangleCorners
+  pub foot : ℕ
+  pub rectangle : (x y : ℕ → ℕ) → IsOrdered (dart_map b) x y → AreRectangleCorners x y corners
+  pub before : (x y : ℕ → ℕ) → IsOrdered (dart_map b) x y → LiesBefore x y corners foot (enclosed_map.head right)

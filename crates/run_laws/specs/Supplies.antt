@@ -9,8 +9,8 @@ abbrev pub is_inner_triangle : PlaneModel → ℕ → Bool
 is_inner_triangle p f = (degree p f == 3) && not (f == p.outer)
 
 -- four less the degree, summed over all vertices
-abbrev pub free_quarters : PlaneModel → ℕ
-free_quarters p = sum_below (vertices p) (λ k. 4 - arrivals p (k + 1))
+abbrev pub supplied_quarters : PlaneModel → ℕ
+supplied_quarters p = sum_below (vertices p) (λ k. 4 - arrivals p (k + 1))
 
 -- how many inner faces have three darts
 abbrev pub inner_triangles : PlaneModel → ℕ

@@ -271,7 +271,7 @@ fn lists_of_shapes(rt: HostRuntime) {
     let (Some(strings), Ok(angles)) = (strings_in(rt.alloc()), [7, 0, 1].to_vec(rt.alloc())) else {
         return;
     };
-    assert!(rt; Shape::are_short(&strings));
+    assert!(rt; Shape::have_few_turns(&strings));
     expect_strings(&rt, &Shape::new(angles, strings));
 }
 

@@ -63,7 +63,7 @@ fn strings_of(alloc: Global, strings: &[&[Turn]]) -> Result<Vec<Vec<Turn>>, Allo
 
 /// The shape of these angles and strings, which are short.
 fn shape_of(rt: &impl Abort, angles: Vec<u8>, strings: Vec<Vec<Turn>>) -> Shape {
-    assert!(rt; Shape::are_short(&strings));
+    assert!(rt; Shape::have_few_turns(&strings));
     Shape::new(angles, strings)
 }
 

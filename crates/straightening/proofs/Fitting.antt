@@ -1,4 +1,4 @@
--- Prices that fit a flow fit it still where angles changed at corners that are free, and left turns at crossings that are.
+-- Prices that fit a flow fit it still where angles changed at corners that are tight, and left turns at crossings that are.
 use Rattle.std.proofs.Common.{◌≡◌, ◌≤◌, ◌<◌, ℕ, List, length, inl, inr, ap, sym, arith}
 use Rattle.std.specs.Prelude.{ℤ, pos, ◌+ℤ◌, ◌-ℤ◌, ◌⊎◌, slice_index, slice_set}
 use Rattle.std.proofs.lemmas.Bool.{cases_eq}
@@ -24,12 +24,12 @@ priced a a' s s' v f g angle turns old = record {
 abbrev pub IsTightAngle : PlaneModel → PricesModel → ℕ → Type 0
 IsTightAngle p t d = vertex_price t (head p d) ≡ face_price t (face_at p d)
 
-abbrev pub IsFreeCrossing : PlaneModel → PricesModel → ℕ → Type 0
-IsFreeCrossing p t d = (pos 1 +ℤ face_price t (face_at p d) -ℤ face_price t (face_at p (reverse_dart p d))) ≡ pos 0
+abbrev pub IsTightCrossing : PlaneModel → PricesModel → ℕ → Type 0
+IsTightCrossing p t d = (pos 1 +ℤ face_price t (face_at p d) -ℤ face_price t (face_at p (reverse_dart p d))) ≡ pos 0
 
 pub moved : (p : PlaneModel) (a a' l l' : List ℕ) (t : PricesModel)
     → ((d : ℕ) → d < darts p → (slice_index a' d ≡ slice_index a d) ⊎ IsTightAngle p t d)
-    → ((d : ℕ) → d < darts p → (slice_index l' d ≤ slice_index l d) ⊎ IsFreeCrossing p t d)
+    → ((d : ℕ) → d < darts p → (slice_index l' d ≤ slice_index l d) ⊎ IsTightCrossing p t d)
     → AreFit p a l t → AreFit p a' l' t
 moved p a a' l l' t angles turns fit = λ d b.
     priced (slice_index a d) (slice_index a' d) (string_in p l d) (string_in p l' d) (vertex_price t (head p d)) (face_price t (face_at p d)) (face_price t (face_at p (reverse_dart p d)))

@@ -18,15 +18,15 @@ use std::alloc::{AllocError, Global};
 /// The angle of each dart, and how often it turns to the left: a corner carries its angle less one, and a unit across
 /// an edge is a left turn. Once units were moved it may be no representation, but prices that proved it least fit it still.
 #[derive(Drop)]
-pub(crate) struct Flow {
+pub(crate) struct ShapeFlow {
     angles: [u8; MAX_DARTS],
     lefts: [u16; MAX_DARTS],
 }
 
-impl Flow {
+impl ShapeFlow {
     /// That of no shape.
-    pub(crate) fn new() -> Flow {
-        Flow {
+    pub(crate) fn new() -> ShapeFlow {
+        ShapeFlow {
             angles: [0; MAX_DARTS],
             lefts: [0; MAX_DARTS],
         }
@@ -73,7 +73,7 @@ impl Flow {
         let (from, to) = (usize::from(give), usize::from(take));
         if across && self.lefts[to] > 0 {
             self.lefts[to] -= 1;
-        } else if across && is_free_crossing(plane, prices, give) {
+        } else if across && is_tight_crossing(plane, prices, give) {
             self.lefts[from] = self.lefts[from].saturating_add(1);
         } else if !across
             && is_tight_angle(plane, prices, give)
@@ -152,7 +152,7 @@ pub(crate) fn is_tight_angle(plane: &Plane, prices: &Prices, dart: u16) -> bool
 }
 
 /// Whether a dart may turn to the left once more while the prices stay a proof.
-fn is_free_crossing(plane: &Plane, prices: &Prices, dart: u16) -> bool
+fn is_tight_crossing(plane: &Plane, prices: &Prices, dart: u16) -> bool
     requires prices { HasPrices plane.now prices.now }
     requires within { dart < darts plane.now }
     ensures { IsTrue result → (pos 1 +ℤ face_price prices.now (face_at plane.now dart)

@@ -1,4 +1,4 @@
-//! A search for a way from one face to another, along which a unit moves while the same prices stay a proof.
+//! A search for a path from one face to another, along which a unit moves while the same prices stay a proof.
 
 ghost use Rattle.std.specs.Prelude.{◌≡◌, ◌<◌, ◌≤◌};
 ghost use Rattle.faces.specs.Planes.{darts};
@@ -6,23 +6,23 @@ ghost use Rattle.faces.specs.declared.plane.TheConstants.{MAX_FACES};
 ghost use Rattle.ortho_rep.specs.Prices.{HasPrices};
 ghost use Rattle.straightening.specs.Flows.{AreFit};
 
-use crate::flow::{Flow, clockwise, is_tight_angle};
+use crate::flow::{ShapeFlow, clockwise, is_tight_angle};
 use faces::{MAX_FACES, Plane};
 use ortho_rep::Prices;
 
 /// Stands for no dart.
 const NO_DART: u16 = 65_535;
 
-/// A way that is asked for: from the face of one dart to the face of another.
+/// A path that is asked for: from the face of one dart to the face of another.
 #[derive(Clone, Copy)]
 pub(crate) struct PathEnds {
     pub(crate) from: u16,
     pub(crate) to: u16,
 }
 
-/// A step out of a face: the dart by which it leaves, where the way is to lead, and the price of the face.
+/// A step out of a face: the dart by which it leaves, where the path is to lead, and the price of the face.
 #[derive(Clone, Copy)]
-struct Step {
+struct FaceStep {
     dart: u16,
     goal: u16,
     price: i32,
@@ -60,47 +60,47 @@ impl FaceSearch {
         }
     }
 
-    /// Looks for a way, and answers whether there is one. For each way another dart is its end.
+    /// Looks for a path, and answers whether there is one. For each path another dart is its end.
     pub(crate) fn finds(
         &mut self,
         plane: &Plane,
         prices: &Prices,
-        flow: &Flow,
-        way: PathEnds,
+        flow: &ShapeFlow,
+        path: PathEnds,
     ) -> bool
         requires prices { HasPrices plane.now prices.now }
-        requires from { way.from < darts plane.now }
-        requires to { way.to < darts plane.now }
+        requires from { path.from < darts plane.now }
+        requires to { path.to < darts plane.now }
     {
         let darts = plane.graph().darts();
-        let end = usize::from(plane.face_of(way.to));
-        self.begin(plane, way);
+        let end = usize::from(plane.face_of(path.to));
+        self.begin(plane, path);
         for place in 0..MAX_FACES {
             let entered = self.queue[place];
-            if self.goals[end] == way.to || entered >= darts {
+            if self.goals[end] == path.to || entered >= darts {
                 break;
             }
-            self.leave(plane, prices, flow, entered, way.to);
+            self.leave(plane, prices, flow, entered, path.to);
         }
-        self.goals[end] == way.to
+        self.goals[end] == path.to
     }
 
-    /// Begins at the first face of a way.
-    fn begin(&mut self, plane: &Plane, way: PathEnds)
-        requires { way.from < darts plane.now }
+    /// Begins at the first face of a path.
+    fn begin(&mut self, plane: &Plane, path: PathEnds)
+        requires { path.from < darts plane.now }
     {
         // Only the proof needs this: `graph` says that there are few faces.
         let _graph = plane.graph();
-        let start = usize::from(plane.face_of(way.from));
-        self.goals[start] = way.to;
+        let start = usize::from(plane.face_of(path.from));
+        self.goals[start] = path.to;
         self.gives[start] = NO_DART;
-        self.queue[0] = way.from;
+        self.queue[0] = path.from;
         self.queue[1] = NO_DART;
         self.found = 1;
     }
 
     /// Takes each step out of the face of a dart.
-    fn leave(&mut self, plane: &Plane, prices: &Prices, flow: &Flow, first: u16, goal: u16)
+    fn leave(&mut self, plane: &Plane, prices: &Prices, flow: &ShapeFlow, first: u16, goal: u16)
         requires prices { HasPrices plane.now prices.now }
         requires first { first < darts plane.now }
     {
@@ -108,15 +108,15 @@ impl FaceSearch {
         let price = prices.face(face);
         let mut dart = first;
         for _step in 0..plane.degree(face) {
-            let step = Step { dart, goal, price };
-            self.cross(plane, prices, flow, step);
-            self.turn(plane, prices, flow, step);
+            let step = FaceStep { dart, goal, price };
+            self.step_across_edge(plane, prices, flow, step);
+            self.step_at_vertex(plane, prices, flow, step);
             dart = plane.next(dart);
         }
     }
 
-    /// Takes the step across the edge of a dart, where that is free.
-    fn cross(&mut self, plane: &Plane, prices: &Prices, flow: &Flow, step: Step)
+    /// Takes the step across the edge of a dart, where that is tight.
+    fn step_across_edge(&mut self, plane: &Plane, prices: &Prices, flow: &ShapeFlow, step: FaceStep)
         requires prices { HasPrices plane.now prices.now }
         requires dart { step.dart < darts plane.now }
     {
@@ -127,9 +127,9 @@ impl FaceSearch {
         }
     }
 
-    /// Takes each step from the corner of a dart to others at the same vertex, where that is free and no vertex of degree
+    /// Takes each step from the corner of a dart to others at the same vertex, where that is tight and no vertex of degree
     /// 2 begins to turn.
-    fn turn(&mut self, plane: &Plane, prices: &Prices, flow: &Flow, step: Step)
+    fn step_at_vertex(&mut self, plane: &Plane, prices: &Prices, flow: &ShapeFlow, step: FaceStep)
         requires prices { HasPrices plane.now prices.now }
         requires dart { step.dart < darts plane.now }
     {
@@ -144,12 +144,12 @@ impl FaceSearch {
         if angle == 2 && third == step.dart {
             return;
         }
-        self.turn_to(plane, prices, step, second);
-        self.turn_to(plane, prices, step, third);
+        self.step_to_corner(plane, prices, step, second);
+        self.step_to_corner(plane, prices, step, third);
     }
 
-    /// Takes the step from the corner of its dart to this one, where that is another one and free.
-    fn turn_to(&mut self, plane: &Plane, prices: &Prices, step: Step, take: u16)
+    /// Takes the step from the corner of its dart to this one, where that is another one and tight.
+    fn step_to_corner(&mut self, plane: &Plane, prices: &Prices, step: FaceStep, take: u16)
         requires prices { HasPrices plane.now prices.now }
         requires take { take < darts plane.now }
     {
@@ -159,7 +159,7 @@ impl FaceSearch {
     }
 
     /// Enters the face of a dart by it, by a step, unless this search was there.
-    fn reach(&mut self, plane: &Plane, step: Step, take: u16)
+    fn reach(&mut self, plane: &Plane, step: FaceStep, take: u16)
         requires { take < darts plane.now }
     {
         // Only the proof needs this: `graph` says that there are few faces.
@@ -179,15 +179,15 @@ impl FaceSearch {
         }
     }
 
-    /// Sends a unit along the way that was found last.
-    pub(crate) fn send(&self, plane: &Plane, prices: &Prices, flow: &mut Flow, way: PathEnds)
+    /// Sends a unit along the path that was found last.
+    pub(crate) fn send(&self, plane: &Plane, prices: &Prices, flow: &mut ShapeFlow, path: PathEnds)
         requires prices { HasPrices plane.now prices.now }
-        requires to { way.to < darts plane.now }
+        requires to { path.to < darts plane.now }
         requires fit { AreFit plane.now flow.old.angles flow.old.lefts prices.now }
         ensures { AreFit plane.now flow.new.angles flow.new.lefts prices.now }
     {
         let darts = plane.graph().darts();
-        let mut entered = way.to;
+        let mut entered = path.to;
         for _step in 0..MAX_FACES {
             let face = usize::from(plane.face_of(entered));
             let (give, take) = (self.gives[face], self.takes[face]);

@@ -8,7 +8,7 @@ ghost use Rattle.ortho_rep.specs.Prices.{HasPrices, IsProof};
 ghost use Rattle.straightening.specs.Flows.{AreFit};
 ghost use Rattle.straightening.specs.Reflex.{reflex_angles};
 
-use crate::flow::{Flow, clockwise, is_tight_angle};
+use crate::flow::{ShapeFlow, clockwise, is_tight_angle};
 use crate::search::{FaceSearch, PathEnds};
 use crate::tally::is_rep;
 use faces::Plane;
@@ -19,7 +19,7 @@ use std::alloc::{AllocError, Global};
 /// What it holds between two calls is of no use.
 #[derive(Drop)]
 pub struct Scratch {
-    flow: Flow,
+    flow: ShapeFlow,
     search: FaceSearch,
 }
 
@@ -27,7 +27,7 @@ impl Scratch {
     /// One that has worked on nothing.
     pub fn new() -> Scratch {
         Scratch {
-            flow: Flow::new(),
+            flow: ShapeFlow::new(),
             search: FaceSearch::new(),
         }
     }
@@ -39,11 +39,11 @@ const REFLEX: u8 = 3;
 /// A shape with as many bends as the given one, in which few vertices of degree 2 turn. The same prices prove it least.
 ///
 /// At a vertex of degree 2 that turns, one corner has three right angles and the other has one. Such vertices are
-/// made straight one after another: a unit goes from the wide corner to the narrow one, and back from the face of
-/// the narrow one to that of the wide one, where there is a way of residual arcs whose reduced cost is 0 by the
-/// prices (a flow of least cost stays one along a cycle of such arcs, by complementary slackness). On that way no
+/// made straight one after another: a unit goes from the reflex corner to the right angle, and back from the face of
+/// the right angle to that of the reflex corner, where there is a path of residual arcs whose reduced cost is 0 by the
+/// prices (a flow of least cost stays one along a cycle of such arcs, by complementary slackness). On that path no
 /// vertex of degree 2 begins to turn. Each unit is moved only where the prices
-/// stay a proof. What comes of these moves is handed out only where it has fewer wide angles and is tested to be a
+/// stay a proof. What comes of these moves is handed out only where it has fewer reflex angles and is tested to be a
 /// representation; else the given shape comes back: after one look at each angle where no vertex can be made straight so.
 /// How few turn in the end is measured and not proved.
 ///
@@ -83,7 +83,7 @@ pub fn straighten_in(
     }
 }
 
-/// The first dart whose head turns and may give a unit from its wide corner to its narrow one.
+/// The first dart whose head turns and may give a unit from its reflex corner to its right angle.
 fn first_movable(plane: &Plane, shape: &Shape, prices: &Prices) -> Option<u16>
     requires darts { HasDarts plane.now shape.now }
     requires prices { HasPrices plane.now prices.now }
@@ -112,7 +112,7 @@ fn count_reflex(plane: &Plane, shape: &Shape) -> u16
 
 /// Makes each vertex of degree 2 straight where it can, from the head of a dart on, and answers whether it did anywhere.
 fn straighten_from(
-    flow: &mut Flow,
+    flow: &mut ShapeFlow,
     search: &mut FaceSearch,
     plane: &Plane,
     prices: &Prices,
@@ -132,38 +132,39 @@ fn straighten_from(
     moved
 }
 
-/// Makes the vertex with this wide corner straight where a way leads back, and answers whether it did.
+/// Makes the vertex with this reflex corner straight where a path leads back, and answers whether it did.
 fn straighten_one(
-    flow: &mut Flow,
+    flow: &mut ShapeFlow,
     search: &mut FaceSearch,
     plane: &Plane,
     prices: &Prices,
-    wide: u16,
+    reflex: u16,
 ) -> bool
     requires prices { HasPrices plane.now prices.now }
-    requires within { wide < darts plane.now }
+    requires within { reflex < darts plane.now }
     requires fit { AreFit plane.now flow.old.angles flow.old.lefts prices.now }
     ensures { AreFit plane.now flow.new.angles flow.new.lefts prices.now }
 {
-    let narrow = clockwise(plane, wide);
-    if plane.face_of(wide) != plane.face_of(narrow) {
+    let clockwise_dart = clockwise(plane, reflex);
+    if plane.face_of(reflex) != plane.face_of(clockwise_dart) {
         let back = PathEnds {
-            from: narrow,
-            to: wide,
+            from: clockwise_dart,
+            to: reflex,
         };
         if !search.finds(plane, prices, flow, back) {
             return false;
         }
         search.send(plane, prices, flow, back);
     }
-    flow.send(plane, prices, wide, narrow);
+    flow.send(plane, prices, reflex, clockwise_dart);
     true
 }
 
-/// Whether a unit may go from the wide corner of a vertex of degree 2 to its narrow one while the prices stay a proof.
-fn is_movable(plane: &Plane, prices: &Prices, wide: u16) -> bool
+/// Whether a unit may go from the reflex corner of a vertex of degree 2 to its right angle while the prices stay a
+/// proof.
+fn is_movable(plane: &Plane, prices: &Prices, reflex: u16) -> bool
     requires prices { HasPrices plane.now prices.now }
-    requires within { wide < darts plane.now }
+    requires within { reflex < darts plane.now }
 {
-    is_tight_angle(plane, prices, wide) && is_tight_angle(plane, prices, clockwise(plane, wide))
+    is_tight_angle(plane, prices, reflex) && is_tight_angle(plane, prices, clockwise(plane, reflex))
 }

@@ -6,14 +6,14 @@ ghost use Rattle.faces.specs.declared.plane.TheConstants.{MAX_FACES};
 ghost use Rattle.ortho_rep.specs.Representation.{Rep, angles_around, turning_around, whole_turn};
 ghost use Rattle.straightening.specs.Flows.{angle_in, string_in};
 
-use crate::flow::Flow;
+use crate::flow::ShapeFlow;
 use faces::{MAX_FACES, Plane};
 
 /// Whether a flow is a representation of the plane with its outer face.
 ///
 /// The cost is a step for each dart, each vertex and each face. Strings are not looked at: those of a flow mirror each
 /// other.
-pub(crate) fn is_rep(plane: &Plane, flow: &Flow) -> bool
+pub(crate) fn is_rep(plane: &Plane, flow: &ShapeFlow) -> bool
     ensures { IsTrue result → Rep plane.now (angle_in flow.now.angles) (string_in plane.now flow.now.lefts) }
 {
     // Only the proof needs this: `graph` says where darts end.
@@ -22,7 +22,7 @@ pub(crate) fn is_rep(plane: &Plane, flow: &Flow) -> bool
 }
 
 /// Whether all angles are 1 to 4, and those round each vertex sum to 4.
-fn angles_sum_to_four(plane: &Plane, flow: &Flow) -> bool
+fn angles_sum_to_four(plane: &Plane, flow: &ShapeFlow) -> bool
     ensures angles { IsTrue result → (d : ℕ) → d < darts plane.now
         → (1 ≤ angle_in flow.now.angles d) × (angle_in flow.now.angles d ≤ 4) }
     ensures around { IsTrue result → (v : ℕ) → 1 ≤ v → v ≤ vertices plane.now
@@ -42,7 +42,7 @@ fn angles_sum_to_four(plane: &Plane, flow: &Flow) -> bool
 }
 
 /// Sums the angles that arrive at each vertex, and answers whether all are 1 to 4.
-fn add_angles(plane: &Plane, flow: &Flow, sums: &mut [u32]) -> bool
+fn add_angles(plane: &Plane, flow: &ShapeFlow, sums: &mut [u32]) -> bool
     requires room { vertices plane.now < length sums.old }
     requires clear { sums.old ≡ replicate (length sums.old) 0 }
     ensures angles { IsTrue result → (d : ℕ) → d < darts plane.now
@@ -62,18 +62,18 @@ fn add_angles(plane: &Plane, flow: &Flow, sums: &mut [u32]) -> bool
 }
 
 /// Whether the darts of each inner face turn once to the left, and those of the outer face to the right.
-fn turns_faces(plane: &Plane, flow: &Flow) -> bool
+fn turns_faces(plane: &Plane, flow: &ShapeFlow) -> bool
     ensures { IsTrue result → (f : ℕ) → f < plane.now.faces
         → turning_around plane.now (angle_in flow.now.angles) (string_in plane.now flow.now.lefts) f
         ≡ whole_turn plane.now f }
 {
     let faces = plane.face_count();
-    let mut gains = [0; MAX_FACES];
-    let mut losses = [0; MAX_FACES];
-    add_turns(plane, flow, &mut gains, &mut losses);
+    let mut left_sums = [0; MAX_FACES];
+    let mut right_sums = [0; MAX_FACES];
+    add_turns(plane, flow, &mut left_sums, &mut right_sums);
     for face in 0..faces {
         let place = usize::from(face);
-        if !turns_once(gains[place], losses[place], face == plane.outer()) {
+        if !turns_once(left_sums[place], right_sums[place], face == plane.outer()) {
             return false;
         }
     }
@@ -81,31 +81,31 @@ fn turns_faces(plane: &Plane, flow: &Flow) -> bool
 }
 
 /// Whether so many turns to the left, and so many to the right, are one turn round a face.
-fn turns_once(gain: u32, loss: u32, is_outer: bool) -> bool
-    ensures { IsTrue result → (pos gain -ℤ pos loss) ≡ (if is_outer then negsuc 3 else pos 4) }
+fn turns_once(left_sum: u32, right_sum: u32, is_outer: bool) -> bool
+    ensures { IsTrue result → (pos left_sum -ℤ pos right_sum) ≡ (if is_outer then negsuc 3 else pos 4) }
 {
     if is_outer {
-        loss >= 4 && loss - 4 == gain
+        right_sum >= 4 && right_sum - 4 == left_sum
     } else {
-        gain >= 4 && gain - 4 == loss
+        left_sum >= 4 && left_sum - 4 == right_sum
     }
 }
 
 /// Sums round each face what its darts turn to the left, and what they turn to the right.
-fn add_turns(plane: &Plane, flow: &Flow, gains: &mut [u32], losses: &mut [u32])
-    requires gain_room { plane.now.faces ≤ length gains.old }
-    requires loss_room { plane.now.faces ≤ length losses.old }
-    requires clear_gains { gains.old ≡ replicate (length gains.old) 0 }
-    requires clear_losses { losses.old ≡ replicate (length losses.old) 0 }
+fn add_turns(plane: &Plane, flow: &ShapeFlow, left_sums: &mut [u32], right_sums: &mut [u32])
+    requires left_sum_room { plane.now.faces ≤ length left_sums.old }
+    requires right_sum_room { plane.now.faces ≤ length right_sums.old }
+    requires clear_left_sums { left_sums.old ≡ replicate (length left_sums.old) 0 }
+    requires clear_right_sums { right_sums.old ≡ replicate (length right_sums.old) 0 }
     ensures { (f : ℕ) → f < plane.now.faces
         → turning_around plane.now (angle_in flow.now.angles) (string_in plane.now flow.now.lefts) f
-        ≡ (pos (slice_index gains.new f) -ℤ pos (slice_index losses.new f)) }
+        ≡ (pos (slice_index left_sums.new f) -ℤ pos (slice_index right_sums.new f)) }
 {
     for dart in 0..plane.graph().darts() {
         let face = usize::from(plane.face_of(dart));
         let lefts = flow.left_turns(dart);
         let rights = flow.left_turns(plane.graph().reverse(dart));
-        gains[face] += 2 + u32::from(lefts);
-        losses[face] += u32::from(flow.angle(dart)) + u32::from(rights);
+        left_sums[face] += 2 + u32::from(lefts);
+        right_sums[face] += u32::from(flow.angle(dart)) + u32::from(rights);
     }
 }

@@ -4,7 +4,7 @@ use Rattle.std.specs.List.{concat}
 use Rattle.std.proofs.lemmas.List.Elements.{All-head, All-tail}
 use Rattle.planar_code.specs.declared.TheConstants.{HEADER, MAX_RECORDS}
 use Rattle.planar_code.specs.Stream.{IsRecord, IsUnfinished}
-use Rattle.planar_code.specs.Place.{Place, Early, After, Failed, StandsAt, IsRunning}
+use Rattle.planar_code.specs.FramerState.{FramerState, Early, After, Failed, StandsAt, HasNotFailed}
 use Rattle.planar_code.proofs.Started.{length-record}
 use Rattle.planar_code.proofs.Feeding.{length-split}
 use Rattle.streams.specs.Reading.{IsBeingRead}
@@ -21,33 +21,33 @@ length-unfinished : (bytes : List ℕ) → IsUnfinished bytes → length bytes �
 length-unfinished bytes u = omega (arith, length-append bytes u.missing, length-record _ u.whole)
 
 -- the header, 1,000,000 records and one more that is begun
-pub length-running : (read : List ℕ) (records : List (List ℕ)) (place : Place) → StandsAt read records place → IsRunning place
+pub length-running : (read : List ℕ) (records : List (List ℕ)) (state : FramerState) → StandsAt read records state → HasNotFailed state
     → length read ≤ 15 + 65026 * 1000001
 length-running read records (Early front) s running =
     omega (arith, ap length s.same, length-append front s.missing, ap length s.whole)
 length-running read records (After count rest) s running =
-    let few = s.cut.few in
+    let few = s.divided.few in
     omega (
       arith,
-      ap length s.headed,
+      ap length s.with_header,
       length-append HEADER s.body,
-      ap length s.cut.concatenated,
+      ap length s.divided.concatenated,
       length-append (concat records) rest,
-      length-records records s.cut.each,
+      length-records records s.divided.each,
       length-unfinished rest s.open_record,
     )
 length-running read records (Failed f) s running = absurd (running f refl)
 
 -- so no source is read in more rounds
-pub few_rounds : (told : Option (List ℕ)) (told_fails : Bool) (rounds : ℕ) (to_come : Option (List ℕ)) (fails : Bool) (records : List (List ℕ)) (place : Place)
-    → IsBeingRead told told_fails rounds to_come fails records place → rounds ≤ 15 + 65026 * 1000001
-few_rounds told told_fails rounds to_come fails records place r =
-    let went = r.went in omega (arith, length-running r.read records place r.stands r.running)
+pub few_rounds : (told : Option (List ℕ)) (told_fails : Bool) (rounds : ℕ) (to_come : Option (List ℕ)) (fails : Bool) (records : List (List ℕ)) (state : FramerState)
+    → IsBeingRead told told_fails rounds to_come fails records state → rounds ≤ 15 + 65026 * 1000001
+few_rounds told told_fails rounds to_come fails records state r =
+    let went = r.went in omega (arith, length-running r.read records state r.stands r.running)
 
--- at no place are there more than 1,000,000 records
-pub few_stand : (read : List ℕ) (records : List (List ℕ)) (place : Place) → StandsAt read records place → length records ≤ MAX_RECORDS
-few_stand read records place s = let split = split_stands read records place s in length-split read records split.0 split.1
+-- at no state are there more than 1,000,000 records
+pub few_stand : (read : List ℕ) (records : List (List ℕ)) (state : FramerState) → StandsAt read records state → length records ≤ MAX_RECORDS
+few_stand read records state s = let split = split_stands read records state s in length-split read records split.0 split.1
 
 -- where nothing is added, there are as few
-pub few_stay : (read : List ℕ) (records : List (List ℕ)) (place : Place) (count : ℕ) → StandsAt read records place → length records + count ≤ MAX_RECORDS + count
-few_stay read records place count s = omega (arith, few_stand read records place s)
+pub few_stay : (read : List ℕ) (records : List (List ℕ)) (state : FramerState) (count : ℕ) → StandsAt read records state → length records + count ≤ MAX_RECORDS + count
+few_stay read records state count s = omega (arith, few_stand read records state s)

@@ -1,4 +1,4 @@
--- What a framer's place says of the marks of a source.
+-- What a framer's state says of the marks of a source.
 use Rattle.std.proofs.Common.{◌≡◌, ◌≢◌, ◌⊎◌, ℕ, List, [], ◌∷◌, ◌++◌, inl, inr, length, refl, sym, ap, subst, ◌∙◌, append_assoc, append-nil}
 use Rattle.planar_code.specs.declared.TheConstants.{HEADER}
 use Rattle.planar_code.specs.declared.ending.Ending.{Ending}
@@ -6,9 +6,9 @@ use Rattle.planar_code.specs.declared.ending.Ending.TheVariants as ending
 use Rattle.planar_code.specs.declared.fault.FeedFault.{FeedFault}
 use Rattle.planar_code.specs.declared.fault.FeedFault.TheVariants as fault
 use Rattle.planar_code.specs.Split.{IsSplit, IsHeaderless, MayGoOn, EndsAs, ending_of}
-use Rattle.planar_code.specs.Place.{Place, Early, After, Failed, StandsAt, StandsEarly, StandsAfter, IsRunning}
+use Rattle.planar_code.specs.FramerState.{FramerState, Early, After, Failed, StandsAt, StandsEarly, StandsAfter, HasNotFailed}
 use Rattle.planar_code.proofs.Records.{nothing_after}
-use Rattle.planar_code.proofs.Cuts.{front_of-cut}
+use Rattle.planar_code.proofs.Divisions.{front_of-divided}
 use Rattle.planar_code.proofs.Splits.{split_same, body_same}
 use Rattle.streams.specs.Marks.{IsBeginningOf}
 
@@ -26,26 +26,26 @@ early_headerless text records front s = record {
 -- after whole records a stream ends complete, or in the next one
 after_ends : (text : List ℕ) (records : List (List ℕ)) (count : ℕ) (rest : List ℕ) → StandsAfter text records count rest
     → IsSplit text records ending.Complete ⊎ IsSplit text records ending.Truncated
-after_ends text records count [] s = inl (inr (record { body = s.body; rest = []; headed = s.headed; cut = s.cut; ends = refl }))
+after_ends text records count [] s = inl (inr (record { body = s.body; rest = []; with_header = s.with_header; divided = s.divided; ends = refl }))
 after_ends text records count (x ∷ rest) s =
     let some : (x ∷ rest) ≢ [] = λ e. cc in
     inr (inr (record {
       body = s.body;
       rest = x ∷ rest;
-      headed = s.headed;
-      cut = s.cut;
+      with_header = s.with_header;
+      divided = s.divided;
       ends = (s.open_record, some, λ full. some (s.full (sym s.counted ∙ full)));
     }))
 
 -- the stream so far has the records that it led to
-pub split_stands : (text : List ℕ) (records : List (List ℕ)) (place : Place) → StandsAt text records place → (end : Ending) × IsSplit text records end
+pub split_stands : (text : List ℕ) (records : List (List ℕ)) (state : FramerState) → StandsAt text records state → (end : Ending) × IsSplit text records end
 split_stands text records (Early front) s = (ending.Header, inl (early_headerless text records front s))
 split_stands text records (After count rest) s =
     elim (after_ends text records count rest s) [ inl h ↦ (ending.Complete, h) | inr h ↦ (ending.Truncated, h) ]
 split_stands text records (Failed f) s = (ending_of f, subst (λ t. IsSplit t records (ending_of f)) (append-nil text) (s []))
 
 -- where the framer has not failed, more bytes may come
-pub open_stands : (text : List ℕ) (records : List (List ℕ)) (place : Place) → StandsAt text records place → IsRunning place → MayGoOn text
+pub open_stands : (text : List ℕ) (records : List (List ℕ)) (state : FramerState) → StandsAt text records state → HasNotFailed state → MayGoOn text
 open_stands text records (Early front) s running = inl (s.missing, ap (λ l. l ++ s.missing) s.same ∙ s.whole)
 open_stands text records (After count rest) s running =
     elim (after_ends text records count rest s) [ inl h ↦ inr (inl (records, h)) | inr h ↦ inr (inr (records, h)) ]
@@ -78,8 +78,8 @@ not_empty count fault.Many e = e.0 refl
 not_header : (records : List (List ℕ)) (f : FeedFault) → IsSplit HEADER records (ending_of f) → ⊥
 not_header records f (inl h) = h.header [] (sym (append-nil HEADER))
 not_header records f (inr h) =
-    let none : h.body ≡ [] = body_same h.body [] (sym h.headed ∙ sym (append-nil HEADER)) in
-    let rest : h.rest ≡ [] = nothing_after _ h.rest (sym none ∙ h.cut.concatenated) in
+    let none : h.body ≡ [] = body_same h.body [] (sym h.with_header ∙ sym (append-nil HEADER)) in
+    let rest : h.rest ≡ [] = nothing_after _ h.rest (sym none ∙ h.divided.concatenated) in
     not_empty (length records) f (subst (λ r. EndsAs (length records) r (ending_of f)) rest h.ends)
 
 -- after a fault no more bytes may come
@@ -90,13 +90,13 @@ failed_not_open text more records f s (inr (inl (others, h))) = not_complete f (
 failed_not_open text more records f s (inr (inr (others, h))) = not_truncated f (split_same (text ++ more) records others _ _ (s more) h).1
 
 -- however a stream goes on, its records begin with those that it led to
-pub beginning_stands : (text more : List ℕ) (records : List (List ℕ)) (place : Place) → StandsAt text records place
+pub beginning_stands : (text more : List ℕ) (records : List (List ℕ)) (state : FramerState) → StandsAt text records state
     → (all : List (List ℕ)) (end : Ending) → IsSplit (text ++ more) all end → IsBeginningOf records all
 beginning_stands text more records (Early front) s all end split = (all, ap (λ l. l ++ all) (sym s.none))
 beginning_stands text more records (After count rest) s all end (inl h) =
-    absurd (h.header (s.body ++ more) (ap (λ l. l ++ more) s.headed ∙ append_assoc HEADER s.body more))
+    absurd (h.header (s.body ++ more) (ap (λ l. l ++ more) s.with_header ∙ append_assoc HEADER s.body more))
 beginning_stands text more records (After count rest) s all end (inr h) =
-    let body : h.body ≡ s.body ++ more = body_same h.body (s.body ++ more) (sym h.headed ∙ ap (λ l. l ++ more) s.headed ∙ append_assoc HEADER s.body more) in
-    front_of-cut h.body all h.rest h.cut records (rest ++ more) (body ∙ ap (λ l. l ++ more) s.cut.concatenated ∙ append_assoc _ rest more) s.cut.each s.cut.few
+    let body : h.body ≡ s.body ++ more = body_same h.body (s.body ++ more) (sym h.with_header ∙ ap (λ l. l ++ more) s.with_header ∙ append_assoc HEADER s.body more) in
+    front_of-divided h.body all h.rest h.divided records (rest ++ more) (body ∙ ap (λ l. l ++ more) s.divided.concatenated ∙ append_assoc _ rest more) s.divided.each s.divided.few
 beginning_stands text more records (Failed f) s all end split =
     ([], (split_same (text ++ more) all records _ _ split (s more)).0 ∙ sym (append-nil records))

@@ -7,7 +7,7 @@ use Rattle.planar_code.specs.declared.ending.Ending.TheVariants as ending
 use Rattle.planar_code.specs.declared.fault.FeedFault.{FeedFault}
 use Rattle.planar_code.specs.declared.fault.FeedFault.TheVariants as fault
 use Rattle.planar_code.specs.Split.{IsSplit, ending_of}
-use Rattle.planar_code.specs.Place.{Place, Early, Failed, StandsAt, Goes, LosesRecord, Feeds}
+use Rattle.planar_code.specs.FramerState.{FramerState, Early, Failed, StandsAt, Goes, LosesRecord, Feeds}
 use Rattle.planar_code.proofs.Splits.{split_same}
 use Rattle.streams.specs.declared.frames.Mark.{Mark}
 use Rattle.streams.specs.declared.frames.Mark.TheVariants as mark
@@ -63,44 +63,44 @@ marked_split bytes fails records ending.Many whole split = (whole, split)
 marked_split bytes fails records ending.Memory whole split = λ all end other. ([], (split_same bytes all records end _ other split).0 ∙ sym (append-nil records))
 
 -- the source ended
-pub read_to_its_end : (told to_come : Option (List ℕ)) (told_fails fails : Bool) (rounds : ℕ) (records : List (List ℕ)) (place : Place)
-    → IsBeingRead told told_fails rounds to_come fails records place → IsAtItsEnd to_come fails → IsReadToItsEnd told told_fails records place
-read_to_its_end told to_come told_fails fails rounds records place r at = record {
+pub read_to_its_end : (told to_come : Option (List ℕ)) (told_fails fails : Bool) (rounds : ℕ) (records : List (List ℕ)) (state : FramerState)
+    → IsBeingRead told told_fails rounds to_come fails records state → IsAtItsEnd to_come fails → IsReadToItsEnd told told_fails records state
+read_to_its_end told to_come told_fails fails rounds records state r at = record {
   read = r.read;
   gave = told_at_end told to_come told_fails fails r.read r.took r.same at;
   stands = r.stands;
 }
 
 -- the source failed
-pub found_failed : (told to_come : Option (List ℕ)) (told_fails fails : Bool) (rounds : ℕ) (records : List (List ℕ)) (place : Place)
-    → IsBeingRead told told_fails rounds to_come fails records place → IsAtItsFailure to_come fails → IsFoundIn told told_fails records mark.Io
-found_failed told to_come told_fails fails rounds records place r at = record {
+pub found_failed : (told to_come : Option (List ℕ)) (told_fails fails : Bool) (rounds : ℕ) (records : List (List ℕ)) (state : FramerState)
+    → IsBeingRead told told_fails rounds to_come fails records state → IsAtItsFailure to_come fails → IsFoundIn told told_fails records mark.Io
+found_failed told to_come told_fails fails rounds records state r at = record {
   bytes = r.read;
   fails = true;
   gave = told_at_failure told to_come told_fails fails r.read r.took r.same at;
-  marked = ((refl, open_stands r.read records place r.stands r.running), split_stands r.read records place r.stands);
+  marked = ((refl, open_stands r.read records state r.stands r.running), split_stands r.read records state r.stands);
 }
 
 -- the framer took the piece
-pub read_more : (told before after : Option (List ℕ)) (told_fails fails now_fails : Bool) (rounds : ℕ) (earlier old new : List (List ℕ)) (place now_place : Place) (piece : List ℕ)
-    → 0 < length piece → IsBeingRead told told_fails rounds before fails (earlier ++ old) place → Consumes before after piece → now_fails ≡ fails
-    → Feeds place piece old new now_place (Ok tt) → IsBeingRead told told_fails (rounds + 1) after now_fails (earlier ++ new) now_place
-read_more told before after told_fails fails now_fails rounds earlier old new place now_place piece some r took same f = record {
+pub read_more : (told before after : Option (List ℕ)) (told_fails fails now_fails : Bool) (rounds : ℕ) (earlier old new : List (List ℕ)) (state now_state : FramerState) (piece : List ℕ)
+    → 0 < length piece → IsBeingRead told told_fails rounds before fails (earlier ++ old) state → Consumes before after piece → now_fails ≡ fails
+    → Feeds state piece old new now_state (Ok tt) → IsBeingRead told told_fails (rounds + 1) after now_fails (earlier ++ new) now_state
+read_more told before after told_fails fails now_fails rounds earlier old new state now_state piece some r took same f = record {
   read = r.read ++ piece;
   took = consumed_both told before after r.read piece r.took took;
   same = same ∙ r.same;
-  stands = subst (λ rs. StandsAt (r.read ++ piece) rs now_place) (append_assoc earlier old f.added ∙ ap (λ rs. earlier ++ rs) (sym f.appended))
+  stands = subst (λ rs. StandsAt (r.read ++ piece) rs now_state) (append_assoc earlier old f.added ∙ ap (λ rs. earlier ++ rs) (sym f.appended))
       (f.reads.1 r.read (earlier ++ old) r.stands);
   running = f.reads.0;
   went = let w = r.went in omega (arith, length-append r.read piece);
 }
 
 -- a fault of the bytes, however they go on
-found_faulted : (told before after : Option (List ℕ)) (told_fails fails : Bool) (rounds : ℕ) (earlier old new : List (List ℕ)) (place : Place) (piece : List ℕ) (f : FeedFault)
-    → IsBeingRead told told_fails rounds before fails (earlier ++ old) place → Consumes before after piece
-    → (added : List (List ℕ)) → new ≡ old ++ added → Goes place piece added (Failed f)
+found_faulted : (told before after : Option (List ℕ)) (told_fails fails : Bool) (rounds : ℕ) (earlier old new : List (List ℕ)) (state : FramerState) (piece : List ℕ) (f : FeedFault)
+    → IsBeingRead told told_fails rounds before fails (earlier ++ old) state → Consumes before after piece
+    → (added : List (List ℕ)) → new ≡ old ++ added → Goes state piece added (Failed f)
     → IsFoundIn told told_fails (earlier ++ new) (mark.Ended (ending_of f))
-found_faulted told before after told_fails fails rounds earlier old new place piece f r took added appended goes =
+found_faulted told before after told_fails fails rounds earlier old new state piece f r took added appended goes =
     let records : (earlier ++ old) ++ added ≡ earlier ++ new = append_assoc earlier old added ∙ ap (λ rs. earlier ++ rs) (sym appended) in
     let stands : StandsAt (r.read ++ piece) (earlier ++ new) (Failed f) =
     subst (λ rs. StandsAt (r.read ++ piece) rs (Failed f)) records (goes r.read (earlier ++ old) r.stands) in
@@ -113,11 +113,11 @@ found_faulted told before after told_fails fails rounds earlier old new place pi
     }
 
 -- want of memory for one more record
-found_wanting : (told before after : Option (List ℕ)) (told_fails fails : Bool) (rounds : ℕ) (earlier old new : List (List ℕ)) (place : Place) (piece : List ℕ)
-    → IsBeingRead told told_fails rounds before fails (earlier ++ old) place → Consumes before after piece
-    → (added : List (List ℕ)) → new ≡ old ++ added → LosesRecord place piece added
+found_wanting : (told before after : Option (List ℕ)) (told_fails fails : Bool) (rounds : ℕ) (earlier old new : List (List ℕ)) (state : FramerState) (piece : List ℕ)
+    → IsBeingRead told told_fails rounds before fails (earlier ++ old) state → Consumes before after piece
+    → (added : List (List ℕ)) → new ≡ old ++ added → LosesRecord state piece added
     → IsFoundIn told told_fails (earlier ++ new) (mark.Ended ending.Memory)
-found_wanting told before after told_fails fails rounds earlier old new place piece r took added appended loses =
+found_wanting told before after told_fails fails rounds earlier old new state piece r took added appended loses =
     let so_far = told_so_far told after told_fails (r.read ++ piece) (consumed_both told before after r.read piece r.took took) in
     let stands = loses.goes r.read (earlier ++ old) r.stands in
     let bytes : (r.read ++ piece) ++ so_far.0 ≡ (r.read ++ loses.front) ++ (loses.back ++ so_far.0) =
@@ -133,22 +133,22 @@ found_wanting told before after told_fails fails rounds earlier old new place pi
     }
 
 -- the framer read no further
-pub found_stopped : (told before after : Option (List ℕ)) (told_fails fails : Bool) (rounds : ℕ) (earlier old new : List (List ℕ)) (place now_place : Place) (piece : List ℕ) (f : FeedFault)
-    → IsBeingRead told told_fails rounds before fails (earlier ++ old) place → Consumes before after piece
-    → Feeds place piece old new now_place (Err f) → IsFoundIn told told_fails (earlier ++ new) (mark.Ended (ending_of f))
-found_stopped told before after told_fails fails rounds earlier old new place now_place piece fault.Memory r took feeds =
+pub found_stopped : (told before after : Option (List ℕ)) (told_fails fails : Bool) (rounds : ℕ) (earlier old new : List (List ℕ)) (state now_state : FramerState) (piece : List ℕ) (f : FeedFault)
+    → IsBeingRead told told_fails rounds before fails (earlier ++ old) state → Consumes before after piece
+    → Feeds state piece old new now_state (Err f) → IsFoundIn told told_fails (earlier ++ new) (mark.Ended (ending_of f))
+found_stopped told before after told_fails fails rounds earlier old new state now_state piece fault.Memory r took feeds =
     elim feeds.reads.1 [
       | inl failed ↦ absurd (r.running fault.Memory failed.0)
-      | inr loses ↦ found_wanting told before after told_fails fails rounds earlier old new place piece r took feeds.added feeds.appended loses
+      | inr loses ↦ found_wanting told before after told_fails fails rounds earlier old new state piece r took feeds.added feeds.appended loses
     ]
-found_stopped told before after told_fails fails rounds earlier old new place now_place piece fault.Header r took feeds =
-    found_faulted told before after told_fails fails rounds earlier old new place piece fault.Header r took feeds.added feeds.appended (subst (Goes place piece feeds.added) feeds.reads.0 feeds.reads.1)
-found_stopped told before after told_fails fails rounds earlier old new place now_place piece fault.Large r took feeds =
-    found_faulted told before after told_fails fails rounds earlier old new place piece fault.Large r took feeds.added feeds.appended (subst (Goes place piece feeds.added) feeds.reads.0 feeds.reads.1)
-found_stopped told before after told_fails fails rounds earlier old new place now_place piece fault.Oversize r took feeds =
-    found_faulted told before after told_fails fails rounds earlier old new place piece fault.Oversize r took feeds.added feeds.appended (subst (Goes place piece feeds.added) feeds.reads.0 feeds.reads.1)
-found_stopped told before after told_fails fails rounds earlier old new place now_place piece fault.Many r took feeds =
-    found_faulted told before after told_fails fails rounds earlier old new place piece fault.Many r took feeds.added feeds.appended (subst (Goes place piece feeds.added) feeds.reads.0 feeds.reads.1)
+found_stopped told before after told_fails fails rounds earlier old new state now_state piece fault.Header r took feeds =
+    found_faulted told before after told_fails fails rounds earlier old new state piece fault.Header r took feeds.added feeds.appended (subst (Goes state piece feeds.added) feeds.reads.0 feeds.reads.1)
+found_stopped told before after told_fails fails rounds earlier old new state now_state piece fault.Large r took feeds =
+    found_faulted told before after told_fails fails rounds earlier old new state piece fault.Large r took feeds.added feeds.appended (subst (Goes state piece feeds.added) feeds.reads.0 feeds.reads.1)
+found_stopped told before after told_fails fails rounds earlier old new state now_state piece fault.Oversize r took feeds =
+    found_faulted told before after told_fails fails rounds earlier old new state piece fault.Oversize r took feeds.added feeds.appended (subst (Goes state piece feeds.added) feeds.reads.0 feeds.reads.1)
+found_stopped told before after told_fails fails rounds earlier old new state now_state piece fault.Many r took feeds =
+    found_faulted told before after told_fails fails rounds earlier old new state piece fault.Many r took feeds.added feeds.appended (subst (Goes state piece feeds.added) feeds.reads.0 feeds.reads.1)
 
 -- no framer was to be had
 pub found_nothing : (told : Option (List ℕ)) (told_fails : Bool) (records : List (List ℕ)) → records ≡ [] → IsFoundIn told told_fails records (mark.Ended ending.Memory)
@@ -162,9 +162,9 @@ found_nothing told told_fails records none =
     }
 
 -- the framer's ending is the source's
-pub found_ended : (told : Option (List ℕ)) (told_fails : Bool) (records : List (List ℕ)) (place : Place) (end : Ending) → IsReadToItsEnd told told_fails records place
-    → ((stream : List ℕ) (rs : List (List ℕ)) → StandsAt stream rs place → IsSplit stream rs end) → IsFoundIn told told_fails records (mark.Ended end)
-found_ended told told_fails records place end r finish = record {
+pub found_ended : (told : Option (List ℕ)) (told_fails : Bool) (records : List (List ℕ)) (state : FramerState) (end : Ending) → IsReadToItsEnd told told_fails records state
+    → ((stream : List ℕ) (rs : List (List ℕ)) → StandsAt stream rs state → IsSplit stream rs end) → IsFoundIn told told_fails records (mark.Ended end)
+found_ended told told_fails records state end r finish = record {
   bytes = r.read;
   fails = false;
   gave = r.gave;
@@ -172,9 +172,9 @@ found_ended told told_fails records place end r finish = record {
 }
 
 -- before the first read
-pub nothing_read : (told : Option (List ℕ)) (told_fails : Bool) (records : List (List ℕ)) (place : Place) → records ≡ [] → place ≡ Early []
-    → IsBeingRead told told_fails 0 told told_fails records place
-nothing_read told told_fails records place none is =
+pub nothing_read : (told : Option (List ℕ)) (told_fails : Bool) (records : List (List ℕ)) (state : FramerState) → records ≡ [] → state ≡ Early []
+    → IsBeingRead told told_fails 0 told told_fails records state
+nothing_read told told_fails records state none is =
     let some : HEADER ≢ [] = λ e. cc in
     let stands : StandsAt [] records (Early []) = record { none = none; same = refl; missing = HEADER; more = some; whole = refl } in
     record {
@@ -199,7 +199,7 @@ pub found_untold : (told : Option (List ℕ)) (told_fails : Bool) (records : Lis
 found_untold told told_fails records found f = (f.bytes, (f.fails, f.marked))
 
 -- no new records yet
-pub nothing_new : (told to_come : Option (List ℕ)) (told_fails fails : Bool) (rounds : ℕ) (records new : List (List ℕ)) (place : Place) → new ≡ []
-    → IsBeingRead told told_fails rounds to_come fails records place → IsBeingRead told told_fails rounds to_come fails (records ++ new) place
-nothing_new told to_come told_fails fails rounds records new place none r =
-    subst (λ rs. IsBeingRead told told_fails rounds to_come fails rs place) (sym (ap (λ l. records ++ l) none ∙ append-nil records)) r
+pub nothing_new : (told to_come : Option (List ℕ)) (told_fails fails : Bool) (rounds : ℕ) (records new : List (List ℕ)) (state : FramerState) → new ≡ []
+    → IsBeingRead told told_fails rounds to_come fails records state → IsBeingRead told told_fails rounds to_come fails (records ++ new) state
+nothing_new told to_come told_fails fails rounds records new state none r =
+    subst (λ rs. IsBeingRead told told_fails rounds to_come fails rs state) (sym (ap (λ l. records ++ l) none ∙ append-nil records)) r

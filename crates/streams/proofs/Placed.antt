@@ -4,12 +4,12 @@ use Rattle.std.specs.Prelude.{⊤}
 use Rattle.planar_code.specs.declared.ending.Ending.{Ending}
 use Rattle.planar_code.specs.declared.ending.Ending.TheVariants as ending
 use Rattle.planar_code.specs.Split.{IsSplit}
-use Rattle.planar_code.specs.Place.{Place}
+use Rattle.planar_code.specs.FramerState.{FramerState}
 use Rattle.planar_code.proofs.Splits.{split_same}
 use Rattle.streams.specs.declared.frames.Mark.{Mark}
 use Rattle.streams.specs.declared.frames.Mark.TheVariants.{Ended, Io}
-use Rattle.streams.specs.declared.reading.Step.{Step}
-use Rattle.streams.specs.declared.reading.Step.TheVariants as step
+use Rattle.streams.specs.declared.reading.PieceOutcome.{PieceOutcome}
+use Rattle.streams.specs.declared.reading.PieceOutcome.TheVariants as step
 use Rattle.streams.specs.Marks.{IsMarked, IsBeginningOf}
 use Rattle.streams.specs.Reading.{IsFoundIn, IsBeingRead, IsReadToItsEnd, LeadsTo}
 use Rattle.streams.specs.Placing.{IsAt, IsPlaced, EachAt, ArePlaced}
@@ -62,25 +62,25 @@ first_found None fails records mark f = tt
 first_found (Some told) fails records mark f = λ all end split.
     marked_first f.bytes f.fails records mark f.marked all end (subst (λ t. IsSplit t all end) f.gave.0 split)
 
-first_read : (told : Option (List ℕ)) (told_fails : Bool) (rounds : ℕ) (to_come : Option (List ℕ)) (fails : Bool) (records : List (List ℕ)) (place : Place)
-    → IsBeingRead told told_fails rounds to_come fails records place → AreFirst told records
-first_read None told_fails rounds to_come fails records place r = tt
-first_read (Some told) told_fails rounds None fails records place r = absurd r.took
-first_read (Some told) told_fails rounds (Some left) fails records place r = λ all end split.
-    beginning_stands r.read left records place r.stands all end (subst (λ t. IsSplit t all end) r.took split)
+first_read : (told : Option (List ℕ)) (told_fails : Bool) (rounds : ℕ) (to_come : Option (List ℕ)) (fails : Bool) (records : List (List ℕ)) (state : FramerState)
+    → IsBeingRead told told_fails rounds to_come fails records state → AreFirst told records
+first_read None told_fails rounds to_come fails records state r = tt
+first_read (Some told) told_fails rounds None fails records state r = absurd r.took
+first_read (Some told) told_fails rounds (Some left) fails records state r = λ all end split.
+    beginning_stands r.read left records state r.stands all end (subst (λ t. IsSplit t all end) r.took split)
 
-first_ended : (told : Option (List ℕ)) (told_fails : Bool) (records : List (List ℕ)) (place : Place) → IsReadToItsEnd told told_fails records place → AreFirst told records
-first_ended None told_fails records place r = tt
-first_ended (Some told) told_fails records place r = λ all end split.
-    beginning_stands r.read [] records place r.stands all end (subst (λ t. IsSplit t all end) (r.gave.0 ∙ sym (append-nil r.read)) split)
+first_ended : (told : Option (List ℕ)) (told_fails : Bool) (records : List (List ℕ)) (state : FramerState) → IsReadToItsEnd told told_fails records state → AreFirst told records
+first_ended None told_fails records state r = tt
+first_ended (Some told) told_fails records state r = λ all end split.
+    beginning_stands r.read [] records state r.stands all end (subst (λ t. IsSplit t all end) (r.gave.0 ∙ sym (append-nil r.read)) split)
 
 -- the records that one more read led to
-pub first_step : (told : Option (List ℕ)) (told_fails : Bool) (rounds : ℕ) (to_come : Option (List ℕ)) (fails : Bool) (records : List (List ℕ)) (place : Place) (led : Step)
-    → LeadsTo told told_fails rounds to_come fails records place led → AreFirst told records
-first_step told told_fails rounds to_come fails records place step.More leads = first_read told told_fails (rounds + 1) to_come fails records place leads
-first_step told told_fails rounds to_come fails records place step.Ended leads = first_ended told told_fails records place leads
-first_step told told_fails rounds to_come fails records place step.Failed leads = first_found told told_fails records Io leads
-first_step told told_fails rounds to_come fails records place (step.Stopped fault) leads = first_found told told_fails records (Ended _) leads
+pub first_step : (told : Option (List ℕ)) (told_fails : Bool) (rounds : ℕ) (to_come : Option (List ℕ)) (fails : Bool) (records : List (List ℕ)) (state : FramerState) (led : PieceOutcome)
+    → LeadsTo told told_fails rounds to_come fails records state led → AreFirst told records
+first_step told told_fails rounds to_come fails records state step.More leads = first_read told told_fails (rounds + 1) to_come fails records state leads
+first_step told told_fails rounds to_come fails records state step.Ended leads = first_ended told told_fails records state leads
+first_step told told_fails rounds to_come fails records state step.Failed leads = first_found told told_fails records Io leads
+first_step told told_fails rounds to_come fails records state (step.Stopped fault) leads = first_found told told_fails records (Ended _) leads
 
 -- of records in a row, the one after the first ones
 pub each_at : (fits : ℕ → List ℕ → Type 0) (first : ℕ) (before : List (List ℕ)) (bytes : List ℕ) (rest : List (List ℕ)) → EachAt fits first (before ++ bytes ∷ rest)

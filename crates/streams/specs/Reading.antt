@@ -2,11 +2,11 @@
 use Rattle.std.specs.Prelude.{◌≡◌, ℕ, ◌+◌, ◌≤◌, Bool, false, List, ◌++◌, length, Option, None, Some, ⊤}
 use Rattle.std.specs.Io.KnownBytes.{Consumes}
 use Rattle.planar_code.specs.Split.{ending_of}
-use Rattle.planar_code.specs.Place.{Place, StandsAt, IsRunning}
+use Rattle.planar_code.specs.FramerState.{FramerState, StandsAt, HasNotFailed}
 use Rattle.streams.specs.declared.frames.Mark.{Mark}
 use Rattle.streams.specs.declared.frames.Mark.TheVariants as mark
-use Rattle.streams.specs.declared.reading.Step.{Step}
-use Rattle.streams.specs.declared.reading.Step.TheVariants.{More, Ended, Failed, Stopped}
+use Rattle.streams.specs.declared.reading.PieceOutcome.{PieceOutcome}
+use Rattle.streams.specs.declared.reading.PieceOutcome.TheVariants.{More, Ended, Failed, Stopped}
 use Rattle.streams.specs.Marks.{IsMarked}
 
 -- what a source told of itself is true of these bytes and of this failing; one that told nothing may have given any
@@ -21,32 +21,32 @@ pub record IsFoundIn (told : Option (List ℕ)) (told_fails : Bool) (records : L
   pub gave : IsToldOf told told_fails bytes fails
   pub marked : IsMarked bytes fails records found
 
--- bytes that were read of the source in so many rounds led to these records and to this place; the others are to come. Each round read
+-- bytes that were read of the source in so many rounds led to these records and to this state; the others are to come. Each round read
 -- a byte at least
-pub record IsBeingRead (told : Option (List ℕ)) (told_fails : Bool) (rounds : ℕ) (to_come : Option (List ℕ)) (fails : Bool) (records : List (List ℕ)) (place : Place) : Type 0 where
+pub record IsBeingRead (told : Option (List ℕ)) (told_fails : Bool) (rounds : ℕ) (to_come : Option (List ℕ)) (fails : Bool) (records : List (List ℕ)) (state : FramerState) : Type 0 where
   pub read : List ℕ
   pub took : Consumes told to_come read
   pub same : fails ≡ told_fails
-  pub stands : StandsAt read records place
-  pub running : IsRunning place
+  pub stands : StandsAt read records state
+  pub running : HasNotFailed state
   pub went : rounds ≤ length read
 
 -- all bytes of the source were read, and it ended
-pub record IsReadToItsEnd (told : Option (List ℕ)) (told_fails : Bool) (records : List (List ℕ)) (place : Place) : Type 0 where
+pub record IsReadToItsEnd (told : Option (List ℕ)) (told_fails : Bool) (records : List (List ℕ)) (state : FramerState) : Type 0 where
   pub read : List ℕ
   pub gave : IsToldOf told told_fails read false
-  pub stands : StandsAt read records place
+  pub stands : StandsAt read records state
 
 -- what one more read led to
-abbrev pub LeadsTo : Option (List ℕ) → Bool → ℕ → Option (List ℕ) → Bool → List (List ℕ) → Place → Step → Type 0
-LeadsTo told told_fails rounds to_come fails records place More = IsBeingRead told told_fails (rounds + 1) to_come fails records place
-LeadsTo told told_fails rounds to_come fails records place Ended = IsReadToItsEnd told told_fails records place
-LeadsTo told told_fails rounds to_come fails records place Failed = IsFoundIn told told_fails records mark.Io
-LeadsTo told told_fails rounds to_come fails records place (Stopped fault) = IsFoundIn told told_fails records (mark.Ended (ending_of fault))
+abbrev pub LeadsTo : Option (List ℕ) → Bool → ℕ → Option (List ℕ) → Bool → List (List ℕ) → FramerState → PieceOutcome → Type 0
+LeadsTo told told_fails rounds to_come fails records state More = IsBeingRead told told_fails (rounds + 1) to_come fails records state
+LeadsTo told told_fails rounds to_come fails records state Ended = IsReadToItsEnd told told_fails records state
+LeadsTo told told_fails rounds to_come fails records state Failed = IsFoundIn told told_fails records mark.Io
+LeadsTo told told_fails rounds to_come fails records state (Stopped fault) = IsFoundIn told told_fails records (mark.Ended (ending_of fault))
 
 -- Whatever was read of the source before, and whatever records were taken out of the list by then.
-abbrev pub ReadsOn : Option (List ℕ) → Bool → List (List ℕ) → Place → Option (List ℕ) → Bool → List (List ℕ) → Place → Step → Type 0
-ReadsOn to_come fails records place now now_fails now_records now_place step =
+abbrev pub ReadsOn : Option (List ℕ) → Bool → List (List ℕ) → FramerState → Option (List ℕ) → Bool → List (List ℕ) → FramerState → PieceOutcome → Type 0
+ReadsOn to_come fails records state now now_fails now_records now_state step =
     (told : Option (List ℕ)) (told_fails : Bool) (rounds : ℕ) (earlier : List (List ℕ))
-    → IsBeingRead told told_fails rounds to_come fails (earlier ++ records) place
-    → LeadsTo told told_fails rounds now now_fails (earlier ++ now_records) now_place step
+    → IsBeingRead told told_fails rounds to_come fails (earlier ++ records) state
+    → LeadsTo told told_fails rounds now now_fails (earlier ++ now_records) now_state step

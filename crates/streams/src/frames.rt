@@ -6,7 +6,8 @@ use std::marker::Model;
 /// How a source ended.
 #[derive(Clone, Copy, Debug, PartialEq, Eq)]
 pub enum Mark {
-    /// How its bytes end, up to the first fault in them; or there was no memory to cut it into records, or to open it.
+    /// How its bytes end, up to the first fault in them; or there was no memory to divide it into records, or to
+    /// open it.
     Ended(Ending),
     /// A read failed where more bytes could have come, or the file could not be opened.
     Io,

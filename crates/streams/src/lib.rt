@@ -19,7 +19,7 @@ pub use frames::{Frames, Mark};
 pub use input::{Tap, TapFault};
 pub use memory::MemTap;
 pub use output::{IoSink, Sink, SinkFault};
-pub use reading::{PIECE, SourceEnd, Step, piece_buffer, read_piece, read_source};
+pub use reading::{PIECE, PieceOutcome, SourceEnd, piece_buffer, read_piece, read_source};
 pub use receiver::Receiver;
 pub use report::{mark_word, write_frames};
 pub use ruled_lanes::MAX_CAPACITY;

@@ -50,8 +50,8 @@ impl Tap for MemTap {
         ensures most { IfOk result (λ n. n ≤ most_of self.old) }
         ensures chosen { most_of self.new ≡ most_of self.old }
     {
-        let left = self.bytes.len() - self.at;
-        let count = left.min(self.most).min(buf.len());
+        let remaining = self.bytes.len() - self.at;
+        let count = remaining.min(self.most).min(buf.len());
         let end = self.at + count;
         buf[..count].copy_from_slice(&self.bytes[self.at..end]);
         self.at = end;

@@ -1,7 +1,7 @@
 //! How a source is read into records and a mark.
 ghost use Rattle.std.specs.Prelude.{◌≡◌, ◌+◌, ◌<◌, ◌≤◌, ℕ, List, length, vec_len, IfOk};
 ghost use Rattle.planar_code.specs.declared.TheConstants.{MAX_RECORDS};
-ghost use Rattle.planar_code.specs.Place.{StandsAt};
+ghost use Rattle.planar_code.specs.FramerState.{StandsAt};
 ghost use Rattle.streams.specs.Reading.{ReadsOn, IsFoundIn};
 ghost use Rattle.streams.specs.Placing.{ArePlaced};
 ghost use Rattle.streams.specs.declared.reading.TheConstants.{PIECE};
@@ -17,7 +17,7 @@ pub const PIECE: usize = 65_536;
 
 /// What one read of a source led to.
 #[derive(Clone, Copy, Debug)]
-pub enum Step {
+pub enum PieceOutcome {
     /// There may be more bytes.
     More,
     /// The source ended.
@@ -53,7 +53,7 @@ pub fn read_piece<T: Tap>(
     alloc: Global,
     buffer: &mut [u8],
     records: &mut Vec<Record>,
-) -> Step
+) -> PieceOutcome
     requires { 0 < length buffer.old }
     ensures reads { ReadsOn (T.to_come source.old) (T.fails source.old) records.old.items framer.old
         (T.to_come source.new) (T.fails source.new) records.new.items framer.new result }
@@ -64,12 +64,12 @@ pub fn read_piece<T: Tap>(
         → length earlier + length records.new.items ≤ MAX_RECORDS + length records.old.items }
 {
     match source.read(buffer) {
-        Ok(0) => Step::Ended,
+        Ok(0) => PieceOutcome::Ended,
         Ok(count) => match framer.feed(alloc, &buffer[..count], records) {
-            Ok(()) => Step::More,
-            Err(fault) => Step::Stopped(fault),
+            Ok(()) => PieceOutcome::More,
+            Err(fault) => PieceOutcome::Stopped(fault),
         },
-        Err(_) => Step::Failed,
+        Err(_) => PieceOutcome::Failed,
     }
 }
 
@@ -123,20 +123,20 @@ pub fn read_source<T: Tap, V: Receiver>(
             Err(refusal) => return Err(refusal),
         }
         match step {
-            Step::More => {}
-            Step::Ended => {
+            PieceOutcome::More => {}
+            PieceOutcome::Ended => {
                 return Ok(SourceEnd {
                     count: ordinal,
                     mark: Mark::Ended(framer.finish()),
                 });
             }
-            Step::Failed => {
+            PieceOutcome::Failed => {
                 return Ok(SourceEnd {
                     count: ordinal,
                     mark: Mark::Io,
                 });
             }
-            Step::Stopped(fault) => {
+            PieceOutcome::Stopped(fault) => {
                 return Ok(SourceEnd {
                     count: ordinal,
                     mark: Mark::Ended(Ending::from(fault)),

@@ -10,7 +10,7 @@
 mod compaction;
 mod ends;
 mod listing;
-mod places;
+mod points;
 mod scratch;
 mod segments;
 mod shortening;

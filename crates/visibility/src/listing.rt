@@ -110,27 +110,27 @@ fn list_corners(
         y.of_vertex(bent.tail)
     };
     let mut place = 0;
-    for (number, corner) in corners.iter().enumerate() {
+    for (index, corner) in corners.iter().enumerate() {
         place = x.of.len().min(usize::from(u16::MAX)) as u16;
-        let end = if number + 1 == corners.len() {
+        let end = if index + 1 == corners.len() {
             Some(bent.head)
         } else {
             None
         };
         segment = if upright {
-            x.reach(segment, place, from.y < corner.y);
+            x.extend(segment, place, from.y < corner.y);
             turn(x, segment, y, corner.y, end)?
         } else {
-            y.reach(segment, place, from.x < corner.x);
+            y.extend(segment, place, from.x < corner.x);
             turn(y, segment, x, corner.x, end)?
         };
         upright = !upright;
         from = *corner;
     }
     if upright {
-        x.reach(segment, place, bent.to.y < from.y);
+        x.extend(segment, place, bent.to.y < from.y);
     } else {
-        y.reach(segment, place, bent.to.x < from.x);
+        y.extend(segment, place, bent.to.x < from.x);
     }
     Ok(())
 }
@@ -138,18 +138,18 @@ fn list_corners(
 /// Adds a corner at which an edge leaves a segment for one that crosses it, and gives that one back: that of
 /// the vertex at its end, or a new one with this coordinate.
 fn turn(
-    left: &mut Segments,
+    departed: &mut Segments,
     segment: u16,
     entered: &mut Segments,
-    number: u32,
+    coordinate: u32,
     end: Option<u8>,
 ) -> Result<u16, AllocError> {
-    let place = left.of.len().min(usize::from(u16::MAX)) as u16;
+    let place = departed.of.len().min(usize::from(u16::MAX)) as u16;
     let next = match end {
         Some(vertex) => entered.of_vertex(vertex),
-        None => entered.add_at(number, place)?,
+        None => entered.add_at(coordinate, place)?,
     };
-    left.of.push(segment)?;
+    departed.of.push(segment)?;
     entered.of.push(next)?;
     Ok(next)
 }

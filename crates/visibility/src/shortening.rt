@@ -1,55 +1,55 @@
-//! Numbers of segments with which the edges across them are shortest in all.
+//! Coordinates of segments with which the edges across them are shortest in all.
 
 ghost use Rattle.std.specs.Prelude.{◌≡◌, []};
 
-use crate::segments::{Segment, Segments, number_of};
+use crate::segments::{Segment, Segments, coordinate_of};
 use crate::sweep::Sweep;
-use least_length::{Edge, find_shorter};
+use least_length::{Wire, find_shorter};
 use std::alloc::{AllocError, Global};
 
 /// What shortening works in.
 #[derive(Drop)]
 pub(crate) struct Shortening {
-    /// The segments in the order of their numbers.
+    /// The segments in the order of their coordinates.
     segments: Vec<least_length::Segment>,
-    edges: Vec<Edge>,
+    wires: Vec<Wire>,
     /// For each segment its place in that order.
     places: Vec<u16>,
-    /// The numbers found, in that order.
-    numbers: Vec<u16>,
+    /// The coordinates found, in that order.
+    coordinates: Vec<u16>,
     search: least_length::Scratch,
 }
 
 impl Shortening {
     /// No memory yet.
     pub(crate) fn empty(alloc: Global) -> Shortening
-        ensures { result.edges.items ≡ [] }
+        ensures { result.wires.items ≡ [] }
     {
         Shortening {
             segments: Vec::new(alloc),
-            edges: Vec::new(alloc),
+            wires: Vec::new(alloc),
             places: Vec::new(alloc),
-            numbers: Vec::new(alloc),
+            coordinates: Vec::new(alloc),
             search: least_length::Scratch::empty(alloc),
         }
     }
 
-    /// Gives segments numbers with which those of the other axis, `crossing`, are shortest in all, while the
-    /// segments on each level keep their order; whether they are shorter then. Else no number changes.
+    /// Gives segments coordinates with which those of the other axis, `other`, are shortest in all, while the
+    /// segments on each level keep their order; whether they are shorter then. Else no coordinate changes.
     pub(crate) fn shorten(
         &mut self,
         along: &mut Segments,
-        crossing: &Segments,
+        other: &Segments,
         sweep: &mut Sweep,
     ) -> Result<bool, AllocError> {
-        if crossing.are_short(along) {
+        if other.are_shortest(along) {
             return Ok(false);
         }
-        self.list_segments(along, crossing.segments.as_slice())?;
-        self.list_edges(crossing.segments.as_slice())?;
+        self.list_segments(along, other.segments.as_slice())?;
+        self.list_wires(other.segments.as_slice())?;
         let segments = self.segments.as_slice();
-        let edges = self.edges.as_slice();
-        if !find_shorter(&mut self.search, segments, edges, &mut self.numbers)? {
+        let wires = self.wires.as_slice();
+        if !find_shorter(&mut self.search, segments, wires, &mut self.coordinates)? {
             return Ok(false);
         }
         let gain = self.gain(along.segments.as_slice());
@@ -57,12 +57,12 @@ impl Shortening {
             return Ok(false);
         }
         sweep.gain = sweep.gain.wrapping_add(gain);
-        self.place(along)?;
+        self.assign(along)?;
         Ok(true)
     }
 
-    /// Lists the segments in the order of their numbers, with the levels that they cross.
-    fn list_segments(&mut self, along: &Segments, crossing: &[Segment]) -> Result<(), AllocError> {
+    /// Lists the segments in the order of their coordinates, with the levels that they cross.
+    fn list_segments(&mut self, along: &Segments, other: &[Segment]) -> Result<(), AllocError> {
         self.segments.clear();
         self.places.clear();
         self.places.resize(along.segments.len(), 0)?;
@@ -78,9 +78,9 @@ impl Shortening {
                     *place = self.segments.len().min(usize::from(u16::MAX)) as u16;
                 }
                 self.segments.push(least_length::Segment {
-                    number: segment.number,
-                    low: number_of(crossing, segment.low),
-                    high: number_of(crossing, segment.high),
+                    coordinate: segment.coordinate,
+                    low: coordinate_of(other, segment.begins_on),
+                    high: coordinate_of(other, segment.ends_on),
                 })?;
                 named = segment.next;
             }
@@ -88,34 +88,34 @@ impl Shortening {
         Ok(())
     }
 
-    /// Lists the segments of the other axis as edges from the segment where each begins to that where it ends.
-    fn list_edges(&mut self, crossing: &[Segment]) -> Result<(), AllocError> {
-        self.edges.clear();
-        for segment in crossing {
-            if segment.low != segment.high {
-                let from = entry_of(self.places.as_slice(), segment.low);
-                let to = entry_of(self.places.as_slice(), segment.high);
-                let level = segment.number;
-                self.edges.push(Edge { from, to, level })?;
+    /// Lists the segments of the other axis as wires from the segment where each begins to that where it ends.
+    fn list_wires(&mut self, other: &[Segment]) -> Result<(), AllocError> {
+        self.wires.clear();
+        for segment in other {
+            if segment.begins_on != segment.ends_on {
+                let from = entry_of(self.places.as_slice(), segment.begins_on);
+                let to = entry_of(self.places.as_slice(), segment.ends_on);
+                let level = segment.coordinate;
+                self.wires.push(Wire { from, to, level })?;
             }
         }
         Ok(())
     }
 
-    /// By how much shorter the segments of the other axis are with the numbers found.
+    /// By how much shorter the segments of the other axis are with the coordinates found.
     fn gain(&self, segments: &[Segment]) -> i64 {
         let mut gain: i64 = 0;
         for (segment, place) in segments.iter().zip(self.places.as_slice()) {
-            let number = entry_of(self.numbers.as_slice(), *place);
-            gain = gain.wrapping_add(segment.gain_at(number));
+            let coordinate = entry_of(self.coordinates.as_slice(), *place);
+            gain = gain.wrapping_add(segment.gain_at(coordinate));
         }
         gain
     }
 
-    /// Gives segments the numbers found, and lists them by these.
-    fn place(&self, along: &mut Segments) -> Result<(), AllocError> {
+    /// Gives segments the coordinates found, and lists them by these.
+    fn assign(&self, along: &mut Segments) -> Result<(), AllocError> {
         for (segment, place) in along.segments.iter_mut().zip(self.places.as_slice()) {
-            segment.number = entry_of(self.numbers.as_slice(), *place);
+            segment.coordinate = entry_of(self.coordinates.as_slice(), *place);
         }
         along.list_anew()
     }

@@ -4,7 +4,7 @@
 #[derive(Drop)]
 pub(crate) struct StraightEdges {
     ahead: [u8; 256],
-    behind: [u8; 256],
+    back: [u8; 256],
 }
 
 impl StraightEdges {
@@ -12,7 +12,7 @@ impl StraightEdges {
     pub(crate) fn none() -> StraightEdges {
         StraightEdges {
             ahead: [0; 256],
-            behind: [0; 256],
+            back: [0; 256],
         }
     }
 
@@ -21,7 +21,7 @@ impl StraightEdges {
         for entry in self.ahead.iter_mut() {
             *entry = 0;
         }
-        for entry in self.behind.iter_mut() {
+        for entry in self.back.iter_mut() {
             *entry = 0;
         }
     }
@@ -34,12 +34,12 @@ impl StraightEdges {
             (head, tail)
         };
         self.ahead[usize::from(low)] = high;
-        self.behind[usize::from(high)] = low;
+        self.back[usize::from(high)] = low;
     }
 
-    /// Whether some edge leads to this vertex from behind.
+    /// Whether some edge leads to this vertex from before.
     pub(crate) fn is_led_to(&self, vertex: u8) -> bool {
-        self.behind[usize::from(vertex)] != 0
+        self.back[usize::from(vertex)] != 0
     }
 
     /// The vertex to which the edge ahead leads.

@@ -6,8 +6,8 @@ use Rattle.entries.specs.Abouts.{about_of}
 use Rattle.printing.proofs.Books.{drawn_books}
 use Rattle.collector.proofs.run.run_batch.Goals as goal
 
-pub bind-requires-clause-ready : goal.bind-requires-clause-ready
-bind-requires-clause-ready g c =
+pub books_of-requires-clause-ready : goal.books_of-requires-clause-ready
+books_of-requires-clause-ready g c =
     let meaning = g.O.Opener.meaning c.args.opener.now in
     let ran = c.run_lanes-drafts in
     let told = subst (λ r. IfOk r (λ _. (ns : List Note) × AreDrafts about_of 0 ns ran.result.0.files.items × AreToldWhole c.args.choice meaning c.args.files ns)) c.in-Ok-ran.is ran.ensures.told in (
@@ -17,11 +17,11 @@ bind-requires-clause-ready g c =
           (λ file below. told.2 file (omega (arith, below, ran.ensures.stays, c.in-Ok.ensures.count))),
     )
 
-pub returns-in-Ok-bind-clause-drawn : goal.returns-in-Ok-bind-clause-drawn
-returns-in-Ok-bind-clause-drawn g c =
+pub returns-in-Ok-books_of-clause-drawn : goal.returns-in-Ok-books_of-clause-drawn
+returns-in-Ok-books_of-clause-drawn g c =
     let meaning = g.O.Opener.meaning c.args.opener.now in
     let ran = c.run_lanes-drafts in
     let told = subst (λ r. IfOk r (λ _. (ns : List Note) × AreDrafts about_of 0 ns ran.result.0.files.items × AreToldWhole c.args.choice meaning c.args.files ns)) c.in-Ok-ran.is ran.ensures.told in
     let ready = c.into_ready.ensures.ready c.args.choice meaning told.0 told.1
     (λ file below. told.2 file (omega (arith, below, ran.ensures.stays, c.in-Ok.ensures.count))) in
-    drawn_books c.args.choice meaning 0 c.in-Ok-bind.batch (c.in-Ok-bind.ensures.books c.args.choice meaning ready)
+    drawn_books c.args.choice meaning 0 c.in-Ok-books_of.batch (c.in-Ok-books_of.ensures.books c.args.choice meaning ready)

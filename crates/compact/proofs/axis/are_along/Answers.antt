@@ -16,8 +16,8 @@ loop-vertex-preserved c =
     let east = c.is_step_kept.ensures in
     let north = c.is_step_kept-in-loop-vertex.ensures in
     record {
-      east = kept_next around 0 v (slice_index around (4 * v)) x y (ap (λ (i : ℕ). slice_index around i) (omega arith)) (east.grows kept.0) (east.level kept.0) c.loop-vertex.invariant.east;
-      north = kept_next around 1 v (slice_index around (4 * v + 1)) y x refl (north.grows kept.1) (north.level kept.1) c.loop-vertex.invariant.north;
+      east = kept_next around 0 v (slice_index around (4 * v)) x y (ap (λ (i : ℕ). slice_index around i) (omega arith)) (east.grows kept.0) (east.equal kept.0) c.loop-vertex.invariant.east;
+      north = kept_next around 1 v (slice_index around (4 * v + 1)) y x refl (north.grows kept.1) (north.equal kept.1) c.loop-vertex.invariant.north;
     }
 
 pub returns-clause-x_along : goal.returns-clause-x_along

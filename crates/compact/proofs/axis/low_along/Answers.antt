@@ -3,7 +3,7 @@ use Rattle.std.proofs.lemmas.List.{take_at}
 use Rattle.dissect.specs.Boxes.{dart_map}
 use Rattle.compact.specs.Ordered.{IsAlong, growth}
 use Rattle.compact.specs.Steps.{step, AreUnder, StayUnderAll}
-use Rattle.compact.proofs.Stepping.{grow_ahead, level_across, growth_few, across_far, zeros_under}
+use Rattle.compact.proofs.Stepping.{grow_ahead, equal_across, growth_few, across_far, zeros_under}
 use Rattle.compact.proofs.axis.low_along.Goals as goal
 
 pub returns-clause-under : goal.returns-clause-under
@@ -18,15 +18,15 @@ returns-clause-under c = λ y along.
     let sound = c.vertices.ensures.boxes.sound in
     let left = told.left.1 in
     let far = across_far c.args.axis in
-    let size : length c.deref_mut.result.now ≡ n = omega (arith, c.deref_mut.ensures.len, c.in_ok-numbers.ensures.len, c.vertices.ensures.value) in
-    let blank = c.deref_mut.ensures.value ∙ c.in_ok-numbers.ensures.items in
-    let raised : StayUnderAll n (step around steps.ahead) (step around steps.left) c.deref_mut.result.now c.raise_to_longest_paths.new.numbers =
-    subst (λ (list : List ℕ). StayUnderAll n (step list steps.ahead) (step list steps.left) c.deref_mut.result.now c.raise_to_longest_paths.new.numbers) told.around
-    (subst (λ (m : ℕ). StayUnderAll m (step steps.around.now steps.ahead) (step steps.around.now steps.left) c.deref_mut.result.now c.raise_to_longest_paths.new.numbers) size c.raise_to_longest_paths.ensures.under) in
+    let size : length c.deref_mut.result.now ≡ n = omega (arith, c.deref_mut.ensures.len, c.in_ok-coordinates.ensures.len, c.vertices.ensures.value) in
+    let blank = c.deref_mut.ensures.value ∙ c.in_ok-coordinates.ensures.items in
+    let raised : StayUnderAll n (step around steps.ahead) (step around steps.left) c.deref_mut.result.now c.raise_to_longest_paths.new.coordinates =
+    subst (λ (list : List ℕ). StayUnderAll n (step list steps.ahead) (step list steps.left) c.deref_mut.result.now c.raise_to_longest_paths.new.coordinates) told.around
+    (subst (λ (m : ℕ). StayUnderAll m (step steps.around.now steps.ahead) (step steps.around.now steps.left) c.deref_mut.result.now c.raise_to_longest_paths.new.coordinates) size c.raise_to_longest_paths.ensures.under) in
     let here : IsAlong w steps.ahead y = subst (λ (d : ℕ). IsAlong w d y) (sym told.ahead.1) along in
     subst (λ (xs : List ℕ). AreUnder n xs y)
-    (sym (take_at c.raise_to_longest_paths.new.numbers _ c.in_ok-numbers.numbers.len (omega (arith, c.raise_to_longest_paths.ensures.count, c.deref_mut.ensures.len))))
+    (sym (take_at c.raise_to_longest_paths.new.coordinates _ c.in_ok-coordinates.coordinates.len (omega (arith, c.raise_to_longest_paths.ensures.count, c.deref_mut.ensures.len))))
     (raised y
     (grow_ahead w steps.ahead around n y told.ahead.0 are here)
-    (level_across w k steps.left around n y sound (growth_few c.args.axis) told.left.0 (λ e. far.0 (sym left ∙ e)) (λ e. far.1 (sym left ∙ e)) are along)
+    (equal_across w k steps.left around n y sound (growth_few c.args.axis) told.left.0 (λ e. far.0 (sym left ∙ e)) (λ e. far.1 (sym left ∙ e)) are along)
     (zeros_under c.deref_mut.result.now _ n y blank size))

@@ -29,15 +29,15 @@ pub returns-clause-along : goal.returns-clause-along
 returns-clause-along c =
     let w = dart_map c.args.boxes.now in
     let k = growth c.args.axis in
-    let found = c.relax_in_rounds-all_kept.new.numbers in
+    let found = c.relax_in_rounds-all_kept.new.coordinates in
     let all_kept = c.if-not-all_kept.ensures in
     let x : ℕ → ℕ = λ v. slice_index found v in
     let before : length c.deref_mut.result.now ≡ c.args.boxes.now.vertices =
     omega (arith, ap (λ (xs : List ℕ). length xs) c.deref_mut.ensures.value, c.requires.count) in
-    let room : length found ≡ c.args.numbers.len = omega (arith, all_kept.length, c.deref_mut.ensures.len) in
+    let room : length found ≡ c.args.coordinates.len = omega (arith, all_kept.length, c.deref_mut.ensures.len) in
     let keeps = subst (λ (gs : List Constraint). Keeps gs x) c.deref.ensures.value (all_kept.keeps refl) in
     subst (λ (xs : List ℕ). AreLeast c.args.boxes.now k xs)
-    (sym (take_at found _ c.args.numbers.len room))
+    (sym (take_at found _ c.args.coordinates.len room))
     (record {
       along = all_along w k c.constraints_along.new.constraints.items x c.in-Ok.ensures keeps;
       least = λ y along v v_in.

@@ -1,12 +1,12 @@
 use Rattle.std.proofs.Common.{◌≡◌, length, slice_index}
-use Rattle.compact.specs.Constraints.{IsLow, slack}
+use Rattle.compact.specs.Constraints.{IsLow, shortfall}
 use Rattle.compact.proofs.constraint_graph.relax_in_rounds.Given as goal
 
 abbrev pub invariant-rounds : goal.invariant-rounds
 invariant-rounds l = record {
-  size : length l.numbers ≡ length l.fn.numbers;
-  low : IsLow l.constraints (length l.fn.numbers) (λ v. slice_index l.numbers v);
+  size : length l.coordinates ≡ length l.fn.coordinates;
+  low : IsLow l.constraints (length l.fn.coordinates) (λ v. slice_index l.coordinates v);
 }
 
 abbrev pub decreases-rounds : goal.decreases-rounds
-decreases-rounds l = slack l.numbers
+decreases-rounds l = shortfall l.coordinates

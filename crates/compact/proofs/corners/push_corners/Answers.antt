@@ -4,8 +4,8 @@ use Rattle.std.proofs.lemmas.List.{map_push, take_all}
 use Rattle.ortho_rep.specs.declared.points.Point.{Point}
 use Rattle.dissect.specs.Paths.{turn_to}
 use Rattle.dissect.specs.Boxes.{dart_map}
-use Rattle.compact.specs.Ordered.{point_at, places_along}
-use Rattle.compact.proofs.Walking.{place_between, between_straight, between_turn, places_more, places_one}
+use Rattle.compact.specs.Ordered.{point_at, vertices_along}
+use Rattle.compact.proofs.Walking.{vertex_between, between_straight, between_turn, vertices_more, vertices_one}
 use Rattle.compact.proofs.corners.push_corners.Goals as goal
 use Rattle.compact.proofs.corners.push_corners.Goals.{then-is_turn+in_ok-push, else-is_turn}
 
@@ -14,7 +14,7 @@ loop-k-init c =
     let w = dart_map c.args.boxes.now in
     let point = point_at (λ v. slice_index c.args.x.now v) (λ v. slice_index c.args.y.now v) in
     sym (append-nil c.args.corners.now.items)
-    ∙ ap (λ (ds : List ℕ). c.args.corners.now.items ++ map point ds) (sym (places_one w c.args.path.now))
+    ∙ ap (λ (ds : List ℕ). c.args.corners.now.items ++ map point ds) (sym (vertices_one w c.args.path.now))
 
 pub loop-k-preserved : goal.loop-k-preserved
 loop-k-preserved c =
@@ -25,11 +25,11 @@ loop-k-preserved c =
     let front : ℕ = slice_index ds (k - 1) in
     let dart : ℕ = slice_index ds k in
     let point = point_at (λ v. slice_index c.args.x.now v) (λ v. slice_index c.args.y.now v) in
-    let met = places_along w (take k ds) in
-    let more : places_along w (take (k + 1) ds) ≡ met ++ place_between w front dart = places_more w ds k c.loop-k.auto.k c.loop-k-test.true in
+    let met = vertices_along w (take k ds) in
+    let more : vertices_along w (take (k + 1) ds) ≡ met ++ vertex_between w front dart = vertices_more w ds k c.loop-k.auto.k c.loop-k-test.true in
     elim c.if-is_turn.branch [
       | then-is_turn+in_ok-push b ↦
-          let all : places_along w (take (k + 1) ds) ≡ met ++ (w.head front ∷ []) =
+          let all : vertices_along w (take (k + 1) ds) ≡ met ++ (w.head front ∷ []) =
           more ∙ ap (λ (ps : List ℕ). met ++ ps) (between_turn w front dart (c.is_turn.ensures.0 b.if-is_turn.true)) in
           rw b.corners-is (b.in_ok-push.ensures.items
           ∙ ap (λ (ps : List Point). ps ++ (b.point_of.result ∷ [])) c.loop-k.invariant
@@ -42,7 +42,7 @@ loop-k-preserved c =
             | inl e ↦ e
             | inr turns ↦ absurd (both_ways c.is_turn.result b.if-is_turn.false (c.is_turn.ensures.1 turns))
           ] in
-          let all : places_along w (take (k + 1) ds) ≡ met =
+          let all : vertices_along w (take (k + 1) ds) ≡ met =
           more ∙ ap (λ (ps : List ℕ). met ++ ps) (between_straight w front dart straight) ∙ append-nil met in
           rw b.corners-is (c.loop-k.invariant ∙ ap (λ (ps : List ℕ). old ++ map point ps) (sym all))
     ]
@@ -51,4 +51,4 @@ pub returns : goal.returns
 returns c =
     let point = point_at (λ v. slice_index c.args.x.now v) (λ v. slice_index c.args.y.now v) in
     c.loop-k.invariant
-    ∙ ap (λ (ds : List ℕ). c.args.corners.now.items ++ map point (places_along (dart_map c.args.boxes.now) ds)) (take_all c.loop-k.k c.args.path.now c.loop-k-test.false)
+    ∙ ap (λ (ds : List ℕ). c.args.corners.now.items ++ map point (vertices_along (dart_map c.args.boxes.now) ds)) (take_all c.loop-k.k c.args.path.now c.loop-k-test.false)

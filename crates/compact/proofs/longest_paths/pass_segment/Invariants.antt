@@ -4,7 +4,7 @@ use Rattle.compact.proofs.longest_paths.pass_segment.Given as goal
 
 abbrev pub invariant-loop : goal.invariant-loop
 invariant-loop l = record {
-  under : StayUnder (step l.steps.around.now l.steps.ahead) (length l.fn.numbers) l.segments l.fn.numbers l.numbers;
-  count : length l.numbers ≡ length l.fn.numbers;
-  inside : l.vertex < length l.fn.numbers;
+  under : StayUnder (step l.steps.around.now l.steps.ahead) (length l.fn.coordinates) l.segments l.fn.coordinates l.coordinates;
+  count : length l.coordinates ≡ length l.fn.coordinates;
+  inside : l.vertex < length l.fn.coordinates;
 }

@@ -4,7 +4,7 @@ use Rattle.compact.proofs.longest_paths.raise_to_longest_paths.Given as goal
 
 abbrev pub invariant-loop-at : goal.invariant-loop-at
 invariant-loop-at l = record {
-  under : StayUnderAll (length l.fn.numbers) (step l.steps.around.now l.steps.ahead) (step l.steps.around.now l.steps.left) l.fn.numbers l.numbers;
-  count : length l.numbers ≡ length l.fn.numbers;
-  segments : AreSegments (step l.steps.around.now l.steps.left) (length l.fn.numbers) l.segments;
+  under : StayUnderAll (length l.fn.coordinates) (step l.steps.around.now l.steps.ahead) (step l.steps.around.now l.steps.left) l.fn.coordinates l.coordinates;
+  count : length l.coordinates ≡ length l.fn.coordinates;
+  segments : AreSegments (step l.steps.around.now l.steps.left) (length l.fn.coordinates) l.segments;
 }

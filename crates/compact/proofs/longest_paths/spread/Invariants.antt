@@ -1,9 +1,9 @@
 use Rattle.std.proofs.Common.{◌≡◌, ℕ, length}
-use Rattle.compact.specs.Steps.{AreLevelIn, AreUnder}
+use Rattle.compact.specs.Steps.{AreEqualIn, AreUnder}
 use Rattle.compact.proofs.longest_paths.spread.Given as goal
 
 abbrev pub invariant-loop-vertex : goal.invariant-loop-vertex
 invariant-loop-vertex l = record {
-  under : (y : ℕ → ℕ) → AreLevelIn l.segments (length l.fn.numbers) y → AreUnder (length l.fn.numbers) l.fn.numbers y → AreUnder (length l.fn.numbers) l.numbers y;
-  count : length l.numbers ≡ length l.fn.numbers;
+  under : (y : ℕ → ℕ) → AreEqualIn l.segments (length l.fn.coordinates) y → AreUnder (length l.fn.coordinates) l.fn.coordinates y → AreUnder (length l.fn.coordinates) l.coordinates y;
+  count : length l.coordinates ≡ length l.fn.coordinates;
 }

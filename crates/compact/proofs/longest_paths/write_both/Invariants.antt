@@ -4,8 +4,8 @@ use Rattle.compact.proofs.longest_paths.write_both.Given as goal
 
 abbrev pub invariant-loop : goal.invariant-loop
 invariant-loop l = record {
-  x_directions : (l.x_steps.around.now ≡ l.around) × (l.x_steps.left ≡ 1) × (l.x_steps.behind ≡ 2);
-  y_directions : (l.y_steps.around.now ≡ l.around) × (l.y_steps.left ≡ 2) × (l.y_steps.behind ≡ 3);
+  x_directions : (l.x_steps.around.now ≡ l.around) × (l.x_steps.left ≡ 1) × (l.x_steps.back ≡ 2);
+  y_directions : (l.y_steps.around.now ≡ l.around) × (l.y_steps.left ≡ 2) × (l.y_steps.back ≡ 3);
   x_count : length l.x_segments ≡ length l.fn.x.segments.items;
   y_count : length l.y_segments ≡ length l.fn.x.segments.items;
   x_segments : AreSegments (step l.around 1) (length l.fn.x.segments.items) l.x_segments;

@@ -25,7 +25,7 @@ paths_of-requires c =
       done = c.in_ok-faces.ensures.done;
       reaches = c.in_ok-faces.ensures.reaches;
       few = c.in_ok-faces.ensures.few;
-      small = omega (arith, c.refine_in.new.table.darts_in, c.refine_in.new.table.narrow);
+      small = omega (arith, c.refine_in.new.table.darts_in, c.refine_in.new.table.darts_fit);
     } in
     let es = c.in_ok-edges.edges.items in
     record {
@@ -57,7 +57,7 @@ of-requires c =
       done = c.in_ok-faces.ensures.done;
       reaches = c.in_ok-faces.ensures.reaches;
       few = c.in_ok-faces.ensures.few;
-      small = omega (arith, c.refine_in.new.table.darts_in, c.refine_in.new.table.narrow);
+      small = omega (arith, c.refine_in.new.table.darts_in, c.refine_in.new.table.darts_fit);
     } in
     let listed : (e : ℕ) → e < length c.in_ok-edges.edges.items → (first : ℕ) (rest : List ℕ) →
     IsPath (dart_map_of c.refine_in.new.table) (slice_index c.in_ok-edges.edges.items e) first rest →
@@ -88,7 +88,7 @@ returns c =
       done = c.in_ok-faces.ensures.done;
       reaches = c.in_ok-faces.ensures.reaches;
       few = c.in_ok-faces.ensures.few;
-      small = omega (arith, c.refine_in.new.table.darts_in, c.refine_in.new.table.narrow);
+      small = omega (arith, c.refine_in.new.table.darts_in, c.refine_in.new.table.darts_fit);
     } in
     let listed : (e : ℕ) → e < length c.in_ok-edges.edges.items → (first : ℕ) (rest : List ℕ) →
     IsPath (dart_map_of c.refine_in.new.table) (slice_index c.in_ok-edges.edges.items e) first rest →

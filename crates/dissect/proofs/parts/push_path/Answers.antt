@@ -50,7 +50,7 @@ step_of c first rest path =
     let test = get_or_read t.before.items c.back.dart c.index.result.now there c.index.ensures 0 in
     let read = get_or_read t.before.items c.back.dart c.index-dart.result.now there c.index-dart.ensures 0 in
     way_on (dart_map_of t) (first ∷ rest) c.back.dart c.index-dart.result.now (drop c.len-start.result c.back.darts.items)
-    (omega (arith, t.darts_in, t.narrow)) (sym read) (λ none. c.back-test.true (test ∙ sym read ∙ none))
+    (omega (arith, t.darts_in, t.darts_fit)) (sym read) (λ none. c.back-test.true (test ∙ sym read ∙ none))
     (c.back.invariant.way first rest path)
 
 pub back-smaller : goal.back-smaller
@@ -94,5 +94,5 @@ returns c = λ first rest path.
     ∙ ap (λ (zs : List ℕ). take a zs ++ ys) same
     ∙ ap (λ (zs : List ℕ). zs ++ ys) c.back.invariant.before
     ∙ ap (λ (zs : List ℕ). c.args.darts.now.items ++ zs) (turned
-    ∙ way_ends (dart_map_of t) (first ∷ rest) c.back.dart (drop a xs) (omega (arith, t.darts_in, t.narrow)) none
+    ∙ way_ends (dart_map_of t) (first ∷ rest) c.back.dart (drop a xs) (omega (arith, t.darts_in, t.darts_fit)) none
     (c.back.invariant.way first rest path))

@@ -2,7 +2,7 @@ use Rattle.std.proofs.Common.{◌≡◌, ◌+◌, ℕ, List, [], arith, sym, sub
 use Rattle.dissect.specs.Tables.{dart_map_of, room}
 use Rattle.dissect.specs.Faces.{AreWaiting}
 use Rattle.dissect.proofs.Sounding.{surround_sound}
-use Rattle.dissect.proofs.Refining.{AreReady, facing_can, joining_of, join_sound, join_room, join_ready, enclosed_by, enclosed_reaches, enclosed_few}
+use Rattle.dissect.proofs.Refining.{AreReady, cut_side_can, bridging_of, bridge_sound, bridge_room, bridge_ready, enclosed_by, enclosed_reaches, enclosed_few}
 use Rattle.dissect.proofs.refinement.refine_in.Goals as goal
 
 pub cut_across-requires-clause-sound : goal.cut_across-requires-clause-sound
@@ -10,35 +10,35 @@ cut_across-requires-clause-sound c = surround_sound (dart_map_of c.args.table.no
 
 pub cut_across-requires-clause-can : goal.cut_across-requires-clause-can
 cut_across-requires-clause-can c =
-    facing_can (dart_map_of c.args.table.now) (dart_map_of c.surround.new.table) c.find_right-right.result c.facing_side-side.result c.requires.sound
-    c.surround.ensures.surrounded c.find_right-right.ensures.inside c.find_right-right.ensures.right c.facing_side-side.ensures.side
-    c.facing_side-side.ensures.faces
+    cut_side_can (dart_map_of c.args.table.now) (dart_map_of c.surround.new.table) c.find_right-right.result c.cut_side-side.result c.requires.sound
+    c.surround.ensures.surrounded c.find_right-right.ensures.inside c.find_right-right.ensures.right c.cut_side-side.ensures.side
+    c.cut_side-side.ensures.faces
 
 pub cut_faces-requires-clause-sound : goal.cut_faces-requires-clause-sound
 cut_faces-requires-clause-sound c =
-    let j = joining_of (dart_map_of c.args.table.now) (dart_map_of c.surround.new.table) c.find_right-right.result c.facing_side-side.result
+    let j = bridging_of (dart_map_of c.args.table.now) (dart_map_of c.surround.new.table) c.find_right-right.result c.cut_side-side.result
     c.cut_across.ensures.cut.0 (dart_map_of c.cut_across.new.table) c.requires.sound c.surround.ensures.surrounded c.find_right-right.ensures.inside
-    c.facing_side-side.ensures.side c.cut_across.ensures.cut.1 in
-    join_sound (dart_map_of c.args.table.now) (dart_map_of c.surround.new.table) c.find_right-right.result c.facing_side-side.result
+    c.cut_side-side.ensures.side c.cut_across.ensures.cut.1 in
+    bridge_sound (dart_map_of c.args.table.now) (dart_map_of c.surround.new.table) c.find_right-right.result c.cut_side-side.result
     c.cut_across.ensures.cut.0 (dart_map_of c.cut_across.new.table) c.requires.sound j
 
 pub cut_faces-requires-clause-space : goal.cut_faces-requires-clause-space
 cut_faces-requires-clause-space c =
-    let j = joining_of (dart_map_of c.args.table.now) (dart_map_of c.surround.new.table) c.find_right-right.result c.facing_side-side.result
+    let j = bridging_of (dart_map_of c.args.table.now) (dart_map_of c.surround.new.table) c.find_right-right.result c.cut_side-side.result
     c.cut_across.ensures.cut.0 (dart_map_of c.cut_across.new.table) c.requires.sound c.surround.ensures.surrounded c.find_right-right.ensures.inside
-    c.facing_side-side.ensures.side c.cut_across.ensures.cut.1 in
+    c.cut_side-side.ensures.side c.cut_across.ensures.cut.1 in
     let space : room c.args.table.now ≡ room c.cut_across.new.table = omega (arith, c.surround.ensures.room, c.cut_across.ensures.room) in
-    join_room (dart_map_of c.args.table.now) (dart_map_of c.surround.new.table) c.find_right-right.result c.facing_side-side.result
+    bridge_room (dart_map_of c.args.table.now) (dart_map_of c.surround.new.table) c.find_right-right.result c.cut_side-side.result
     c.cut_across.ensures.cut.0 (room c.cut_across.new.table) (dart_map_of c.cut_across.new.table) j (omega (arith, space, c.requires.space))
 
 pub cut_faces-requires-clause-waiting : goal.cut_faces-requires-clause-waiting
 cut_faces-requires-clause-waiting c =
-    let j = joining_of (dart_map_of c.args.table.now) (dart_map_of c.surround.new.table) c.find_right-right.result c.facing_side-side.result
+    let j = bridging_of (dart_map_of c.args.table.now) (dart_map_of c.surround.new.table) c.find_right-right.result c.cut_side-side.result
     c.cut_across.ensures.cut.0 (dart_map_of c.cut_across.new.table) c.requires.sound c.surround.ensures.surrounded c.find_right-right.ensures.inside
-    c.facing_side-side.ensures.side c.cut_across.ensures.cut.1 in
+    c.cut_side-side.ensures.side c.cut_across.ensures.cut.1 in
     let listed = c.in_ok-faces.ensures.listed in
     let made = c.in_ok-add_connected_face.ensures.connected listed.0 listed.2 listed.1 in
-    let flat = join_ready (dart_map_of c.args.table.now) (dart_map_of c.surround.new.table) c.find_right-right.result c.facing_side-side.result
+    let flat = bridge_ready (dart_map_of c.args.table.now) (dart_map_of c.surround.new.table) c.find_right-right.result c.cut_side-side.result
     c.cut_across.ensures.cut.0 (dart_map_of c.cut_across.new.table) c.requires.sound j listed.0 c.in_ok-faces.faces.outer.items
     c.add_connected_face.new.faces.corners.items c.add_connected_face.new.faces.counts.items listed.2 made 0 (omega arith) in
     let o : ℕ = c.args.table.now.darts + 4 + 0 in
@@ -50,12 +50,12 @@ cut_faces-requires-clause-waiting c =
 
 pub cut_faces-requires-clause-all : goal.cut_faces-requires-clause-all
 cut_faces-requires-clause-all c =
-    let j = joining_of (dart_map_of c.args.table.now) (dart_map_of c.surround.new.table) c.find_right-right.result c.facing_side-side.result
+    let j = bridging_of (dart_map_of c.args.table.now) (dart_map_of c.surround.new.table) c.find_right-right.result c.cut_side-side.result
     c.cut_across.ensures.cut.0 (dart_map_of c.cut_across.new.table) c.requires.sound c.surround.ensures.surrounded c.find_right-right.ensures.inside
-    c.facing_side-side.ensures.side c.cut_across.ensures.cut.1 in
+    c.cut_side-side.ensures.side c.cut_across.ensures.cut.1 in
     let listed = c.in_ok-faces.ensures.listed in
     let made = c.in_ok-add_connected_face.ensures.connected listed.0 listed.2 listed.1 in
-    let flat = join_ready (dart_map_of c.args.table.now) (dart_map_of c.surround.new.table) c.find_right-right.result c.facing_side-side.result
+    let flat = bridge_ready (dart_map_of c.args.table.now) (dart_map_of c.surround.new.table) c.find_right-right.result c.cut_side-side.result
     c.cut_across.ensures.cut.0 (dart_map_of c.cut_across.new.table) c.requires.sound j listed.0 c.in_ok-faces.faces.outer.items
     c.add_connected_face.new.faces.corners.items c.add_connected_face.new.faces.counts.items listed.2 made 0 (omega arith) in
     let o : ℕ = c.args.table.now.darts + 4 + 0 in
@@ -67,12 +67,12 @@ cut_faces-requires-clause-all c =
 
 pub cut_faces-requires-clause-few : goal.cut_faces-requires-clause-few
 cut_faces-requires-clause-few c =
-    let j = joining_of (dart_map_of c.args.table.now) (dart_map_of c.surround.new.table) c.find_right-right.result c.facing_side-side.result
+    let j = bridging_of (dart_map_of c.args.table.now) (dart_map_of c.surround.new.table) c.find_right-right.result c.cut_side-side.result
     c.cut_across.ensures.cut.0 (dart_map_of c.cut_across.new.table) c.requires.sound c.surround.ensures.surrounded c.find_right-right.ensures.inside
-    c.facing_side-side.ensures.side c.cut_across.ensures.cut.1 in
+    c.cut_side-side.ensures.side c.cut_across.ensures.cut.1 in
     let listed = c.in_ok-faces.ensures.listed in
     let made = c.in_ok-add_connected_face.ensures.connected listed.0 listed.2 listed.1 in
-    let flat = join_ready (dart_map_of c.args.table.now) (dart_map_of c.surround.new.table) c.find_right-right.result c.facing_side-side.result
+    let flat = bridge_ready (dart_map_of c.args.table.now) (dart_map_of c.surround.new.table) c.find_right-right.result c.cut_side-side.result
     c.cut_across.ensures.cut.0 (dart_map_of c.cut_across.new.table) c.requires.sound j listed.0 c.in_ok-faces.faces.outer.items
     c.add_connected_face.new.faces.corners.items c.add_connected_face.new.faces.counts.items listed.2 made 0 (omega arith) in
     let o : ℕ = c.args.table.now.darts + 4 + 0 in
@@ -80,24 +80,24 @@ cut_faces-requires-clause-few c =
     subst (λ (xs : List ℕ). AreReady (dart_map_of c.cut_across.new.table) o xs c.as_slice.result.now) (sym c.as_mut_slice.ensures.value)
     (subst (λ (ns : List ℕ). AreReady (dart_map_of c.cut_across.new.table) o c.add_connected_face.new.faces.corners.items ns)
     (sym c.as_slice.ensures.value) flat) in
-    omega (arith, ready.few, c.cut_across.new.table.darts_in, c.cut_across.new.table.narrow)
+    omega (arith, ready.few, c.cut_across.new.table.darts_in, c.cut_across.new.table.darts_fit)
 
 pub returns-clause-enclosed : goal.returns-clause-enclosed
 returns-clause-enclosed c =
-    let j = joining_of (dart_map_of c.args.table.now) (dart_map_of c.surround.new.table) c.find_right-right.result c.facing_side-side.result
+    let j = bridging_of (dart_map_of c.args.table.now) (dart_map_of c.surround.new.table) c.find_right-right.result c.cut_side-side.result
     c.cut_across.ensures.cut.0 (dart_map_of c.cut_across.new.table) c.requires.sound c.surround.ensures.surrounded c.find_right-right.ensures.inside
-    c.facing_side-side.ensures.side c.cut_across.ensures.cut.1 in
-    enclosed_by (dart_map_of c.args.table.now) c.args.outside (dart_map_of c.surround.new.table) c.find_right-right.result c.facing_side-side.result
+    c.cut_side-side.ensures.side c.cut_across.ensures.cut.1 in
+    enclosed_by (dart_map_of c.args.table.now) c.args.outside (dart_map_of c.surround.new.table) c.find_right-right.result c.cut_side-side.result
     c.cut_across.ensures.cut.0 (dart_map_of c.cut_across.new.table) (dart_map_of c.cut_faces.new.table) c.find_right-right.ensures.same j c.cut_faces.ensures.grows
 
 pub returns-clause-done : goal.returns-clause-done
 returns-clause-done c k k_in =
-    let j = joining_of (dart_map_of c.args.table.now) (dart_map_of c.surround.new.table) c.find_right-right.result c.facing_side-side.result
+    let j = bridging_of (dart_map_of c.args.table.now) (dart_map_of c.surround.new.table) c.find_right-right.result c.cut_side-side.result
     c.cut_across.ensures.cut.0 (dart_map_of c.cut_across.new.table) c.requires.sound c.surround.ensures.surrounded c.find_right-right.ensures.inside
-    c.facing_side-side.ensures.side c.cut_across.ensures.cut.1 in
+    c.cut_side-side.ensures.side c.cut_across.ensures.cut.1 in
     let listed = c.in_ok-faces.ensures.listed in
     let made = c.in_ok-add_connected_face.ensures.connected listed.0 listed.2 listed.1 in
-    let flat = join_ready (dart_map_of c.args.table.now) (dart_map_of c.surround.new.table) c.find_right-right.result c.facing_side-side.result
+    let flat = bridge_ready (dart_map_of c.args.table.now) (dart_map_of c.surround.new.table) c.find_right-right.result c.cut_side-side.result
     c.cut_across.ensures.cut.0 (dart_map_of c.cut_across.new.table) c.requires.sound j listed.0 c.in_ok-faces.faces.outer.items
     c.add_connected_face.new.faces.corners.items c.add_connected_face.new.faces.counts.items listed.2 made k k_in in
     let o : ℕ = c.args.table.now.darts + 4 + k in
@@ -109,21 +109,21 @@ returns-clause-done c k k_in =
 
 pub returns-clause-reaches : goal.returns-clause-reaches
 returns-clause-reaches c =
-    let j = joining_of (dart_map_of c.args.table.now) (dart_map_of c.surround.new.table) c.find_right-right.result c.facing_side-side.result
+    let j = bridging_of (dart_map_of c.args.table.now) (dart_map_of c.surround.new.table) c.find_right-right.result c.cut_side-side.result
     c.cut_across.ensures.cut.0 (dart_map_of c.cut_across.new.table) c.requires.sound c.surround.ensures.surrounded c.find_right-right.ensures.inside
-    c.facing_side-side.ensures.side c.cut_across.ensures.cut.1 in
-    enclosed_reaches (dart_map_of c.args.table.now) (dart_map_of c.surround.new.table) c.find_right-right.result c.facing_side-side.result
+    c.cut_side-side.ensures.side c.cut_across.ensures.cut.1 in
+    enclosed_reaches (dart_map_of c.args.table.now) (dart_map_of c.surround.new.table) c.find_right-right.result c.cut_side-side.result
     c.cut_across.ensures.cut.0 (dart_map_of c.cut_across.new.table) (dart_map_of c.cut_faces.new.table) c.requires.turns.0
     (c.requires.turns.0 c.args.outside) c.requires.sound c.requires.turns.1 j c.cut_faces.ensures.grows
 
 pub returns-clause-few : goal.returns-clause-few
 returns-clause-few c =
-    let j = joining_of (dart_map_of c.args.table.now) (dart_map_of c.surround.new.table) c.find_right-right.result c.facing_side-side.result
+    let j = bridging_of (dart_map_of c.args.table.now) (dart_map_of c.surround.new.table) c.find_right-right.result c.cut_side-side.result
     c.cut_across.ensures.cut.0 (dart_map_of c.cut_across.new.table) c.requires.sound c.surround.ensures.surrounded c.find_right-right.ensures.inside
-    c.facing_side-side.ensures.side c.cut_across.ensures.cut.1 in
+    c.cut_side-side.ensures.side c.cut_across.ensures.cut.1 in
     let listed = c.in_ok-faces.ensures.listed in
     let made = c.in_ok-add_connected_face.ensures.connected listed.0 listed.2 listed.1 in
-    let flat = join_ready (dart_map_of c.args.table.now) (dart_map_of c.surround.new.table) c.find_right-right.result c.facing_side-side.result
+    let flat = bridge_ready (dart_map_of c.args.table.now) (dart_map_of c.surround.new.table) c.find_right-right.result c.cut_side-side.result
     c.cut_across.ensures.cut.0 (dart_map_of c.cut_across.new.table) c.requires.sound j listed.0 c.in_ok-faces.faces.outer.items
     c.add_connected_face.new.faces.corners.items c.add_connected_face.new.faces.counts.items listed.2 made 0 (omega arith) in
     let o : ℕ = c.args.table.now.darts + 4 + 0 in
@@ -131,7 +131,7 @@ returns-clause-few c =
     subst (λ (xs : List ℕ). AreReady (dart_map_of c.cut_across.new.table) o xs c.as_slice.result.now) (sym c.as_mut_slice.ensures.value)
     (subst (λ (ns : List ℕ). AreReady (dart_map_of c.cut_across.new.table) o c.add_connected_face.new.faces.corners.items ns)
     (sym c.as_slice.ensures.value) flat) in
-    enclosed_few (dart_map_of c.args.table.now) (dart_map_of c.surround.new.table) c.find_right-right.result c.facing_side-side.result
+    enclosed_few (dart_map_of c.args.table.now) (dart_map_of c.surround.new.table) c.find_right-right.result c.cut_side-side.result
     c.cut_across.ensures.cut.0 (dart_map_of c.cut_across.new.table) (dart_map_of c.cut_faces.new.table) c.requires.sound j
     c.cut_faces.ensures.grows
     (subst (λ (z : ℕ). AreWaiting (dart_map_of c.cut_faces.new.table) z []) (omega arith) (c.cut_faces.ensures.done o ready.waiting))

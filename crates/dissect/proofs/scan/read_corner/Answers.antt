@@ -110,7 +110,7 @@ returns c =
       scan = top.scan;
       low = top.low;
       inside = top.inside;
-      reduced = unhooked_at _ _ _ (dart_map_of c.cuts.table) c.cuts.ring c.cuts.height (c.args.read + 1) c.requires.waiting.0 c.requires.waiting.1 top c.requires.waiting.2
+      hookless = unhooked_at _ _ _ (dart_map_of c.cuts.table) c.cuts.ring c.cuts.height (c.args.read + 1) c.requires.waiting.0 c.requires.waiting.1 top c.requires.waiting.2
           (λ hook. let t = c.has_hook.ensures.1 hook in let f = c.cuts-test.false in absurd (cc));
       space = top.space;
       kept = c.cuts.invariant.same;

@@ -1,7 +1,7 @@
 use Rattle.std.proofs.Common.{◌<◌, ◌≤◌, arith, subst}
 use Rattle.std.proofs.lemmas.List.{get_or_read}
 use Rattle.dissect.specs.Tables.{dart_map_of}
-use Rattle.dissect.proofs.Walking.{seek_in, seek_label, seek_on, seek_fails}
+use Rattle.dissect.proofs.Walking.{seek_in, seek_face_number, seek_on, seek_fails}
 use Rattle.dissect.proofs.walks.find_right.Goals as goal
 
 pub index-requires : goal.index-requires
@@ -20,8 +20,8 @@ returns-then-index-gt2-clause-right c =
     subst (λ k. 2 < k) read c.if-index-gt2.true
 
 pub returns-then-index-gt2-clause-same : goal.returns-then-index-gt2-clause-same
-returns-then-index-gt2-clause-same c = λ label labels.
-    seek_label (dart_map_of c.args.table.now) label c.args.outside c.steps.counter c.steps.dart c.requires.tied labels c.requires.inside c.steps.invariant
+returns-then-index-gt2-clause-same c = λ face_number face_numbers.
+    seek_face_number (dart_map_of c.args.table.now) face_number c.args.outside c.steps.counter c.steps.dart c.requires.tied face_numbers c.requires.inside c.steps.invariant
 
 pub index-dart-requires : goal.index-dart-requires
 index-dart-requires c =
@@ -47,5 +47,5 @@ returns-clause-right c =
     c.requires.turns.1 c.requires.inside (omega arith) c.steps.invariant)
 
 pub returns-clause-same : goal.returns-clause-same
-returns-clause-same c = λ label labels.
-    seek_label (dart_map_of c.args.table.now) label c.args.outside c.steps.counter c.steps.dart c.requires.tied labels c.requires.inside c.steps.invariant
+returns-clause-same c = λ face_number face_numbers.
+    seek_face_number (dart_map_of c.args.table.now) face_number c.args.outside c.steps.counter c.steps.dart c.requires.tied face_numbers c.requires.inside c.steps.invariant

@@ -12,7 +12,7 @@ use Rattle.ortho_rep.proofs.EdgeNumbers.{edge_number-le, edge_total}
 use Rattle.drawing_check.specs.Paths.{path_along, point_of}
 use Rattle.drawing_check.specs.Draws.{IsInGrid, IsOnAxes, IsTurning}
 use Rattle.drawing_check.specs.Routes.{path_of}
-use Rattle.drawing_check.specs.Shown.{span_of, strips}
+use Rattle.drawing_check.specs.Shown.{rectangle_between, strips}
 use Rattle.drawing_check.proofs.InGrid.{grid_more, grid_all}
 use Rattle.drawing_check.proofs.Leaving.{number_of_lesser, number_of_greater, leaving_more, leaving_kept, leaves_out, leaves_back, all_leave}
 use Rattle.drawing_check.proofs.Routing.{axes_each, each_lesser, flag_more, flag_kept, paths_below, paths_below-more, paths_below-kept}
@@ -31,7 +31,7 @@ loop-dart-preserved c =
     let ends = c.graph-graph.ensures.ends in
     let straight : ℕ → Type 0 = λ d. IsOnAxes (path_along p points d) in
     let turning : ℕ → Type 0 = λ d. IsTurning (path_along p points d) (turns_at c.args.shape.now d) in
-    let base : List Rectangle = map (λ (q : Point). span_of q q) points.vertices in
+    let base : List Rectangle = map (λ (q : Point). rectangle_between q q) points.vertices in
     let so_far = c.loop-dart.invariant in
     let reverse_dart_is : c.reverse-reverse.result ≡ reverse_dart p dart = rw c.graph-graph.ensures.value at c.reverse-reverse.ensures.value in
     let count : c.darts-dart-end.result ≡ darts p = rw c.graph-graph.ensures.value at c.darts-dart-end.ensures.count in
@@ -82,7 +82,7 @@ returns c =
     let points = c.args.points.now in
     let done = c.loop-dart.invariant in
     let turning : ℕ → Type 0 = λ d. IsTurning (path_along p points d) (turns_at c.args.shape.now d) in
-    let base : List Rectangle = map (λ (q : Point). span_of q q) points.vertices in
+    let base : List Rectangle = map (λ (q : Point). rectangle_between q q) points.vertices in
     let count : c.darts-dart-end.result ≡ darts p = rw c.graph-graph.ensures.value at c.darts-dart-end.ensures.count in
     let whole : c.loop-dart.dart ≡ darts p = omega (arith, count, c.loop-dart.auto.dart-end) in
     let edges : c.loop-dart.edge ≡ length points.corners =

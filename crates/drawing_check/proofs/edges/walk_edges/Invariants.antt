@@ -5,7 +5,7 @@ use Rattle.ortho_rep.specs.Edges.{is_lesser, edge_number}
 use Rattle.ortho_rep.specs.Shapes.{turns_at}
 use Rattle.drawing_check.specs.Paths.{path_along}
 use Rattle.drawing_check.specs.Draws.{IsOnAxes, IsTurning}
-use Rattle.drawing_check.specs.Shown.{span_of, strips}
+use Rattle.drawing_check.specs.Shown.{rectangle_between, strips}
 use Rattle.drawing_check.proofs.InGrid.{AreInGridBelow}
 use Rattle.drawing_check.proofs.Leaving.{IsLeaving}
 use Rattle.drawing_check.proofs.Routing.{paths_below}
@@ -19,6 +19,6 @@ invariant-loop-dart l = record {
   turning : l.turning ≡ true
       ↔ ((d : ℕ) → d < l.dart → is_lesser l.plane d ≡ true → IsTurning (path_along l.plane l.points d) (turns_at l.shape d));
   listed : l.listed ≡ true
-      → l.rectangles.items ≡ map (λ (q : Point). span_of q q) l.points.vertices ++ flat_map strips (paths_below l.plane l.points l.dart);
+      → l.rectangles.items ≡ map (λ (q : Point). rectangle_between q q) l.points.vertices ++ flat_map strips (paths_below l.plane l.points l.dart);
   leaving : IsLeaving l.plane l.points l.directions l.dart;
 }

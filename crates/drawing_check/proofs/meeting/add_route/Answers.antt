@@ -3,7 +3,7 @@ use Rattle.std.proofs.lemmas.List.{drop_more, drop_all}
 use Rattle.std.proofs.lemmas.Result.{on_ok_weaker}
 use Rattle.ortho_rep.specs.declared.points.Point.{Point}
 use Rattle.ortho_rep.specs.Points.{origin}
-use Rattle.drawing_check.specs.Shown.{span_of, strips}
+use Rattle.drawing_check.specs.Shown.{rectangle_between, strips}
 use Rattle.drawing_check.proofs.Strips.{add_strip}
 use Rattle.drawing_check.proofs.meeting.add_route.Goals as goal
 
@@ -12,7 +12,7 @@ loop-corner-preserved c =
     let corners = c.args.route.now.corners.now in
     let corner : Point = get_or corners c.loop-corner.corner-index origin in
     add_strip c.loop-corner.rectangles.items c.push.new.self.items _ c.spanned.result c.loop-corner.from corner c.args.route.now.end _ _
-    c.loop-corner.invariant (drop_more corners c.loop-corner.corner-index origin (omega arith)) (c.spanned.ensures ∙ ap (λ (a : Point). span_of a corner) c.first_step.ensures) c.in_ok-push.ensures.items
+    c.loop-corner.invariant (drop_more corners c.loop-corner.corner-index origin (omega arith)) (c.spanned.ensures ∙ ap (λ (a : Point). rectangle_between a corner) c.first_step.ensures) c.in_ok-push.ensures.items
 
 pub returns : goal.returns
 returns c =

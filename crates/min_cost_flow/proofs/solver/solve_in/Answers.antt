@@ -43,5 +43,5 @@ returns c =
       looks = at.bounded;
       begun = at.begun;
       carrying = at.carried;
-      reach = at.reach;
+      confined = at.confined;
     }

@@ -1,13 +1,13 @@
 use Rattle.std.proofs.Common.{◌≡◌, ◌<◌, ◌≤◌, length}
 use Rattle.faces.specs.Planes.{darts, with_outer}
-use Rattle.ortho_rep.specs.Tries.{IsMoving, IsLead, AreBounds}
+use Rattle.ortho_rep.specs.Tries.{IsMoving, IsIncumbent, AreBounds}
 use Rattle.ortho_rep.proofs.best.tour.Given as goal
 
 abbrev pub invariant-loop-step : goal.invariant-loop-step
 invariant-loop-step l = record {
   turned : l.plane ≡ with_outer l.fn.plane l.plane.outer;
   moving : IsMoving l.plane l.moving;
-  lead : IsLead l.plane l.lead;
+  incumbent : IsIncumbent l.plane l.incumbent;
   bounds : AreBounds l.plane l.bounds;
   dart : l.dart < darts l.plane;
   faces : l.plane.faces ≤ length l.seen;

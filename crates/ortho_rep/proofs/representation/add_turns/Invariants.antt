@@ -7,7 +7,7 @@ use Rattle.ortho_rep.proofs.representation.add_turns.Given as goal
 
 abbrev pub invariant-loop-dart : goal.invariant-loop-dart
 invariant-loop-dart l =
-    IsTally l.gains l.dart (face_at l.plane) (λ d. 2 + lefts (turns_at l.shape d))
-    × IsTally l.losses l.dart (face_at l.plane) (λ d. angle_at l.shape d + rights (turns_at l.shape d))
-    × ((k : ℕ) → k < length l.gains → get_or l.gains k 0 ≤ 1000255 * l.dart)
-    × ((k : ℕ) → k < length l.losses → get_or l.losses k 0 ≤ 1000255 * l.dart)
+    IsTally l.left_sums l.dart (face_at l.plane) (λ d. 2 + lefts (turns_at l.shape d))
+    × IsTally l.right_sums l.dart (face_at l.plane) (λ d. angle_at l.shape d + rights (turns_at l.shape d))
+    × ((k : ℕ) → k < length l.left_sums → get_or l.left_sums k 0 ≤ 1000255 * l.dart)
+    × ((k : ℕ) → k < length l.right_sums → get_or l.right_sums k 0 ≤ 1000255 * l.dart)

@@ -7,7 +7,7 @@ pub returns-then-not-turns_once : goal.returns-then-not-turns_once
 returns-then-not-turns_once c =
     let face = c.loop-face.face in
     let outer = ap (λ (o : ℕ). cond (eqb face o) (negsuc 3) (pos 4)) c.outer.ensures.value in
-    let place = ap (λ (k : ℕ). pos (get_or c.add_turns.new.gains k 0) -ℤ pos (get_or c.add_turns.new.losses k 0)) c.from-place.ensures in (
+    let place = ap (λ (k : ℕ). pos (get_or c.add_turns.new.left_sums k 0) -ℤ pos (get_or c.add_turns.new.right_sums k 0)) c.from-place.ensures in (
       λ f. search rules,
       λ all. absurd (iff_false c.turns_once.ensures c.if-not-turns_once.true
           (place ∙ (sym (c.add_turns.ensures face (omega arith)) ∙ (all face (omega arith) ∙ sym outer)))),
@@ -17,6 +17,6 @@ pub loop-face-preserved : goal.loop-face-preserved
 loop-face-preserved c =
     let face = c.loop-face.face in
     let outer = ap (λ (o : ℕ). cond (eqb face o) (negsuc 3) (pos 4)) c.outer.ensures.value in
-    let place = ap (λ (k : ℕ). pos (get_or c.add_turns.new.gains k 0) -ℤ pos (get_or c.add_turns.new.losses k 0)) c.from-place.ensures in
+    let place = ap (λ (k : ℕ). pos (get_or c.add_turns.new.left_sums k 0) -ℤ pos (get_or c.add_turns.new.right_sums k 0)) c.from-place.ensures in
     below_more _ _ c.loop-face.invariant
     (c.add_turns.ensures face (omega arith) ∙ (sym place ∙ (c.turns_once.ensures.0 c.if-not-turns_once.false ∙ outer)))

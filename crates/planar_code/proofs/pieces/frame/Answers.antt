@@ -2,7 +2,7 @@
 use Rattle.std.proofs.Common.{[], ◌∷◌, ◌++◌, take, sym, ap, subst, ◌∙◌}
 use Rattle.std.proofs.lemmas.List.{take_more, flat_map_more}
 use Rattle.std.specs.List.{flat_map}
-use Rattle.planar_code.specs.Place.{StandsAt}
+use Rattle.planar_code.specs.FramerState.{StandsAt}
 use Rattle.planar_code.proofs.Feeding.{stands-feeds}
 use Rattle.planar_code.proofs.pieces.frame.Goals as goal
 

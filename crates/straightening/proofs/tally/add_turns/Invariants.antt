@@ -7,7 +7,7 @@ use Rattle.straightening.proofs.tally.add_turns.Given as goal
 
 abbrev pub invariant-loop-dart : goal.invariant-loop-dart
 invariant-loop-dart l =
-    IsTally l.gains l.dart (face_at l.plane) (λ d. 2 + lefts (string_in l.plane l.flow.lefts d))
-    × IsTally l.losses l.dart (face_at l.plane) (λ d. angle_in l.flow.angles d + rights (string_in l.plane l.flow.lefts d))
-    × ((k : ℕ) → k < length l.gains → get_or l.gains k 0 ≤ 66000 * l.dart)
-    × ((k : ℕ) → k < length l.losses → get_or l.losses k 0 ≤ 66000 * l.dart)
+    IsTally l.left_sums l.dart (face_at l.plane) (λ d. 2 + lefts (string_in l.plane l.flow.lefts d))
+    × IsTally l.right_sums l.dart (face_at l.plane) (λ d. angle_in l.flow.angles d + rights (string_in l.plane l.flow.lefts d))
+    × ((k : ℕ) → k < length l.left_sums → get_or l.left_sums k 0 ≤ 66000 * l.dart)
+    × ((k : ℕ) → k < length l.right_sums → get_or l.right_sums k 0 ≤ 66000 * l.dart)

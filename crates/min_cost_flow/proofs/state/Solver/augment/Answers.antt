@@ -118,7 +118,7 @@ along-init c =
           let most = carrying net (flow_in s) + place from + 1 in
           subst (λ (y : ℕ → ℕ). IsSending net (potential_at s) e h.path.on place (flow_in s) y c.start-node.result k most) (sym (same_flow s.residual c.push.new.residual q.reverse q.forward))
           (subst (λ (t : ℕ). IsSending net (potential_at s) e h.path.on place (flow_in s) (carried reverse forward (capacity_at c.push.new.residual.capacities.items)) t k most) (sym at)
-          (sending_first net first reverse forward (capacity_at capacities) (capacity_at c.push.new.residual.capacities.items) (potential_at s) e h.path.on place from s.found to k r.residual.arcs_built (own_last net s c.args.root h).link h.path.off taken r.round.priced pushed));
+          (sending_first net first reverse forward (capacity_at capacities) (capacity_at c.push.new.residual.capacities.items) (potential_at s) e h.path.on place from s.found to k r.residual.arcs_built (own_last net s c.args.root h).tight_arc h.path.off taken r.round.priced pushed));
     }
 
 pub index-requires-in-along : goal.index-requires-in-along
@@ -161,7 +161,7 @@ push-requires-in-along c =
     let e = at_nodes (raised s.nodes.excess.items to k) in
     let most = carrying net (flow_in s) + place from + 1 in
     let sd = subst (λ (y : ℕ → ℕ). IsSending net (potential_at s) e h.path.on place (flow_in s) y v k most) (same_flow s.residual t.residual i.reverse i.forward) (i.sending net h) in
-    let fits : k ≤ capacity_at t.residual.capacities.items (enter v) = still_fits net reverse forward (capacity_at capacities) (capacity_at t.residual.capacities.items) arcs t.residual.arcs.items (potential_at s) e h.path.on place (previous_of arcs capacities (enters_in s) v) (enter v) v k most r.residual.filled (same_filled net s.residual t.residual i.reverse i.forward (i.residual net h)) st.link st.member (i.on net h) st.before sd (c.bottleneck-amount.ensures.fitting.fits v i.on_path some) in
+    let fits : k ≤ capacity_at t.residual.capacities.items (enter v) = still_fits net reverse forward (capacity_at capacities) (capacity_at t.residual.capacities.items) arcs t.residual.arcs.items (potential_at s) e h.path.on place (previous_of arcs capacities (enters_in s) v) (enter v) v k most r.residual.filled (same_filled net s.residual t.residual i.reverse i.forward (i.residual net h)) st.tight_arc st.member (i.on net h) st.before sd (c.bottleneck-amount.ensures.fitting.fits v i.on_path some) in
     rw en (record {
       pair = is_paired net t.residual (previous_of arcs capacities (enters_in s) v) (enter v) r.network (i.residual net h) st.node (rw i.first st.leaves);
       some = c.bottleneck-amount.ensures.some;
@@ -190,7 +190,7 @@ start-node-requires-in-along c =
     let n = step_pair net s c.args.root v h (i.on net h) some in
     let long : length c.push-in-along.new.residual.arcs.items ≡ length s.residual.arcs.items = omega (arith, r.residual.filled.arc_size, q.arc_size, (i.residual net h).filled.arc_size) in
     rw en (record {
-      number = omega (arith, n.here, long, r.residual.room_size, q.room_size, (i.residual net h).room_size, r.residual.filled.arc_size);
+      number = omega (arith, n.here, long, r.residual.capacities_size, q.capacities_size, (i.residual net h).capacities_size, r.residual.filled.arc_size);
       reverse = omega (arith, n.there, long, q.reverse (enter v) ∙ i.reverse (enter v));
     })
 
@@ -273,7 +273,7 @@ along-preserved c =
           let sd = subst (λ (y : ℕ → ℕ). IsSending net' (potential_at s) e g.path.on place (flow_in s) y v k most') (same_flow s.residual t.residual i.reverse i.forward) (i.sending net' g) in
           subst (λ (y : ℕ → ℕ). IsSending net' (potential_at s) e g.path.on place (flow_in s) y c.start-node-in-along.result k most') (sym (same_flow s.residual new undone (q.forward ∙ i.forward)))
           (subst (λ (u : ℕ). IsSending net' (potential_at s) e g.path.on place (flow_in s) (carried reverse forward (capacity_at new.capacities.items)) u k most') (sym at)
-          (sending_more net' first reverse forward (capacity_at capacities) (capacity_at t.residual.capacities.items) (capacity_at new.capacities.items) (potential_at s) e g.path.on place (end_at arcs j) (enter v) v k most' g.ready.residual.arcs_built l.link l.member (i.on net' g) l.before sd pushed));
+          (sending_more net' first reverse forward (capacity_at capacities) (capacity_at t.residual.capacities.items) (capacity_at new.capacities.items) (potential_at s) e g.path.on place (end_at arcs j) (enter v) v k most' g.ready.residual.arcs_built l.tight_arc l.member (i.on net' g) l.before sd pushed));
     }
 
 pub returns-clause-sent : goal.returns-clause-sent

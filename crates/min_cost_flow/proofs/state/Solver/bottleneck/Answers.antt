@@ -3,9 +3,9 @@ use Rattle.std.proofs.lemmas.List.{get_or_read}
 use Rattle.networks.specs.declared.residual.ResidualArc.{ResidualArc}
 use Rattle.networks.specs.declared.residual.ResidualCapacity.{ResidualCapacity}
 use Rattle.networks.specs.Networks.{node_count}
-use Rattle.networks.specs.ResidualArcs.{end_at, reverse_at, capacity_at, no_residual_arc, no_residual_room}
+use Rattle.networks.specs.ResidualArcs.{end_at, reverse_at, capacity_at, no_residual_arc, no_residual_capacity}
 use Rattle.min_cost_flow.proofs.Augmenting.{place_read, enter_read}
-use Rattle.min_cost_flow.specs.Path.{previous_of, room_into}
+use Rattle.min_cost_flow.specs.Path.{previous_of, capacity_into}
 use Rattle.min_cost_flow.specs.Stand.{excess_at, last_node, enters_in, places_in}
 use Rattle.min_cost_flow.proofs.Augmenting.{IsNarrowed, narrowed_first, narrowed_more, narrowed_all, own_step, own_last, own_end, last_pair, step_pair, lesser_some, lesser_remaining, lesser_short}
 use Rattle.min_cost_flow.proofs.state.Solver.bottleneck.Goals as goal
@@ -47,15 +47,15 @@ narrow-init c =
     let l = own_last net s c.args.root h in
     let at : c.start-node.result ≡ last_node s = c.start-node.ensures in
     let target : c.from-target.result ≡ end_at s.residual.arcs.items s.found = c.from-target.ensures ∙ ap (λ (a : ResidualArc). a.end) (get_or_read s.residual.arcs.items s.found c.index.result.now n.here c.index.ensures no_residual_arc) in
-    let fits : c.index-2.result.now.capacity ≡ capacity_at s.residual.capacities.items s.found = ap (λ (a : ResidualCapacity). a.capacity) (get_or_read s.residual.capacities.items s.found c.index-2.result.now (omega (arith, n.here, n.sizes)) c.index-2.ensures no_residual_room) in
+    let fits : c.index-2.result.now.capacity ≡ capacity_at s.residual.capacities.items s.found = ap (λ (a : ResidualCapacity). a.capacity) (get_or_read s.residual.capacities.items s.found c.index-2.result.now (omega (arith, n.here, n.sizes)) c.index-2.ensures no_residual_capacity) in
     let least : c.min-amount.result ≡ min c.most_between-most.result c.index-2.result.now.capacity = c.min-amount.ensures in
     let m = c.most_between-most.ensures in
     let next = previous_of s.residual.arcs.items s.residual.capacities.items (enters_in s) in
-    let capacities = room_into s.residual.capacities.items (enters_in s) in
+    let capacities = capacity_into s.residual.capacities.items (enters_in s) in
     record {
       node = λ net' g. subst (λ (t : ℕ). t < node_count net') (sym at) (own_last net' s c.args.root g).node;
       narrowed = subst (λ (t : ℕ). IsNarrowed next (places_in s) capacities (last_node s) t c.min-amount.result) (sym at) (narrowed_first next (places_in s) capacities (last_node s) c.min-amount.result);
-      some = lesser_some c.most_between-most.result c.index-2.result.now.capacity c.min-amount.result least m.some (omega (arith, l.link.some));
+      some = lesser_some c.most_between-most.result c.index-2.result.now.capacity c.min-amount.result least m.some (omega (arith, l.tight_arc.some));
       found = omega (arith, least);
       remaining = lesser_remaining c.most_between-most.result c.min-amount.result (excess_at s c.args.root) (omega (arith, least)) (rw d at m.remaining);
       short = lesser_short c.most_between-most.result c.min-amount.result (excess_at s (end_at s.residual.arcs.items s.found)) (omega (arith, least)) (rw (d, target) at m.wanting);
@@ -119,18 +119,18 @@ narrow-preserved c =
     let some : 0 < places_in s v = omega (arith, c.narrow-test.true) in
     let en : c.index-in-narrow-2.result.now.enter ≡ enters_in s v = enter_read s.visits.items v c.index-in-narrow-2.result.now (omega (arith, i.node net h, h.ready.labels)) c.index-in-narrow-2.ensures in
     let n = step_pair net s c.args.root v h (i.on net h) some in
-    let rm : c.index-in-narrow-3.result.now.capacity ≡ capacity_at s.residual.capacities.items (enters_in s v) = ap (λ (a : ResidualCapacity). a.capacity) (get_or_read s.residual.capacities.items c.index-in-narrow-2.result.now.enter c.index-in-narrow-3.result.now (omega (arith, n.here, n.sizes)) c.index-in-narrow-3.ensures no_residual_room) ∙ ap (capacity_at s.residual.capacities.items) en in
+    let rm : c.index-in-narrow-3.result.now.capacity ≡ capacity_at s.residual.capacities.items (enters_in s v) = ap (λ (a : ResidualCapacity). a.capacity) (get_or_read s.residual.capacities.items c.index-in-narrow-2.result.now.enter c.index-in-narrow-3.result.now (omega (arith, n.here, n.sizes)) c.index-in-narrow-3.ensures no_residual_capacity) ∙ ap (capacity_at s.residual.capacities.items) en in
     let at : c.start-node-in-narrow.result ≡ previous_of s.residual.arcs.items s.residual.capacities.items (enters_in s) v = c.start-node-in-narrow.ensures ∙ ap (λ (t : ℕ). end_at s.residual.arcs.items (reverse_at s.residual.capacities.items t)) en in
     let st = own_step net s c.args.root h v (i.on net h) some in
     let k' = c.min-amount-in-narrow.result in
     let least : k' ≡ min c.narrow.amount c.index-in-narrow-3.result.now.capacity = c.min-amount-in-narrow.ensures in
     let less : k' ≤ c.narrow.amount = omega (arith, least) in
     let next = previous_of s.residual.arcs.items s.residual.capacities.items (enters_in s) in
-    let capacities = room_into s.residual.capacities.items (enters_in s) in
+    let capacities = capacity_into s.residual.capacities.items (enters_in s) in
     record {
       node = λ net' g. subst (λ (t : ℕ). t < node_count net') (sym at) (own_step net' s c.args.root g v (i.on net' g) some).node;
       narrowed = subst (λ (t : ℕ). IsNarrowed next (places_in s) capacities (last_node s) t k') (sym at) (narrowed_more next (places_in s) capacities (last_node s) v c.narrow.amount k' i.narrowed some less (omega (arith, least)));
-      some = lesser_some c.narrow.amount c.index-in-narrow-3.result.now.capacity k' least i.some (omega (arith, st.link.some));
+      some = lesser_some c.narrow.amount c.index-in-narrow-3.result.now.capacity k' least i.some (omega (arith, st.tight_arc.some));
       found = omega (arith, less, i.found);
       remaining = lesser_remaining c.narrow.amount k' (excess_at s c.args.root) less i.remaining;
       short = lesser_short c.narrow.amount k' (excess_at s (end_at s.residual.arcs.items s.found)) less i.short;
@@ -154,6 +154,6 @@ returns c =
         found = i.found;
         remaining = i.remaining;
         short = i.short;
-        fits = λ u on some. narrowed_all (previous_of s.residual.arcs.items s.residual.capacities.items (enters_in s)) (places_in s) (room_into s.residual.capacities.items (enters_in s)) (last_node s) v c.narrow.amount i.narrowed none u on some;
+        fits = λ u on some. narrowed_all (previous_of s.residual.arcs.items s.residual.capacities.items (enters_in s)) (places_in s) (capacity_into s.residual.capacities.items (enters_in s)) (last_node s) v c.narrow.amount i.narrowed none u on some;
       };
     }

@@ -21,7 +21,7 @@ distance-requires-clause-potential c = potential_within c.args.input c.args.step
 pub advance-requires : goal.advance-requires
 advance-requires c =
     let o = c.requires.offer in
-    let w : IsListed c.args.input c.set_label.new.self c.args.step.end = listed c.args.input c.args.self.now c.set_label.new.self c.args.step o c.requires.plain c.set_label.ensures.has_label in
+    let w : IsListed c.args.input c.set_label.new.self c.args.step.end = listed c.args.input c.args.self.now c.set_label.new.self c.args.step o c.requires.nonnegative c.set_label.ensures.has_label in
     record {
       few = omega (arith, w.size, o.search.input.graph.nodes);
       node = omega (arith, w.size, end_in c.args.input c.args.self.now c.args.step o);
@@ -42,10 +42,10 @@ returns-then-distance-self-clause-relaxed c =
     let away : c.distance.result ≡ c.args.step.label -ℤ potential_of g c.args.step.end = away_is _ _ _ (offer_within g c.args.self.now c.args.step o) (potential_near g c.args.step.end o.search.input b) c.distance.ensures in
     let same : c.distance.result ≡ c.set_label.new.self.radius = same_from_bits _ _ fd fl c.if-distance-self.true in
     let a = c.advance.ensures in
-    node_labelled g c.args.self.now c.set_label.new.self c.advance.new.self c.args.step c.distance.result o c.requires.plain c.set_label.ensures.has_label away same a.swapped a.same a.ordered
+    node_labelled g c.args.self.now c.set_label.new.self c.advance.new.self c.args.step c.distance.result o c.requires.nonnegative c.set_label.ensures.has_label away same a.swapped a.same a.ordered
 
 pub returns-then-distance-self-clause-label : goal.returns-then-distance-self-clause-label
 returns-then-distance-self-clause-label c = rw (c.advance.ensures.same.label c.args.step.end) c.set_label.ensures.has_label.label.here
 
 pub returns-else-distance-self-clause-relaxed : goal.returns-else-distance-self-clause-relaxed
-returns-else-distance-self-clause-relaxed c = node_labelled_behind c.args.input c.args.self.now c.set_label.new.self c.args.step c.requires.offer c.requires.plain c.set_label.ensures.has_label
+returns-else-distance-self-clause-relaxed c = node_labelled_behind c.args.input c.args.self.now c.set_label.new.self c.args.step c.requires.offer c.requires.nonnegative c.set_label.ensures.has_label

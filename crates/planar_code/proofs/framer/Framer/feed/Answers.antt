@@ -1,7 +1,7 @@
 -- Each exit is fed as the steps say, and the other clauses follow from that.
 use Rattle.std.proofs.Common.{sym, ap, subst, ◌∙◌, Ok, Err}
-use Rattle.planar_code.specs.Place.{Failed, Feeds}
-use Rattle.planar_code.specs.Framer.{place_at}
+use Rattle.planar_code.specs.FramerState.{Failed, Feeds}
+use Rattle.planar_code.specs.Framer.{framer_state_at}
 use Rattle.planar_code.proofs.Feeding.{open-feeds, fault-feeds, memory-feeds, few-feeds}
 use Rattle.planar_code.proofs.Reading.{feeds-failed, feeds-ok, feeds-err}
 use Rattle.planar_code.proofs.framer.Framer.feed.Goals as goal
@@ -10,8 +10,8 @@ use Rattle.planar_code.proofs.framer.Framer.feed.Goals.{In-Failed, In-Ok, In-Err
 fed-in-Failed : (c : In-Failed) → Feeds c.args.self.now c.args.piece.now c.args.out.now.items c.args.out.now.items c.args.self.now (Err c.in-Failed.fault)
 fed-in-Failed c =
     let f = c.self.inside in
-    let place = sym (ap (λ s. place_at s f.records f.current) c.in-Failed.is) ∙ c.self.view_is in
-    subst (λ p. Feeds p c.args.piece.now c.args.out.now.items c.args.out.now.items p (Err c.in-Failed.fault)) place
+    let state = sym (ap (λ s. framer_state_at s f.records f.current) c.in-Failed.is) ∙ c.self.view_is in
+    subst (λ p. Feeds p c.args.piece.now c.args.out.now.items c.args.out.now.items p (Err c.in-Failed.fault)) state
     (feeds-failed c.in-Failed.fault c.args.piece.now c.args.out.now.items)
 
 fed-in-Ok : (c : In-Ok) → Feeds c.args.self.now c.args.piece.now c.args.out.now.items c.read.new.out.items c.read.new.self (Ok tt)

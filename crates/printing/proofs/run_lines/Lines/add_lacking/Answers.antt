@@ -18,4 +18,4 @@ returns-in-Ok-clause-broken g c =
 pub returns-in-Err-clause-broken : goal.returns-in-Err-clause-broken
 returns-in-Err-clause-broken g c = λ start before after entry of_it at lacks more was.
     let self = c.args.self.now in
-    inl (breaks_written self.form start (g.S.Sink.taken c.args.sink.now) self.buffer self.front self.waiting.items before was)
+    inl (breaks_written self.form start (g.S.Sink.taken c.args.sink.now) self.buffer self.current self.waiting.items before was)

@@ -12,4 +12,4 @@ invariant-loop-mark g l = record {
 }
 
 abbrev pub decreases-loop-mark : goal.decreases-loop-mark
-decreases-loop-mark g l = length l.self.waiting.items - l.self.front
+decreases-loop-mark g l = length l.self.waiting.items - l.self.current

@@ -11,14 +11,14 @@ returns-clause-begun g c =
     let mid = g.S.Sink.taken c.put_preamble.new.sink in
     let new = g.S.Sink.taken c.put.new.sink in
     ok_then c.put.result c.put.ensures.put (λ goes start came was.
-    written_begun self.form start old mid new self.buffer c.put_preamble.new.buffer c.put.new.buffer self.front self.waiting.items c.take_lines-lines.new.waiting.items came
+    written_begun self.form start old mid new self.buffer c.put_preamble.new.buffer c.put.new.buffer self.current self.waiting.items c.take_lines-lines.new.waiting.items came
     c.take_lines-lines.result c.requires.below c.in_ok-put_preamble.ensures.put c.take_lines-lines.ensures.lines c.take_lines-lines.ensures.taken goes was)
 
 pub returns-in_err-put_preamble-clause-broken : goal.returns-in_err-put_preamble-clause-broken
 returns-in_err-put_preamble-clause-broken g c =
     let self = c.args.self.now in
     err_any c.from_residual.result (λ start came was.
-    breaks_first self.form start (g.S.Sink.taken c.args.sink.now) (g.S.Sink.taken c.put_preamble.new.sink) self.buffer self.front self.waiting.items came c.requires.below
+    breaks_first self.form start (g.S.Sink.taken c.args.sink.now) (g.S.Sink.taken c.put_preamble.new.sink) self.buffer self.current self.waiting.items came c.requires.below
     c.in_err-put_preamble.ensures.broken was)
 
 pub returns-clause-broken : goal.returns-clause-broken
@@ -28,5 +28,5 @@ returns-clause-broken g c =
     let mid = g.S.Sink.taken c.put_preamble.new.sink in
     let new = g.S.Sink.taken c.put.new.sink in
     err_then c.put.result c.put.ensures.broken (λ breaks start came was.
-    breaks_lines self.form start old mid new self.buffer c.put_preamble.new.buffer self.front self.waiting.items came c.take_lines-lines.result
+    breaks_lines self.form start old mid new self.buffer c.put_preamble.new.buffer self.current self.waiting.items came c.take_lines-lines.result
     c.requires.below c.in_ok-put_preamble.ensures.put c.take_lines-lines.ensures.lines breaks was)

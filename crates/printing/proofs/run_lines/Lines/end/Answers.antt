@@ -17,10 +17,10 @@ returns-clause-held g c =
     let before = c.args.self.now in
     let file = c.args.file in
     let waiting = c.keep_mark.new.waiting in
-    let mid : Lines = record { form = before.form; choice = before.choice; buffer = before.buffer; front = before.front; waiting = waiting; held = before.held; whole = c.is_whole_with-self.result } in
+    let mid : Lines = record { form = before.form; choice = before.choice; buffer = before.buffer; current = before.current; waiting = waiting; held = before.held; whole = c.is_whole_with-self.result } in
     let after = c.advance.new.self in
     let old = g.S.Sink.taken c.args.sink.now in
-    let from : before.front ≤ file = search rules in
+    let from : before.current ≤ file = search rules in
     let below : file < length before.waiting.items = search rules in
     let kept : ChangesAt file (GetsMark c.args.known.count c.args.mark) before.waiting.items waiting.items = search rules in
     let file_is : c.args.known.file ≡ file = search rules in
@@ -28,7 +28,7 @@ returns-clause-held g c =
     ok_both c.advance.result c.advance.ensures.written c.advance.ensures.unended (λ moves unended start ns held.
     held_end g.J.Told.meaning start old (g.S.Sink.taken c.advance.new.sink) before mid after ns file c.args.mark c.advance.ensures.same (record { form = refl; choice = refl; files = kept.count })
     below (λ other. (kept.here other).unmarked) (λ other. end_as g.J.Told.meaning c.args.known.file file _ c.args.known.count c.args.known.mark c.args.mark file_is (kept.here other).counted mark_is c.args.known.is_end) from c.is_whole_with-self.ensures c.advance.ensures.whole
-    (λ came next more was. written_marked before.form start old before.buffer file before.front before.waiting.items waiting.items came next c.args.known.count c.args.mark below from more kept was)
+    (λ came next more was. written_marked before.form start old before.buffer file before.current before.waiting.items waiting.items came next c.args.known.count c.args.mark below from more kept was)
     (moves start) unended held)
 
 pub returns-clause-broken : goal.returns-clause-broken
@@ -36,10 +36,10 @@ returns-clause-broken g c =
     let before = c.args.self.now in
     let file = c.args.file in
     let waiting = c.keep_mark.new.waiting in
-    let mid : Lines = record { form = before.form; choice = before.choice; buffer = before.buffer; front = before.front; waiting = waiting; held = before.held; whole = c.is_whole_with-self.result } in
+    let mid : Lines = record { form = before.form; choice = before.choice; buffer = before.buffer; current = before.current; waiting = waiting; held = before.held; whole = c.is_whole_with-self.result } in
     let after = c.advance.new.self in
     let old = g.S.Sink.taken c.args.sink.now in
-    let from : before.front ≤ file = search rules in
+    let from : before.current ≤ file = search rules in
     let below : file < length before.waiting.items = search rules in
     let kept : ChangesAt file (GetsMark c.args.known.count c.args.mark) before.waiting.items waiting.items = search rules in
     let file_is : c.args.known.file ≡ file = search rules in
@@ -47,7 +47,7 @@ returns-clause-broken g c =
     err_then c.advance.result c.advance.ensures.broken (λ broken start ns held.
     left_off_end g.J.Told.meaning start old (g.S.Sink.taken c.advance.new.sink) before mid after ns file c.args.mark c.advance.ensures.same (record { form = refl; choice = refl; files = kept.count })
     below (λ other. end_as g.J.Told.meaning c.args.known.file file _ c.args.known.count c.args.known.mark c.args.mark file_is (kept.here other).counted mark_is c.args.known.is_end) from
-    (λ came next more was. written_marked before.form start old before.buffer file before.front before.waiting.items waiting.items came next c.args.known.count c.args.mark below from more kept was)
+    (λ came next more was. written_marked before.form start old before.buffer file before.current before.waiting.items waiting.items came next c.args.known.count c.args.mark below from more kept was)
     (broken start) held)
 
 pub returns-then-not-is_open-clause-broken : goal.returns-then-not-is_open-clause-broken
@@ -58,7 +58,7 @@ returns-then-not-is_open-clause-broken g c = λ start ns held.
     elim c.then-not-is_open.branch [
       | then-not-is_open-via-then-not-is_open w ↦ inl (subst (λ l. LinesLeaveOff g.J.Told.meaning start now l ns) (sym w.self-is) here)
       | then-not-is_open-via-else-not-is_open+then-not-keep_mark w ↦
-          let mid : Lines = record { form = before.form; choice = before.choice; buffer = before.buffer; front = before.front; waiting = w.keep_mark.new.waiting; held = before.held; whole = before.whole } in
+          let mid : Lines = record { form = before.form; choice = before.choice; buffer = before.buffer; current = before.current; waiting = w.keep_mark.new.waiting; held = before.held; whole = before.whole } in
           inl (subst (λ l. LinesLeaveOff g.J.Told.meaning start now l ns) (sym w.self-is) (left_off_as g.J.Told.meaning start now before mid ns (record { form = refl; choice = refl; files = w.keep_mark.ensures.count }) here))
     ]
 

@@ -17,7 +17,7 @@ returns-clause-written g c = λ start choice known meaning ns held have.
         λ is. absurd (false≢true (sym w.if-self.false ∙ is)),
       )
     ] in
-    all_written choice c.args.self.choice meaning known c.args.self.form start (g.S.Sink.taken c.args.sink.now) (g.S.Sink.taken c.flush.new.sink) c.args.self.buffer c.args.self.front
+    all_written choice c.args.self.choice meaning known c.args.self.form start (g.S.Sink.taken c.args.sink.now) (g.S.Sink.taken c.flush.new.sink) c.args.self.buffer c.args.self.current
     c.args.self.waiting.items c.args.self.whole ns c.if-self.result have held c.in_ok-flush.ensures.writes.1 says
 
 pub returns-in_err-flush-clause-broken : goal.returns-in_err-flush-clause-broken

@@ -19,12 +19,12 @@ returns-in-Some-clause-held g c =
     let form : c.args.printed.form ≡ before.form = search rules in
     let has = subst (IsLineOf c.args.printed.form entry) c.in-Some.is c.args.printed.line_is in
     let line : line_in before.form entry ≡ c.as_slice.result.now = ap (λ f. line_in f entry) (sym form) ∙ sym has.1 ∙ sym c.as_slice.ensures.value in
-    let from : before.front ≤ file = search rules in
+    let from : before.current ≤ file = search rules in
     let choice : c.args.printed.choice ≡ before.choice = search rules in
     let comes = comes_next before.choice c.args.printed.choice (g.J.Told.meaning file) file c.args.printed.ordinal before.waiting.items entry refl refl refl choice
     c.args.printed.rec_is c.args.printed.placed (c.is_next.ensures.next (search rules)) in
     ok_then c.add.result c.add.ensures.added (λ added start ns held.
-    held_item g.J.Told.meaning start (g.S.Sink.taken c.args.sink.now) (g.S.Sink.taken c.add.new.sink) before after ns file entry c.add.ensures.same.same c.add.ensures.same.front below from comes
+    held_item g.J.Told.meaning start (g.S.Sink.taken c.args.sink.now) (g.S.Sink.taken c.add.new.sink) before after ns file entry c.add.ensures.same.same c.add.ensures.same.current below from comes
     (λ came next more was. added start came next entry line more was)
     (λ came next more was. subst (λ b. (b ≡ true) ↔ ((k : ℕ) → k < length before.waiting.items → IsWholeSoFar (next k))) (sym c.add.ensures.same.whole) (whole_item (length before.waiting.items) file entry came next before.whole below has.0 more was))
     held)
@@ -36,12 +36,12 @@ returns-clause-held g c =
     let before = c.args.self.now in
     let after = c.add_lacking.new.self in
     let below : file < length before.waiting.items = search rules in
-    let from : before.front ≤ file = search rules in
+    let from : before.current ≤ file = search rules in
     let choice : c.args.printed.choice ≡ before.choice = search rules in
     let comes = comes_next before.choice c.args.printed.choice (g.J.Told.meaning file) file c.args.printed.ordinal before.waiting.items entry refl refl refl choice
     c.args.printed.rec_is c.args.printed.placed (c.is_next.ensures.next (search rules)) in
     ok_both c.add_lacking.result c.add_lacking.ensures.added c.add_lacking.ensures.lacking (λ added lacks start ns held.
-    held_item g.J.Told.meaning start (g.S.Sink.taken c.args.sink.now) (g.S.Sink.taken c.add_lacking.new.sink) before after ns file entry c.add_lacking.ensures.same c.add_lacking.ensures.front below from comes
+    held_item g.J.Told.meaning start (g.S.Sink.taken c.args.sink.now) (g.S.Sink.taken c.add_lacking.new.sink) before after ns file entry c.add_lacking.ensures.same c.add_lacking.ensures.current below from comes
     (λ came next more was. added start came next entry refl refl refl more was)
     (λ came next more was. subst (λ b. (b ≡ true) ↔ ((k : ℕ) → k < length before.waiting.items → IsWholeSoFar (next k))) (sym lacks) (whole_lacking (length before.waiting.items) file entry came next below refl more))
     held)
@@ -56,7 +56,7 @@ returns-in-Some-clause-broken g c =
     let form : c.args.printed.form ≡ before.form = search rules in
     let has = subst (IsLineOf c.args.printed.form entry) c.in-Some.is c.args.printed.line_is in
     let line : line_in before.form entry ≡ c.as_slice.result.now = ap (λ f. line_in f entry) (sym form) ∙ sym has.1 ∙ sym c.as_slice.ensures.value in
-    let from : before.front ≤ file = search rules in
+    let from : before.current ≤ file = search rules in
     let choice : c.args.printed.choice ≡ before.choice = search rules in
     let comes = comes_next before.choice c.args.printed.choice (g.J.Told.meaning file) file c.args.printed.ordinal before.waiting.items entry refl refl refl choice
     c.args.printed.rec_is c.args.printed.placed (c.is_next.ensures.next (search rules)) in
@@ -71,7 +71,7 @@ returns-clause-broken g c =
     let before = c.args.self.now in
     let after = c.add_lacking.new.self in
     let below : file < length before.waiting.items = search rules in
-    let from : before.front ≤ file = search rules in
+    let from : before.current ≤ file = search rules in
     let choice : c.args.printed.choice ≡ before.choice = search rules in
     let comes = comes_next before.choice c.args.printed.choice (g.J.Told.meaning file) file c.args.printed.ordinal before.waiting.items entry refl refl refl choice
     c.args.printed.rec_is c.args.printed.placed (c.is_next.ensures.next (search rules)) in

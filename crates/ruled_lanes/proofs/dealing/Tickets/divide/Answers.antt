@@ -5,6 +5,6 @@ use Rattle.ruled_lanes.proofs.dealing.Tickets.divide.Goals as goal
 pub split_seat-requires : goal.split_seat-requires
 split_seat-requires c =
     let me = c.loop-lane.invariant.me in
-    let parts = ap (λ m. m.0.parts) me in
+    let shares = ap (λ m. m.0.shares) me in
     let ends = ap (λ m. m.0.ends) me in
     (c.loop-lane.invariant.table, c.requires.words, splits _ _ _ (omega arith) (omega arith))

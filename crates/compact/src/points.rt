@@ -1,0 +1,135 @@
+//! Points for the vertices and the corners of a plane.
+
+ghost use Rattle.std.specs.Prelude.{◌≡◌, length, map, slice_index, IfOk, IfErr};
+ghost use Rattle.std.specs.List.{range_with_len};
+ghost use Rattle.ortho_rep.specs.Storage.{pieces_at, AreStarts};
+ghost use Rattle.compact.specs.Ordered.{AreLaidOut, AreCorners, IsCompactFault, point_at};
+
+use crate::axis::least_coordinates;
+use crate::corners::{point_of, push_corners};
+use crate::fault::CompactFault;
+use crate::scratch::Scratch;
+use crate::steps::steps_of;
+use common::emptied;
+use dissect::Boxes;
+use ortho_rep::{Point, Points};
+use std::alloc::{AllocError, Global};
+use std::mem;
+
+/// The points of the plane's vertices, in the memory of a list that is lent, with room for so many points.
+fn vertex_points(
+    lent: Vec<Point>,
+    room: usize,
+    boxes: &Boxes,
+    x: &[u16],
+    y: &[u16],
+) -> Result<Vec<Point>, AllocError>
+    requires x_in { length x.now ≡ boxes.now.vertices }
+    requires y_in { length y.now ≡ boxes.now.vertices }
+    ensures { IfOk result (λ points. points.items
+        ≡ map (point_at (λ v. slice_index x.now v) (λ v. slice_index y.now v)) (range_with_len 0 boxes.now.old)) }
+{
+    let mut points = emptied(lent, room)?;
+    for vertex in 0..u32::from(boxes.old_vertices()) {
+        points.push(point_of(x, y, vertex))?;
+    }
+    Ok(points)
+}
+
+/// The corner points of all edges in one list, one edge after another, and the places where those of each edge
+/// start; one place more, where the last ones end. Both lists stand in the memory of those that are lent.
+fn list_corners(
+    mut corners: Vec<Point>,
+    starts: Vec<usize>,
+    boxes: &Boxes,
+    x: &[u16],
+    y: &[u16],
+) -> Result<(Vec<Point>, Vec<usize>), AllocError>
+    requires x_in { length x.now ≡ boxes.now.vertices }
+    requires y_in { length y.now ≡ boxes.now.vertices }
+    ensures places { IfOk result (λ found. AreStarts found.1.items found.0.items) }
+    ensures count { IfOk result (λ found. length (pieces_at found.1.items found.0.items) ≡ length boxes.now.edges) }
+    ensures corners { IfOk result (λ found. AreCorners boxes.now (λ v. slice_index x.now v) (λ v. slice_index y.now v)
+        (length boxes.now.edges) (pieces_at found.1.items found.0.items)) }
+{
+    corners.clear();
+    let mut starts = emptied(starts, usize::from(boxes.edges()) + 1)?;
+    starts.push(0)?;
+    for edge in 0..boxes.edges() {
+        push_corners(&mut corners, boxes, x, y, boxes.path(edge))?;
+        starts.push(corners.len())?;
+    }
+    Ok((corners, starts))
+}
+
+/// Points for a plane that was cut into boxes: whole numbers from 0 to 65,535 in the order of the darts,
+/// x growing to the east and y to the north, the least there are. Edges run along the axes between their
+/// ends and corners.
+///
+/// The coordinates are the lengths of longest paths in the two constraint graphs of the dissection (Tamassia 1987).
+/// They are found segment by segment, a segment being the vertices that darts across the axis join: a few steps
+/// for each dart. Where that does not keep all constraints, as in a drawing too wide for the grid, the end of
+/// each constraint that is not kept is raised, in rounds. The points stand in one list.
+///
+/// # Errors
+///
+/// `Wide` where no coordinates in the order of the darts are all at most 65,535; `Memory` where there is
+/// none for the steps, the coordinates, the segments, the constraints or the points.
+pub fn compact(alloc: Global, boxes: &Boxes) -> Result<Points, CompactFault>
+    ensures laid { IfOk result (AreLaidOut boxes.now) }
+    ensures fault { IfErr result (IsCompactFault boxes.now) }
+{
+    let mut scratch = Scratch::empty(alloc);
+    compact_in(alloc, &mut scratch, boxes)
+}
+
+/// The same in memory that is lent: only what it lacks is taken. The points take their list with them;
+/// [`Scratch::take_back`] takes it back.
+///
+/// # Errors
+///
+/// `Wide` and `Memory` as `compact`; the memory that was lent is then gone.
+pub fn compact_in(
+    alloc: Global,
+    scratch: &mut Scratch,
+    boxes: &Boxes,
+) -> Result<Points, CompactFault>
+    ensures laid { IfOk result (AreLaidOut boxes.now) }
+    ensures fault { IfErr result (IsCompactFault boxes.now) }
+{
+    let Scratch {
+        around,
+        x,
+        y,
+        mut by_axis,
+        mut constraints,
+        points,
+        corners,
+        starts,
+    } = mem::replace(scratch, Scratch::empty(alloc));
+    let Ok(around) = steps_of(boxes, around) else {
+        return Err(CompactFault::Memory);
+    };
+    let (x, y) = match least_coordinates(boxes, &around, x, y, &mut by_axis, &mut constraints) {
+        Ok(found) => found,
+        Err(fault) => return Err(fault),
+    };
+    let Ok((corners, starts)) = list_corners(corners, starts, boxes, &x, &y) else {
+        return Err(CompactFault::Memory);
+    };
+    let room = usize::from(boxes.old_vertices()) + corners.len() + usize::from(boxes.edges());
+    let Ok(vertices) = vertex_points(points, room, boxes, &x, &y) else {
+        return Err(CompactFault::Memory);
+    };
+    let Ok(points) = Points::concatenated(vertices, &corners, &starts) else {
+        return Err(CompactFault::Memory);
+    };
+    scratch.around = around;
+    scratch.x = x;
+    scratch.y = y;
+    scratch.by_axis = by_axis;
+    scratch.constraints = constraints;
+    scratch.corners = corners;
+    scratch.starts = starts;
+    Ok(points)
+}

@@ -1,0 +1,27 @@
+//! The least coordinates in the order of boxes.
+
+ghost use Rattle.std.specs.Prelude.{ℕ, ◌<◌};
+ghost use Rattle.ortho_rep.specs.Points.{PointsModel};
+ghost use Rattle.dissect.specs.Boxes.{BoxesModel, AreBoxes, dart_map};
+ghost use Rattle.dissect.specs.Ordered.{IsOrdered, AreLaidOut};
+ghost use Rattle.drawing_laws.specs.Least.{AreLeast, AreBelow, HasLeast, HasNoGap};
+
+/// The least coordinates in the order of boxes have no gap: if no vertex had some coordinate below that of another,
+/// all coordinates above it could be lowered by one and still be in order. So each is less than the number of
+/// vertices.
+pub fn least_coordinates_have_no_gap()
+    ensures x { (b : BoxesModel) (x y : ℕ → ℕ) → AreBoxes b → AreLeast b x y → HasNoGap b.vertices x }
+    ensures y { (b : BoxesModel) (x y : ℕ → ℕ) → AreBoxes b → AreLeast b x y → HasNoGap b.vertices y }
+    ensures few { (b : BoxesModel) (x y : ℕ → ℕ) → AreBoxes b → AreLeast b x y
+        → (v : ℕ) → v < b.vertices → (x v < b.vertices) × (y v < b.vertices) }
+{}
+
+/// Where any coordinates are in the order of boxes, there are least ones.
+pub fn least_coordinates_exist()
+    ensures { (b : BoxesModel) (x y : ℕ → ℕ) → AreBoxes b → IsOrdered (dart_map b) x y → HasLeast b }
+{}
+
+/// So the coordinates of a layout are less than the number of vertices of its boxes.
+pub fn layouts_have_no_gap()
+    ensures { (b : BoxesModel) (points : PointsModel) → AreBoxes b → AreLaidOut b points → AreBelow b.vertices points }
+{}

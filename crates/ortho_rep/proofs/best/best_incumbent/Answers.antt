@@ -1,0 +1,34 @@
+use Rattle.std.proofs.Common.{arith}
+use Rattle.ortho_rep.proofs.Tries.{turned_again, incumbent_turned, tried_turned, tried_turning, tried_next, no_bounds, best_of}
+use Rattle.ortho_rep.proofs.best.best_incumbent.Goals as goal
+
+pub bends_and_bounds-bends-requires-clause-bounds : goal.bends_and_bounds-bends-requires-clause-bounds
+bends_and_bounds-bends-requires-clause-bounds c = no_bounds _ 257 (omega (arith, c.face_count-faces.ensures.value, c.face_count-faces.ensures.few))
+
+pub loop-face-preserved : goal.loop-face-preserved
+loop-face-preserved c =
+    let plane = c.args.plane.now in
+    let was = c.loop-face.plane in
+    let is = c.visit-moving.new.plane in
+    let other = c.loop-face.incumbent in
+    let known = c.loop-face.invariant in
+    let tried = c.visit-moving.ensures in
+    record {
+      turned = turned_again plane was is was.outer is.outer known.turned tried.turned;
+      moving = tried.moving;
+      incumbent = tried.incumbent;
+      bounds = tried.bounds;
+      best = tried_next is c.visit-moving.new.incumbent other c.loop-face.face tried.ahead
+          (λ f b. tried_turning was is is.outer other.bends other.face f tried.turned (known.best f b))
+          tried.tried;
+    }
+
+pub returns-clause-best : goal.returns-clause-best
+returns-clause-best c =
+    let plane = c.args.plane.now in
+    let was = c.loop-face.plane in
+    let incumbent = c.loop-face.incumbent in
+    let known = c.loop-face.invariant in
+    best_of plane incumbent
+    (incumbent_turned plane was was.outer incumbent known.turned known.incumbent)
+    (λ f b. tried_turned plane was was.outer incumbent.bends incumbent.face f known.turned (known.best f (omega (arith, c.face_count-faces.ensures.value))))
