@@ -17,7 +17,7 @@ DATA = os.path.join(ROOT, "crates/corpus/data")
 OUTSIDE = os.path.join(ROOT, "bench/outside")
 PARTS = os.path.join(ROOT, "bench/parts")
 SHARED = ["files.rt", "runs.rt", "shapes.rt"]  # modules of crates/corpus that bench/parts/trials uses
-TRIED = ["collector", "streams", "compact", "dissect", "drawing_check", "embedding", "faces", "ortho_rep", "planar_code",
+TRIED = ["commands", "collector", "streams", "compact", "dissect", "drawing_check", "embedding", "faces", "ortho_rep", "planar_code",
          "anyhow"]  # the crates that it names
 
 KINDS = [("cubic", "250", "1"), ("medial", "249", "2"), ("grid", "250", "3"), ("tree", "250", "4")]

@@ -1,4 +1,1 @@
 pub mod Headline
-pub mod Begun
-pub mod Taking
-pub mod Drawing

@@ -1,15 +1,11 @@
-//! Whole files: each record is answered, and a run hands out a book for each file, or writes the text of these
-//! books while the files are read.
+//! Whole files: each record is answered, and a run hands out a book for each file.
 #![tactic(auto)]
 
 mod answering;
 mod kept;
 pub mod laws;
-mod line_lanes;
 mod plain;
 mod run;
-mod text;
-mod worded;
 
 pub use answers::{Answer, Cause, Entry, answer};
 pub use common::{Choice, DrawingKind};
@@ -22,4 +18,3 @@ pub use streams::{
     BatchFault, Frames, IoSink, Mark, MemTap, Sink, SinkFault, Tap, TapFault, WriteFault,
     run_frames, write_frames,
 };
-pub use text::{TextFault, write_batch};

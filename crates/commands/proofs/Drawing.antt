@@ -19,7 +19,7 @@ use Rattle.printing.specs.Telling.{AddsNoneUndrawn}
 use Rattle.printing.proofs.Apart.{IsApart, concatenated, counted}
 use Rattle.printing.proofs.TextBytes.{text_apart}
 use Rattle.printing.proofs.Added.{text_added, front_added, none_added, from_some}
-use Rattle.collector.proofs.Drawing.{all_drawn, begun_drawn}
+use Rattle.commands.proofs.TextDrawing.{all_drawn, begun_drawn}
 use Rattle.command_line.specs.declared.request.Request.{Request}
 use Rattle.command_line.specs.declared.request.Request.TheVariants.{Frames, Layout}
 use Rattle.commands.specs.Statuses.{IsReported, IsLaidOut, IsBegunToReport, IsBegunToLayOut, IsDone, IsBegunToBeDone, IsNoReport, IsPrinted, version_text}

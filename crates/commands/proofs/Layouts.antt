@@ -3,7 +3,7 @@ use Rattle.std.proofs.Common.{◌≡◌, ℕ, Bool, List, Option, Bor, subst}
 use Rattle.common.specs.declared.choice.Choice.{Choice}
 use Rattle.lanes.specs.Opening.{Meaning}
 use Rattle.reports.specs.declared.form.Form.{Form}
-use Rattle.collector.specs.TextRuns.{IsBegun}
+use Rattle.commands.specs.TextRuns.{IsBegun}
 use Rattle.commands.specs.Statuses.{IsLaidOut, IsBegunToLayOut}
 
 module _ (meaning : List (Bor (List ℕ)) → ℕ → Meaning) (choice : Choice) (form : Form) (names listed : List (Bor (List ℕ))) (files count : ℕ) (old new : Option (List ℕ))

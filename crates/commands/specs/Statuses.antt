@@ -14,7 +14,7 @@ use Rattle.entries.specs.AllBooks.{AreAllBooks}
 use Rattle.reports.specs.declared.form.Form.{Form}
 use Rattle.reports.specs.Forms.{text_in}
 use Rattle.reports.specs.Wholes.{IsWholeBook}
-use Rattle.collector.specs.TextRuns.{IsBegun}
+use Rattle.commands.specs.TextRuns.{IsBegun}
 use Rattle.command_line.specs.Naming.{meaning_of, meanings}
 use Rattle.command_line.specs.declared.request.Request.{Request}
 use Rattle.command_line.specs.declared.request.Request.TheVariants.{Frames, Layout}

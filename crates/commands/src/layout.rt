@@ -6,7 +6,7 @@ ghost use Rattle.entries.specs.declared.limits.TheConstants.{MAX_FILES};
 ghost use Rattle.command_line.specs.Naming.{meanings};
 ghost use Rattle.commands.specs.Statuses.{IsLaidOut, IsBegunToLayOut};
 
-use collector::{TextFault, write_batch};
+use crate::text::{TextFault, write_batch};
 use command_line::{Console, Fault, FileOpener, FilesAndInput, LayoutRequest, Meter, SystemFiles};
 use lanes::Opener;
 use std::rt::Files;

@@ -1,10 +1,14 @@
-//! The commands of the program: what each does for the words after its name, and the status that it ends with.
+//! The commands of the program: what each does for the words after its name, and the status that it ends with. What
+//! `layout` writes is a run whose text leaves as it is made.
 #![tactic(auto)]
 
 mod layout;
+mod line_lanes;
 mod process;
 mod program;
+mod text;
 mod version;
+mod worded;
 
 pub use command_line::{
     Console, ErrorConsole, Fault, FileOpener, FileSource, INPUT, Meter, NamedFiles, NamedSource,
@@ -12,3 +16,4 @@ pub use command_line::{
 };
 pub use process::run;
 pub use program::command;
+pub use text::{TextFault, write_batch};

@@ -2,9 +2,8 @@
 
 use crate::files::read_files;
 use anyhow::{Result, ensure};
-use collector::{
-    Batch, Choice, DrawingKind, Form, IoSink, MemOpener, OpenGate, Style, run_plain, write_batch,
-};
+use collector::{Batch, Choice, DrawingKind, Form, IoSink, MemOpener, OpenGate, Style, run_plain};
+use commands::write_batch;
 use std::alloc::Global;
 use std::rt::Files;
 use std::sync::Wait;

@@ -1,7 +1,8 @@
 //! Texts that leave as they are made: their bytes, writers that take little, and refused allocations.
 
 use crate::reported::{QUICK, REPORT, SHORT, THREE, same, written};
-use collector::{BatchFault, MAX_LANES, OpenGate, Style, TextFault};
+use collector::{BatchFault, MAX_LANES, OpenGate, Style};
+use commands::TextFault;
 use std::process::Abort;
 use std::sync::Wait;
 use std::thread::Threads;

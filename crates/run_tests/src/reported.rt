@@ -3,10 +3,8 @@
 ghost use Rattle.std.specs.Prelude.{◌≤◌, false, None};
 ghost use Rattle.lanes.specs.Opening.{Silent};
 
-use collector::{
-    Choice, DrawingKind, Form, Gate, IoSink, OpenFault, Opener, Style, Tap, TapFault, TextFault,
-    write_batch,
-};
+use collector::{Choice, DrawingKind, Form, Gate, IoSink, OpenFault, Opener, Style, Tap, TapFault};
+use commands::{TextFault, write_batch};
 use planar_code::Record;
 use std::alloc::Global;
 use std::fmt::Debug;

@@ -5,9 +5,9 @@ ghost use Rattle.lanes.specs.Opening.{Silent};
 
 use crate::reported::{Narrow, QUICK, same};
 use collector::{
-    Choice, Gate, IoSink, MAX_LANES, OpenFault, OpenGate, Opener, Stage, Tap, TapFault, TextFault,
-    write_batch,
+    Choice, Gate, IoSink, MAX_LANES, OpenFault, OpenGate, Opener, Stage, Tap, TapFault,
 };
+use commands::{TextFault, write_batch};
 use std::alloc::{AllocError, Global};
 use std::fmt::Write;
 use std::process::Abort;

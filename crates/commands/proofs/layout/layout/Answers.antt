@@ -1,6 +1,6 @@
 use Rattle.std.proofs.Common.{rules, vec_len}
 use Rattle.command_line.specs.Naming.{meanings}
-use Rattle.collector.proofs.Begun.{begun_by_nothing}
+use Rattle.commands.proofs.Begun.{begun_by_nothing}
 use Rattle.commands.proofs.Layouts.{begun_to_lay_out, laid_out}
 use Rattle.commands.proofs.layout.layout.Goals as goal
 

@@ -3,7 +3,7 @@ use Rattle.std.proofs.Math.Logic.{∥∥₁_map, ∥∥₁_elim}
 use Rattle.std.proofs.Props.{props}
 use Rattle.entries.specs.Answers.{Answers}
 use Rattle.printing.specs.Answered.{entry_of}
-use Rattle.collector.proofs.worded.WordedPurpose.finish.Goals as goal
+use Rattle.commands.proofs.worded.WordedPurpose.finish.Goals as goal
 
 pub answered_line-line-requires : goal.answered_line-line-requires
 answered_line-line-requires g c = ∥∥₁_map c.requires.answers (λ answers. (c.args.task.choice, c.args.rec.value, answers))

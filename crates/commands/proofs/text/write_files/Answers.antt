@@ -8,9 +8,9 @@ use Rattle.printing.specs.Holding.{form_of, choice_of, files_of, LinesHold, Line
 use Rattle.printing.specs.Whole.{IsAllWritten, IsBegun}
 use Rattle.printing.proofs.Ordering.{begun_none}
 use Rattle.printing.proofs.Held.{left_off_held}
-use Rattle.collector.proofs.Begun.{ended_with, begun_lines}
-use Rattle.collector.proofs.Taking.{takes_known}
-use Rattle.collector.proofs.text.write_files.Goals as goal
+use Rattle.commands.proofs.Begun.{ended_with, begun_lines}
+use Rattle.commands.proofs.Taking.{takes_known}
+use Rattle.commands.proofs.text.write_files.Goals as goal
 
 pub returns-in-Ok-finish-clause-written : goal.returns-in-Ok-finish-clause-written
 returns-in-Ok-finish-clause-written g c =

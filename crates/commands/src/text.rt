@@ -8,16 +8,16 @@ ghost use Rattle.lane_runs.specs.Faults.{EndsRun};
 ghost use Rattle.lane_runs.specs.Taking.{TakesFiles};
 ghost use Rattle.printing.specs.Whole.{IsAllWritten, IsBegun};
 ghost use Rattle.printing.specs.Telling.{AddsNoneUndrawn};
-ghost use Rattle.collector.specs.TextRuns.{IsRefusedRun};
+ghost use Rattle.commands.specs.TextRuns.{IsRefusedRun};
 
 use crate::line_lanes::LineLanes;
-use crate::run::MAX_LANES;
 use common::Choice;
 use entries::MAX_FILES;
 use lane_runs::{LaneKind, Run, RunFault, run_lanes};
 use lanes::{Consumer, Gate, Opener, Pauses, PausingOpener};
 use printing::{Lines, Pace, Refusal, Texts, Told};
 use reports::Style;
+use ruled_lanes::LANES;
 use std::alloc::Global;
 use std::marker::Brand;
 use std::sync::Wait;
@@ -47,7 +47,7 @@ pub enum TextFault {
 /// # Errors
 ///
 /// `TooManyFiles` exactly where there are more than `MAX_FILES`; `BadLanes` exactly where there are no lanes or
-/// more than `MAX_LANES`, and no more files than that; nothing is then written. `Write` exactly where the sink
+/// more than `LANES`, and no more files than that; nothing is then written. `Write` exactly where the sink
 /// has then failed. `Memory`: no memory for links, the fan, tickets, buffers, lists of lanes or lines.
 /// `LaneLost`: an end of a link or of the fan was gone, or the text was handed a message that no lane gives.
 /// `Thread`: a thread could not be started. Whatever it is, what was written is a beginning of this: the text of
@@ -82,7 +82,7 @@ pub fn write_batch<R: Threads + Wait + Sync, O: Opener, G: Gate, S: Sink>(
     if files > MAX_FILES {
         return Err(TextFault::Run(BatchFault::TooManyFiles));
     }
-    if lanes == 0 || lanes > MAX_LANES {
+    if lanes == 0 || lanes > LANES {
         return Err(TextFault::Run(BatchFault::BadLanes));
     }
     let pauses = Pauses::none();
