@@ -65,7 +65,7 @@ pub edge_turns : (N P T H D A B : List ℕ) → IsEdge N P T H D A → HasTurns 
 edge_turns N P T H D A B e =
     let w : DartMap = dart_map_from 2 2 N P T H D A B in
     record {
-      labels = record {
+      face_numbers = record {
         stays = λ a l. refl;
         least = λ s shut a b la lb same here.
             let other : s (w.next a) ≡ true = shut a la here in
