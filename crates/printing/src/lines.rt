@@ -41,7 +41,7 @@ pub(crate) fn answer_line(
         Form::Report => Line::copied(alloc, ReportLine::of_graph(graph, answer).as_slice()),
         Form::Json => {
             let text = reports::answer_line(alloc, number_of(file)?, graph, answer)?;
-            Ok(Line::of(alloc, text))
+            Ok(Line::of(text))
         }
     }
 }
