@@ -44,13 +44,13 @@ def refused(path: str) -> list[tuple[str, list[Any], str | None]]:
 
 
 def version_text() -> bytes:
-    """The newest number of CHANGELOG.md, and what `rt version` says where there is an `rt`, or else README.md."""
+    """The newest number of CHANGELOG.md, and what `rt version` says without the letter behind the kit's number, since
+    kits of one number and one logic prove the same; where there is no `rt`, the text of start/."""
+    if not shutil.which("rt"):
+        with open(os.path.join(ROOT, "start/texts/version"), "rb") as text:
+            return text.read()
     with open(os.path.join(ROOT, "CHANGELOG.md"), encoding="utf-8") as changes:
         number = re.search(r"^## ([0-9.]+), ", changes.read(), re.MULTILINE)
-    if shutil.which("rt"):
-        toolchain = subprocess.run(["rt", "version"], stdout=subprocess.PIPE, text=True, check=True).stdout.strip()
-    else:
-        with open(os.path.join(ROOT, "README.md"), encoding="utf-8") as readme:
-            named = re.search(r"`rt version`: (\S+), (logic \w+)", readme.read())
-        toolchain = f"{named[1]} {named[2]}" if named else ""
-    return f"planarbend {number[1] if number else ''}\nproved with {toolchain}\n".encode()
+    toolchain = subprocess.run(["rt", "version"], stdout=subprocess.PIPE, text=True, check=True).stdout.strip()
+    kit = re.sub(r"^(rattle-kit-\d+)[a-z]*", r"\1", toolchain)
+    return f"planarbend {number[1] if number else ''}\nproved with {kit}\n".encode()

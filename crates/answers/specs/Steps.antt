@@ -34,7 +34,7 @@ abbrev pub IsEmbedded : List ℕ → Result PlaneModel LayoutFault → Type 0
 IsEmbedded bytes (Ok plane) = IsTracedPlane bytes plane
 IsEmbedded bytes (Err fault) = IsRefused bytes fault
 
--- a layout of the record's plane with the chosen outer face, or why there is none
+-- the record's plane with the chosen outer face and a least shape, or why there is none
 abbrev pub IsShaped : Choice → List ℕ → Result Layout LayoutFault → Type 0
 IsShaped choice bytes (Ok layout) = IsPlaneOf choice bytes layout.plane
 IsShaped choice bytes (Err fault) = IsRefused bytes fault

@@ -31,7 +31,7 @@ pub struct DrawScratch {
     check: drawing_check::Scratch,
     // the directions of the darts of the shape that was drawn last
     headings: Vec<u8>,
-    // the holder of its layout
+    // the holder of its shaped plane
     shell: Option<Shell<Layout, SpentLayout>>,
     pub(crate) back: Passage<Shell<Layout, SpentLayout>>,
 }
@@ -56,7 +56,7 @@ impl DrawScratch {
     }
 
     /// Takes the lists of an answer that nobody reads any more, so that they are filled anew. Those of its drawing stay
-    /// here, those of its plane and its shape go back in the holder of its layout.
+    /// here, those of its plane and its shape go back in the holder of its shaped plane.
     pub fn take_back(&mut self, alloc: Global, answer: Answer) {
         if let Answer::Laid {
             plane,
@@ -80,14 +80,14 @@ impl DrawScratch {
         }
     }
 
-    /// Sends the holder of the layout that was taken last back.
+    /// Sends back the holder of the shaped plane that was taken last.
     pub(crate) fn send_back<R: Wait>(&mut self, rt: &R) {
         if let Some(shell) = self.shell.take() {
             self.back.send(rt, shell);
         }
     }
 
-    /// The layout out of its holder, which goes back.
+    /// The shaped plane out of its holder, which goes back.
     pub(crate) fn unpack(
         &mut self,
         layout: Result<Held<Layout, SpentLayout>, LayoutFault>,

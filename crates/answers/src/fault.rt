@@ -1,4 +1,4 @@
-//! Why a record is not laid out.
+//! Why a record gets no shape.
 
 /// Why a record has no plane, or no shape.
 #[derive(Clone, Copy, Debug, PartialEq, Eq)]

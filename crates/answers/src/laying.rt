@@ -1,4 +1,4 @@
-//! How a plane is laid out.
+//! How a plane gets its least shape and the directions of its darts.
 
 ghost use Rattle.std.specs.Prelude.{◌≡◌, ℕ, List, IfOk, OnOk};
 ghost use Rattle.ortho_rep.specs.Representation.{IsShape, IsLeast};
@@ -20,7 +20,7 @@ use std::mem;
 use std::sync::Wait;
 use straightening::straighten_in;
 
-/// What laying out takes memory for and does not keep. It is lent to one plane after another.
+/// What finding shapes takes memory for and does not keep. It is lent to one plane after another.
 #[derive(Drop)]
 pub struct LayScratch {
     shapes: ortho_rep::Scratch,
@@ -28,14 +28,14 @@ pub struct LayScratch {
     search: HeadingSearch,
     // directions that are done with
     headings: Vec<u8>,
-    // a plane that is done with, the holder of the plane that was taken last, and the holder of the next layout
+    // a plane that is done with, the holder of the plane that was taken last, and the holder of the next shaped plane
     plane: Option<Plane>,
     plane_shell: Option<Shell<Plane, Plane>>,
     shell: Option<Shell<Layout, SpentLayout>>,
     pub(crate) passages: Passages,
 }
 
-/// The ways back of the stage that finds shapes: holders of planes are sent to the stage before, and holders of layouts
+/// The ways back of the stage that finds shapes: holders of planes go to the stage before, and holders of shaped planes
 /// come from the next one.
 #[derive(Drop)]
 pub(crate) struct Passages {
@@ -61,7 +61,7 @@ impl LayScratch {
         }
     }
 
-    /// Takes in the holder of a layout that is done with and its lists, where they have come back.
+    /// Takes in the holder of a shaped plane that is done with and its lists, where they have come back.
     pub(crate) fn restock<R: Wait>(&mut self, rt: &R) {
         if let Some(mut shell) = self.passages.layouts.receive(rt) {
             if let Some(spent) = shell.unload() {
@@ -102,7 +102,7 @@ impl LayScratch {
         Ok(plane)
     }
 
-    /// The layout in a holder, where there is memory for one.
+    /// The shaped plane in a holder, where there is memory for one.
     pub(crate) fn hold(
         &mut self,
         alloc: Global,
@@ -121,7 +121,7 @@ impl LayScratch {
     }
 }
 
-/// A layout of the plane for this drawing, whose outer face is then the chosen one.
+/// The plane with a least shape for this drawing; its outer face is then the chosen one.
 ///
 /// The directions of the darts are found here, and not where the shape is drawn, since drawing takes
 /// longest of all stages.

@@ -22,7 +22,7 @@ pub struct Layout {
     pub ghost headed: { AreHeadingsOf plane shape headings.items } by { Prim.hlevel props },
 }
 
-/// A layout that is done with: its lists are filled anew.
+/// A shaped plane that is done with: its lists are filled anew.
 #[derive(Drop)]
 pub struct SpentLayout {
     pub plane: Plane,

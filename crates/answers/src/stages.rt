@@ -40,7 +40,7 @@ pub(crate) fn embed(
     }
 }
 
-/// A layout of a record's plane with the chosen outer face, for this drawing, or why there is none.
+/// A record's plane with the chosen outer face and a least shape for this drawing, or why there is none.
 pub(crate) fn shape(
     alloc: Global,
     scratch: &mut LayScratch,
@@ -56,7 +56,7 @@ pub(crate) fn shape(
     }
 }
 
-/// What is answered to a record with this layout, which is drawn so, or without one.
+/// What is answered to a record with this shaped plane, which is drawn so, or without one.
 pub(crate) fn answer_with(
     alloc: Global,
     scratch: &mut DrawScratch,

@@ -26,7 +26,7 @@ impl State for Traced {
     ghost holds = { λ about plane. IsEmbedded about.bytes plane };
 }
 
-/// A layout of the record's plane, or why there is none.
+/// The record's plane with a least shape, or why there is none.
 pub type LaidOut = Result<Held<Layout, SpentLayout>, LayoutFault>;
 
 impl State for LaidOut {

@@ -220,13 +220,18 @@ fn no_files_have_an_empty_report(rt: HostRuntime) {
     }
 }
 
+/// How often each turn of a wait yields: on a shared machine a thread may be away for a million yields.
+const YIELDS: u32 = 16;
+
 /// Waits until a number of calls is reached, and notes where a million turns were too few.
 fn wait_for_calls(calls: &AtomicU32, least: u32, ran_out: &AtomicBool) {
     for _ in 0..1_000_000 {
         if calls.load(Ordering::SeqCst) >= least {
             return;
         }
-        thread::yield_now();
+        for _ in 0..YIELDS {
+            thread::yield_now();
+        }
     }
     ran_out.store(true, Ordering::SeqCst);
 }

@@ -20,7 +20,7 @@ use Rattle.command_line.specs.declared.request.Request.TheVariants.{Frames, Layo
 abbrev pub has_front : ℕ → ℕ → List ℕ → Bool
 has_front first second word = nat_eq (slice_index word 0) first && nat_eq (slice_index word 1) second
 
--- an option that shows help: '--help', or '-h' with what may follow
+-- an option that asks for help: '--help', or '-h' with what may follow
 abbrev pub is_help : List ℕ → Bool
 is_help word = bytes_eq word (codes "--help") || has_front 45 104 word
 

@@ -42,7 +42,7 @@ pub trait Console {
     /// How many milliseconds have passed since some start, or 0 where the clock cannot be read.
     fn time(&self) -> u64;
 
-    /// Shows a text. That this may fail changes nothing.
+    /// Writes a text. That this may fail changes nothing.
     fn show(&self, text: &[u8]);
 }
 
@@ -104,7 +104,7 @@ pub struct Meter<'c, C> {
     begun: AtomicU64,
     /// How many graphs came to the last stage.
     graphs: AtomicU64,
-    /// When the last line was shown, in milliseconds since the start.
+    /// When the last line was written, in milliseconds since the start.
     last_told: AtomicU64,
 }
 
@@ -161,7 +161,7 @@ impl<'c, C: Console> Meter<'c, C> {
         }
     }
 
-    /// Shows the line of what was counted in so many milliseconds.
+    /// Writes the line of what was counted in so many milliseconds.
     fn tell(&self, time: u64, end: &str) {
         let begun = self.begun.load(Ordering::SeqCst);
         let graphs = self.graphs.load(Ordering::SeqCst);

@@ -89,7 +89,7 @@ impl Role {
     }
 }
 
-/// Whether a word is an option that shows help.
+/// Whether a word is an option that asks for help.
 fn is_help(word: &str) -> bool
     ensures { result ≡ is_help word.now }
 {

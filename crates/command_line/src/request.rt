@@ -39,7 +39,7 @@ pub struct LayoutRequest<'a> {
     pub progress: Progress,
 }
 
-/// Reads the words after the program's name, and answers what they ask for. A `layout` has a file at least, and
+/// Reads the words after the program's name, and returns what they ask for. A `layout` has a file at least, and
 /// standard input at most once.
 ///
 /// # Errors

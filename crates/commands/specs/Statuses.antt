@@ -21,7 +21,7 @@ use Rattle.command_line.specs.declared.request.Request.TheVariants.{Frames, Layo
 
 -- what '--version' prints
 abbrev pub version_text : List ℕ
-version_text = codes "planarbend 0.3.0\nproved with rattle-kit-13f logic dac8208d650f15bf\n"
+version_text = codes "planarbend 0.3.0\nproved with rattle-kit-13 logic dac8208d650f15bf\n"
 
 -- The text begins with a capital letter, and is no beginning of a report: neither of the text of some books, in any form, nor
 -- of the lines of some records. (Books have right entries alone, so what only looks like a report is known by its first byte.)

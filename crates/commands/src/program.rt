@@ -30,9 +30,9 @@ use std::sync::Wait;
 use std::thread::Threads;
 use streams::{Sink, put_all, run_frames, write_frames};
 
-/// Does what the words after the program's name ask for, and answers the program's exit status.
+/// Does what the words after the program's name ask for, and returns the program's exit status.
 /// The file named `-` is standard input, the file 0 of `input`. A report goes to `out`, and the line of a fault
-/// to `err`; that this line may fail changes nothing, nor does what `console` shows of the progress of a run.
+/// to `err`; that this line may fail changes nothing, nor does what `console` writes of the progress of a run.
 ///
 /// The status is 0 for the version, for help and for a whole report in which each file ends complete and
 /// no graph wanted for memory, 3 for any other whole report, 2 for a command line that is refused, and 1
@@ -102,7 +102,7 @@ where
     }
 }
 
-/// Does what a request asks for, and answers the exit status. It is 0 or 3 only where the whole report
+/// Does what a request asks for, and returns the exit status. It is 0 or 3 only where the whole report
 /// was written, of all files that the request names, and then as `command` says.
 fn perform<
     R: Files + AllocGlobal + Threads + Wait + Sync,
@@ -140,7 +140,7 @@ where
     }
 }
 
-/// Writes the line of a fault, and answers its status.
+/// Writes the line of a fault, and returns its status.
 fn end_by<E: Sink>(fault: Fault, err: &mut E) -> u8
     requires { E.failed err.old ≡ false }
     ensures refused { IsRefusal fault → result ≡ 2 }
@@ -150,7 +150,7 @@ fn end_by<E: Sink>(fault: Fault, err: &mut E) -> u8
     fault.status()
 }
 
-/// Writes the records of one file and how it ends, and answers the status.
+/// Writes the records of one file and how it ends, and returns the status.
 fn frames<R: Files + AllocGlobal + Threads + Wait + Sync, I: Opener, S: Sink>(
     rt: &R,
     name: &str,
@@ -177,7 +177,7 @@ where
     Ok(status_of(found.mark()))
 }
 
-/// Writes why the command line is refused, and answers the status: 2, or 1 for want of memory.
+/// Writes why the command line is refused, and returns the status: 2, or 1 for want of memory.
 fn refuse<E: Sink>(alloc: Global, error: &Error, err: &mut E) -> u8
     requires { E.failed err.old ≡ false }
     ensures known { (result ≡ 1) ⊎ (result ≡ 2) }
@@ -195,7 +195,7 @@ fn refuse<E: Sink>(alloc: Global, error: &Error, err: &mut E) -> u8
     }
 }
 
-/// Writes the version, and answers the status.
+/// Writes the version, and returns the status.
 fn show_version<S: Sink, E: Sink>(out: &mut S, err: &mut E) -> u8
     requires out_is_whole { S.failed out.old ≡ false }
     requires err_is_whole { E.failed err.old ≡ false }
@@ -207,7 +207,7 @@ fn show_version<S: Sink, E: Sink>(out: &mut S, err: &mut E) -> u8
     }
 }
 
-/// Writes the help that was asked for, and answers the status. What does not begin as help is refused.
+/// Writes the help that was asked for, and returns the status. What does not begin as help is refused.
 fn show_help<S: Sink, E: Sink>(alloc: Global, help: &Error, out: &mut S, err: &mut E) -> u8
     requires out_is_whole { S.failed out.old ≡ false }
     requires err_is_whole { E.failed err.old ≡ false }

@@ -18,7 +18,7 @@ AreInside n constraints = All (λ constraint. (constraint.from < n) × (constrai
 abbrev pub IsLow : List Constraint → ℕ → (ℕ → ℕ) → Type 0
 IsLow constraints n x = (y : ℕ → ℕ) → Keeps constraints y → (v : ℕ) → v < n → x v ≤ y v
 
--- all coordinates that keep the constraints pass 65,535 somewhere
+-- all coordinates that keep the constraints exceed 65,535 somewhere
 abbrev pub AreWide : List Constraint → ℕ → Type 0
 AreWide constraints n = (y : ℕ → ℕ) → Keeps constraints y → (v : ℕ) × (v < n) × (MAX_COORDINATE < y v)
 

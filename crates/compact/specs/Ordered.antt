@@ -1,4 +1,4 @@
--- Coordinates in the order of the darts, along each axis, and what the faults say.
+-- Coordinates that grow along the darts, on each axis, and what the faults say.
 use Rattle.std.specs.Prelude.{◌≡◌, ◌≢◌, ℕ, ◌+◌, ◌<◌, ◌≤◌, List, [], ◌∷◌, length, map, slice_index, slice_index_or}
 use Rattle.ortho_rep.specs.declared.points.TheConstants.{MAX_COORDINATE}
 use Rattle.dissect.specs.DartMaps.{DartMap, IsSound}
@@ -47,7 +47,7 @@ abbrev pub across : Axis → ℕ
 across X = 1
 across Y = 2
 
--- the least coordinates of the vertices in the order of the darts along an axis, within the grid
+-- the least coordinates of the vertices that grow along the darts of an axis, within the grid
 pub record AreLeast (b : BoxesModel) (k : ℕ) (coordinates : List ℕ) : Type 0 where
   pub along : IsAlong (dart_map b) k (λ v. slice_index coordinates v)
   pub least : (y : ℕ → ℕ) → IsAlong (dart_map b) k y → (v : ℕ) → v < b.vertices → slice_index coordinates v ≤ y v

@@ -1,4 +1,4 @@
-//! The constraints of a dissection along an axis, and the least coordinates of its vertices.
+//! The constraint graph of a dissection along an axis (Tamassia 1987), and the least coordinates of its vertices.
 
 ghost use Rattle.std.specs.Prelude.{◌≡◌, ◌≢◌, ◌+◌, ◌*◌, length, slice_index, Some, None, IsTrue, IfOk, IfErr, OnOk, ℕ, ◌<◌, ◌≤◌};
 ghost use Rattle.ortho_rep.specs.declared.points.TheConstants.{MAX_COORDINATE};
@@ -80,7 +80,7 @@ fn is_step_kept(along: &[u16], across: &[u16], vertex: usize, to: u32) -> bool
     grows & (across[vertex] == across[end])
 }
 
-/// Whether coordinates are in the order of the darts along both axes. `around` has the steps from each vertex:
+/// Whether coordinates grow along the darts, on both axes. `around` has the steps from each vertex:
 /// those to the east and to the north say it of all darts, since the others go back along them.
 fn are_along(boxes: &Boxes, around: &[u32], x: &[u16], y: &[u16]) -> bool
     requires all_steps { HasSteps (dart_map boxes.now) around.now boxes.now.darts }
@@ -114,7 +114,7 @@ fn steps_along(around: &[u32], axis: Axis) -> Steps<'_>
     }
 }
 
-/// Coordinates that are nowhere above any in the order of the darts along an axis: the lengths of longest
+/// Coordinates that are nowhere above any that grow along the darts of an axis: the lengths of longest
 /// paths, found segment by segment, in the memory of the list that is lent. `around` has the steps from each
 /// vertex. Linear in the darts.
 fn low_along(
@@ -136,8 +136,8 @@ fn low_along(
     Ok(coordinates)
 }
 
-/// Raises coordinates that are nowhere above any in the order of the darts along an axis, until they are in that
-/// order: then they are the least.
+/// Raises coordinates that are nowhere above any that grow along the darts of an axis, until they grow so
+/// too: then they are the least.
 fn relaxed_along(
     boxes: &Boxes,
     axis: Axis,
@@ -160,7 +160,7 @@ fn relaxed_along(
     Ok(coordinates)
 }
 
-/// The least coordinates of the vertices in the order of the darts along x and along y, in the memory of the
+/// The least coordinates of the vertices that grow along the darts, on x and on y, in the memory of the
 /// lists that are lent. `around` has the steps from each vertex.
 pub fn least_coordinates(
     boxes: &Boxes,

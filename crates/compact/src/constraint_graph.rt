@@ -1,4 +1,4 @@
-//! Constraints on coordinates, and the least coordinates that keep them.
+//! Longest paths by rounds over all constraints (Bellman 1958): the least coordinates that keep them.
 
 ghost use Rattle.std.specs.Prelude.{◌≡◌, ℕ, ◌+◌, ◌<◌, ◌≤◌, ◌↔◌, IsTrue, IsFalse, length, replicate, slice_index, All};
 ghost use Rattle.ortho_rep.specs.declared.points.TheConstants.{MAX_COORDINATE};
@@ -21,7 +21,7 @@ pub enum Relaxation {
     Kept,
     /// Some coordinate was raised.
     Raised,
-    /// Some coordinate would pass 65,535.
+    /// Some coordinate would exceed 65,535.
     Wide,
 }
 
@@ -65,9 +65,9 @@ fn relax_all(constraints: &[Constraint], coordinates: &mut [u16]) -> Relaxation
 
 /// Raises low coordinates until each constraint is kept, and says whether that could be: they are then the
 /// least that keep the constraints, the lengths of longest paths. If not, all coordinates that keep the
-/// constraints pass 65,535 somewhere.
+/// constraints exceed 65,535 somewhere.
 ///
-/// It takes a step a constraint in each round. Where no circle has a constraint of 1 it needs at most as many rounds
+/// Each round is linear in the constraints. Where no cycle has a constraint of 1 it needs at most as many rounds
 /// as a path without repeats has constraints, and one more, though no clause says so.
 pub fn relax_in_rounds(constraints: &[Constraint], coordinates: &mut [u16]) -> bool
     requires inside { AreInside (length coordinates.old) constraints.now }

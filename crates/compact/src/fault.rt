@@ -5,7 +5,7 @@ use thiserror::Error;
 /// Why boxes are given no points.
 #[derive(Clone, Copy, Debug, PartialEq, Eq, Error)]
 pub enum CompactFault {
-    /// No coordinates that keep the order of the darts are all at most 65,535.
+    /// No coordinates that grow along the darts are all at most 65,535.
     #[error("the drawing is too wide for the grid")]
     Wide,
     /// Memory ran out, which says nothing of the boxes.

@@ -1,4 +1,4 @@
-//! Coordinates for a dissection: least whole numbers that keep the order of its darts.
+//! Coordinates for a dissection: least whole numbers that grow along its darts.
 #![tactic(auto)]
 
 mod axis;

@@ -1,4 +1,4 @@
-//! Lengths of longest paths (Tamassia 1987) over segments of vertices, which darts across an axis connect.
+//! Longest paths (Tamassia 1987) in topological order (Kahn 1962) over segments: vertices that darts across join.
 
 ghost use Rattle.std.specs.Prelude.{◌≡◌, ◌*◌, ◌^◌, ◌<◌, ℕ, length, OnOk};
 ghost use Rattle.compact.specs.Steps.{step, AreVertices, AreEqualIn, AreSegments, AreOwn, IsOnSegment, AreUnder, StayUnder, StayUnderAll};
@@ -311,7 +311,7 @@ impl ReadyQueue<'_> {
 }
 
 /// Raises the coordinate of the segment of the next vertex along the axis, if there is one, to that of the segment of a
-/// vertex and one more, and gives back the first vertex of that segment. No coordinate passes 65,535.
+/// vertex and one more, and gives back the first vertex of that segment. No coordinate exceeds 65,535.
 fn raise(
     around: &[u32],
     ahead: u8,

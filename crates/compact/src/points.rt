@@ -1,4 +1,4 @@
-//! Points for the vertices and the corners of a plane.
+//! Compaction by longest paths (Tamassia 1987): points for the vertices and the corners of a plane.
 
 ghost use Rattle.std.specs.Prelude.{◌≡◌, length, map, slice_index, IfOk, IfErr};
 ghost use Rattle.std.specs.List.{range_with_len};
@@ -62,18 +62,18 @@ fn list_corners(
     Ok((corners, starts))
 }
 
-/// Points for a plane that was cut into boxes: whole numbers from 0 to 65,535 in the order of the darts,
+/// Points for a plane that was cut into boxes: whole numbers from 0 to 65,535 that grow along the darts,
 /// x growing to the east and y to the north, the least there are. Edges run along the axes between their
 /// ends and corners.
 ///
 /// The coordinates are the lengths of longest paths in the two constraint graphs of the dissection (Tamassia 1987).
-/// They are found segment by segment, a segment being the vertices that darts across the axis join: a few steps
-/// for each dart. Where that does not keep all constraints, as in a drawing too wide for the grid, the end of
+/// They are found segment by segment, a segment being the vertices that darts across the axis join, in time linear
+/// in the darts. Where that does not keep all constraints, as in a drawing too wide for the grid, the end of
 /// each constraint that is not kept is raised, in rounds. The points stand in one list.
 ///
 /// # Errors
 ///
-/// `Wide` where no coordinates in the order of the darts are all at most 65,535; `Memory` where there is
+/// `Wide` where no coordinates that grow along the darts are all at most 65,535; `Memory` where there is
 /// none for the steps, the coordinates, the segments, the constraints or the points.
 pub fn compact(alloc: Global, boxes: &Boxes) -> Result<Points, CompactFault>
     ensures laid { IfOk result (AreLaidOut boxes.now) }

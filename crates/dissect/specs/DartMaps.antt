@@ -1,4 +1,4 @@
--- A planar map: darts and vertices, with edges in four directions, before it is cut into boxes.
+-- A planar map (combinatorial map): darts and vertices, with edges in four directions, before it is cut into boxes.
 -- Darts and vertices are numbered from 0, directions 0 to 3 by quarter turns to the left from east.
 use Rattle.std.specs.Prelude.{◌≡◌, ◌≢◌, ℕ, ◌+◌, ◌-◌, ◌%◌, ◌<◌, ◌≤◌, ◌==◌, if◌then◌else◌}
 use Rattle.common.specs.Sums.{sum_below}
@@ -54,7 +54,7 @@ pub record IsMeeting (w : DartMap) : Type 0 where
 abbrev pub IsStraight : DartMap → Type 0
 IsStraight w = (a : ℕ) → a < w.darts → w.direction (w.reverse_dart a) ≡ (w.direction a + 2) % 4
 
--- The edge of the dart e is split by a new vertex, w.vertices. The new dart w.darts leads there in front of
+-- The edge of the dart e is subdivided by a new vertex, w.vertices. The new dart w.darts leads there in front of
 -- e, and w.darts + 1 in front of e's reverse; e and its reverse keep their heads and angles. The walk along e
 -- arrives at the new vertex in the direction `way`, and there the angles are `bend` and 4 - bend.
 pub record IsSubdivided (w : DartMap) (e way bend : ℕ) (new : DartMap) : Type 0 where
@@ -141,7 +141,7 @@ pub record IsSound (w : DartMap) : Type 0 where
   pub meeting : IsMeeting w
   pub straight : IsStraight w
 
--- One cut: the edge of the dart e is split without a turn, and a chord connects the corner at the head of d, which
+-- One cut: the edge of the dart e is subdivided without a turn, and a chord connects the corner at the head of d, which
 -- is a right turn or two, with the new place on e.
 pub record IsCut (w : DartMap) (d e way : ℕ) (new : DartMap) : Type 0 where
   pub middle : DartMap

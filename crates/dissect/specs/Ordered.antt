@@ -1,4 +1,4 @@
--- Numbers in the order of the darts, and the points that are taken from them.
+-- Numbers that grow along the darts, and the points that are taken from them.
 use Rattle.std.specs.Prelude.{◌≡◌, ℕ, ◌<◌, ◌≤◌, ◌⊎◌, map, length}
 use Rattle.std.specs.List.{range_with_len}
 use Rattle.ortho_rep.specs.declared.points.TheConstants.{MAX_COORDINATE}

@@ -1,4 +1,4 @@
--- One face under the scan that cuts it: corners that were read stand on a stack, top first, and the others wait.
+-- One face while it is cut: corners that were read stand on a stack, top first, and the others wait.
 use Rattle.std.specs.Prelude.{◌≡◌, ℕ, zero, suc, ◌+◌, ◌*◌, ◌%◌, ◌<◌, ◌≤◌, List, [], ◌∷◌, length, map, slice_index, drop, All}
 use Rattle.dissect.specs.DartMaps.{DartMap, IsSound, Grows, reflex_turns}
 use Rattle.dissect.specs.Faces.{AreWaiting}
@@ -41,7 +41,7 @@ IsHookOn w (c ∷ []) = ⊥
 IsHookOn w (c ∷ c1 ∷ []) = ⊥
 IsHookOn w (c ∷ c1 ∷ d ∷ st) = (w.angle c ≡ 1) × (w.angle c1 ≡ 1) × (2 < w.angle d)
 
--- the scan of a face whose corners stand in a list of places: those below h are the stack, which is hookless, and
+-- the cutting of a face whose corners stand in a list of places: those below h are the stack, which is hookless, and
 -- those from `read` on the rest; there is room for `room` darts, and for `now` of them by now
 pub record IsReading (w0 : DartMap) (face : List ℕ) (room : ℕ) (w : DartMap) (xs : List ℕ) (h read now : ℕ) : Type 0 where
   pub scan : IsScan w0 face w (tops xs h) (drop read xs)

@@ -1,4 +1,4 @@
--- How a map gets its bends: one split a turn, edge by edge.
+-- How a map gets its bends: one subdivision a turn, edge by edge.
 use Rattle.std.specs.Prelude.{ℕ, ◌+◌, ◌%◌, ◌<◌, ◌≤◌, List, [], ◌∷◌}
 use Rattle.faces.specs.Planes.{PlaneModel, darts, reverse_dart}
 use Rattle.ortho_rep.specs.declared.turn.Turn.{Turn}

@@ -17,7 +17,7 @@ use std::marker::Model;
 ///
 /// Vertices and darts are numbered from 0. The plane's vertex v is vertex v - 1; a dart of the plane
 /// has its number here too, and is the last of the darts that its edge is made of. Edges of the plane
-/// are numbered by their lesser darts, in ascending order. No reader takes memory, and each takes
+/// are numbered by their lesser darts, in ascending order. No accessor takes memory, and each takes
 /// constant time.
 #[derive(Drop)]
 pub struct Boxes {

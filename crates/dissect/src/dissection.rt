@@ -19,9 +19,9 @@ use std::mem;
 
 /// Cuts an orthogonal representation of a plane into boxes.
 ///
-/// Each dart is given a direction, each edge is split at its turns, a rectangle is put round the whole
+/// Each dart is given a direction, each edge is subdivided at its turns, a rectangle is put round the whole
 /// and connected to it at a right turn of the outer face, and each face is cut at its right turns until
-/// all are boxes (after Tamassia 1987, in one pass a face). For n vertices and b bends there are at
+/// all are boxes (after Tamassia 1987, in one scan a face). For n vertices and b bends there are at
 /// most 3n + 2b + 5 vertices. Linear in the boxes.
 ///
 /// # Errors

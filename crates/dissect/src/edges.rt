@@ -22,7 +22,7 @@ fn angle_of(turn: Turn) -> u8
     }
 }
 
-/// Splits the edge of the dart `e` at each of these turns, in walking order. Constant time for a turn.
+/// Subdivides the edge of the dart `e` at each of these turns, in walking order. Constant time for a turn.
 pub fn bend_edge(table: &mut DartTable, e: u32, turns: &[Turn])
     requires tied { IsTied (dart_map_of table.old) }
     requires meeting { IsMeeting (dart_map_of table.old) }

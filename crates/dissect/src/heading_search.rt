@@ -1,4 +1,4 @@
-//! The search for the directions of all darts, from one dart on.
+//! A graph search with a stack (Ahuja, Magnanti and Orlin, 1993, section 3.4) for the directions of all darts.
 
 ghost use Rattle.std.specs.Prelude.{◌≡◌, ◌+◌, ◌%◌, ◌<◌, ◌≤◌, [], length, replicate, vec_len, IfOk, OnOk, slice_index};
 ghost use Rattle.ortho_rep.specs.declared.strings.TheConstants.{MAX_TURNS};
@@ -90,8 +90,8 @@ fn reverse_heading(heading: u8, turns: &[Turn]) -> u8
 /// A direction for each dart of an orthogonal representation: place d of `headings` belongs to dart d.
 ///
 /// The direction of a dart is that in which it arrives at its head, in quarter turns to the left from
-/// east: 0 is east, 1 north, 2 west and 3 south. Dart 0 arrives to the east. The cost is a step for
-/// each dart and each turn. It works in the memory of the search that is lent, and takes more, a few bytes
+/// east: 0 is east, 1 north, 2 west and 3 south. Dart 0 arrives to the east. Linear in the
+/// darts and the turns. It works in the memory of the search that is lent, and takes more, a few bytes
 /// for each dart, only where that is not enough.
 ///
 /// # Errors

@@ -1,7 +1,7 @@
-//! The map of a plane in four directions with a vertex at each bend, so that each edge is straight.
+//! Normalization (Tamassia 1987): the map of a plane in four directions, with a vertex at each bend.
 //!
 //! The darts of the plane are the first darts of a table. Each quarter turn of an orthogonal
-//! representation splits an edge by a new vertex: along the string of the lesser dart of each edge, in
+//! representation subdivides an edge by a new vertex: along the string of the lesser dart of each edge, in
 //! walking order, so that this dart and its reverse stay the last parts of the two walks along it.
 
 ghost use Rattle.std.specs.Prelude.{◌≡◌, ◌+◌, ◌*◌, ◌<◌, ◌≤◌, IfOk, length, map, slice_index};

@@ -9,7 +9,7 @@ use common::emptied;
 use ortho_rep::FlatLists;
 use std::alloc::AllocError;
 
-/// Puts the darts of the path that ends with a dart behind a list, in walking order. A step for each of
+/// Puts the darts of the path that ends with a dart behind a list, in walking order. Linear in
 /// them.
 fn push_path(darts: &mut Vec<u32>, table: &DartTable, last: u32) -> Result<(), AllocError>
     requires path { (first : ℕ) × (rest : List ℕ) × IsPath (dart_map_of table.now) last first rest }
@@ -28,7 +28,7 @@ fn push_path(darts: &mut Vec<u32>, table: &DartTable, last: u32) -> Result<(), A
 }
 
 /// The darts that each of these edges is made of, which are named by their last darts, in the memory of
-/// these lists. A step for each dart of theirs.
+/// these lists. Linear in these darts.
 pub fn paths_of(
     table: &DartTable,
     edges: &[u16],

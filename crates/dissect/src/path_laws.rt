@@ -14,14 +14,14 @@ pub fn darts_are_paths()
         → HasPaths w n reverse_dart (λ _. []) }
 {}
 
-/// A split that does not turn keeps the turns of each edge.
+/// A subdivision that does not turn keeps the turns of each edge.
 pub fn splits_keep_paths()
     ensures { (w : DartMap) (e way : ℕ) (new : DartMap) (n : ℕ) (reverse_dart : ℕ → ℕ) (quarters : ℕ → List ℕ)
         → IsTied w → e < w.darts → way < 4 → IsSubdivided w e way 2 new
         → HasPaths w n reverse_dart quarters → HasPaths new n reverse_dart quarters }
 {}
 
-/// A split that turns gives the edge of `e` a last turn, the way back the opposite one as its first, and the
+/// A subdivision that turns gives the edge of `e` a last turn, the way back the opposite one as its first, and the
 /// other edges none.
 pub fn bends_turn_paths()
     ensures { (w : DartMap) (e way bend : ℕ) (new : DartMap) (n : ℕ) (reverse_dart : ℕ → ℕ) (quarters turned : ℕ → List ℕ)
@@ -46,7 +46,7 @@ pub fn rectangles_keep_paths()
         → HasPaths w n reverse_dart quarters → HasPaths new n reverse_dart quarters }
 {}
 
-/// A split of an edge leaves a connected map connected.
+/// A subdivision of an edge leaves a connected map connected.
 pub fn splits_stay_connected()
     ensures { (w : DartMap) (e way bend : ℕ) (new : DartMap) → IsTied w → e < w.darts → IsSubdivided w e way bend new
         → IsConnected w → IsConnected new }

@@ -1,4 +1,4 @@
-//! Puts a rectangle round a map in four directions, connects the two, and cuts every face into boxes.
+//! Refinement into boxes (Tamassia 1987): a rectangle is put round a map and connected to it, and every face is cut.
 //!
 //! A cut leads from a right turn of the outer face to the side of the rectangle that it faces, so that
 //! the outer face and the inside of the rectangle become one face. Each face but the outside of the

@@ -1,4 +1,4 @@
-//! Cuts the faces of a map in four directions into boxes, by Tamassia's compaction (1987), with one pass a
+//! Cuts the faces of a map in four directions into boxes, by Tamassia's compaction (1987), with one scan a
 //! face. Boxes turn left four times and are else straight: the core of a dissection.
 //!
 //! A map is a table of darts whose edges run along the axes. A face is given by its corners, in

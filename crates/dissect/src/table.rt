@@ -1,4 +1,4 @@
-//! The table of a map's darts, with splits and chords.
+//! The table of a map's darts, whose edges are subdivided and to which chords are added.
 
 ghost use Rattle.std.specs.Prelude.{◌≡◌, ◌≢◌, ◌+◌, ◌^◌, ◌<◌, ◌≤◌, vec_len};
 
@@ -66,7 +66,7 @@ impl DartTable {
         }
     }
 
-    /// Splits the edge of the dart `e` by a new vertex, at which the walk along `e` arrives in the
+    /// Subdivides the edge of the dart `e` by a new vertex, at which the walk along `e` arrives in the
     /// direction `way` and has the angle `bend` on its left.
     pub fn split(&mut self, e: u32, way: u8, bend: u8)
         requires tied { IsTied (dart_map_of self.old) }

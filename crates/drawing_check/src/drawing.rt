@@ -1,4 +1,4 @@
-//! The check of a drawing, and what it makes.
+//! The check of a drawing, by a sweep over rectangles (Shamos and Hoey 1976), and what it makes.
 
 ghost use Rattle.std.specs.Prelude.{◌≡◌, ◌*◌, ◌≤◌, length, IfOk, IfErr, IfNone, IfSome, Some};
 ghost use Rattle.faces.specs.Planes.{darts, vertices};
@@ -57,15 +57,15 @@ impl Drawing {
 /// path differ in exactly one coordinate; each edge has as many corners as turns, each corner turns as
 /// its string says, and at the head of each dart the direction changes as its angle says; no whole
 /// point is met twice, by vertices and between the ends of paths. The first three need no memory:
-/// want of it is answered only where they hold.
+/// want of it is returned only where they hold.
 ///
 /// The points are compared as rectangles, one for each vertex and at most one for each part. For s of
 /// them it takes O(s log s) time, and 16 bytes of memory each, sorted in place unless they lie in few rows
-/// and columns; besides, a table of at most 64 bytes each, or a map of those that a sweep still meets.
+/// and columns; besides, a table of at most 64 bytes each, or a dictionary of those that a sweep still meets.
 ///
 /// # Errors
 ///
-/// The first condition that fails, or `Memory` where there is no memory for the rectangles, the table or the map;
+/// The first condition that fails, or `Memory` where there is none for the rectangles, the table or the dictionary;
 /// with it the points.
 pub fn check(
     alloc: Global,
@@ -87,7 +87,7 @@ pub fn check(
     check_in(alloc, &mut scratch, plane, shape, points)
 }
 
-/// The same in memory that is lent; more is asked for only where that is not enough, and for the map.
+/// The same in memory that is lent; more is asked for only where that is not enough, and for the dictionary.
 ///
 /// # Errors
 ///

@@ -1,17 +1,17 @@
--- The least coordinates in the order of boxes.
+-- The least coordinates that grow along the darts of boxes.
 use Rattle.std.specs.Prelude.{◌≡◌, ℕ, ◌<◌, ◌≤◌, All}
 use Rattle.ortho_rep.specs.declared.points.Point.{Point}
 use Rattle.ortho_rep.specs.Points.{PointsModel}
 use Rattle.dissect.specs.Boxes.{BoxesModel, dart_map}
 use Rattle.dissect.specs.Ordered.{IsOrdered}
 
--- coordinates in the order of the boxes, and no others in it are lower at any vertex
+-- coordinates that grow along the darts of the boxes, and no others that do are lower at any vertex
 pub record AreLeast (b : BoxesModel) (x y : ℕ → ℕ) : Type 0 where
   pub ordered : IsOrdered (dart_map b) x y
   pub x_least : (x1 y1 : ℕ → ℕ) → IsOrdered (dart_map b) x1 y1 → (v : ℕ) → v < b.vertices → x v ≤ x1 v
   pub y_least : (x1 y1 : ℕ → ℕ) → IsOrdered (dart_map b) x1 y1 → (v : ℕ) → v < b.vertices → y v ≤ y1 v
 
--- there are least coordinates in the order of the boxes
+-- there are least coordinates that grow along the darts of the boxes
 abbrev pub HasLeast : BoxesModel → Type 0
 HasLeast b = (x : ℕ → ℕ) × (y : ℕ → ℕ) × AreLeast b x y
 
@@ -19,7 +19,7 @@ HasLeast b = (x : ℕ → ℕ) × (y : ℕ → ℕ) × AreLeast b x y
 abbrev pub HasNoGap : ℕ → (ℕ → ℕ) → Type 0
 HasNoGap n x = (v k : ℕ) → v < n → k ≤ x v → (u : ℕ) × (u < n) × (x u ≡ k)
 
--- no coordinates are in the order of the boxes
+-- no coordinates grow along the darts of the boxes
 abbrev pub HasNoOrder : BoxesModel → Type 0
 HasNoOrder b = (x y : ℕ → ℕ) → ¬ IsOrdered (dart_map b) x y
 

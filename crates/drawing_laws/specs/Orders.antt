@@ -1,10 +1,10 @@
--- Coordinates in the order of boxes, and sets of faces that are closed in one direction.
+-- Coordinates that grow along the darts of boxes, and sets of faces that are closed in one direction.
 use Rattle.std.specs.Prelude.{◌≡◌, ℕ, ◌<◌, Bool, true}
 use Rattle.dissect.specs.DartMaps.{DartMap}
 use Rattle.dissect.specs.Boxes.{BoxesModel, dart_map}
 use Rattle.dissect.specs.Ordered.{IsOrdered}
 
--- some coordinates are in the order of the boxes
+-- some coordinates grow along the darts of the boxes
 abbrev pub HasOrder : BoxesModel → Type 0
 HasOrder b = (x : ℕ → ℕ) × (y : ℕ → ℕ) × IsOrdered (dart_map b) x y
 

@@ -5,7 +5,7 @@ use Rattle.entries.specs.declared.cause.Cause.{Cause}
 use Rattle.entries.specs.declared.cause.Cause.TheVariants.{Wide, OutOfGrid, NotAxis, WrongTurn, Meet}
 use Rattle.drawing_laws.specs.Least.{HasNoOrder}
 
--- `Wide` only where no coordinates at all are in the order of the boxes, and `OutOfGrid` never
+-- `Wide` only where no coordinates at all grow along the darts of the boxes, and `OutOfGrid` never
 abbrev pub MayShow : BoxesModel → Cause → Type 0
 MayShow boxes Wide = HasNoOrder boxes
 MayShow boxes OutOfGrid = ⊥

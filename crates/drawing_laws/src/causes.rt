@@ -41,7 +41,7 @@ pub fn remaining_causes()
 {}
 
 /// Points that are laid out for boxes of a shape of a plane draw it, so of the causes `Wide` alone can be shown. In place of points a
-/// laid answer has it only where some boxes of its shape have no coordinates in their order at all.
+/// laid answer has it only where some boxes of its shape have no coordinates that grow along their darts at all.
 pub fn only_wide()
     ensures shown { (plane : PlaneModel) (shape : ShapeModel) (b : BoxesModel) (cause : Cause)
         → IsPlane plane → IsBoxed plane shape b → ShowsCause plane shape b cause → cause ≡ Cause.Wide }

@@ -16,7 +16,7 @@ ghost use Rattle.entries.specs.Drawn.{ShowsCause, HasPoints};
 ghost use Rattle.entries.specs.Answers.{IsLaid, Answers};
 ghost use Rattle.drawing_laws.specs.Drawings.{IsDrawnIfLaid};
 
-/// Boxes that dissect a shape with the fewest bends show no cause: some coordinates are in their order, so the least ones are within the
+/// Boxes that dissect a shape with the fewest bends show no cause: some coordinates grow along their darts, so the least ones are within the
 /// grid, and points that are taken from these draw the shape.
 pub fn no_cause_is_shown()
     ensures { (plane : PlaneModel) (shape : ShapeModel) (b : BoxesModel) (cause : Cause)

@@ -1,4 +1,4 @@
-//! The least coordinates in the order of boxes.
+//! The least coordinates that grow along the darts of boxes.
 
 ghost use Rattle.std.specs.Prelude.{ℕ, ◌<◌};
 ghost use Rattle.ortho_rep.specs.Points.{PointsModel};
@@ -6,7 +6,7 @@ ghost use Rattle.dissect.specs.Boxes.{BoxesModel, AreBoxes, dart_map};
 ghost use Rattle.dissect.specs.Ordered.{IsOrdered, AreLaidOut};
 ghost use Rattle.drawing_laws.specs.Least.{AreLeast, AreBelow, HasLeast, HasNoGap};
 
-/// The least coordinates in the order of boxes have no gap: if no vertex had some coordinate below that of another,
+/// The least coordinates that grow along the darts of boxes have no gap: if no vertex had some coordinate below that of another,
 /// all coordinates above it could be lowered by one and still be in order. So each is less than the number of
 /// vertices.
 pub fn least_coordinates_have_no_gap()
@@ -16,7 +16,7 @@ pub fn least_coordinates_have_no_gap()
         → (v : ℕ) → v < b.vertices → (x v < b.vertices) × (y v < b.vertices) }
 {}
 
-/// Where any coordinates are in the order of boxes, there are least ones.
+/// Where any coordinates grow along the darts of boxes, there are least ones.
 pub fn least_coordinates_exist()
     ensures { (b : BoxesModel) (x y : ℕ → ℕ) → AreBoxes b → IsOrdered (dart_map b) x y → HasLeast b }
 {}

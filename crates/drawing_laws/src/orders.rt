@@ -1,4 +1,4 @@
-//! Coordinates in the order of boxes exist: laws, each as the contract of a function that does nothing.
+//! Coordinates that grow along the darts of boxes exist: laws, each as the contract of a function that does nothing.
 //!
 //! Take a nonempty set of boxes that has, with each box, all boxes directly above it, and suppose that it avoids the outside. Take in what the
 //! outside does not reach without crossing it, so that the rest is connected. Count the edges that touch the rest. At each vertex the
@@ -8,7 +8,7 @@
 //! least. So **the set has the outside**, and likewise in the other three directions.
 //!
 //! By the same two trees on all faces and vertices, what flows along the darts and is kept at each vertex is the difference of one
-//! number a face. Where it flows along a closed way without darts to the west, the faces with coordinates above the outside's are such a
+//! number a face. Where it flows along a cycle without darts to the west, the faces with coordinates above the outside's are such a
 //! set, and so are, downward, those below: there are none, so nothing flows to the east. Hence from the end of a dart to the east its
 //! start is not reached without going to the west. **The coordinate x of a vertex** is the count of darts to the east from whose ends it
 //! is reached so: it grows along darts to the east, and stays along those to the north. For y turn the picture by a quarter.
@@ -19,7 +19,7 @@ ghost use Rattle.dissect.specs.Boxes.{BoxesModel, AreBoxes};
 ghost use Rattle.dissect.specs.Boxed.{IsBoxed};
 ghost use Rattle.drawing_laws.specs.Orders.{HasOrder};
 
-/// All boxes have coordinates in their order; so have those that dissect a shape of a plane.
+/// All boxes have coordinates that grow along their darts; so have those that dissect a shape of a plane.
 pub fn coordinates_in_order_exist()
     ensures boxes { (b : BoxesModel) → AreBoxes b → HasOrder b }
     ensures shape { (p : PlaneModel) (shape : ShapeModel) (b : BoxesModel) → IsBoxed p shape b → HasOrder b }

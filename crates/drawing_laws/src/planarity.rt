@@ -1,4 +1,4 @@
-//! Boxes that are drawn along coordinates in the order of their darts lie apart, and points that are taken from such coordinates draw the
+//! Boxes drawn by coordinates that grow along their darts lie apart, and points that are taken from such coordinates draw the
 //! shape: laws, each as the contract of a function that does nothing.
 //!
 //! Take one row of cells. A dart to the north that crosses it is on the right side of a box, or on the left side of the outside. In
@@ -27,7 +27,7 @@ ghost use Rattle.drawing_check.specs.declared.fault.CheckFault.TheVariants.{Memo
 ghost use Rattle.drawing_check.specs.Draws.{Draws};
 ghost use Rattle.drawing_check.specs.Faults.{IsFirstFault};
 
-/// Where boxes dissect a shape of a plane, points that are taken from any coordinates in the order of their darts, within the grid,
+/// Where boxes dissect a shape of a plane, points that are taken from any coordinates that grow along their darts, within the grid,
 /// draw the shape.
 pub fn ordered_coordinates_draw()
     ensures { (p : PlaneModel) (shape : ShapeModel) (b : BoxesModel) (x y : ℕ → ℕ) (points : PointsModel) → IsPlane p → IsBoxed p shape b

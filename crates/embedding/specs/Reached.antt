@@ -15,7 +15,7 @@ pub record IsQueue (reached : List Bool) (queue : List ℕ) (found : ℕ) : Type
   pub queued : (i : ℕ) → i < found → Holds reached (slice_index queue i)
   pub placed : (v : ℕ) → Holds reached v → (i : ℕ) × (i < found) × (slice_index queue i ≡ v)
 
--- the flagged numbers are the least closed set that holds vertex 1
+-- the flagged numbers are the least set closed under adjacency that holds vertex 1
 pub record IsReached (g : List (List ℕ)) (reached : List Bool) : Type 0 where
   pub flags : length reached ≡ 256
   pub first : Holds reached 1

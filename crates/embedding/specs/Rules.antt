@@ -27,7 +27,7 @@ Breaks g Asymmetric = (u : ℕ) × Any (λ v. ¬ Contains (list_of g v) u) (list
 Breaks g Edgeless = (u : ℕ) → list_of g u ≡ []
 -- some list has more than 4 entries
 Breaks g Degree = (u : ℕ) × (4 < length (list_of g u))
--- some closed set of vertices holds vertex 1 and is not all
+-- some set of vertices closed under adjacency holds vertex 1 and is not all
 Breaks g Disconnected =
     (s : ℕ → Bool) × (s 1 ≡ true) × IsClosed g s
     × ((u : ℕ) × (1 ≤ u) × (u ≤ length g) × (s u ≡ false))

@@ -30,7 +30,7 @@ pub const MAX_EDGES: usize = 510;
 /// clockwise list of neighbours of each vertex. In contracts it is these lists.
 ///
 /// Each entry v in the list of u is the dart from u, its tail, to v, its head. Vertices are
-/// numbered from 1, and darts from 0 in the order in which their entries stand. No reader takes
+/// numbered from 1, and darts from 0 in the order in which their entries stand. No accessor takes
 /// memory, and each takes constant time.
 #[derive(Debug, Drop)]
 pub struct Graph {
@@ -139,7 +139,7 @@ impl Graph {
         ensures few { result ≤ MAX_DARTS }
         ensures rules { KeepsBefore self.now 8 }
 
-        // What holds of all darts at once; for one dart the readers below say it.
+        // What holds of all darts at once; for one dart the accessors below say it.
         ensures paired { IsInvolution (dart_count self.now) (reverse_of self.now) }
         ensures rotated { IsOneToOne (dart_count self.now) (after_of self.now) }
         ensures walked { IsOneToOne (dart_count self.now) (next_of self.now) }

@@ -11,7 +11,7 @@ use std::marker::Model;
 /// The darts of a graph that are lesser than their reverses, in order: one of each edge. In
 /// contracts it is the list of those that are left.
 ///
-/// It takes no memory, and all its steps together take time in proportion to the darts.
+/// It takes no memory; all its calls together are linear in the darts.
 #[derive(Debug, Drop)]
 pub struct LesserDarts<'a> {
     graph: &'a Graph,

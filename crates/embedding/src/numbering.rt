@@ -1,4 +1,4 @@
-//! The faces of all darts, numbered in the order of their least darts, and how many darts each has.
+//! Faces traced as orbits of `next` (Edmonds 1960), numbered in the order of their least darts, with their degrees.
 
 ghost use Rattle.std.specs.Prelude.{◌≡◌, ◌+◌, ◌*◌, ◌<◌, ◌≤◌, ◌++◌, ℕ, length, slice_index, IfOk, OnOk};
 ghost use Rattle.embedding.specs.declared.graphs.TheConstants.{MAX_DARTS};

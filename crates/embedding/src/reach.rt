@@ -1,4 +1,4 @@
-//! Which vertices are reached from the first one.
+//! Breadth-first search (Moore 1959): which vertices are reached from the first one.
 
 ghost use Rattle.std.specs.Prelude.{◌≡◌, ℕ, ◌+◌, ◌<◌, ◌≤◌, ◌↔◌, ◌⊎◌, Bool, List, [], length, slice_index, slice_index_or, IsTrue, All, Contains};
 ghost use Rattle.embedding.specs.Lists.{list_of};

@@ -13,7 +13,7 @@ use Rattle.drawing_check.specs.Faults.{IsFirstFault}
 use Rattle.entries.specs.declared.cause.Cause.{Cause}
 use Rattle.entries.specs.declared.cause.Cause.TheVariants.{Wide, OutOfGrid, NotAxis, WrongTurn, Meet}
 
--- some points that are taken from numbers in the order of the boxes, within the grid, fail a condition of a drawing, and
+-- some points that are taken from numbers that grow along the darts of the boxes, within the grid, fail a condition of a drawing, and
 -- that one first
 pub record FailFirst (plane : PlaneModel) (shape : ShapeModel) (boxes : BoxesModel) (fault : CheckFault) : Type 0 where
   pub points : PointsModel
@@ -22,7 +22,7 @@ pub record FailFirst (plane : PlaneModel) (shape : ShapeModel) (boxes : BoxesMod
 
 -- the boxes show that this is why the shape is not drawn
 abbrev pub ShowsCause : PlaneModel → ShapeModel → BoxesModel → Cause → Type 0
--- no numbers in their order are within the grid
+-- no numbers that grow along their darts are within the grid
 ShowsCause plane shape boxes Wide = FitsNoGrid boxes
 ShowsCause plane shape boxes OutOfGrid = FailFirst plane shape boxes fault.OutOfGrid
 ShowsCause plane shape boxes NotAxis = FailFirst plane shape boxes fault.NotAxis

@@ -7,7 +7,7 @@ use crate::entry::Entry;
 use std::marker::Model;
 use streams::Mark;
 
-/// The entries of one file, one for each record and in order, and how the file ended. No reader takes
+/// The entries of one file, one for each record and in order, and how the file ended. No accessor takes
 /// memory.
 #[derive(Drop)]
 pub struct Book {
@@ -46,7 +46,7 @@ impl Book {
     }
 }
 
-/// A book for each file of a run, at most `MAX_FILES`. In contracts it is the list of them. No reader takes
+/// A book for each file of a run, at most `MAX_FILES`. In contracts it is the list of them. No accessor takes
 /// memory.
 #[derive(Drop)]
 pub struct Batch {

@@ -9,7 +9,7 @@ pub enum Cause {
     Wide,
     /// Some coordinate is above 65,535.
     OutOfGrid,
-    /// A segment of an edge is not parallel to an axis.
+    /// A part of an edge is not parallel to an axis.
     NotAxis,
     /// A corner or an angle is not that of the shape.
     WrongTurn,

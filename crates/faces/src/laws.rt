@@ -44,7 +44,7 @@ pub fn darts_are_connected()
         → (d e : ℕ) → d < dart_count g → e < dart_count g → s d ≡ true → s e ≡ true }
 {}
 
-/// Any two faces of a plane are connected by crossings: a set of faces that holds with the face of each
+/// Any two faces of a plane are connected in the dual graph: a set of faces that holds with the face of each
 /// dart the face across it holds them all, if it holds one.
 pub fn faces_are_connected()
     ensures { (p : PlaneModel) → IsPlane p → (t : ℕ → Bool)

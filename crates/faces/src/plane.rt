@@ -1,4 +1,4 @@
-//! Planes: connected graphs with their faces, one of which is the outer one.
+//! Planes, by Euler's formula: connected graphs with their faces, one of which is the outer one.
 
 ghost use Rattle.std.specs.Prelude.{◌≡◌, ◌≢◌, ◌<◌, ◌≤◌, ℕ, IfOk, IfErr, Err};
 ghost use Rattle.embedding.specs.Darts.{dart_count, next_of};
@@ -21,7 +21,7 @@ pub const MAX_FACES: usize = 257;
 /// faces, and which of them is the outer one. In contracts it is a `PlaneModel`.
 ///
 /// A face is walked by `next`, with the face on the left. Faces are numbered from 0 in the order of
-/// their least darts. No reader takes memory, and each but `least_dart` takes constant time.
+/// their least darts. No accessor takes memory, and each but `least_dart` takes constant time.
 #[derive(Debug, Drop)]
 pub struct Plane {
     graph: Graph,

@@ -11,14 +11,14 @@ use Rattle.networks.specs.Networks.{NetworkModel, node_count, arc_count, arc_at,
 abbrev pub arrivals : PlaneModel → ℕ → ℕ
 arrivals p v = sum_below (darts p) (λ d. if head p d == v then 1 else 0)
 
--- with n vertices and D darts, node v - 1 is that of vertex v, node n + f that of face f, arc d the corner of dart d,
--- and arc D + d its crossing
+-- with n vertices and D darts, node v - 1 is that of vertex v, node n + f of face f, arc d the corner arc of dart d,
+-- and arc D + d its crossing arc
 pub record IsFaceNet (p : PlaneModel) (net : NetworkModel) : Type 0 where
   pub nodes : node_count net ≡ vertices p + p.faces
   pub arcs : arc_count net ≡ darts p + darts p
-  -- the corner of a dart carries its angle less one
+  -- the corner arc of a dart carries its angle less one
   pub corner : (d : ℕ) → d < darts p → arc_at net d ≡ record { from = head p d - 1; to = vertices p + face_at p d; cap = AtMost 3; cost = 0 }
-  -- its crossing carries the left turns along it
+  -- its crossing arc carries the left turns along it
   pub crossing : (d : ℕ) → d < darts p → arc_at net (darts p + d) ≡ record { from = vertices p + face_at p d; to = vertices p + face_at p (reverse_dart p d); cap = Any; cost = 1 }
   -- four right angles round a vertex, of which each corner has one without any flow
   pub at_vertex : (v : ℕ) → 1 ≤ v → v ≤ vertices p → supply_at net (v - 1) ≡ pos 4 -ℤ pos (arrivals p v)

@@ -1,3 +1,5 @@
+//! The flow network of a plane for the fewest bends (Tamassia 1987).
+
 ghost use Rattle.std.specs.Prelude.{◌≡◌, ◌+◌, ◌-◌, ◌<◌, ◌≤◌, ℕ, IfOk, vec_len};
 ghost use Rattle.embedding.specs.declared.graphs.TheConstants.{MAX_DARTS};
 ghost use Rattle.faces.specs.Planes.{darts, vertices, with_outer};
@@ -12,8 +14,8 @@ use std::alloc::{AllocError, Global};
 use std::marker::Model;
 use std::mem;
 
-/// The flow network of a plane (Tamassia 1987). A unit in a corner is a right angle beyond the first, and
-/// a unit across an edge is a bend.
+/// The flow network of a plane (Tamassia 1987). A unit on a corner arc is a right angle beyond the first, and
+/// a unit on a crossing arc is a bend.
 ///
 /// For a plane with n vertices and D darts:
 ///

@@ -1,4 +1,4 @@
-//! The flow network of a plane: each flow gives an orthogonal representation with as many bends as it costs,
+//! The flow network of a plane (Tamassia 1987): each flow gives a representation with as many bends as it costs,
 //! and each representation gives a flow.
 #![tactic(auto)]
 

@@ -1,3 +1,5 @@
+//! Supplies and arcs of the flow network of a plane (Tamassia 1987).
+
 ghost use Rattle.std.specs.Prelude.{◌≡◌, [], ◌+◌, ◌-◌, ◌<◌, ◌≤◌, ◌==◌, if◌then◌else◌, ℕ, pos, negsuc, ◌-ℤ◌, IfOk, length, slice_index, slice_index_or};
 ghost use Rattle.faces.specs.Planes.{darts, vertices, head, reverse_dart, face_at, degree};
 ghost use Rattle.networks.specs.declared.arc.Cap.TheVariants.{AtMost, Any};
@@ -50,7 +52,7 @@ pub fn supplies_of(old: Vec<i32>, plane: &Plane) -> Result<Vec<i32>, AllocError>
     Ok(supplies)
 }
 
-/// The arcs: the corners of all darts, and then their crossings. They stand in the memory of an old list
+/// The arcs: the corner arcs of all darts, and then their crossing arcs. They stand in the memory of an old list
 /// where that is enough.
 pub fn arcs_of(old: Vec<Arc>, plane: &Plane) -> Result<Vec<Arc>, AllocError>
     ensures arcs { IfOk result (λ a. length a.items ≡ darts plane.now + darts plane.now) }

@@ -1,4 +1,4 @@
-//! The sweep with the rectangles that it still meets in a dictionary by their bottom rows. While no two have a
+//! The sweep (Shamos and Hoey 1976) with a dictionary of the rectangles still met, by bottom rows. While no two have a
 //! point in common these rows are disjoint, so a new one needs to be held only against its neighbour below
 //! its top row. It takes O(log n) time for each of n rectangles, however many rows they have.
 

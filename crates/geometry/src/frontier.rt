@@ -1,5 +1,5 @@
-//! The sweep with its frontier in a table: for each row, the first column right of all rectangles that were
-//! met there. It takes a step for each row of the table and two for each row of each rectangle.
+//! The sweep (Shamos and Hoey 1976) with its frontier in a table: for each row, the first column right of all that were
+//! met there. Linear in the rows of the table and the rows of all rectangles.
 
 ghost use Rattle.std.specs.Prelude.{◌≡◌, ◌<◌, ◌≤◌, ◌↔◌, IsTrue, IfOk, All, AllPairs, length, slice_index, SomeIndex, EachIndex};
 ghost use Rattle.std.specs.Bool.{OnTrue, OnFalse};

@@ -1,5 +1,5 @@
 //! Flags on a grid of few columns: for each row a word with a bit for each column. The rectangles need no
-//! order. It takes a step for each row of the table and one for each row of each rectangle.
+//! order. Linear in the rows of the table and the rows of all rectangles.
 
 ghost use Rattle.std.specs.Prelude.{◌≡◌, ◌≢◌, ◌+◌, ◌-◌, ◌^◌, ◌<◌, ◌≤◌, ◌↔◌, ℕ, IsTrue, IfOk, All, AllPairs, length, slice_index, SomeIndex, EachIndex};
 ghost use Rattle.std.specs.Bool.{OnTrue, OnFalse};

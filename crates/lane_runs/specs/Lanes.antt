@@ -22,7 +22,7 @@ use Rattle.lanes.specs.Files.{HasDrawn, TellsDrawn}
 use Rattle.lane_runs.specs.declared.fault.LaneFault.{LaneFault}
 
 module _ {A : Type 0} where
-  -- both ends of a link that has room for so many messages, and that nothing has passed
+  -- both ends of a link that has room for so many messages, and to which nothing was given
   pub record IsNewLink (capacity : ℕ) (giver : Giver A) (taker : Taker A) : Type 0 where
     pub room : capacity_of giver ≡ capacity
     pub ends : AreEnds giver taker

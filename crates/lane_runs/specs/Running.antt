@@ -66,7 +66,7 @@ HasEnded holds gave_up choice meaning tickets count consumer (Ok seats) =
     × ((file : ℕ) → times file (all_drawn seats.items) ≡ 1 → HasFile choice (meaning file) file ns))
 HasEnded holds gave_up choice meaning tickets count consumer (Err fault) = EndsRun (gave_up consumer) (holds consumer) fault
 
--- what a run starts with: seats of these tickets that have drawn nothing, the ends of a fan that nothing has passed, a giver for
+-- what a run starts with: seats of these tickets that have drawn nothing, the ends of an unused fan, a giver for
 -- each seat and the others, and a consumer that holds nothing
 pub record StartsRun {C E : Type 0} (holds : C → List Note → Type 0) (tickets : Tickets) (seats : Vec Seat Global) (givers idle : Vec (LaneGiver E) Global) (fan : Gatherer E) (consumer : C) : Type 0 where
   pub some : 1 ≤ vec_len seats

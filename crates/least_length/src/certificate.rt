@@ -1,4 +1,4 @@
-//! The test of a certificate.
+//! The test of a certificate by linear programming duality: weights of pairs bound all lengths from below.
 
 ghost use Rattle.std.specs.Prelude.{◌≡◌, ◌<◌, ◌≤◌, ◌↔◌, ℕ, length, true, IfOk};
 ghost use Rattle.least_length.specs.declared.segments.TheConstants.{MAX_WIRES, MAX_SIGHTS};

@@ -1,6 +1,6 @@
 //! Coordinates of segments along one axis with which edges are shortest in all, and their proof.
 //!
-//! A *segment* is a longest line of vertices and corners that edges join along the other axis; along this one
+//! A *segment* is a largest set of vertices and corners that edges join along the other axis; along this one
 //! it has one coordinate. A *wire* leads along this axis from one segment to another. The segments on a level keep
 //! their order, and nothing else is kept. Least total length is then a linear program over the segments; its dual
 //! gives each pair of segments that stand on one level a weight, and weights that are in balance at each segment

@@ -1,4 +1,4 @@
-//! Segments that their wires pull, until all pulls are in balance.
+//! The primal-dual method (Ahuja, Magnanti and Orlin, 1993, section 9.8): wires pull segments until all is in balance.
 
 ghost use Rattle.std.specs.Prelude.{◌≡◌, []};
 

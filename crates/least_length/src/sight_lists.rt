@@ -1,4 +1,4 @@
-//! Pairs of segments that see each other on a level, and where they are listed.
+//! The visibility graph of segments (Lengauer 1990): pairs that see each other on a level, and where they are listed.
 
 ghost use Rattle.std.specs.Prelude.{◌≡◌, []};
 

@@ -245,7 +245,7 @@ pub(crate) fn has_deficit(excess: &[i32]) -> bool
     excess.iter().any(|units| *units < 0)
 }
 
-/// Scores each node for ties among those that are as near: its supply, and what is supplied where arcs of
+/// Scores each node, to pick one of those that are equally near: its supply, and what is supplied where arcs of
 /// cost 0 to it start. The least score comes first. No clause rests on it, but it tells which of
 /// several flows of least cost is found.
 fn score_nodes(network: &Network, scores: &mut [i32])

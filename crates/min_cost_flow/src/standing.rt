@@ -1,4 +1,4 @@
-//! A flow of least cost that stands while supplies move.
+//! Successive shortest paths (Ahuja, Magnanti and Orlin, 1993) from the flow that is there, as supplies move.
 ghost use Rattle.std.specs.Prelude.{◌≡◌, ◌<◌, ◌≤◌, ◌^◌, IfOk, IfErr, IfSome, IfNone, ℕ, length};
 ghost use Rattle.networks.specs.declared.fault.TheConstants.{MAX_SUPPLY};
 ghost use Rattle.networks.specs.Networks.{NetworkModel, node_count, arc_count, shifted, HasFairSupplies, IsNetwork};

@@ -2,7 +2,7 @@
 //! at least 0 (Ahuja, Magnanti and Orlin, Network Flows, 1993, section 9.7), from one root, by growing distance.
 //!
 //! Networks have at most 1,024 nodes and 8,192 residual arcs of cost -1 to 1, so distances are small whole numbers.
-//! Each residual arc is looked at once at most. Beside that the nodes that wait are gone over at each step of the radius.
+//! Each residual arc is looked at once at most. Beside that the nodes that wait are gone over for each radius.
 ghost use Rattle.std.specs.Prelude.{◌≡◌, ◌⊎◌, ◌<◌, ◌≤◌, ◌+◌, ◌^◌, ℕ, length, pos, ◌≤ℤ◌, ◌<ℤ◌, ◌+ℤ◌, ◌-ℤ◌, true, false};
 ghost use Rattle.networks.specs.ResidualArcs.{StartsAt};
 ghost use Rattle.networks.specs.Search.{far, nodes_of, first_of, arcs_of, potential_of, excess_of, labels, orders, degree, looked, IsSearchInput, IsSearch, IsBlank, HasLowered, HasServed, HasRemaining, Serves, IsNextRadius, IsReordered, IsWaiting, IsScanning, IsRelaxed, IsWithinFar, IsArcCost, HasSameList};

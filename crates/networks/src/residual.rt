@@ -67,7 +67,7 @@ impl Residual {
         self.arcs[self.capacities[number].reverse as usize].end as usize
     }
 
-    /// Takes capacity for so many units, at least one, from a residual arc, and closes it where nothing fits any more.
+    /// Takes capacity for so many units, at least one, from a residual arc, and saturates it where no more fits.
     pub fn take_capacity(&mut self, number: usize, units: u32)
         requires arc { HasNumber self.old number }
         requires cost { (z : ℤ) × (negsuc 0 ≤ℤ z) × (z ≤ℤ pos 1) × IsCosted self.old.arcs.items self.old.capacities.items number z }

@@ -18,7 +18,7 @@ NeedsBends p bends = (a : ℕ → ℕ) (s : ℕ → List Turn) → Rep p a s →
 pub record IsBest (p : PlaneModel) : Type 0 where
   pub bends : ℕ
   pub some : HasRep p bends
-  -- with whichever face outside, at least as many are needed
+  -- whichever face is the outer one, at least as many are needed
   pub fewest : (f : ℕ) → f < p.faces → NeedsBends (with_outer p f) bends
   -- a face with which as few suffice has a number at least as great
   pub first : (f : ℕ) → f < p.faces → HasRep (with_outer p f) bends → p.outer ≤ f

@@ -19,7 +19,7 @@ abbrev pub face_price : PricesModel → ℕ → ℤ
 face_price t f = slice_index_or t.faces f (pos 0)
 
 -- the prices of a dart's head, of its face and of the face across fit its angle and its turns: no unit that the
--- angle could give up or take is worth moving, no crossing gains more than the bend costs, and a crossing
+-- angle could give up or take is worth moving, no unit across gains more than the bend costs, and a crossing arc
 -- that is used gains just that
 pub record IsPriced (angle : ℕ) (turns : List Turn) (vertex face across : ℤ) : Type 0 where
   pub wider : angle < 4 → face ≤ℤ vertex

@@ -28,6 +28,6 @@ pub record IsNoBetter (p : PlaneModel) (bends face f : ℕ) : Type 0 where
   pub fewest : NeedsBends (with_outer p f) bends
   pub first : HasRep (with_outer p f) bends → face ≤ f
 
--- with each face outside at least as many bends are needed as the list has at its place
+-- with each face as the outer one at least as many bends are needed as the list has at its place
 pub record AreBounds (p : PlaneModel) (bounds : List ℕ) : Type 0 where
   pub each : (f : ℕ) → f < p.faces → NeedsBends (with_outer p f) (slice_index bounds f)

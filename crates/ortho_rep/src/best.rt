@@ -1,4 +1,4 @@
-//! Least shapes with the best outer face.
+//! The best outer face: one flow moved over faces depth first, with bounds by weak duality (Ahuja et al. 1993).
 
 ghost use Rattle.std.specs.Prelude.{◌≡◌, ◌<◌, ◌≤◌, ◌⊎◌, ℕ, pos, ◌+ℤ◌, ◌-ℤ◌, ◌*ℤ◌, ◌≤ℤ◌, ◌^◌, IsTrue, IsFalse, OnOk, IfOk, IfSome, OnErr, length};
 ghost use Rattle.faces.specs.Planes.{darts, with_outer};

@@ -1,4 +1,4 @@
-//! Whether prices prove a shape least.
+//! Complementary slackness (Ahuja, Magnanti and Orlin, 1993, section 9.3): whether prices prove a shape least.
 
 ghost use Rattle.std.specs.Prelude.{◌≡◌, ◌<◌, ◌↔◌, pos, ◌+ℤ◌, ◌-ℤ◌, ◌≤ℤ◌, IsTrue};
 ghost use Rattle.faces.specs.Planes.{darts};
@@ -16,8 +16,8 @@ use faces::Plane;
 /// Whether the prices prove the shape least: whether all four lists have the plane's lengths, and each
 /// dart's angle and turns fit the prices of its head, of its face and of the face across.
 ///
-/// A shape that passes `is_shape` too has the fewest bends (complementary slackness), whoever made it
-/// and its prices. No memory is taken; the cost is a step for each turn and each dart.
+/// A shape that `is_shape` accepts too has the fewest bends (complementary slackness), whoever made it
+/// and its prices. No memory is taken; linear in the turns and the darts.
 pub fn certify(plane: &Plane, shape: &Shape, prices: &Prices) -> bool
     ensures exact { IsTrue result ↔ IsProof plane.now shape.now prices.now }
     ensures least { IsTrue result → IsShape plane.now shape.now → IsLeast plane.now shape.now }
@@ -92,7 +92,7 @@ fn fits_crossing(turns: &[Turn], face: i32, across: i32) -> bool
     }
 }
 
-/// What a bend costs more than a crossing between faces of these prices gains.
+/// What a bend costs more than a unit across, between faces of these prices, gains.
 fn slack(face: i32, across: i32) -> i64
     ensures { result ≡ (pos 1 +ℤ face -ℤ across) }
 {

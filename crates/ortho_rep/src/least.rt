@@ -26,7 +26,7 @@ use std::mem;
 /// An orthogonal representation of the plane with the fewest bends, and prices that prove it least.
 ///
 /// It is a flow of least cost in the plane's network, and the prices are its potentials (Tamassia
-/// 1987): a corner carries a dart's angle less one, a crossing its left turns.
+/// 1987): a corner arc carries a dart's angle less one, a crossing arc its left turns.
 ///
 /// # Errors
 ///
@@ -104,7 +104,7 @@ fn least_flow(
     }
 }
 
-/// What the crossing of a dart carries.
+/// What the crossing arc of a dart carries.
 fn crossing_flow(net: &FaceNet, solved: &Solved, dart: u16) -> u32
     requires { net.now.darts + dart < length solved.now.flow }
     ensures { result ≡ amounts solved.now.flow (net.now.darts + dart) }
@@ -133,7 +133,7 @@ fn darts_in(
     Ok(found)
 }
 
-/// The angle and the turns of a dart in a flow. No least flow crosses an edge both ways, so they are all left turns or
+/// The angle and the turns of a dart in a flow. No least flow uses an edge both ways, so they are all left turns or
 /// all right turns.
 fn dart_shape(plane: &Plane, net: &FaceNet, solved: &Solved, dart: u16) -> DartShape
     requires net { IsNetOf plane.now net.now }

@@ -22,7 +22,7 @@ pub struct Point {
 /// contracts it is the list of the vertex points and the list of the lists of corners.
 ///
 /// Edges are numbered from 0 in the order of their lesser darts. The points need not draw anything:
-/// that is for the check of a drawing to say. No reader takes memory, and each takes constant time.
+/// that is for the check of a drawing to say. No accessor takes memory, and each takes constant time.
 #[derive(Debug, Drop)]
 pub struct Points {
     store: PointStore,

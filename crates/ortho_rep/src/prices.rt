@@ -8,7 +8,7 @@ use std::marker::Model;
 
 /// A whole number for each vertex and each face of a plane. In contracts it is the two lists.
 ///
-/// Where they fit a representation, they prove it least: `certify` is the test. No reader takes memory,
+/// Where they fit a representation, they prove it least: `certify` is the test. No accessor takes memory,
 /// and each takes constant time.
 #[derive(Debug, Drop)]
 pub struct Prices {

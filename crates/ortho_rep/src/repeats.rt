@@ -82,7 +82,7 @@ impl Repeats {
         repeat(dart.turn, dart.count)
     }
 
-    /// How many turns all darts have. A step for each dart.
+    /// How many turns all darts have. Linear in the darts.
     pub(crate) fn turn_count(&self) -> u32
         ensures count { result ≡ sum_below (length self.now.strings) (λ d. length (turns_at self.now d)) }
         ensures few { result ≤ length self.now.strings * MAX_TURNS }

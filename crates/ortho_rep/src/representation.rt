@@ -1,4 +1,4 @@
-//! Whether a shape is an orthogonal representation of a plane.
+//! Whether a shape is an orthogonal representation of a plane, by the conditions of Tamassia (1987).
 
 ghost use Rattle.std.specs.Prelude.{◌≡◌, ◌≤◌, ◌<◌, ◌+◌, ◌↔◌, ℕ, IsTrue, length, replicate, slice_index, pos, negsuc, ◌-ℤ◌, if◌then◌else◌};
 ghost use Rattle.faces.specs.Planes.{darts, vertices, reverse_dart};
@@ -13,7 +13,7 @@ use faces::{MAX_FACES, Plane};
 /// Whether the shape is an orthogonal representation of the plane with its outer face, and has an angle
 /// and a string for each dart and for nothing else.
 ///
-/// No memory is taken; the cost is a step for each turn, each dart, each vertex and each face.
+/// No memory is taken; linear in the turns, darts, vertices and faces.
 pub fn is_shape(plane: &Plane, shape: &Shape) -> bool
     ensures { IsTrue result ↔ IsShape plane.now shape.now }
 {

@@ -21,7 +21,7 @@ use std::marker::Model;
 /// representation. In contracts it is the list of the angles and the list of the strings.
 ///
 /// The angle of a dart lies at its head, between it and the next dart of its face, and is counted in
-/// right angles. Its string holds its quarter turns in walking order. No reader takes memory.
+/// right angles. Its string holds its quarter turns in walking order. No accessor takes memory.
 #[derive(Debug, Drop)]
 pub struct Shape {
     store: ShapeStore,
@@ -136,7 +136,7 @@ impl Shape {
         }
     }
 
-    /// How many turns all strings have. A step for each string.
+    /// How many turns all strings have. Linear in the strings.
     pub fn turn_count(&self) -> u32
         ensures count { result ≡ sum_below (length self.now.strings) (λ d. length (turns_at self.now d)) }
         ensures few { result ≤ length self.now.strings * MAX_TURNS }
@@ -147,8 +147,8 @@ impl Shape {
         }
     }
 
-    /// The number of bends: half the sum of the lengths of all strings, rounded down. It takes at most a step
-    /// for each string.
+    /// The number of bends: half the sum of the lengths of all strings, rounded down. Linear
+    /// in the strings.
     pub fn bends(&self) -> u32
         ensures { result ≡ bends_of (length self.now.strings) (turns_at self.now) }
     {

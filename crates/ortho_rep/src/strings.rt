@@ -58,7 +58,7 @@ impl Strings {
         self.lists[i].as_slice()
     }
 
-    /// How many turns all strings have: a step for each string.
+    /// How many turns all strings have. Linear in the strings.
     pub(crate) fn turn_count(&self) -> u32
         ensures count { result ≡ sum_below (length self.now) (λ i. length (slice_index_or self.now i [])) }
         ensures few { result ≤ length self.now * MAX_TURNS }

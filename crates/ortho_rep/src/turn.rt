@@ -32,7 +32,7 @@ pub(crate) fn repeat(turn: Turn, count: u16) -> &'static [Turn]
     }
 }
 
-/// How many of these turns are left turns. A step for each.
+/// How many of these turns are left turns. Linear in the turns.
 pub fn count_lefts(turns: &[Turn]) -> usize
     ensures count { result ≡ lefts turns.now }
     ensures few { result ≤ length turns.now }

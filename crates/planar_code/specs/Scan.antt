@@ -1,4 +1,4 @@
--- What the scan of a record finds.
+-- What reading on in a record finds.
 use Rattle.std.specs.Prelude.{◌≡◌, ℕ, ◌<◌, ◌≤◌, List, [], ◌++◌, length, take, Option, Some, None, Result, Ok, Err}
 use Rattle.planar_code.specs.declared.scan.Scan.{Scan}
 use Rattle.planar_code.specs.declared.scan.Scan.TheVariants as scan

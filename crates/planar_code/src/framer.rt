@@ -1,3 +1,5 @@
+//! An incremental parser of planar_code (the format is that of plantri by Brinkmann and McKay).
+
 ghost use Rattle.std.specs.Prelude.{◌≡◌, ◌≢◌, ◌⊎◌, ℕ, ◌+◌, ◌<◌, ◌≤◌, List, [], ◌++◌, length, IfOk, OnOk, OnErr, IsSome, IsOk, Err, ◌↔◌, option_to_list};
 ghost use Rattle.planar_code.specs.declared.TheConstants.{MAX_RECORDS};
 ghost use Rattle.planar_code.specs.Split.{IsSplit, MayGoOn, ending_of};
@@ -16,7 +18,7 @@ use std::marker::Model;
 /// Which phase of the stream comes next.
 #[derive(Clone, Copy, Debug)]
 enum Phase {
-    /// The header, of which so many bytes have passed.
+    /// The header, of which so many bytes were read.
     Header { passed: usize },
     /// Records.
     Records,
@@ -134,7 +136,7 @@ impl Framer {
     ///
     /// The stream may be divided anywhere, also within the header or a record. The work is linear in its
     /// bytes: a record that lies whole in a piece is copied once, and one that is divided is copied twice. Want
-    /// of memory is answered only where the piece ends a record, for its bytes or its place in `out`.
+    /// of memory is returned only where the piece ends a record, for its bytes or its place in `out`.
     ///
     /// # Errors
     ///
@@ -145,7 +147,7 @@ impl Framer {
     /// - `Memory` where a whole record finds no memory.
     ///
     /// The records before the fault stay in `out`. From then on the framer has failed: each later
-    /// feed adds nothing and answers the same fault.
+    /// feed adds nothing and returns the same fault.
     pub fn feed(
         &mut self,
         alloc: Global,

@@ -95,7 +95,7 @@ impl OpenRecord {
     /// Reads on to the record's end, or to the end of `text`: the record and how many bytes of
     /// `text` end it, or nothing where it stays open.
     ///
-    /// Want of memory is answered only where `text` ends the record.
+    /// Want of memory is returned only where `text` ends the record.
     pub fn read(&mut self, alloc: Global, text: &[u8]) -> Result<Option<(Record, usize)>, FeedFault>
         requires { 0 < length text.now }
         ensures { TakesFrom self.old text.now self.new result }

@@ -8,7 +8,7 @@ use crate::framer::Framer;
 use crate::record::Record;
 use std::alloc::{AllocError, Global};
 
-/// Passes on the want of memory alone: any other fault is in the ending.
+/// Hands on the want of memory alone: any other fault is in the ending.
 fn check_memory(fed: Result<(), FeedFault>) -> Result<(), AllocError>
     ensures ok { OnOk result (fed ≢ Err FeedFault.Memory) }
     ensures err { OnErr result (fed ≡ Err FeedFault.Memory) }

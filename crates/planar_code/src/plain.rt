@@ -1,3 +1,5 @@
+//! A parser of planar_code (plantri, Brinkmann and McKay) record by record, beside which tests hold the framer.
+
 ghost use Rattle.std.specs.Prelude.{◌≡◌, ◌≢◌, ℕ, ◌<◌, List, length, slice_index, IfOk};
 ghost use Rattle.planar_code.specs.Split.{IsSplit};
 ghost use Rattle.planar_code.specs.Started.{IsStarted};

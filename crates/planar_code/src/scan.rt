@@ -1,3 +1,5 @@
+//! Reading on in a record of planar_code (plantri, Brinkmann and McKay), list by list.
+
 ghost use Rattle.std.specs.Prelude.{◌≡◌, ℕ, ◌<◌, ◌≤◌, List, ◌++◌, length, take};
 ghost use Rattle.planar_code.specs.declared.TheConstants.{MAX_LIST};
 ghost use Rattle.planar_code.specs.Started.{IsStarted};

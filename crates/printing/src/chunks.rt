@@ -51,7 +51,7 @@ impl Chunks {
         self.size
     }
 
-    /// Adds a text, which is not cut, and answers how many bytes of memory that took.
+    /// Adds a text, which is not cut, and returns how many bytes of memory that took.
     ///
     /// # Errors
     ///

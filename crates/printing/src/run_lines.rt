@@ -168,7 +168,7 @@ impl Lines {
         self.advance(alloc, sink)
     }
 
-    /// Puts what waits in the buffer into the sink, and answers the status of the run: 0 where each file ended
+    /// Puts what waits in the buffer into the sink, and returns the status of the run: 0 where each file ended
     /// complete and no entry lacks an answer or its line, and else 3.
     ///
     /// # Errors

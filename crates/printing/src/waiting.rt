@@ -52,7 +52,7 @@ pub(crate) fn count_one(waiting: &mut Vec<Waiting>, file: u32) -> Result<(), Ref
     }
 }
 
-/// Keeps a line of a file, and answers how many bytes of memory that took. `Memory` where there is no memory for it.
+/// Keeps a line of a file, and returns how many bytes of memory that took. `Memory` where there is no memory for it.
 pub(crate) fn keep_line(
     alloc: Global,
     waiting: &mut Vec<Waiting>,

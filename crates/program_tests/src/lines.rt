@@ -5,7 +5,7 @@ use crate::shared::{
     EDGE, HEADER, Row, TRIANGLE, check_failed_write, check_rows, check_said, make_file, words_of,
 };
 
-const VERSION: &str = "planarbend 0.3.0\nproved with rattle-kit-13f logic dac8208d650f15bf\n";
+const VERSION: &str = "planarbend 0.3.0\nproved with rattle-kit-13 logic dac8208d650f15bf\n";
 
 #[test]
 fn prints_the_version(rt: HostRuntime) {

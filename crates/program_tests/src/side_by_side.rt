@@ -10,6 +10,9 @@ use std::sync::atomic::{AtomicBool, AtomicU32, Ordering};
 use std::thread::Threads;
 use std::{io, thread};
 
+/// How often each turn of a wait yields: on a shared machine a thread may be away for a million yields.
+const YIELDS: u32 = 16;
+
 /// A runtime on which the open of a file waits until so many are asked for.
 #[derive(Drop)]
 struct Crowd<'r, R> {
@@ -27,7 +30,9 @@ impl<R> Crowd<'_, R> {
             if self.asked.load(Ordering::SeqCst) >= self.wanted {
                 return;
             }
-            thread::yield_now();
+            for _ in 0..YIELDS {
+                thread::yield_now();
+            }
         }
         self.ran_out.store(true, Ordering::SeqCst);
     }

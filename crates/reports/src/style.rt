@@ -3,7 +3,7 @@
 use crate::form::Form;
 use common::DrawingKind;
 
-/// The form of a run's text, and which drawings its lines are of. Only JSON lines show points.
+/// The form of a run's text, and which drawings its lines are of. Only JSON lines have points.
 #[derive(Clone, Copy, Debug, PartialEq, Eq)]
 pub struct Style {
     pub form: Form,

@@ -18,7 +18,7 @@ lanes_of t = t.table.shared.key.1
 abbrev pub drawn : Seat → List ℕ
 drawn s = s.pass.me.0.drawn
 
--- it was answered none, and takes no further step
+-- it got none once, and takes no further step
 abbrev pub has_ended : Seat → Bool
 has_ended s = s.has_ended
 

@@ -1,4 +1,4 @@
-//! Waiting for a short while before a thread sleeps until it is woken: to wake it costs more.
+//! Exponential backoff (Anderson 1990) before a thread sleeps until it is woken: to wake it takes longer.
 ghost use Rattle.std.specs.Prelude.{◌<◌};
 ghost use Rattle.ruled_lanes.specs.declared.backoff.TheConstants.{TRIES};
 

@@ -1,4 +1,4 @@
-//! Tickets and their seats.
+//! Tickets and their seats: self-scheduling by fetch-and-add (Gottlieb, Lubachevsky and Rudolph 1983).
 ghost use Rattle.std.specs.Prelude.{◌≡◌, ◌≤◌, [], cond};
 ghost use Rattle.ruled_lanes.specs.declared.limits.TheConstants.{LANES, MAX_TICKETS};
 
@@ -118,7 +118,7 @@ impl Tickets {
     }
 
     /// The next number that no seat has drawn, in one step on the shared word, or none where all below
-    /// the limit are drawn. A seat that was answered none once has ended, and takes no further step. It
+    /// the limit are drawn. A seat that got none once has ended, and takes no further step. It
     /// takes no memory and waits for nothing.
     pub fn draw(&self, seat: &mut Seat) -> Option<u32>
         requires seat { IsSeatOf self.now seat.old }

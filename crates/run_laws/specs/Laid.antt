@@ -66,7 +66,7 @@ pub record IsFirstGreatest (plane : PlaneModel) : Type 0 where
   pub first : (d : ℕ) → d < darts plane → size plane (face_at plane d) ≡ size plane plane.outer
       → (e : ℕ) × (e ≤ d) × (face_at plane e ≡ plane.outer)
 
--- with no other face outside a representation has fewer bends than the shape, and with no face of a lesser number as few
+-- with no other outer face a representation has fewer bends than the shape, and with no face of a lesser number as few
 pub record IsFirstBest (plane : PlaneModel) (shape : ShapeModel) : Type 0 where
   pub fewest : (f : ℕ) → f < plane.faces → (angle : ℕ → ℕ) (turns : ℕ → List Turn) → Represents (with_outer plane f) angle turns
       → bends plane (turns_at shape) ≤ bends plane turns

@@ -1,4 +1,4 @@
--- The rectangle round a map, and how the outer face of the plane looks out at it, in numbers that are in the order of the
+-- The rectangle round a map, and how the outer face of the plane looks out at it, in numbers that grow along the
 -- boxes' darts.
 use Rattle.std.specs.Prelude.{◌≡◌, ℕ, ◌<◌, ◌⊎◌, Bool, true}
 use Rattle.faces.specs.Planes.{PlaneModel, darts, face_at}

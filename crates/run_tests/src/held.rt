@@ -6,6 +6,9 @@ use collector::{Choice, Gate, Stage, run_batch};
 use std::sync::atomic::{AtomicBool, AtomicU32, Ordering};
 use std::thread;
 
+/// How often each turn of a wait yields: on a shared machine a thread may be away for a million yields.
+pub const YIELDS: u32 = 16;
+
 /// Holds a call of each stage, at a record of its own, until all four were made.
 #[derive(Drop)]
 struct HoldsEach {
@@ -28,7 +31,9 @@ impl HoldsEach {
             if self.calls.load(Ordering::SeqCst) == 4 {
                 return;
             }
-            thread::yield_now();
+            for _ in 0..YIELDS {
+                thread::yield_now();
+            }
         }
         self.ran_out.store(true, Ordering::SeqCst);
     }

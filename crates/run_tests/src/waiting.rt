@@ -69,7 +69,9 @@ impl EdgesTap<'_> {
             if self.of.reads_of_last.load(Ordering::SeqCst) >= self.of.awaited {
                 return;
             }
-            thread::yield_now();
+            for _ in 0..YIELDS {
+                thread::yield_now();
+            }
         }
         self.of.ran_out.store(true, Ordering::SeqCst);
     }
@@ -232,7 +234,9 @@ impl HoldsFirst {
             if self.came.load(Ordering::SeqCst) >= self.met {
                 return;
             }
-            thread::yield_now();
+            for _ in 0..YIELDS {
+                thread::yield_now();
+            }
         }
         self.ran_out.store(true, Ordering::SeqCst);
     }

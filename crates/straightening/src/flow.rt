@@ -163,14 +163,14 @@ fn is_tight_crossing(plane: &Plane, prices: &Prices, dart: u16) -> bool
     is_tight(face, across)
 }
 
-/// Whether a bend costs just what a crossing between faces of these prices gains.
+/// Whether a bend costs just what a unit across, between faces of these prices, gains.
 fn is_tight(face: i32, across: i32) -> bool
     ensures { IsTrue result → (pos 1 +ℤ face -ℤ across) ≡ pos 0 }
 {
     slack(face, across) == 0
 }
 
-/// What a bend costs more than a crossing between faces of these prices gains.
+/// What a bend costs more than a unit across, between faces of these prices, gains.
 fn slack(face: i32, across: i32) -> i64
     ensures { result ≡ (pos 1 +ℤ face -ℤ across) }
 {

@@ -1,4 +1,4 @@
-//! A search for a path from one face to another, along which a unit moves while the same prices stay a proof.
+//! Breadth-first search (Moore 1959) for a path of reduced cost 0 from one face to another, along which a unit moves.
 
 ghost use Rattle.std.specs.Prelude.{◌≡◌, ◌<◌, ◌≤◌};
 ghost use Rattle.faces.specs.Planes.{darts};
@@ -60,7 +60,7 @@ impl FaceSearch {
         }
     }
 
-    /// Looks for a path, and answers whether there is one. For each path another dart is its end.
+    /// Looks for a path, and returns whether there is one. For each path another dart is its end.
     pub(crate) fn finds(
         &mut self,
         plane: &Plane,

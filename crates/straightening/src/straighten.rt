@@ -1,4 +1,4 @@
-//! Making a shape straighter.
+//! Making a shape straighter by cycles of reduced cost 0 (Ahuja, Magnanti and Orlin, 1993, section 9.3).
 
 ghost use Rattle.std.specs.Prelude.{◌≡◌, ◌<◌, ◌≤◌, IfOk, IsTrue, length};
 ghost use Rattle.faces.specs.Planes.{darts};
@@ -33,7 +33,7 @@ impl Scratch {
     }
 }
 
-/// The angle on the outside of a vertex of degree 2 that turns. No other vertex has it.
+/// The reflex angle at a vertex of degree 2 that turns. No other vertex has it.
 const REFLEX: u8 = 3;
 
 /// A shape with as many bends as the given one, in which few vertices of degree 2 turn. The same prices prove it least.
@@ -110,7 +110,7 @@ fn count_reflex(plane: &Plane, shape: &Shape) -> u16
     count
 }
 
-/// Makes each vertex of degree 2 straight where it can, from the head of a dart on, and answers whether it did anywhere.
+/// Makes each vertex of degree 2 straight where it can, from the head of a dart on, and returns whether it did anywhere.
 fn straighten_from(
     flow: &mut ShapeFlow,
     search: &mut FaceSearch,
@@ -132,7 +132,7 @@ fn straighten_from(
     moved
 }
 
-/// Makes the vertex with this reflex corner straight where a path leads back, and answers whether it did.
+/// Makes the vertex with this reflex corner straight where a path leads back, and returns whether it did.
 fn straighten_one(
     flow: &mut ShapeFlow,
     search: &mut FaceSearch,

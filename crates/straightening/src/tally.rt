@@ -11,7 +11,7 @@ use faces::{MAX_FACES, Plane};
 
 /// Whether a flow is a representation of the plane with its outer face.
 ///
-/// The cost is a step for each dart, each vertex and each face. Strings are not looked at: those of a flow mirror each
+/// Linear in the darts, vertices and faces. Strings are not looked at: those of a flow mirror each
 /// other.
 pub(crate) fn is_rep(plane: &Plane, flow: &ShapeFlow) -> bool
     ensures { IsTrue result → Rep plane.now (angle_in flow.now.angles) (string_in plane.now flow.now.lefts) }
@@ -41,7 +41,7 @@ fn angles_sum_to_four(plane: &Plane, flow: &ShapeFlow) -> bool
     true
 }
 
-/// Sums the angles that arrive at each vertex, and answers whether all are 1 to 4.
+/// Sums the angles that arrive at each vertex, and returns whether all are 1 to 4.
 fn add_angles(plane: &Plane, flow: &ShapeFlow, sums: &mut [u32]) -> bool
     requires room { vertices plane.now < length sums.old }
     requires clear { sums.old ≡ replicate (length sums.old) 0 }

@@ -16,7 +16,7 @@ pub trait Tap: Drop {
 
     ghost fails: { Self → Bool };
 
-    /// Puts the next bytes at the beginning of `buf` and answers how many. With room in `buf`, 0 is
+    /// Puts the next bytes at the beginning of `buf` and returns how many. With room in `buf`, 0 is
     /// the end of the source. `TapFault` where the source failed before it gave any; `buf` may then hold
     /// any bytes.
     fn read(&mut self, buf: &mut [u8]) -> Result<usize, TapFault>

@@ -16,7 +16,7 @@ pub trait Sink {
 
     ghost failed: { Self → Bool };
 
-    /// Takes the first bytes of `piece` and answers how many: at least one of a nonempty piece.
+    /// Takes the first bytes of `piece` and returns how many: at least one of a nonempty piece.
     ///
     /// # Errors
     ///

@@ -46,7 +46,7 @@ struct GatheredRecords {
 /// `capacity` messages of it wait to be gathered. After the first fault in the bytes, the source is
 /// read no more.
 ///
-/// `Memory` is want of memory outside the framer; in the framer it is the source's own mark.
+/// `Memory` is want of memory elsewhere than in the framer; there it is the source's own mark.
 /// `LaneLost`: an end of the link was gone before the last message. `Thread`: no thread could be
 /// started.
 pub fn run_frames<R: Threads + Wait + Sync, T: Tap + Send>(

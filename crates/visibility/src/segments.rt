@@ -1,4 +1,4 @@
-//! Segments: longest lines of vertices and corners that edges join along one axis.
+//! Segments: largest sets of vertices and corners that edges join along one axis (Lengauer 1990).
 
 ghost use Rattle.std.specs.Prelude.{◌≡◌, []};
 

@@ -1,4 +1,4 @@
-//! Coordinates of segments with which the edges across them are shortest in all.
+//! Coordinates of segments with which the edges across them are shortest in all (Lengauer 1990; `least_length`).
 
 ghost use Rattle.std.specs.Prelude.{◌≡◌, []};
 
