@@ -5,9 +5,9 @@ use Rattle.embedding.specs.Rules.{FirstBroken}
 use Rattle.common.specs.declared.choice.Choice.{Choice}
 use Rattle.faces.specs.Planes.{PlaneModel, IsPlane, HasGreatestOuter}
 use Rattle.ortho_rep.specs.Best.{IsChosen}
-use Rattle.answers.specs.declared.fault.LayoutFault.{LayoutFault}
-use Rattle.answers.specs.declared.fault.LayoutFault.TheVariants.{Rule, Memory}
-use Rattle.answers.specs.declared.layout.Layout.{Layout}
+use Rattle.answers.specs.declared.fault.ShapeFault.{ShapeFault}
+use Rattle.answers.specs.declared.fault.ShapeFault.TheVariants.{Rule, Memory}
+use Rattle.answers.specs.declared.shaped_plane.ShapedPlane.{ShapedPlane}
 
 -- the plane of a record of these bytes, once its faces are traced
 pub record IsTracedPlane (bytes : List ℕ) (plane : PlaneModel) : Type 0 where
@@ -25,16 +25,16 @@ pub record IsPlaneOf (choice : Choice) (bytes : List ℕ) (plane : PlaneModel) :
   pub chosen : IsChosen choice plane
 
 -- why such a record has no plane: the rule is broken, and none before it; want of memory says nothing
-abbrev pub IsRefused : List ℕ → LayoutFault → Type 0
+abbrev pub IsRefused : List ℕ → ShapeFault → Type 0
 IsRefused bytes (Rule rule) = FirstBroken (lists_of bytes) rule
 IsRefused bytes Memory = ⊤
 
 -- the plane of the record, or why there is none
-abbrev pub IsEmbedded : List ℕ → Result PlaneModel LayoutFault → Type 0
+abbrev pub IsEmbedded : List ℕ → Result PlaneModel ShapeFault → Type 0
 IsEmbedded bytes (Ok plane) = IsTracedPlane bytes plane
 IsEmbedded bytes (Err fault) = IsRefused bytes fault
 
 -- the record's plane with the chosen outer face and a least shape, or why there is none
-abbrev pub IsShaped : Choice → List ℕ → Result Layout LayoutFault → Type 0
-IsShaped choice bytes (Ok layout) = IsPlaneOf choice bytes layout.plane
+abbrev pub IsShaped : Choice → List ℕ → Result ShapedPlane ShapeFault → Type 0
+IsShaped choice bytes (Ok shaped_plane) = IsPlaneOf choice bytes shaped_plane.plane
 IsShaped choice bytes (Err fault) = IsRefused bytes fault

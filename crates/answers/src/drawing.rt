@@ -3,14 +3,14 @@
 ghost use Rattle.std.specs.Prelude.{◌≡◌, ◌*◌, length, IfOk, IfSome};
 ghost use Rattle.faces.specs.Planes.{darts, vertices};
 ghost use Rattle.ortho_rep.specs.Representation.{IsShape};
-ghost use Rattle.compact.specs.Ordered.{AreHeadingsOf};
+ghost use Rattle.compact.specs.Ordered.{AreDirectionsOf};
 ghost use Rattle.drawing_check.specs.Draws.{Draws};
 ghost use Rattle.entries.specs.Drawn.{HasPoints, IsDrawn};
 
-use crate::fault::LayoutFault;
-use crate::held::{Held, Shell};
-use crate::layout::{Layout, SpentLayout};
-use crate::spent::Passage;
+use crate::fault::ShapeFault;
+use crate::held::{Holder, Shell};
+use crate::shaped_plane::{ShapedPlane, SpentShapedPlane};
+use crate::spent::ReturnQueue;
 use common::DrawingKind;
 use compact::{BoxesScratch, CompactFault, compact_in, dissect_along};
 use drawing_check::{CheckFault, Drawing, check_in};
@@ -30,10 +30,10 @@ pub struct DrawScratch {
     compaction: visibility::Scratch,
     check: drawing_check::Scratch,
     // the directions of the darts of the shape that was drawn last
-    headings: Vec<u8>,
+    directions: Vec<u8>,
     // the holder of its shaped plane
-    shell: Option<Shell<Layout, SpentLayout>>,
-    pub(crate) back: Passage<Shell<Layout, SpentLayout>>,
+    shell: Option<Shell<ShapedPlane, SpentShapedPlane>>,
+    pub(crate) back: ReturnQueue<Shell<ShapedPlane, SpentShapedPlane>>,
 }
 
 impl DrawScratch {
@@ -44,15 +44,15 @@ impl DrawScratch {
             points: compact::Scratch::empty(alloc),
             compaction: visibility::Scratch::empty(alloc),
             check: drawing_check::Scratch::empty(alloc),
-            headings: Vec::new(alloc),
+            directions: Vec::new(alloc),
             shell: None,
-            back: Passage::none(),
+            back: ReturnQueue::none(),
         }
     }
 
     /// Keeps the directions of the darts of a shape that was drawn.
-    pub(crate) fn keep_headings(&mut self, headings: Vec<u8>) {
-        self.headings = headings;
+    pub(crate) fn keep_directions(&mut self, directions: Vec<u8>) {
+        self.directions = directions;
     }
 
     /// Takes the lists of an answer that nobody reads any more, so that they are filled anew. Those of its drawing stay
@@ -68,13 +68,13 @@ impl DrawScratch {
             if let Ok(drawing) = drawing {
                 self.points.take_back(drawing.into_points());
             }
-            let headings = mem::replace(&mut self.headings, Vec::new(alloc));
+            let directions = mem::replace(&mut self.directions, Vec::new(alloc));
             if let Some(shell) = &mut self.shell {
-                shell.load(SpentLayout {
+                shell.refill(SpentShapedPlane {
                     plane,
                     shape,
                     prices,
-                    headings,
+                    directions,
                 });
             }
         }
@@ -90,13 +90,13 @@ impl DrawScratch {
     /// The shaped plane out of its holder, which goes back.
     pub(crate) fn unpack(
         &mut self,
-        layout: Result<Held<Layout, SpentLayout>, LayoutFault>,
-    ) -> Result<Layout, LayoutFault>
-        ensures { result ≡ layout }
+        shaped_plane: Result<Holder<ShapedPlane, SpentShapedPlane>, ShapeFault>,
+    ) -> Result<ShapedPlane, ShapeFault>
+        ensures { result ≡ shaped_plane }
     {
-        let (layout, shell) = layout?.take();
+        let (shaped_plane, shell) = shaped_plane?.take();
         self.shell = Some(shell);
-        Ok(layout)
+        Ok(shaped_plane)
     }
 }
 
@@ -109,14 +109,14 @@ pub(crate) fn draw(
     scratch: &mut DrawScratch,
     plane: &Plane,
     shape: &Shape,
-    headings: &[u8],
+    directions: &[u8],
     drawing: DrawingKind,
 ) -> Result<Result<Drawing, Cause>, AllocError>
     requires shape { IsShape plane.now shape.now }
-    requires headings { AreHeadingsOf plane.now shape.now headings.now }
+    requires directions { AreDirectionsOf plane.now shape.now directions.now }
     ensures { IfOk result (IsDrawn plane.now shape.now) }
 {
-    let boxes = dissect_along(alloc, &mut scratch.boxes, plane, shape, headings)?;
+    let boxes = dissect_along(alloc, &mut scratch.boxes, plane, shape, directions)?;
     let points = match compact_in(alloc, &mut scratch.points, &boxes) {
         Ok(points) => points,
         Err(CompactFault::Wide) => return Ok(Err(Cause::Wide)),

@@ -1,9 +1,9 @@
 //! Records with their planes.
 
 use crate::item::Item;
-use crate::laying::LayScratch;
 use crate::purpose::{Keeping, Purpose};
 use crate::shaped::Shaped;
+use crate::shaping::ShapeScratch;
 use crate::stages::shape;
 use crate::state::Traced;
 use lanes::{Stage, Staged};
@@ -16,28 +16,28 @@ pub type Embedded<P = Keeping> = Item<P, <P as Purpose>::Carried, Traced>;
 impl<P: Purpose> Staged for Item<P, <P as Purpose>::Carried, Traced> {
     type Next = Shaped<P>;
 
-    type Scratch = LayScratch;
+    type Scratch = ShapeScratch;
 
     const STAGE: Stage = Stage::Shape;
 
-    fn scratch(alloc: Global) -> LayScratch {
-        LayScratch::empty(alloc)
+    fn scratch(alloc: Global) -> ShapeScratch {
+        ShapeScratch::empty(alloc)
     }
 
-    fn exchange<R: Wait>(rt: &R, scratch: &mut LayScratch) {
+    fn exchange<R: Wait>(rt: &R, scratch: &mut ShapeScratch) {
         scratch.restock(rt);
         scratch.send_back(rt);
     }
 
-    fn work(self, alloc: Global, scratch: &mut LayScratch) -> Shaped<P> {
+    fn work(self, alloc: Global, scratch: &mut ShapeScratch) -> Shaped<P> {
         let task = self.task;
         let plane = scratch.unpack(self.state);
-        let layout = shape(alloc, scratch, plane, task.choice, task.drawing);
+        let shaped_plane = shape(alloc, scratch, plane, task.choice, task.drawing);
         Item {
             task,
             purpose: self.purpose,
             rec: self.rec,
-            state: scratch.hold(alloc, layout),
+            state: scratch.hold(alloc, shaped_plane),
         }
     }
 }

@@ -2,7 +2,7 @@
 
 /// Why a record has no plane, or no shape.
 #[derive(Clone, Copy, Debug, PartialEq, Eq)]
-pub enum LayoutFault {
+pub enum ShapeFault {
     /// It breaks this rule, and none before it.
     Rule(embedding::Rule),
     /// Memory ran out, which says nothing of the record.

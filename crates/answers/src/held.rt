@@ -26,12 +26,12 @@ pub struct Shell<T: Drop, S: Drop> {
 
 /// A value in a holder. In contracts it is the value.
 #[derive(Drop)]
-pub struct Held<T: Drop, S: Drop> {
+pub struct Holder<T: Drop, S: Drop> {
     slot: Box<Slot<T, S>>,
     ghost full: { is_full slot.value ≡ true },
 }
 
-impl<T: Drop, S: Drop> Model for Held<T, S> {
+impl<T: Drop, S: Drop> Model for Holder<T, S> {
     ghost use Rattle.answers.specs.Slots.{value_in};
 
     ghost Value = { T };
@@ -48,16 +48,16 @@ impl<T: Drop, S: Drop> Shell<T, S> {
     }
 
     /// The value in this holder.
-    pub(crate) fn fill(self, value: T) -> Held<T, S>
+    pub(crate) fn fill(self, value: T) -> Holder<T, S>
         ensures { result ≡ value }
     {
         let Shell { mut slot } = self;
         *slot = Slot::Full(value);
-        Held { slot }
+        Holder { slot }
     }
 
     /// Puts what is done with in the holder.
-    pub(crate) fn load(&mut self, spent: S) {
+    pub(crate) fn refill(&mut self, spent: S) {
         *self.slot = Slot::Spent(spent);
     }
 
@@ -70,12 +70,12 @@ impl<T: Drop, S: Drop> Shell<T, S> {
     }
 }
 
-impl<T: Drop, S: Drop> Held<T, S> {
+impl<T: Drop, S: Drop> Holder<T, S> {
     /// The value, and the holder without it.
     pub(crate) fn take(self) -> (T, Shell<T, S>)
         ensures { result.0 ≡ self }
     {
-        let Held { mut slot } = self;
+        let Holder { mut slot } = self;
         match mem::replace(&mut *slot, Slot::Empty) {
             Slot::Full(value) => (value, Shell { slot }),
             Slot::Empty | Slot::Spent(_) => unreachable!(),

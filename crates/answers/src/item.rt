@@ -16,7 +16,7 @@ pub struct Item<P: Purpose, R: Carried, S: State> {
     pub rec: R,
     pub state: S,
     pub ghost known: { ∥ P.knows (about_in task (R.bytes rec)) ∥₁ },
-    pub ghost made: { ∥ S.holds (about_in task (R.bytes rec)) state ∥₁ },
+    pub ghost made: { ∥ S.describes (about_in task (R.bytes rec)) state ∥₁ },
 }
 
 impl<P: Purpose, R: Carried, S: State> Numbered for Item<P, R, S> {

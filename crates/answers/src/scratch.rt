@@ -3,10 +3,10 @@ ghost use Rattle.std.specs.Prelude.{ℕ, List};
 ghost use Rattle.answers.specs.Steps.{IsEmbedded};
 
 use crate::drawing::DrawScratch;
-use crate::fault::LayoutFault;
-use crate::held::{Held, Shell};
-use crate::laying::{LayScratch, Passages};
-use crate::spent::Passage;
+use crate::fault::ShapeFault;
+use crate::held::{Holder, Shell};
+use crate::shaping::{Passages, ShapeScratch};
+use crate::spent::ReturnQueue;
 use faces::Plane;
 use std::alloc::{AllocError, Global};
 use std::sync::Wait;
@@ -17,7 +17,7 @@ pub struct EmbedScratch {
     pub(crate) planes: faces::Scratch,
     // the holder of the next plane
     shell: Option<Shell<Plane, Plane>>,
-    spent: Passage<Shell<Plane, Plane>>,
+    spent: ReturnQueue<Shell<Plane, Plane>>,
 }
 
 impl EmbedScratch {
@@ -26,7 +26,7 @@ impl EmbedScratch {
         EmbedScratch {
             planes: faces::Scratch::empty(alloc),
             shell: None,
-            spent: Passage::none(),
+            spent: ReturnQueue::none(),
         }
     }
 
@@ -44,8 +44,8 @@ impl EmbedScratch {
     pub(crate) fn hold(
         &mut self,
         alloc: Global,
-        plane: Result<Plane, LayoutFault>,
-    ) -> Result<Held<Plane, Plane>, LayoutFault>
+        plane: Result<Plane, ShapeFault>,
+    ) -> Result<Holder<Plane, Plane>, ShapeFault>
         ensures { (bytes : List ℕ) → IsEmbedded bytes plane → IsEmbedded bytes result }
     {
         let plane = plane?;
@@ -53,7 +53,7 @@ impl EmbedScratch {
             Some(shell) => Ok(shell.fill(plane)),
             None => match Shell::new(alloc) {
                 Ok(shell) => Ok(shell.fill(plane)),
-                Err(AllocError) => Err(LayoutFault::Memory),
+                Err(AllocError) => Err(ShapeFault::Memory),
             },
         }
     }
@@ -63,7 +63,7 @@ impl EmbedScratch {
 #[derive(Drop)]
 pub struct StageScratch {
     pub embed: EmbedScratch,
-    pub shape: LayScratch,
+    pub shape: ShapeScratch,
     pub draw: DrawScratch,
 }
 
@@ -76,17 +76,17 @@ impl StageScratch {
     /// `AllocError` where there is no memory for the ways back.
     pub fn new(alloc: Global, capacity: u32) -> Result<StageScratch, AllocError> {
         let room = capacity as usize + 3;
-        let (planes, spent_planes) = Passage::new(alloc, room)?;
-        let (layouts, spent_layouts) = Passage::new(alloc, room)?;
+        let (planes, spent_planes) = ReturnQueue::new(alloc, room)?;
+        let (shaped_planes, spent_layouts) = ReturnQueue::new(alloc, room)?;
         let mut embed = EmbedScratch::empty(alloc);
         embed.spent = spent_planes;
-        let mut shape = LayScratch::empty(alloc);
-        shape.passages = Passages {
+        let mut shape = ShapeScratch::empty(alloc);
+        shape.return_queues = Passages {
             planes,
-            layouts: spent_layouts,
+            shaped_planes: spent_layouts,
         };
         let mut draw = DrawScratch::empty(alloc);
-        draw.back = layouts;
+        draw.back = shaped_planes;
         Ok(StageScratch { embed, shape, draw })
     }
 }

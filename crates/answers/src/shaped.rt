@@ -4,15 +4,15 @@ use crate::drawing::DrawScratch;
 use crate::item::Item;
 use crate::purpose::{Keeping, Purpose};
 use crate::stages::answer_with;
-use crate::state::LaidOut;
+use crate::state::ShapeFound;
 use lanes::{Stage, Staged};
 use std::alloc::Global;
 use std::sync::Wait;
 
 /// A record of a file, and its plane with a least shape or why there is none.
-pub type Shaped<P = Keeping> = Item<P, <P as Purpose>::Carried, LaidOut>;
+pub type Shaped<P = Keeping> = Item<P, <P as Purpose>::Carried, ShapeFound>;
 
-impl<P: Purpose> Staged for Item<P, <P as Purpose>::Carried, LaidOut> {
+impl<P: Purpose> Staged for Item<P, <P as Purpose>::Carried, ShapeFound> {
     type Next = P::Entry;
 
     type Scratch = DrawScratch;
@@ -29,8 +29,8 @@ impl<P: Purpose> Staged for Item<P, <P as Purpose>::Carried, LaidOut> {
 
     fn work(self, alloc: Global, scratch: &mut DrawScratch) -> P::Entry {
         let task = self.task;
-        let layout = scratch.unpack(self.state);
-        let answer = answer_with(alloc, scratch, layout, task.drawing);
+        let shaped_plane = scratch.unpack(self.state);
+        let answer = answer_with(alloc, scratch, shaped_plane, task.drawing);
         self.purpose.finish(alloc, scratch, task, self.rec, answer)
     }
 }

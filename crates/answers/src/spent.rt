@@ -8,25 +8,28 @@ use std::sync::{Arc, Wait};
 /// One end of a way on which things go back from a thread to another one, or of none. What stands on the way says
 /// nothing about results: it is only memory to be filled anew.
 #[derive(Drop)]
-pub(crate) struct Passage<T: Drop> {
+pub(crate) struct ReturnQueue<T: Drop> {
     queue: Option<Arc<ArrayQueue<T>>>,
 }
 
-impl<T: Drop + Send> Passage<T> {
+impl<T: Drop + Send> ReturnQueue<T> {
     /// No way: what is sent is dropped, and nothing comes.
-    pub(crate) fn none() -> Passage<T> {
-        Passage { queue: None }
+    pub(crate) fn none() -> ReturnQueue<T> {
+        ReturnQueue { queue: None }
     }
 
     /// Both ends of a way with room for so many things.
-    pub(crate) fn new(alloc: Global, room: usize) -> Result<(Passage<T>, Passage<T>), AllocError>
+    pub(crate) fn new(
+        alloc: Global,
+        room: usize,
+    ) -> Result<(ReturnQueue<T>, ReturnQueue<T>), AllocError>
         requires { 0 < room }
     {
         let queue = Arc::new(alloc, ArrayQueue::new(alloc, room)?)?;
         let other = Arc::try_clone(&queue)?;
         Ok((
-            Passage { queue: Some(queue) },
-            Passage { queue: Some(other) },
+            ReturnQueue { queue: Some(queue) },
+            ReturnQueue { queue: Some(other) },
         ))
     }
 

@@ -7,9 +7,9 @@ ghost use Rattle.entries.specs.Answers.{Answers};
 ghost use Rattle.drawing_laws.specs.Drawings.{IsDrawnIfLaid};
 
 use crate::drawing::{DrawScratch, draw};
-use crate::fault::LayoutFault;
-use crate::laying::{LayScratch, lay};
-use crate::layout::Layout;
+use crate::fault::ShapeFault;
+use crate::shaped_plane::ShapedPlane;
+use crate::shaping::{ShapeScratch, lay};
 use common::{Choice, DrawingKind};
 use embedding::{Graph, ReadFault, Rule};
 use entries::{Answer, Entry};
@@ -22,37 +22,37 @@ pub(crate) fn embed(
     alloc: Global,
     scratch: &mut faces::Scratch,
     rec: &Record,
-) -> Result<Plane, LayoutFault>
+) -> Result<Plane, ShapeFault>
     ensures { IsEmbedded rec.now result }
 {
     let graph = match Graph::read_in(alloc, &mut scratch.graph, rec) {
         Ok(graph) => graph,
-        Err(ReadFault::Rule(rule)) => return Err(LayoutFault::Rule(rule)),
-        Err(ReadFault::Memory) => return Err(LayoutFault::Memory),
+        Err(ReadFault::Rule(rule)) => return Err(ShapeFault::Rule(rule)),
+        Err(ReadFault::Memory) => return Err(ShapeFault::Memory),
     };
     match Plane::trace_in(alloc, scratch, graph) {
         Ok(plane) => Ok(plane),
         Err(TraceFault::Genus(graph)) => {
             graph.give_back(&mut scratch.graph);
-            Err(LayoutFault::Rule(Rule::Genus))
+            Err(ShapeFault::Rule(Rule::Genus))
         }
-        Err(TraceFault::Memory(_)) => Err(LayoutFault::Memory),
+        Err(TraceFault::Memory(_)) => Err(ShapeFault::Memory),
     }
 }
 
 /// A record's plane with the chosen outer face and a least shape for this drawing, or why there is none.
 pub(crate) fn shape(
     alloc: Global,
-    scratch: &mut LayScratch,
-    plane: Result<Plane, LayoutFault>,
+    scratch: &mut ShapeScratch,
+    plane: Result<Plane, ShapeFault>,
     choice: Choice,
     drawing: DrawingKind,
-) -> Result<Layout, LayoutFault>
+) -> Result<ShapedPlane, ShapeFault>
     ensures { (bytes : List ℕ) → IsEmbedded bytes plane → IsShaped choice bytes result }
 {
     match lay(alloc, scratch, plane?, choice, drawing) {
-        Ok(layout) => Ok(layout),
-        Err(AllocError) => Err(LayoutFault::Memory),
+        Ok(shaped_plane) => Ok(shaped_plane),
+        Err(AllocError) => Err(ShapeFault::Memory),
     }
 }
 
@@ -60,23 +60,23 @@ pub(crate) fn shape(
 pub(crate) fn answer_with(
     alloc: Global,
     scratch: &mut DrawScratch,
-    layout: Result<Layout, LayoutFault>,
+    shaped_plane: Result<ShapedPlane, ShapeFault>,
     drawing: DrawingKind,
 ) -> Answer
-    ensures { (choice : Choice) (bytes : List ℕ) → IsShaped choice bytes layout → Answers choice bytes result }
+    ensures { (choice : Choice) (bytes : List ℕ) → IsShaped choice bytes shaped_plane → Answers choice bytes result }
 {
-    let Layout {
+    let ShapedPlane {
         plane,
         shape,
         prices,
-        headings,
-    } = match layout {
-        Ok(layout) => layout,
-        Err(LayoutFault::Rule(rule)) => return Answer::Refused(rule),
-        Err(LayoutFault::Memory) => return Answer::NoMemory,
+        directions,
+    } = match shaped_plane {
+        Ok(shaped_plane) => shaped_plane,
+        Err(ShapeFault::Rule(rule)) => return Answer::Refused(rule),
+        Err(ShapeFault::Memory) => return Answer::NoMemory,
     };
-    let drawn = draw(alloc, scratch, &plane, &shape, &headings, drawing);
-    scratch.keep_headings(headings);
+    let drawn = draw(alloc, scratch, &plane, &shape, &directions, drawing);
+    scratch.keep_directions(directions);
     match drawn {
         Ok(drawing) => Answer::Laid {
             plane,
@@ -102,15 +102,15 @@ pub fn answer(alloc: Global, file: u32, ordinal: u32, rec: Record, choice: Choic
 {
     let mut planes = faces::Scratch::empty(alloc);
     let plane = embed(alloc, &mut planes, &rec);
-    let mut lay_scratch = LayScratch::empty(alloc);
+    let mut shape_scratch = ShapeScratch::empty(alloc);
     let mut draw_scratch = DrawScratch::empty(alloc);
     let drawing = DrawingKind::Quick;
-    let layout = shape(alloc, &mut lay_scratch, plane, choice, drawing);
+    let shaped_plane = shape(alloc, &mut shape_scratch, plane, choice, drawing);
     Entry {
         file,
         ordinal,
         rec,
         choice,
-        answer: answer_with(alloc, &mut draw_scratch, layout, drawing),
+        answer: answer_with(alloc, &mut draw_scratch, shaped_plane, drawing),
     }
 }

@@ -3,32 +3,32 @@ ghost use Rattle.std.specs.Prelude.{⊤};
 ghost use Rattle.lanes.specs.Notes.{About};
 ghost use Rattle.answers.specs.Steps.{IsEmbedded, IsShaped};
 
-use crate::fault::LayoutFault;
-use crate::held::Held;
-use crate::layout::{Layout, SpentLayout};
+use crate::fault::ShapeFault;
+use crate::held::Holder;
+use crate::shaped_plane::{ShapedPlane, SpentShapedPlane};
 use faces::Plane;
 
 /// What was made of a record so far.
 pub trait State: Drop + Send {
     /// It was made of this record.
-    ghost holds: { About → Self → Type 0 };
+    ghost describes: { About → Self → Type 0 };
 }
 
 /// Nothing yet.
 impl State for () {
-    ghost holds = { λ _ _. ⊤ };
+    ghost describes = { λ _ _. ⊤ };
 }
 
 /// The record's plane, or why there is none.
-pub type Traced = Result<Held<Plane, Plane>, LayoutFault>;
+pub type Traced = Result<Holder<Plane, Plane>, ShapeFault>;
 
 impl State for Traced {
-    ghost holds = { λ about plane. IsEmbedded about.bytes plane };
+    ghost describes = { λ about plane. IsEmbedded about.bytes plane };
 }
 
 /// The record's plane with a least shape, or why there is none.
-pub type LaidOut = Result<Held<Layout, SpentLayout>, LayoutFault>;
+pub type ShapeFound = Result<Holder<ShapedPlane, SpentShapedPlane>, ShapeFault>;
 
-impl State for LaidOut {
-    ghost holds = { λ about layout. IsShaped about.choice about.bytes layout };
+impl State for ShapeFound {
+    ghost describes = { λ about shaped_plane. IsShaped about.choice about.bytes shaped_plane };
 }

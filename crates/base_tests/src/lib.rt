@@ -26,6 +26,6 @@ mod plain;
 #[cfg(test)]
 mod random;
 #[cfg(test)]
-mod standing;
-#[cfg(test)]
 mod tickets;
+#[cfg(test)]
+mod warm_start;

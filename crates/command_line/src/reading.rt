@@ -2,7 +2,7 @@
 ghost use Rattle.std.specs.Prelude.{◌≡◌, ◌<◌, IfOk, map};
 ghost use Rattle.std.specs.List.{count_by};
 ghost use Rattle.command_line.specs.Naming as naming;
-ghost use Rattle.command_line.specs.Requests.{role_after, asks, asks_in, files_in, has_front, is_file, is_help};
+ghost use Rattle.command_line.specs.Requests.{role_after, asks, asks_in, files_in, has_prefix, is_file, is_help};
 
 use crate::standard_input::is_input;
 use std::alloc::{AllocError, Global};
@@ -28,7 +28,7 @@ pub enum Role {
 
 /// What words can ask for, beside files, numbers and lines of progress.
 #[derive(Clone, Copy)]
-pub enum Wish {
+pub enum Flag {
     Version,
     Help,
     Frames,
@@ -60,30 +60,30 @@ impl Role {
         ensures { result ≡ is_file self word.now }
     {
         match self {
-            Role::Any => !has_front(word, b'-', b'-'),
+            Role::Any => !has_prefix(word, b'-', b'-'),
             Role::File => true,
             _ => false,
         }
     }
 
     /// Whether a word in this role asks for this.
-    fn asks(self, wish: Wish, word: &str) -> bool
-        ensures { result ≡ asks wish self word.now }
+    fn asks(self, flag: Flag, word: &str) -> bool
+        ensures { result ≡ asks flag self word.now }
     {
-        match (wish, self) {
-            (Wish::Version, Role::Command) => word == "--version",
-            (Wish::Frames, Role::Command) => word == "frames",
-            (Wish::Layout, Role::Command) => word == "layout",
-            (Wish::Json, Role::Any) => word == "--json",
-            (Wish::BestOuter, Role::Any) => word == "--outer=best",
-            (Wish::BestOuter, Role::Outer) => word == "best",
-            (Wish::ShortDrawing, Role::Any) => word == "--drawing=short",
-            (Wish::ShortDrawing, Role::Drawing) => word == "short",
-            (Wish::QuickDrawing, Role::Any) => word == "--drawing=quick",
-            (Wish::QuickDrawing, Role::Drawing) => word == "quick",
-            (Wish::Help, Role::File) => false,
-            (Wish::Help, Role::Command) => word == "help" || is_help(word),
-            (Wish::Help, _) => is_help(word),
+        match (flag, self) {
+            (Flag::Version, Role::Command) => word == "--version",
+            (Flag::Frames, Role::Command) => word == "frames",
+            (Flag::Layout, Role::Command) => word == "layout",
+            (Flag::Json, Role::Any) => word == "--json",
+            (Flag::BestOuter, Role::Any) => word == "--outer=best",
+            (Flag::BestOuter, Role::Outer) => word == "best",
+            (Flag::ShortDrawing, Role::Any) => word == "--drawing=short",
+            (Flag::ShortDrawing, Role::Drawing) => word == "short",
+            (Flag::QuickDrawing, Role::Any) => word == "--drawing=quick",
+            (Flag::QuickDrawing, Role::Drawing) => word == "quick",
+            (Flag::Help, Role::File) => false,
+            (Flag::Help, Role::Command) => word == "help" || is_help(word),
+            (Flag::Help, _) => is_help(word),
             _ => false,
         }
     }
@@ -93,27 +93,27 @@ impl Role {
 fn is_help(word: &str) -> bool
     ensures { result ≡ is_help word.now }
 {
-    word == "--help" || has_front(word, b'-', b'h')
+    word == "--help" || has_prefix(word, b'-', b'h')
 }
 
 /// Whether a word begins with these two bytes. The second is not 0, as which the definition reads a byte that is not
 /// there.
-fn has_front(word: &str, first: u8, second: u8) -> bool
+fn has_prefix(word: &str, first: u8, second: u8) -> bool
     requires { 0 < second }
-    ensures { result ≡ has_front first second word.now }
+    ensures { result ≡ has_prefix first second word.now }
 {
     let bytes = word.as_bytes();
     bytes.len() > 1 && bytes[0] == first && bytes[1] == second
 }
 
 /// Whether some word asks for this.
-pub fn asks(wish: Wish, words: &[String]) -> bool
-    ensures { result ≡ asks_in wish words.now }
+pub fn asks(flag: Flag, words: &[String]) -> bool
+    ensures { result ≡ asks_in flag words.now }
 {
     let mut role = Role::Command;
     for word in words {
         let text = word.as_str();
-        if role.asks(wish, text) {
+        if role.asks(flag, text) {
             return true;
         }
         role = role.role_after(text);

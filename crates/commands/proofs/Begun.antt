@@ -8,7 +8,7 @@ use Rattle.lane_runs.specs.declared.fault.RunFault.TheVariants.{Memory, LaneLost
 use Rattle.lane_runs.specs.Faults.{EndsRun}
 use Rattle.reports.specs.declared.form.Form.{Form}
 use Rattle.printing.specs.declared.run_lines.Lines.{Lines}
-use Rattle.printing.specs.Holding.{form_of, choice_of, files_of, LeavesOff, LinesLeaveOff}
+use Rattle.printing.specs.Holding.{form_of, choice_of, files_of, NotesBreakOff, LinesBreakOff}
 use Rattle.printing.specs.Whole.{IsBegun}
 use Rattle.printing.proofs.Ordering.{begun_left_off, begun_none}
 
@@ -22,12 +22,12 @@ ended_with gave_up holds Thread given held ends = held ends.0 ends.1
 
 -- lines of so many files in this form, under this choice
 pub begun_lines : (choice : Choice) (meaning : ℕ → Meaning) (form : Form) (files : ℕ) (start now : Option (List ℕ)) (lines : Lines) → choice_of lines ≡ choice → form_of lines ≡ form → files_of lines ≡ files
-    → (ns : List Note) → LinesLeaveOff meaning start now lines ns → ∥ IsBegun choice meaning form files start now ∥₁
+    → (ns : List Note) → LinesBreakOff meaning start now lines ns → ∥ IsBegun choice meaning form files start now ∥₁
 begun_lines choice meaning form files start now lines choice_is form_is files_is ns left =
     begun_left_off choice meaning form files start now ns
-    (subst (λ n. LeavesOff choice meaning form n start now ns) files_is
-    (subst (λ f. LeavesOff choice meaning f (files_of lines) start now ns) form_is
-    (subst (λ c. LeavesOff c meaning (form_of lines) (files_of lines) start now ns) choice_is left)))
+    (subst (λ n. NotesBreakOff choice meaning form n start now ns) files_is
+    (subst (λ f. NotesBreakOff choice meaning f (files_of lines) start now ns) form_is
+    (subst (λ c. NotesBreakOff c meaning (form_of lines) (files_of lines) start now ns) choice_is left)))
 
 -- nothing is a beginning of any text
 pub begun_by_nothing : (choice : Choice) (meaning : ℕ → Meaning) (form : Form) (files : ℕ) (taken : Option (List ℕ)) → ∥ IsBegun choice meaning form files taken taken ∥₁

@@ -7,7 +7,7 @@ use Rattle.streams.specs.declared.frames.Mark.TheVariants.{Ended, Io}
 use Rattle.streams.specs.FramesModel.{FramesModel}
 use Rattle.streams.specs.declared.faults.WriteFault.{WriteFault}
 use Rattle.streams.specs.declared.faults.WriteFault.TheVariants.{Write, Memory}
-use Rattle.streams.specs.Sink.{AppendsFront, Writes}
+use Rattle.streams.specs.Sink.{AppendsPrefix, Writes}
 use Rattle.streams.specs.Text as marks
 use Rattle.streams.specs.Text.{record_line, record_lines, frames_end_line, frames_text}
 use Rattle.common.specs.declared.choice.Choice.{Choice}
@@ -95,7 +95,7 @@ printed_drawn old new failed status is =
     ]
 
 -- a beginning of help
-pub help_begun : (old new : Option (List ℕ)) (help : List ℕ) → 65 ≤ first help → first help ≤ 90 → AppendsFront old new help
+pub help_begun : (old new : Option (List ℕ)) (help : List ℕ) → 65 ≤ first help → first help ≤ 90 → AppendsPrefix old new help
     → AddsNoneUndrawn old new ⊎ ((text : List ℕ) × IsNoReport text × Appends old new text)
 help_begun old new help low high adds = by adds.0 adds.1 adds.2 adds.3
   where

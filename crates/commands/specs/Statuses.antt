@@ -5,7 +5,7 @@ use Rattle.planar_code.specs.declared.ending.Ending.{Ending}
 use Rattle.streams.specs.declared.frames.Mark.{Mark}
 use Rattle.streams.specs.FramesModel.{FramesModel}
 use Rattle.streams.specs.Marks.{IsMarked}
-use Rattle.streams.specs.Sink.{AppendsFront}
+use Rattle.streams.specs.Sink.{AppendsPrefix}
 use Rattle.streams.specs.Text.{frames_text}
 use Rattle.common.specs.declared.choice.Choice.{Choice}
 use Rattle.lanes.specs.Opening.{Meaning, told_of, fails_of}
@@ -33,7 +33,7 @@ pub record IsNoReport (text : List ℕ) : Type 0 where
 -- this text and nothing else was added to the output, with status 0; or the output failed, with a beginning of it and status 1
 abbrev pub IsPrinted : List ℕ → Option (List ℕ) → Option (List ℕ) → Bool → ℕ → Type 0
 IsPrinted text old new failed status =
-    ((status ≡ 0) × (failed ≡ false) × Appends old new text) ⊎ ((status ≡ 1) × (failed ≡ true) × AppendsFront old new text)
+    ((status ≡ 0) × (failed ≡ false) × Appends old new text) ⊎ ((status ≡ 1) × (failed ≡ true) × AppendsPrefix old new text)
 
 -- the file ended complete
 abbrev pub IsComplete : FramesModel → Type 0
@@ -75,7 +75,7 @@ pub record IsBegunToReport (meaning : Meaning) (old new : Option (List ℕ)) : T
   pub fails : Bool
   pub marked : IsMarked bytes fails found.records found.mark
   pub told : (all : List ℕ) → told_of meaning ≡ Some all → IsMarked all (fails_of meaning) found.records found.mark
-  pub text : AppendsFront old new (frames_text found)
+  pub text : AppendsPrefix old new (frames_text found)
 
 -- the whole report that a request asks for, where standard input means `input`, was added to the output, with this status
 abbrev pub IsDone : Meaning → Request → Option (List ℕ) → Option (List ℕ) → Bool → ℕ → Type 0

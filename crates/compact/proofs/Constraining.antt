@@ -5,7 +5,7 @@ use Rattle.std.proofs.lemmas.Option.{none-some, same_Some}
 use Rattle.std.proofs.lemmas.List.Elements.{All-append, All-cons, All-nil, All-pop}
 use Rattle.dissect.specs.DartMaps.{DartMap, IsSound}
 use Rattle.compact.specs.declared.constraint_graph.Constraint.{Constraint}
-use Rattle.compact.specs.Constraints.{Keeps}
+use Rattle.compact.specs.Constraints.{Satisfies}
 use Rattle.compact.specs.Ordered.{tail, IsAlong, AreAlong}
 
 -- a dart forward or across adds its constraint
@@ -22,9 +22,9 @@ one_more w k d constraints least sound d_in kind along =
         | inr across ↦ omega (arith, across.2)
       ],
     ) in
-    let last : (x : ℕ → ℕ) → Keeps (constraints ++ (constraint ∷ [])) x → x constraint.from + least ≤ x constraint.to = λ x keeps.
+    let last : (x : ℕ → ℕ) → Satisfies (constraints ++ (constraint ∷ [])) x → x constraint.from + least ≤ x constraint.to = λ x keeps.
     (All-pop (λ g. x g.from + g.least ≤ x g.to) (constraints ++ (constraint ∷ [])) constraints (Some constraint) refl keeps).1 in
-    let front : (x : ℕ → ℕ) → Keeps (constraints ++ (constraint ∷ [])) x → Keeps constraints x = λ x keeps.
+    let before : (x : ℕ → ℕ) → Satisfies (constraints ++ (constraint ∷ [])) x → Satisfies constraints x = λ x keeps.
     (All-pop (λ g. x g.from + g.least ≤ x g.to) (constraints ++ (constraint ∷ [])) constraints (Some constraint) refl keeps).0 in
     record {
       inside = All-append (λ g. (g.from < w.vertices) × (g.to < w.vertices) × (g.least ≤ 1)) constraints (constraint ∷ []) along.inside
@@ -37,11 +37,11 @@ one_more w k d constraints least sound d_in kind along =
               | inl ahead ↦ omega (arith, last x keeps, ahead.1)
               | inr across ↦ absurd (across.0 here)
             ])
-        | inr other ↦ along.forward x (front x keeps) a (omega (arith, below, other)) way
+        | inr other ↦ along.forward x (before x keeps) a (omega (arith, below, other)) way
       ];
       across = λ x keeps a below one two. elim (cases_eq a d) [
         | inl same ↦ subst (λ (b : ℕ). x (tail w b) ≤ x (w.head b)) (sym same) (omega (arith, last x keeps))
-        | inr other ↦ along.across x (front x keeps) a (omega (arith, below, other)) one two
+        | inr other ↦ along.across x (before x keeps) a (omega (arith, below, other)) one two
       ];
       no_more = λ x keeps. All-append (λ g. x g.from + g.least ≤ x g.to) constraints (constraint ∷ []) (along.no_more x keeps)
           (All-cons (λ g. x g.from + g.least ≤ x g.to) constraint [] (elim kind [
@@ -68,7 +68,7 @@ none_more w k d constraints back along = record {
 }
 
 -- with all darts the constraints say what the axis asks
-pub all_along : (w : DartMap) (k : ℕ) (constraints : List Constraint) (x : ℕ → ℕ) → AreAlong w k w.darts constraints → Keeps constraints x → IsAlong w k x
+pub all_along : (w : DartMap) (k : ℕ) (constraints : List Constraint) (x : ℕ → ℕ) → AreAlong w k w.darts constraints → Satisfies constraints x → IsAlong w k x
 all_along w k constraints x along keeps = record {
   forward = along.forward x keeps;
   across = along.across x keeps;

@@ -8,15 +8,15 @@ use Rattle.common.specs.Sums.{sum_below}
 use Rattle.common.proofs.Sums.{sum_below-lt}
 use Rattle.compact.specs.declared.constraint_graph.Constraint.{Constraint}
 use Rattle.compact.specs.declared.constraint_graph.Relaxation.{Relaxation}
-use Rattle.compact.specs.declared.constraint_graph.Relaxation.TheVariants.{Kept, Raised, Wide}
-use Rattle.compact.specs.Constraints.{Keeps, AreInside, IsLow, AreWide, IsRelaxed, AreRelaxed, shortfall}
+use Rattle.compact.specs.declared.constraint_graph.Relaxation.TheVariants.{Satisfied, Raised, Wide}
+use Rattle.compact.specs.Constraints.{Satisfies, AreInRange, IsLow, AreWide, IsRelaxed, AreRelaxed, shortfall}
 
 abbrev pub at : List ℕ → ℕ → ℕ
 at xs v = slice_index xs v
 
 -- what holds of the coordinates when the first constraints were relaxed
 abbrev pub Stands : List Constraint → List ℕ → List ℕ → Relaxation → Type 0
-Stands constraints old now Kept = (now ≡ old) × Keeps constraints (at now)
+Stands constraints old now Satisfied = (now ≡ old) × Satisfies constraints (at now)
 Stands constraints old now Raised = shortfall now < shortfall old
 Stands constraints old now Wide = ⊥
 
@@ -73,15 +73,15 @@ no_constraint = record { from = 0; to = 0; least = 0 }
 
 -- what comes of the relaxation of one more constraint
 abbrev pub IsWideOr : List Constraint → ℕ → List ℕ → List ℕ → Relaxation → Relaxation → Type 0
-IsWideOr constraints i old new found Kept = IsRelaxedUpTo constraints (i + 1) old new found
+IsWideOr constraints i old new found Satisfied = IsRelaxedUpTo constraints (i + 1) old new found
 IsWideOr constraints i old new found Raised = IsRelaxedUpTo constraints (i + 1) old new Raised
 IsWideOr constraints i old new found Wide = IsLow constraints (length old) (at new) × AreWide constraints (length old)
 
 -- relaxing the constraint at place i takes the coordinates one constraint further
-pub goes_on : (constraints : List Constraint) (i : ℕ) (d : Constraint) (old now new : List ℕ) (found one : Relaxation) → i < length constraints → AreInside (length old) constraints →
+pub goes_on : (constraints : List Constraint) (i : ℕ) (d : Constraint) (old now new : List ℕ) (found one : Relaxation) → i < length constraints → AreInRange (length old) constraints →
     IsRelaxedUpTo constraints i old now found → IsRelaxed (get_or constraints i d) now new one → length new ≡ length now →
     IsWideOr constraints i old new found one
-goes_on constraints i d old now new found Kept i_in inside under relaxed size =
+goes_on constraints i d old now new found Satisfied i_in inside under relaxed size =
     record {
       size = size ∙ under.size;
       low = subst (λ (xs : List ℕ). IsLow constraints (length old) (at xs)) (sym relaxed.0) under.low;
@@ -89,10 +89,10 @@ goes_on constraints i d old now new found Kept i_in inside under relaxed size =
     }
   where
     still : (constraints : List Constraint) (i : ℕ) (d : Constraint) (old now new : List ℕ) (found : Relaxation) → i < length constraints →
-        Stands (take i constraints) old now found → IsRelaxed (get_or constraints i d) now new Kept → Stands (take (i + 1) constraints) old new found
-    still constraints i d old now new Kept i_in stands relaxed = (
+        Stands (take i constraints) old now found → IsRelaxed (get_or constraints i d) now new Satisfied → Stands (take (i + 1) constraints) old new found
+    still constraints i d old now new Satisfied i_in stands relaxed = (
       relaxed.0 ∙ stands.0,
-      subst (λ (xs : List ℕ). Keeps (take (i + 1) constraints) (at xs)) (sym relaxed.0)
+      subst (λ (xs : List ℕ). Satisfies (take (i + 1) constraints) (at xs)) (sym relaxed.0)
           (All-more (λ constraint. at now constraint.from + constraint.least ≤ at now constraint.to) constraints i d i_in stands.1 relaxed.1),
     )
     still constraints i d old now new Raised i_in stands relaxed = subst (λ (xs : List ℕ). shortfall xs < shortfall old) (sym relaxed.0) stands
@@ -108,7 +108,7 @@ goes_on constraints i d old now new found Raised i_in inside under relaxed size 
     }
   where
     lower : (constraints : List Constraint) (i : ℕ) (old now new : List ℕ) (found : Relaxation) → Stands (take i constraints) old now found → shortfall new < shortfall now → shortfall new < shortfall old
-    lower constraints i old now new Kept stands falls = omega (arith, falls, ap shortfall stands.0)
+    lower constraints i old now new Satisfied stands falls = omega (arith, falls, ap shortfall stands.0)
     lower constraints i old now new Raised stands falls = omega (arith, falls, stands)
     lower constraints i old now new Wide stands falls = absurd stands
 goes_on constraints i d old now new found Wide i_in inside under relaxed size =
@@ -119,7 +119,7 @@ goes_on constraints i d old now new found Wide i_in inside under relaxed size =
 
 -- behind the last constraint
 pub ends_up : (constraints : List Constraint) (i : ℕ) (old now : List ℕ) (found : Relaxation) → length constraints ≤ i → IsRelaxedUpTo constraints i old now found → AreRelaxed constraints old now found
-ends_up constraints i old now Kept past under =
-    (under.stands.0, subst (λ (gs : List Constraint). Keeps gs (at now)) (take_all i constraints past) under.stands.1)
+ends_up constraints i old now Satisfied past under =
+    (under.stands.0, subst (λ (gs : List Constraint). Satisfies gs (at now)) (take_all i constraints past) under.stands.1)
 ends_up constraints i old now Raised past under = under.stands
 ends_up constraints i old now Wide past under = absurd under.stands

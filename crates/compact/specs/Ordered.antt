@@ -5,12 +5,12 @@ use Rattle.dissect.specs.DartMaps.{DartMap, IsSound}
 use Rattle.dissect.specs.Paths.{turning_vertices}
 use Rattle.ortho_rep.specs.declared.points.Point.{Point}
 use Rattle.dissect.specs.Boxes.{BoxesModel, HasEdge, dart_map}
-pub use Rattle.dissect.specs.Headed.{AreHeadingsOf}
+pub use Rattle.dissect.specs.DirectionLists.{AreDirectionsOf}
 pub use Rattle.dissect.specs.Ordered.{tail, IsOrdered, AreWithin, point_at, AreTaken, AreLaidOut, FitsNoGrid}
 use Rattle.compact.specs.declared.axis.Axis.{Axis}
 use Rattle.compact.specs.declared.axis.Axis.TheVariants.{X, Y}
 use Rattle.compact.specs.declared.constraint_graph.Constraint.{Constraint}
-use Rattle.compact.specs.Constraints.{Keeps, AreInside}
+use Rattle.compact.specs.Constraints.{Satisfies, AreInRange}
 use Rattle.compact.specs.declared.fault.CompactFault.{CompactFault}
 use Rattle.compact.specs.declared.fault.CompactFault.TheVariants.{Wide, Memory}
 
@@ -31,11 +31,11 @@ pub record IsAlong (w : DartMap) (k : ℕ) (x : ℕ → ℕ) : Type 0 where
 
 -- the constraints say the same of the first darts
 pub record AreAlong (w : DartMap) (k : ℕ) (darts : ℕ) (constraints : List Constraint) : Type 0 where
-  pub inside : AreInside w.vertices constraints
-  pub forward : (x : ℕ → ℕ) → Keeps constraints x → (a : ℕ) → a < darts → w.direction a ≡ k → x (tail w a) + 1 ≤ x (w.head a)
-  pub across : (x : ℕ → ℕ) → Keeps constraints x → (a : ℕ) → a < darts → w.direction a ≢ k → w.direction a ≢ k + 2
+  pub inside : AreInRange w.vertices constraints
+  pub forward : (x : ℕ → ℕ) → Satisfies constraints x → (a : ℕ) → a < darts → w.direction a ≡ k → x (tail w a) + 1 ≤ x (w.head a)
+  pub across : (x : ℕ → ℕ) → Satisfies constraints x → (a : ℕ) → a < darts → w.direction a ≢ k → w.direction a ≢ k + 2
       → x (tail w a) ≤ x (w.head a)
-  pub no_more : (x : ℕ → ℕ) → IsAlong w k x → Keeps constraints x
+  pub no_more : (x : ℕ → ℕ) → IsAlong w k x → Satisfies constraints x
 
 -- the number of the direction in which an axis grows
 abbrev pub growth : Axis → ℕ

@@ -67,7 +67,7 @@ fn constraints_along(
 ///
 /// The vertex itself then stands in the place of the next one, so that no branch hangs on whether there is
 /// one, which cannot be foreseen.
-fn is_step_kept(along: &[u16], across: &[u16], vertex: usize, to: u32) -> bool
+fn is_step_satisfied(along: &[u16], across: &[u16], vertex: usize, to: u32) -> bool
     requires vertex { vertex < length along.now }
     requires count { length across.now ≡ length along.now }
     ensures grows { IsTrue result → to < length along.now → slice_index along.now vertex + 1 ≤ slice_index along.now to }
@@ -95,7 +95,7 @@ fn are_along(boxes: &Boxes, around: &[u32], x: &[u16], y: &[u16]) -> bool
     for vertex in 0..boxes.vertices() as usize {
         let east = around[4 * vertex];
         let north = around[4 * vertex + 1];
-        if !(is_step_kept(x, y, vertex, east) & is_step_kept(y, x, vertex, north)) {
+        if !(is_step_satisfied(x, y, vertex, east) & is_step_satisfied(y, x, vertex, north)) {
             return false;
         }
     }
@@ -153,8 +153,8 @@ fn relaxed_along(
     let Ok(()) = constraints_along(boxes, axis, constraints) else {
         return Err(CompactFault::Memory);
     };
-    let all_kept = relax_in_rounds(constraints, &mut coordinates);
-    if !all_kept {
+    let all_satisfied = relax_in_rounds(constraints, &mut coordinates);
+    if !all_satisfied {
         return Err(CompactFault::Wide);
     }
     Ok(coordinates)

@@ -2,7 +2,7 @@
 
 ghost use Rattle.std.specs.Prelude.{◌≡◌, ℕ, ◌+◌, ◌<◌, ◌≤◌, ◌↔◌, IsTrue, IsFalse, length, replicate, slice_index, All};
 ghost use Rattle.ortho_rep.specs.declared.points.TheConstants.{MAX_COORDINATE};
-ghost use Rattle.compact.specs.Constraints.{Keeps, AreInside, IsLow, AreWide, IsRelaxed, AreRelaxed};
+ghost use Rattle.compact.specs.Constraints.{Satisfies, AreInRange, IsLow, AreWide, IsRelaxed, AreRelaxed};
 
 use ortho_rep::MAX_COORDINATE;
 
@@ -18,7 +18,7 @@ pub struct Constraint {
 #[derive(Clone, Copy, Debug)]
 pub enum Relaxation {
     /// Each constraint is kept.
-    Kept,
+    Satisfied,
     /// Some coordinate was raised.
     Raised,
     /// Some coordinate would exceed 65,535.
@@ -38,7 +38,7 @@ fn relax(constraint: Constraint, coordinates: &mut [u16]) -> Relaxation
         return Relaxation::Wide;
     }
     if u32::from(coordinates[constraint.to as usize]) >= need {
-        return Relaxation::Kept;
+        return Relaxation::Satisfied;
     }
     coordinates[constraint.to as usize] = need as u16;
     Relaxation::Raised
@@ -46,16 +46,16 @@ fn relax(constraint: Constraint, coordinates: &mut [u16]) -> Relaxation
 
 /// Raises coordinates, constraint by constraint, where a constraint is not kept.
 fn relax_all(constraints: &[Constraint], coordinates: &mut [u16]) -> Relaxation
-    requires inside { AreInside (length coordinates.old) constraints.now }
+    requires inside { AreInRange (length coordinates.old) constraints.now }
     requires low { IsLow constraints.now (length coordinates.old) (λ v. slice_index coordinates.old v) }
     ensures relaxed { AreRelaxed constraints.now coordinates.old coordinates.new result }
     ensures low { IsLow constraints.now (length coordinates.old) (λ v. slice_index coordinates.new v) }
     ensures length { length coordinates.new ≡ length coordinates.old }
 {
-    let mut found = Relaxation::Kept;
+    let mut found = Relaxation::Satisfied;
     for constraint in constraints {
         match relax(*constraint, coordinates) {
-            Relaxation::Kept => {}
+            Relaxation::Satisfied => {}
             Relaxation::Raised => found = Relaxation::Raised,
             Relaxation::Wide => return Relaxation::Wide,
         }
@@ -70,9 +70,9 @@ fn relax_all(constraints: &[Constraint], coordinates: &mut [u16]) -> Relaxation
 /// Each round is linear in the constraints. Where no cycle has a constraint of 1 it needs at most as many rounds
 /// as a path without repeats has constraints, and one more, though no clause says so.
 pub fn relax_in_rounds(constraints: &[Constraint], coordinates: &mut [u16]) -> bool
-    requires inside { AreInside (length coordinates.old) constraints.now }
+    requires inside { AreInRange (length coordinates.old) constraints.now }
     requires low { IsLow constraints.now (length coordinates.old) (λ v. slice_index coordinates.old v) }
-    ensures keeps { IsTrue result → Keeps constraints.now (λ v. slice_index coordinates.new v) }
+    ensures keeps { IsTrue result → Satisfies constraints.now (λ v. slice_index coordinates.new v) }
     ensures least { IsTrue result → IsLow constraints.now (length coordinates.old) (λ v. slice_index coordinates.new v) }
     ensures small { (v : ℕ) → v < length coordinates.new → slice_index coordinates.new v ≤ MAX_COORDINATE }
     ensures wide { IsFalse result → AreWide constraints.now (length coordinates.old) }
@@ -80,7 +80,7 @@ pub fn relax_in_rounds(constraints: &[Constraint], coordinates: &mut [u16]) -> b
 {
     'rounds: loop {
         match relax_all(constraints, coordinates) {
-            Relaxation::Kept => return true,
+            Relaxation::Satisfied => return true,
             Relaxation::Raised => {}
             Relaxation::Wide => return false,
         }

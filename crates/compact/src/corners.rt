@@ -22,12 +22,12 @@ pub fn point_of(x: &[u16], y: &[u16], vertex: u32) -> Point
 }
 
 /// Whether the walk along an edge turns between two of its darts.
-fn is_turn(boxes: &Boxes, front: u32, dart: u32) -> bool
-    requires front { front < boxes.now.darts }
+fn is_turn(boxes: &Boxes, before: u32, dart: u32) -> bool
+    requires before { before < boxes.now.darts }
     requires dart { dart < boxes.now.darts }
-    ensures { IsTrue result ↔ (turn_to (dart_map boxes.now) front dart ≢ 0) }
+    ensures { IsTrue result ↔ (turn_to (dart_map boxes.now) before dart ≢ 0) }
 {
-    boxes.direction(front) != boxes.direction(dart)
+    boxes.direction(before) != boxes.direction(dart)
 }
 
 /// Puts the points at which the walk along these darts turns behind a list, in walking order. A step
@@ -46,9 +46,9 @@ pub fn push_corners(
         ≡ corners.old.items ++ map (point_at (λ v. slice_index x.now v) (λ v. slice_index y.now v)) (vertices_along (dart_map boxes.now) path.now)) }
 {
     for k in 1..path.len() {
-        let front = path[k - 1];
-        if is_turn(boxes, front, path[k]) {
-            corners.push(point_of(x, y, boxes.head(front)))?;
+        let before = path[k - 1];
+        if is_turn(boxes, before, path[k]) {
+            corners.push(point_of(x, y, boxes.head(before)))?;
         }
     }
     Ok(())

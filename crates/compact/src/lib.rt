@@ -11,7 +11,7 @@ mod scratch;
 mod steps;
 
 pub use dissect::{
-    HeadingSearch, Scratch as BoxesScratch, dissect, dissect_along, dissect_in, headings_in,
+    DirectionSearch, Scratch as BoxesScratch, directions_in, dissect, dissect_along, dissect_in,
 };
 pub use fault::CompactFault;
 pub use points::{compact, compact_in};

@@ -340,7 +340,7 @@ fn raise(
 
 /// Walks along a segment from its first vertex, raises the coordinates of the segments that come next along the
 /// axis, and counts off the steps to them.
-fn pass_segment(
+fn leave_segment(
     steps: Steps<'_>,
     first: u32,
     segments: &[u32],
@@ -403,7 +403,7 @@ pub fn raise_to_longest_paths(
         if first as usize >= coordinates.len() {
             break;
         }
-        pass_segment(steps, first, segments, &mut queue, coordinates);
+        leave_segment(steps, first, segments, &mut queue, coordinates);
     }
     spread(segments, coordinates);
 }

@@ -2,7 +2,7 @@
 
 ghost use Rattle.std.specs.Prelude.{◌≡◌, length, map, slice_index, IfOk, IfErr};
 ghost use Rattle.std.specs.List.{range_with_len};
-ghost use Rattle.ortho_rep.specs.Storage.{pieces_at, AreStarts};
+ghost use Rattle.ortho_rep.specs.Storage.{slices_at, AreStarts};
 ghost use Rattle.compact.specs.Ordered.{AreLaidOut, AreCorners, IsCompactFault, point_at};
 
 use crate::axis::least_coordinates;
@@ -48,9 +48,9 @@ fn list_corners(
     requires x_in { length x.now ≡ boxes.now.vertices }
     requires y_in { length y.now ≡ boxes.now.vertices }
     ensures places { IfOk result (λ found. AreStarts found.1.items found.0.items) }
-    ensures count { IfOk result (λ found. length (pieces_at found.1.items found.0.items) ≡ length boxes.now.edges) }
+    ensures count { IfOk result (λ found. length (slices_at found.1.items found.0.items) ≡ length boxes.now.edges) }
     ensures corners { IfOk result (λ found. AreCorners boxes.now (λ v. slice_index x.now v) (λ v. slice_index y.now v)
-        (length boxes.now.edges) (pieces_at found.1.items found.0.items)) }
+        (length boxes.now.edges) (slices_at found.1.items found.0.items)) }
 {
     corners.clear();
     let mut starts = emptied(starts, usize::from(boxes.edges()) + 1)?;

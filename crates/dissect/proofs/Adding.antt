@@ -5,7 +5,7 @@ use Rattle.std.proofs.lemmas.List.{length-take}
 use Rattle.dissect.specs.DartMaps.{DartMap}
 use Rattle.dissect.specs.Faces.{concatenated}
 use Rattle.dissect.proofs.Listing.{distinct_right, below_right}
-use Rattle.dissect.specs.Listed.{AreFlat, AreListed, AreConnectedFaces, AreKeptCorners, detour}
+use Rattle.dissect.specs.Listed.{AreFlat, AreListed, AreMergedFaces, AreKeptCorners, detour}
 use Rattle.dissect.proofs.Orbits.{distinct_few}
 use Rattle.dissect.proofs.Tracing.{concatenated_more, lengths_more}
 
@@ -25,7 +25,7 @@ kept_popped front outer kept right ends popped =
 
 pub connected_made : (w : DartMap) (right side : ℕ) (front kept : List ℕ) (inner : List (List ℕ)) (corners counts corners' counts' : List ℕ) (count : ℕ) →
     AreKeptCorners w right front kept → AreFlat corners counts inner → corners' ≡ (corners ++ kept) ++ detour w.darts side →
-    counts' ≡ counts ++ (count ∷ []) → count ≡ length kept + 7 → AreConnectedFaces w right side front inner corners' counts'
+    counts' ≡ counts ++ (count ∷ []) → count ≡ length kept + 7 → AreMergedFaces w right side front inner corners' counts'
 connected_made w right side front kept inner corners counts corners' counts' count is flat corners_are counts_are count_is =
     let big : List ℕ = kept ++ detour w.darts side in
     let long : count ≡ length big = omega (arith, count_is, length-append kept (detour w.darts side)) in

@@ -27,13 +27,13 @@ pub record IsBent (w : DartMap) (e way bend : ℕ) (new : DartMap) : Type 0 wher
   pub darts_fit : w.darts ≤ no_dart
   pub quarter : way < 4
   pub turn : (bend ≡ 1) ⊎ (bend ≡ 3)
-  pub split : IsSubdivided w e way bend new
+  pub subdivide : IsSubdivided w e way bend new
   pub first : w.before (w.reverse_dart e) ≡ no_dart
   pub last : (b : ℕ) → b < w.darts → w.before b ≢ e
 
 pub bend_doubled : (w : DartMap) (e way bend : ℕ) (new : DartMap) → IsBent w e way bend new → IsDoubled w new e w.darts bend
 bend_doubled w e way bend new bent =
-    split_doubled w e way bend bend new bent.tied bent.e_in bent.quarter (few bend bent.turn) (is bend bent.turn) bent.split
+    split_doubled w e way bend bend new bent.tied bent.e_in bent.quarter (few bend bent.turn) (is bend bent.turn) bent.subdivide
   where
     few : (bend : ℕ) → (bend ≡ 1) ⊎ (bend ≡ 3) → bend ≤ 4
     few bend (inl left) = omega (arith, left)
@@ -46,7 +46,7 @@ bend_doubled w e way bend new bent =
 pub bend_doubled_back : (w : DartMap) (e way bend : ℕ) (new : DartMap) → IsBent w e way bend new →
     IsDoubled w new (w.reverse_dart e) (w.darts + 1) (4 - bend)
 bend_doubled_back w e way bend new bent =
-    split_doubled_back w e way bend (4 - bend) new bent.tied bent.e_in bent.quarter (few bend bent.turn) (is bend bent.turn) bent.split
+    split_doubled_back w e way bend (4 - bend) new bent.tied bent.e_in bent.quarter (few bend bent.turn) (is bend bent.turn) bent.subdivide
   where
     few : (bend : ℕ) → (bend ≡ 1) ⊎ (bend ≡ 3) → bend ≤ 4
     few bend (inl left) = omega (arith, left)
@@ -86,15 +86,15 @@ other_longer w e way bend new bent a (b ∷ bs) a_in below follows other =
     let longer = other_longer w e way bend new bent b bs below.0 below.1 follows.2 other in
     let not_e : b ≢ e = λ at. other (ap (last_of b) (after_last w e way bend new bent b bs at below.1 follows.2) ∙ at) in
     let not_t : b ≢ w.reverse_dart e = not_first w e way bend new bent a b a_in follows.0 in
-    longer_kept w new a b bs (bends w b bs) (split_keeps w e way bend new bent.split) a_in follows
-    (split_kept w e way bend new bent.tied bent.split b below.0 not_e not_t) longer
+    longer_kept w new a b bs (bends w b bs) (split_keeps w e way bend new bent.subdivide) a_in follows
+    (split_kept w e way bend new bent.tied bent.subdivide b below.0 not_e not_t) longer
 
 -- the rest of the path that ends with e
 pub last_longer : (w : DartMap) (e way bend : ℕ) (new : DartMap) → IsBent w e way bend new → (a : ℕ) (rest : List ℕ) → a < w.darts →
     Below w.darts rest → Follows w a rest → a ≢ e → last_of a rest ≡ e → IsLonger w new a rest (bends w a rest ++ (bend ∷ []))
 last_longer w e way bend new bent a [] a_in below follows not_e last = absurd (not_e last)
 last_longer w e way bend new bent a (b ∷ bs) a_in below follows not_e last =
-    let keeps = split_keeps w e way bend new bent.split in
+    let keeps = split_keeps w e way bend new bent.subdivide in
     let turn : ℕ = turn_to w a b in
     elim (cases_eq b e) [
       | inl at ↦
@@ -114,7 +114,7 @@ last_longer w e way bend new bent a (b ∷ bs) a_in below follows not_e last =
           longer_turns w new a (b ∷ bs) (turn_then turn (bends w b bs ++ (bend ∷ []))) (bends w a (b ∷ bs) ++ (bend ∷ []))
           (turn_then-append turn (bends w b bs) (bend ∷ []))
           (longer_kept w new a b bs (bends w b bs ++ (bend ∷ [])) keeps a_in follows
-          (split_kept w e way bend new bent.tied bent.split b below.0 other not_t) longer)
+          (split_kept w e way bend new bent.tied bent.subdivide b below.0 other not_t) longer)
     ]
 
 -- the path of e
@@ -137,7 +137,7 @@ bend_path w e way bend new bent reverse_dart turns apart old =
       | inr not_e ↦
           let not_t : f ≢ w.reverse_dart e = λ at. apart (sym old.back ∙ ap w.reverse_dart at ∙ bent.tied.reverse_dart_back e bent.e_in) in
           path_kept w new e reverse_dart f old.rest (turns ++ (bend ∷ [])) old.path old.back
-          (split_kept w e way bend new bent.tied bent.split f old.path.first_in not_e not_t)
+          (split_kept w e way bend new bent.tied bent.subdivide f old.path.first_in not_e not_t)
           (longer_turns w new f old.rest (bends w f old.rest ++ (bend ∷ [])) (turns ++ (bend ∷ []))
           (ap (λ (ts : List ℕ). ts ++ (bend ∷ [])) old.turns)
           (last_longer w e way bend new bent f old.rest old.path.first_in old.path.rest_in old.path.follows not_e old.path.ends))
@@ -166,7 +166,7 @@ bend_path_other w e way bend new bent d reverse_dart turns apart reverse_dart_ap
     apart (sym old.path.ends ∙ ap (last_of f) (after_last w e way bend new bent f old.rest at old.path.rest_in old.path.follows) ∙ at) in
     let not_t : f ≢ w.reverse_dart e = λ at. reverse_dart_apart (sym old.back ∙ ap w.reverse_dart at ∙ bent.tied.reverse_dart_back e bent.e_in) in
     path_kept w new d reverse_dart f old.rest turns old.path old.back
-    (split_kept w e way bend new bent.tied bent.split f old.path.first_in not_e not_t)
+    (split_kept w e way bend new bent.tied bent.subdivide f old.path.first_in not_e not_t)
     (longer_turns w new f old.rest (bends w f old.rest) turns old.turns
     (other_longer w e way bend new bent f old.rest old.path.first_in old.path.rest_in old.path.follows
     (λ h. apart (sym old.path.ends ∙ h))))
@@ -178,7 +178,7 @@ pub bend_paths : (w : DartMap) (e way bend : ℕ) (new : DartMap) (n : ℕ) (rev
     quarters' e ≡ quarters e ++ (bend ∷ []) → quarters' (reverse_dart e) ≡ (4 - bend) ∷ quarters (reverse_dart e) →
     ((d : ℕ) → d < n → d ≢ e → d ≢ reverse_dart e → quarters' d ≡ quarters d) →
     HasPaths w n reverse_dart quarters → HasPaths new n reverse_dart quarters'
-bend_paths w e way bend new n reverse_dart quarters quarters' tied e_in darts_fit quarter turn split reverse_dart_in reverse_dart_back apart at_e at_reverse_dart at_other has =
+bend_paths w e way bend new n reverse_dart quarters quarters' tied e_in darts_fit quarter turn subdivide reverse_dart_in reverse_dart_back apart at_e at_reverse_dart at_other has =
     let e_old : e < w.darts = omega (arith, e_in, has.few) in
     let back : HasPath w (reverse_dart e) (reverse_dart (reverse_dart e)) (quarters (reverse_dart e)) = has.paths (reverse_dart e) (reverse_dart_in e e_in) in
     let start : back.first ≡ w.reverse_dart e =
@@ -189,12 +189,12 @@ bend_paths w e way bend new n reverse_dart quarters quarters' tied e_in darts_fi
       darts_fit = darts_fit;
       quarter = quarter;
       turn = turn;
-      split = split;
+      subdivide = subdivide;
       first = ap w.before (sym start) ∙ back.path.start;
       last = λ b l at. last b at (has.ends b l);
     } in
     record {
-      few = omega (arith, has.few, split.darts);
+      few = omega (arith, has.few, subdivide.darts);
       paths = λ d l. elim (cases_eq d e) [
         | inl at ↦ subst (λ (k : ℕ). HasPath new k (reverse_dart k) (quarters' k)) (sym at)
             (path_turns new e (reverse_dart e) (quarters e ++ (bend ∷ [])) (quarters' e) (sym at_e)
@@ -210,7 +210,7 @@ bend_paths w e way bend new n reverse_dart quarters quarters' tied e_in darts_fi
               (λ h. not_reverse_dart (sym (reverse_dart_back d l) ∙ ap reverse_dart h)) (has.paths d l))
         ]
       ];
-      ends = split_ends w n e way bend new has.few e_old tied split has.ends;
+      ends = split_ends w n e way bend new has.few e_old tied subdivide has.ends;
     }
   where
     last : (b : ℕ) → w.before b ≡ e → (w.before b ≡ no_dart) ⊎ ((n ≤ w.before b) × (w.before b < w.darts)) → ⊥

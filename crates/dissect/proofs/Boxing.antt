@@ -15,7 +15,7 @@ use Rattle.dissect.specs.Tables.{dart_map_of}
 use Rattle.dissect.specs.Faces.{AreWaiting, ReachesCorners}
 use Rattle.dissect.specs.Paths.{HasPaths, IsConnected, IsPath}
 use Rattle.dissect.specs.Surrounds.{IsEnclosed}
-use Rattle.dissect.specs.Bends.{AreHeadings, CountsBends, KeepsDarts, KeepsFaces}
+use Rattle.dissect.specs.Bends.{AreDirections, CountsBends, KeepsDarts, KeepsFaces}
 use Rattle.dissect.specs.Steps.{angle_of}
 use Rattle.dissect.specs.Chains.{AreChains}
 use Rattle.dissect.proofs.SurroundedPaths.{enclosed_paths, enclosed_connected}
@@ -33,7 +33,7 @@ pub record IsMade (p : PlaneModel) (shape : ShapeModel) (w : DartMap) (outside :
   pub sound : IsSound w
   pub kept : KeepsDarts p (angle_at shape) w
   pub faces : KeepsFaces p w
-  pub headings : AreHeadings p (angle_at shape) (turns_at shape) w.direction
+  pub directions : AreDirections p (angle_at shape) (turns_at shape) w.direction
   pub counts : CountsBends p (turns_at shape) w
   pub paths : HasPaths w (darts p) (reverse_dart p) (λ d. map angle_of (turns_at shape d))
   pub chains : AreChains (vertices p) w
@@ -79,12 +79,12 @@ are_edges p shape w outside t made =
       chains = enclosed_chains (vertices p) w outside (dart_map_of t) chains made.enclosed;
       darts_fit = made.small;
       paths = kept_paths p shape w outside t made;
-      reverse_dart_in = ends.reverse_dart_inside;
+      reverse_dart_in = ends.reverse_dart_in_range;
       reverse_dart_apart = ends.reverse_dart_apart;
       ends = λ d l. omega (arith, head_is d l, ends.head_from d l, ends.head_to d l);
       no_loop = λ d l same.
           let m : ℕ = reverse_dart p d in
-          let m_in : m < darts p = ends.reverse_dart_inside d l in
+          let m_in : m < darts p = ends.reverse_dart_in_range d l in
           let heads : head p m ≡ head p d =
           omega (arith, same, head_is d l, head_is m m_in, ends.head_from d l, ends.head_from m m_in) in
           ends.reverse_dart_apart d l
@@ -113,7 +113,7 @@ map_stands p shape w outside t old edges paths made =
       of_shape = record {
         sound = made.sound;
         kept = made.kept;
-        directions = made.headings;
+        directions = made.directions;
         faces = made.faces;
         counts = made.counts;
         paths = made.paths;
@@ -199,8 +199,8 @@ is_boxed p shape w outside t old edges paths made all lesser count listed =
       enclosed = map_stands p shape w outside t old edges paths made;
       angles = λ d d_in.
           let m : ℕ = reverse_dart p (next p d) in
-          let m_in : m < darts p = ends.reverse_dart_inside (next p d) (ends.next_one.inside d d_in) in
+          let m_in : m < darts p = ends.reverse_dart_in_range (next p d) (ends.next_one.inside d d_in) in
           let there : (dart_map_of t).direction m ≡ w.direction m = keeps.direction m (omega (arith, m_in, made.kept.few)) in
           let here : (dart_map_of t).direction d ≡ w.direction d = keeps.direction d (omega (arith, d_in, made.kept.few)) in
-          ap (λ (k : ℕ). (k + angle_at shape d) % 4) there ∙ made.headings.angles d d_in ∙ sym here;
+          ap (λ (k : ℕ). (k + angle_at shape d) % 4) there ∙ made.directions.angles d d_in ∙ sym here;
     }

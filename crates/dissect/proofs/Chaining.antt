@@ -11,8 +11,8 @@ use Rattle.dissect.proofs.Pathing.{bent_more}
 
 bent_chains : (v e : ℕ) (w : DartMap) (turns : List Turn) (new : DartMap) → HasChains v w → e < w.darts → IsBent e w turns new → HasChains v new
 bent_chains v e w turns new has e_in (straight u) = has
-bent_chains v e w turns new has e_in (turned u mid last turn rest split bends) =
-    bent_chains v e mid rest last (split_chains v u e (start_direction u e) (angle_of turn) mid has e_in split) (omega (arith, e_in, split.darts)) bends
+bent_chains v e w turns new has e_in (turned u mid last turn rest subdivide bends) =
+    bent_chains v e mid rest last (split_chains v u e (start_direction u e) (angle_of turn) mid has e_in subdivide) (omega (arith, e_in, subdivide.darts)) bends
 
 all_chains : (v : ℕ) (p : PlaneModel) (s : ℕ → List Turn) (k : ℕ) (w new : DartMap) → HasChains v w → darts p ≤ w.darts → AreBent p s k w new → HasChains v new
 all_chains v p s k w new has few (finished j u past) = has

@@ -16,7 +16,7 @@ pub record HasChains (v : ℕ) (w : DartMap) : Type 0 where
   pub few : v ≤ w.vertices
   pub chains : AreChains v w
 
-module _ (v : ℕ) (w : DartMap) (e way bend : ℕ) (new : DartMap) (has : HasChains v w) (e_in : e < w.darts) (split : IsSubdivided w e way bend new) where
+module _ (v : ℕ) (w : DartMap) (e way bend : ℕ) (new : DartMap) (has : HasChains v w) (e_in : e < w.darts) (subdivide : IsSubdivided w e way bend new) where
   abbrev t : ℕ
   t = w.reverse_dart e
 
@@ -45,16 +45,16 @@ module _ (v : ℕ) (w : DartMap) (e way bend : ℕ) (new : DartMap) (has : HasCh
       by_place w.darts e t P at_e at_t
       (λ a l not_e not_t. subst P (stands_other a not_e not_t) (old a l))
       (subst P stands_e (old e e_in)) (subst P stands_t (old t t_in))
-      a (omega (arith, l, split.darts))
+      a (omega (arith, l, subdivide.darts))
 
   -- before it stands what stood there
   stands_before : (a : ℕ) → a < w.darts → new.before (stands a) ≡ w.before a
   stands_before a l =
       elim (cases_eq a e) [
-        | inl at ↦ ap (λ (k : ℕ). new.before (stands k)) at ∙ ap new.before stands_e ∙ split.before_first ∙ ap w.before (sym at)
+        | inl at ↦ ap (λ (k : ℕ). new.before (stands k)) at ∙ ap new.before stands_e ∙ subdivide.before_first ∙ ap w.before (sym at)
         | inr not_e ↦ elim (cases_eq a t) [
-          | inl at ↦ ap (λ (k : ℕ). new.before (stands k)) at ∙ ap new.before stands_t ∙ split.before_second ∙ ap w.before (sym at)
-          | inr not_t ↦ ap new.before (stands_other a not_e not_t) ∙ split.before_other a l not_e not_t
+          | inl at ↦ ap (λ (k : ℕ). new.before (stands k)) at ∙ ap new.before stands_t ∙ subdivide.before_second ∙ ap w.before (sym at)
+          | inr not_t ↦ ap new.before (stands_other a not_e not_t) ∙ subdivide.before_other a l not_e not_t
         ]
       ]
 
@@ -62,12 +62,12 @@ module _ (v : ℕ) (w : DartMap) (e way bend : ℕ) (new : DartMap) (has : HasCh
   stands_reverse_dart : (a : ℕ) → a < w.darts → new.reverse_dart (stands a) ≡ w.reverse_dart a
   stands_reverse_dart a l =
       elim (cases_eq a e) [
-        | inl at ↦ ap (λ (k : ℕ). new.reverse_dart (stands k)) at ∙ ap new.reverse_dart stands_e ∙ split.reverse_dart_first ∙ ap w.reverse_dart (sym at)
+        | inl at ↦ ap (λ (k : ℕ). new.reverse_dart (stands k)) at ∙ ap new.reverse_dart stands_e ∙ subdivide.reverse_dart_first ∙ ap w.reverse_dart (sym at)
         | inr not_e ↦ elim (cases_eq a t) [
           | inl at ↦
-              ap (λ (k : ℕ). new.reverse_dart (stands k)) at ∙ ap new.reverse_dart stands_t ∙ split.reverse_dart_second ∙ sym (has.tied.reverse_dart_back e e_in)
+              ap (λ (k : ℕ). new.reverse_dart (stands k)) at ∙ ap new.reverse_dart stands_t ∙ subdivide.reverse_dart_second ∙ sym (has.tied.reverse_dart_back e e_in)
               ∙ ap w.reverse_dart (sym at)
-          | inr not_t ↦ ap new.reverse_dart (stands_other a not_e not_t) ∙ split.reverse_dart_other a l not_e not_t
+          | inr not_t ↦ ap new.reverse_dart (stands_other a not_e not_t) ∙ subdivide.reverse_dart_other a l not_e not_t
         ]
       ]
 
@@ -75,13 +75,13 @@ module _ (v : ℕ) (w : DartMap) (e way bend : ℕ) (new : DartMap) (has : HasCh
   reverse_dart_stands : (a : ℕ) → a < w.darts → new.reverse_dart a ≡ stands (w.reverse_dart a)
   reverse_dart_stands a l =
       elim (cases_eq a e) [
-        | inl at ↦ ap new.reverse_dart at ∙ split.reverse_dart_e ∙ sym stands_t ∙ ap (λ (k : ℕ). stands (w.reverse_dart k)) (sym at)
+        | inl at ↦ ap new.reverse_dart at ∙ subdivide.reverse_dart_e ∙ sym stands_t ∙ ap (λ (k : ℕ). stands (w.reverse_dart k)) (sym at)
         | inr not_e ↦ elim (cases_eq a t) [
           | inl at ↦
-              ap new.reverse_dart at ∙ split.reverse_dart_reverse_dart ∙ sym stands_e ∙ ap stands (sym (has.tied.reverse_dart_back e e_in))
+              ap new.reverse_dart at ∙ subdivide.reverse_dart_reverse_dart ∙ sym stands_e ∙ ap stands (sym (has.tied.reverse_dart_back e e_in))
               ∙ ap (λ (k : ℕ). stands (w.reverse_dart k)) (sym at)
           | inr not_t ↦
-              split.reverse_dart_other a l not_e not_t
+              subdivide.reverse_dart_other a l not_e not_t
               ∙ sym (stands_other (w.reverse_dart a) (λ h. not_t (sym (has.tied.reverse_dart_back a l) ∙ ap w.reverse_dart h))
               (λ h. not_e (sym (has.tied.reverse_dart_back a l) ∙ ap w.reverse_dart h ∙ has.tied.reverse_dart_back e e_in)))
         ]
@@ -99,13 +99,13 @@ module _ (v : ℕ) (w : DartMap) (e way bend : ℕ) (new : DartMap) (has : HasCh
   stands_head : (a : ℕ) → a < w.darts → new.before (stands a) ≢ no_dart → new.head (new.before (stands a)) ≡ w.head (w.before a)
   stands_head a l some =
       let before : new.before (stands a) ≡ w.before a = stands_before a l in
-      ap new.head before ∙ split.head_old (w.before a) (real a l (λ h. some (before ∙ h)))
+      ap new.head before ∙ subdivide.head_old (w.before a) (real a l (λ h. some (before ∙ h)))
 
   head_e : new.head (new.before e) ≡ w.vertices
-  head_e = ap new.head split.before_e ∙ split.head_first
+  head_e = ap new.head subdivide.before_e ∙ subdivide.head_first
 
   head_t : new.head (new.before t) ≡ w.vertices
-  head_t = ap new.head split.before_reverse_dart ∙ split.head_second
+  head_t = ap new.head subdivide.before_reverse_dart ∙ subdivide.head_second
 
   old_head : (a : ℕ) → a < w.darts → new.before (stands a) ≢ no_dart → new.head (new.before (stands a)) < w.vertices
   old_head a l some =
@@ -115,9 +115,9 @@ module _ (v : ℕ) (w : DartMap) (e way bend : ℕ) (new : DartMap) (has : HasCh
   split_back : (a : ℕ) → a < new.darts → new.before a ≢ no_dart → new.before (new.reverse_dart (new.before a)) ≡ new.reverse_dart a
   split_back =
       by_stand (λ (a : ℕ). new.before a ≢ no_dart → new.before (new.reverse_dart (new.before a)) ≡ new.reverse_dart a)
-      (λ some. ap (λ (k : ℕ). new.before (new.reverse_dart k)) split.before_e ∙ ap new.before split.reverse_dart_first ∙ split.before_reverse_dart ∙ sym split.reverse_dart_e)
-      (λ some. ap (λ (k : ℕ). new.before (new.reverse_dart k)) split.before_reverse_dart ∙ ap new.before split.reverse_dart_second ∙ split.before_e
-      ∙ sym split.reverse_dart_reverse_dart)
+      (λ some. ap (λ (k : ℕ). new.before (new.reverse_dart k)) subdivide.before_e ∙ ap new.before subdivide.reverse_dart_first ∙ subdivide.before_reverse_dart ∙ sym subdivide.reverse_dart_e)
+      (λ some. ap (λ (k : ℕ). new.before (new.reverse_dart k)) subdivide.before_reverse_dart ∙ ap new.before subdivide.reverse_dart_second ∙ subdivide.before_e
+      ∙ sym subdivide.reverse_dart_reverse_dart)
       (λ a l some.
       let before : new.before (stands a) ≡ w.before a = stands_before a l in
       let some_old : w.before a ≢ no_dart = λ h. some (before ∙ h) in
@@ -134,12 +134,12 @@ module _ (v : ℕ) (w : DartMap) (e way bend : ℕ) (new : DartMap) (has : HasCh
       (by_stand (λ (b : ℕ). new.before e ≢ no_dart → new.before b ≢ no_dart → new.head (new.before e) ≡ new.head (new.before b) →
       (e ≡ b) ⊎ (e ≡ new.reverse_dart (new.before b)))
       (λ _ _ _. inl refl)
-      (λ _ _ _. inr (sym (ap new.reverse_dart split.before_reverse_dart ∙ split.reverse_dart_second)))
+      (λ _ _ _. inr (sym (ap new.reverse_dart subdivide.before_reverse_dart ∙ subdivide.reverse_dart_second)))
       (λ b l _ some at. absurd (let less = old_head b l some in omega (arith, less, at, head_e)))
       b b_in)
       (by_stand (λ (b : ℕ). new.before t ≢ no_dart → new.before b ≢ no_dart → new.head (new.before t) ≡ new.head (new.before b) →
       (t ≡ b) ⊎ (t ≡ new.reverse_dart (new.before b)))
-      (λ _ _ _. inr (sym (ap new.reverse_dart split.before_e ∙ split.reverse_dart_first)))
+      (λ _ _ _. inr (sym (ap new.reverse_dart subdivide.before_e ∙ subdivide.reverse_dart_first)))
       (λ _ _ _. inl refl)
       (λ b l _ some at. absurd (let less = old_head b l some in omega (arith, less, at, head_t)))
       b b_in)
@@ -161,18 +161,18 @@ module _ (v : ℕ) (w : DartMap) (e way bend : ℕ) (new : DartMap) (has : HasCh
   -- a split keeps the chains
   pub split_chains : HasChains v new
   split_chains = record {
-    tied = split_tied w e way bend new has.tied e_in split;
+    tied = split_tied w e way bend new has.tied e_in subdivide;
     heads = λ a l. by_age w.darts (λ (a : ℕ). new.head a < new.vertices)
-        (λ a l. omega (arith, split.head_old a l, has.heads a l, split.vertices))
-        (omega (arith, split.head_first, split.vertices)) (omega (arith, split.head_second, split.vertices))
-        a (omega (arith, split.darts));
-    few = omega (arith, has.few, split.vertices);
+        (λ a l. omega (arith, subdivide.head_old a l, has.heads a l, subdivide.vertices))
+        (omega (arith, subdivide.head_first, subdivide.vertices)) (omega (arith, subdivide.head_second, subdivide.vertices))
+        a (omega (arith, subdivide.darts));
+    few = omega (arith, has.few, subdivide.vertices);
     chains = record {
       inside = by_stand (λ (a : ℕ). (new.before a ≡ no_dart) ⊎ (new.before a < new.darts))
-          (inr (omega (arith, split.before_e, split.darts))) (inr (omega (arith, split.before_reverse_dart, split.darts)))
+          (inr (omega (arith, subdivide.before_e, subdivide.darts))) (inr (omega (arith, subdivide.before_reverse_dart, subdivide.darts)))
           (λ a l. elim (has.chains.inside a l) [
             | inl none ↦ inl (stands_before a l ∙ none)
-            | inr inside ↦ inr (omega (arith, stands_before a l, inside, split.darts))
+            | inr inside ↦ inr (omega (arith, stands_before a l, inside, subdivide.darts))
           ]);
       back = split_back;
       fresh = by_stand (λ (a : ℕ). new.before a ≢ no_dart → v ≤ new.head (new.before a))
@@ -248,7 +248,7 @@ chord_chains v w d f way new has d_in f_in tied chord =
 pub cut_chains : (v : ℕ) (w : DartMap) (d e way : ℕ) (new : DartMap) → HasChains v w → IsCut w d e way new → HasChains v new
 cut_chains v w d e way new has cut =
     chord_chains v cut.middle d w.darts way new
-    (split_chains v w e (w.direction e) 2 cut.middle has cut.e_in cut.split) cut.fits.d_in cut.fits.f_in
+    (split_chains v w e (w.direction e) 2 cut.middle has cut.e_in cut.subdivide) cut.fits.d_in cut.fits.f_in
     (cut_tied w d e way new has.tied cut) cut.chord
 
 pub grows_chains : (v : ℕ) (w new : DartMap) → HasChains v w → Grows w new → HasChains v new
@@ -261,7 +261,7 @@ surround_chains v w new has f =
     beside_chains v w new has (surrounded_beside w new has.tied f) (surrounded_tied w new has.tied f) (omega (arith, f.vertices))
     (λ a l. by_side w.darts (λ (a : ℕ). new.head a < new.vertices)
     (λ a l. omega (arith, f.head_old a l, has.heads a l, f.vertices))
-    (λ k l. omega (arith, f.head_inner k l, f.vertices)) (λ k l. omega (arith, f.head_outer k l, f.vertices))
+    (λ k l. omega (arith, f.head_inside k l, f.vertices)) (λ k l. omega (arith, f.head_outside k l, f.vertices))
     a (omega (arith, f.darts)))
 
 -- and so do its bridge and the cuts after it

@@ -3,10 +3,10 @@ use Rattle.std.proofs.Common.{◌≡◌, ◌≢◌, ℕ, ◌+◌, ◌%◌, ◌<�
 use Rattle.std.proofs.lemmas.Bool.{cases_eq, eq-eqb, ne_eqb, cond-true, cond-false}
 use Rattle.common.specs.Sums.{sum_below}
 use Rattle.common.proofs.Sums.{sum_below-same, sum_below-add, sum_below-one}
-use Rattle.dissect.specs.DartMaps.{DartMap, IsTied, IsMeeting, IsStraight, IsChord, Fits, around}
+use Rattle.dissect.specs.DartMaps.{DartMap, IsTied, IsMeeting, IsStraight, IsChord, HasChordAngles, around}
 use Rattle.dissect.proofs.Splitting.{by_place, by_age, part, part_here, part_elsewhere, part_same, around_more}
 
-pub chord_tied : (w : DartMap) (d f way : ℕ) (new : DartMap) → IsTied w → Fits w d f way → IsChord w d f way new → IsTied new
+pub chord_tied : (w : DartMap) (d f way : ℕ) (new : DartMap) → IsTied w → HasChordAngles w d f way → IsChord w d f way new → IsTied new
 chord_tied w d f way new tied fits s =
     let n : ℕ = w.darts in
     let d_in : d < w.darts = fits.d_in in
@@ -78,7 +78,7 @@ gives_up w new u a same less =
       )
     ]
 
-pub chord_whole : (w : DartMap) (d f way : ℕ) (new : DartMap) → IsMeeting w → Fits w d f way → IsChord w d f way new →
+pub chord_whole : (w : DartMap) (d f way : ℕ) (new : DartMap) → IsMeeting w → HasChordAngles w d f way → IsChord w d f way new →
     (u : ℕ) → u < new.vertices → around new u ≡ 4
 chord_whole w d f way new meeting fits s u l =
     let n : ℕ = w.darts in
@@ -125,7 +125,7 @@ chord_whole w d f way new meeting fits s u l =
     ap (λ (h : ℕ). if h == u then new.angle (n + 1) else 0) s.head_back ∙ ap (λ (g : ℕ). if w.head d == u then g else 0) s.angle_back in
     omega (arith, more, sums, parted, parted_more, sum_d, sum_f, there, back, meeting.whole u (omega (arith, s.vertices)))
 
-pub chord_meeting : (w : DartMap) (d f way : ℕ) (new : DartMap) → IsTied w → IsMeeting w → Fits w d f way →
+pub chord_meeting : (w : DartMap) (d f way : ℕ) (new : DartMap) → IsTied w → IsMeeting w → HasChordAngles w d f way →
     IsChord w d f way new → IsMeeting new
 chord_meeting w d f way new tied meeting fits s =
     let n : ℕ = w.darts in
@@ -189,7 +189,7 @@ chord_meeting w d f way new tied meeting fits s =
           ))
           a (omega (arith, s.darts));
       some = λ a l. by_place n d f (λ a. 1 ≤ new.angle a)
-          (omega (arith, s.angle_d, fits.splits_d)) (omega (arith, s.angle_f, fits.splits_f))
+          (omega (arith, s.angle_d, fits.subdivides_d)) (omega (arith, s.angle_f, fits.subdivides_f))
           (λ a l nd nf. omega (arith, s.angle_other a l nd nf, meeting.some a l))
           (omega (arith, s.angle_there)) (omega (arith, s.angle_back))
           a (omega (arith, s.darts));
@@ -201,7 +201,7 @@ chord_meeting w d f way new tied meeting fits s =
       whole = chord_whole w d f way new meeting fits s;
     }
 
-pub chord_straight : (w : DartMap) (d f way : ℕ) (new : DartMap) → IsTied w → IsStraight w → Fits w d f way →
+pub chord_straight : (w : DartMap) (d f way : ℕ) (new : DartMap) → IsTied w → IsStraight w → HasChordAngles w d f way →
     IsChord w d f way new → IsStraight new
 chord_straight w d f way new tied straight fits s a l =
     by_age w.darts (λ a. new.direction (new.reverse_dart a) ≡ (new.direction a + 2) % 4)

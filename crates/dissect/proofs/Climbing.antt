@@ -1,7 +1,7 @@
 -- Finding the first place in front of which the walk has turned left most.
 use Rattle.std.proofs.Common.{◌≡◌, ℕ, ◌+◌, ◌*◌, ◌<◌, ◌≤◌, ◌⊎◌, List, length, take, get_or, arith, subst, sym, refl, inl, inr}
 use Rattle.std.proofs.lemmas.Bool.{cases_eq}
-use Rattle.dissect.specs.Turning.{total, IsHighest}
+use Rattle.dissect.specs.Turning.{total, IsPeak}
 use Rattle.dissect.proofs.Rotating.{total-take_more}
 
 -- after the corners below `done`
@@ -68,7 +68,7 @@ climb_stays xs done best best_sum sum x more x_is x_small lower climb =
     last : (done j : ℕ) → j ≤ done + 1 → (j ≡ done + 1 → ⊥) → j ≤ done
     last done j l other = omega arith
 
-pub climb_ends : (xs : List ℕ) (done best best_sum sum : ℕ) → done ≡ length xs → IsClimb xs done best best_sum sum → IsHighest xs best
+pub climb_ends : (xs : List ℕ) (done best best_sum sum : ℕ) → done ≡ length xs → IsClimb xs done best best_sum sum → IsPeak xs best
 climb_ends xs done best best_sum sum all climb = record {
   within = omega (arith, climb.low, all);
   first = λ j l. omega (arith, climb.first j l, climb.best_sum_is);

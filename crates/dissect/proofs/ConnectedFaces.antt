@@ -47,58 +47,58 @@ corner_of w side = w.darts + (side + 3) % 4
 pub middle_of : (w surrounded : DartMap) (right side way : ℕ) (new : DartMap) → (j : IsConnecting w surrounded right side way new) → IsTied j.bridge.middle
 middle_of w surrounded right side way new j =
     split_tied surrounded (w.darts + side) (surrounded.direction (w.darts + side)) 2 j.bridge.middle
-    (surround_tied w surrounded j.surround j.tied) j.bridge.e_in j.bridge.split
+    (surround_tied w surrounded j.surround j.tied) j.bridge.e_in j.bridge.subdivide
 
 pub cutting_of : (w surrounded : DartMap) (right side way : ℕ) (new : DartMap) → (j : IsConnecting w surrounded right side way new) →
     IsCutting j.bridge.middle right (corner_of w side) surrounded.darts
 cutting_of w surrounded right side way new j =
-    let s = j.bridge.split in
+    let s = j.bridge.subdivide in
     let c_in : corner_of w side < surrounded.darts = omega (arith, j.surround.darts) in
     record {
       d_in = omega (arith, s.darts, j.bridge.d_in);
       c_in = omega (arith, s.darts, c_in);
       f_in = omega (arith, s.darts);
       right = omega (arith, s.angle_old right j.bridge.d_in, j.bridge.right);
-      left = s.angle_old (corner_of w side) c_in ∙ j.surround.angle_inner ((side + 3) % 4) (omega arith);
+      left = s.angle_old (corner_of w side) c_in ∙ j.surround.angle_inside ((side + 3) % 4) (omega arith);
       straight = s.angle_first;
-      behind = ap j.bridge.middle.next (sym (j.surround.prev_inner side j.side_in)) ∙ s.next_before;
+      behind = ap j.bridge.middle.next (sym (j.surround.prev_inside side j.side_in)) ∙ s.next_before;
     }
 
 -- angles after the bridge
 pub old_angle : (w surrounded : DartMap) (right side way : ℕ) (new : DartMap) → IsConnecting w surrounded right side way new → (a : ℕ) → a < w.darts →
     a ≢ right → new.angle a ≡ w.angle a
 old_angle w surrounded right side way new j a l ne =
-    let s = j.bridge.split in
+    let s = j.bridge.subdivide in
     let a_in : a < surrounded.darts = omega (arith, j.surround.darts, l) in
     j.bridge.chord.angle_other a (omega (arith, s.darts, a_in)) ne (λ h. omega (arith, h, a_in)) ∙ s.angle_old a a_in ∙ j.surround.angle_old a l
 
 pub right_angle : (w surrounded : DartMap) (right side way : ℕ) (new : DartMap) → IsConnecting w surrounded right side way new → new.angle right + 1 ≡ w.angle right
 right_angle w surrounded right side way new j =
-    j.bridge.chord.angle_d ∙ j.bridge.split.angle_old right j.bridge.d_in ∙ j.surround.angle_old right j.right_in
+    j.bridge.chord.angle_d ∙ j.bridge.subdivide.angle_old right j.bridge.d_in ∙ j.surround.angle_old right j.right_in
 
 pub surround_angle : (w surrounded : DartMap) (right side way : ℕ) (new : DartMap) → IsConnecting w surrounded right side way new → (i : ℕ) → i < 8 →
     new.angle (w.darts + i) ≡ surrounded.angle (w.darts + i)
 surround_angle w surrounded right side way new j i l =
-    let s = j.bridge.split in
+    let s = j.bridge.subdivide in
     let a_in : w.darts + i < surrounded.darts = omega (arith, j.surround.darts, l) in
     j.bridge.chord.angle_other (w.darts + i) (omega (arith, s.darts, a_in)) (λ h. omega (arith, h, j.right_in)) (λ h. omega (arith, h, a_in))
     ∙ s.angle_old (w.darts + i) a_in
 
 pub inner_angle : (w surrounded : DartMap) (right side way : ℕ) (new : DartMap) → IsConnecting w surrounded right side way new → (k : ℕ) → k < 4 →
     new.angle (w.darts + k) ≡ 1
-inner_angle w surrounded right side way new j k l = surround_angle w surrounded right side way new j k (omega arith) ∙ j.surround.angle_inner k l
+inner_angle w surrounded right side way new j k l = surround_angle w surrounded right side way new j k (omega arith) ∙ j.surround.angle_inside k l
 
 pub outer_angle : (w surrounded : DartMap) (right side way : ℕ) (new : DartMap) → IsConnecting w surrounded right side way new → (k : ℕ) → k < 4 →
     new.angle (w.darts + 4 + k) ≡ 3
 outer_angle w surrounded right side way new j k l =
     let e : w.darts + 4 + k ≡ w.darts + (4 + k) = omega arith in
-    ap new.angle e ∙ surround_angle w surrounded right side way new j (4 + k) (omega arith) ∙ ap surrounded.angle (sym e) ∙ j.surround.angle_outer k l
+    ap new.angle e ∙ surround_angle w surrounded right side way new j (4 + k) (omega arith) ∙ ap surrounded.angle (sym e) ∙ j.surround.angle_outside k l
 
 pub new_angles : (w surrounded : DartMap) (right side way : ℕ) (new : DartMap) → IsConnecting w surrounded right side way new →
     (new.angle (w.darts + 8) ≡ 1) × (new.angle (w.darts + 9) ≡ 2) × (new.angle (w.darts + 10) ≡ 1) × (new.angle (w.darts + 11) ≡ 1)
 new_angles w surrounded right side way new j =
     let n : ℕ = w.darts in
-    let s = j.bridge.split in
+    let s = j.bridge.subdivide in
     let t = j.bridge.chord in
     let d8 : n + 8 ≡ surrounded.darts = sym j.surround.darts in
     let d9 : n + 9 ≡ surrounded.darts + 1 = omega (arith, d8) in
@@ -117,7 +117,7 @@ pub inside_stretch : (w surrounded : DartMap) (right side way : ℕ) (new : Dart
     surrounded.next (w.darts + i) ≡ w.darts + m → surrounded.angle (w.darts + m) ≢ 2 → surrounded.angle (w.darts + i) ≢ 2 →
     i ≢ (side + 3) % 4 → Stretches new (w.darts + i) (w.darts + m)
 inside_stretch w surrounded right side way new j i m il ml to corner here ne =
-    let s = j.bridge.split in
+    let s = j.bridge.subdivide in
     let tied = surround_tied w surrounded j.surround j.tied in
     let i_in : w.darts + i < surrounded.darts = omega (arith, j.surround.darts, il) in
     let stretches : Stretches j.bridge.middle (w.darts + i) (w.darts + m) =
@@ -135,11 +135,11 @@ outside_stretch w surrounded right side way new j k m l e =
     let a : w.darts + (4 + k) ≡ w.darts + 4 + k = omega arith in
     let b : w.darts + (4 + m) ≡ w.darts + 4 + m = omega arith in
     let c : w.darts + 4 + (k + 3) % 4 ≡ w.darts + (4 + m) = omega (arith, e) in
-    let m_angle : surrounded.angle (w.darts + (4 + m)) ≡ 3 = ap surrounded.angle b ∙ j.surround.angle_outer m (omega (arith, e)) in
-    let k_angle : surrounded.angle (w.darts + (4 + k)) ≡ 3 = ap surrounded.angle a ∙ j.surround.angle_outer k l in
+    let m_angle : surrounded.angle (w.darts + (4 + m)) ≡ 3 = ap surrounded.angle b ∙ j.surround.angle_outside m (omega (arith, e)) in
+    let k_angle : surrounded.angle (w.darts + (4 + k)) ≡ 3 = ap surrounded.angle a ∙ j.surround.angle_outside k l in
     subst (λ (z : ℕ). Stretches new z (w.darts + 4 + m)) a
     (subst (λ (z : ℕ). Stretches new (w.darts + (4 + k)) z) b
-    (inside_stretch w surrounded right side way new j (4 + k) (4 + m) (omega arith) (omega (arith, e)) (ap surrounded.next a ∙ j.surround.next_outer k l ∙ c)
+    (inside_stretch w surrounded right side way new j (4 + k) (4 + m) (omega arith) (omega (arith, e)) (ap surrounded.next a ∙ j.surround.next_outside k l ∙ c)
     (λ h. omega (arith, h, m_angle)) (λ h. omega (arith, h, k_angle)) (λ h. omega (arith, h))))
 
 round_holds : (n o k : ℕ) → o < 4 → k < 4 →
@@ -180,7 +180,7 @@ outside_four w surrounded right side way new j o o_in k l = record {
 pub other_ring : (w surrounded : DartMap) (right side way : ℕ) (new : DartMap) → IsConnecting w surrounded right side way new → (r : List ℕ) →
     Below w.darts r → (In right r → ⊥) → Ring w r → Ring new r
 other_ring w surrounded right side way new j r below out ring =
-    let s = j.bridge.split in
+    let s = j.bridge.subdivide in
     let n : ℕ = w.darts in
     let end : last_of 0 r < n = ring_last w r ring below in
     let in_surround : Ring surrounded r = surround_ring w surrounded j.surround j.tied r end ring in

@@ -35,7 +35,7 @@ angles_along p a ends around k i list place =
     let arriving : ℕ → ℕ = λ d. cond (eqb (head p d) (suc k)) (a d) 0 in
     let leaving : ℕ → ℕ = λ d. cond (eqb (tail p d) (suc k)) (a (reverse_dart p d)) 0 in
     let four : sum_below n arriving ≡ 4 = around (suc k) (omega arith) (omega arith) in
-    let turned : sum_below n (λ d. arriving (reverse_dart p d)) ≡ sum_below n arriving = sum_below-turned n (reverse_dart p) arriving ends.reverse_dart_inside ends.reverse_dart_back in
+    let turned : sum_below n (λ d. arriving (reverse_dart p d)) ≡ sum_below n arriving = sum_below-turned n (reverse_dart p) arriving ends.reverse_dart_in_range ends.reverse_dart_back in
     let named : sum_below n (λ d. arriving (reverse_dart p d)) ≡ sum_below n leaving =
     sum_below-same n (λ d. arriving (reverse_dart p d)) leaving (λ d l. ap (λ (v : ℕ). cond (eqb v (suc k)) (a (reverse_dart p d)) 0) (ends.reverse_dart_head d l)) in
     let cut : sum_below n leaving ≡ sum_below (len p k) (λ m. leaving (first + m)) =
@@ -64,7 +64,7 @@ lacks_along p a ends angles around k i list place =
     let fits = stretch_within p k i list place in
     let both : sum_below (len p k) (λ m. short m + full m) ≡ sum_below (len p k) (λ _. 4) =
     sum_below-same (len p k) (λ m. short m + full m) (λ _. 4)
-    (λ m l. whole (a (reverse_dart p (first + m))) (angles (reverse_dart p (first + m)) (ends.reverse_dart_inside (first + m) (omega arith))).1) in
+    (λ m l. whole (a (reverse_dart p (first + m))) (angles (reverse_dart p (first + m)) (ends.reverse_dart_in_range (first + m) (omega arith))).1) in
     close (sum_below (len p k) (λ m. short m + full m)) (sum_below (len p k) (λ _. 4)) (sum_below (len p k) short) (sum_below (len p k) full) (len p k)
     both (sum_below-constant (len p k) 4) (sum_below-add (len p k) short full) (angles_along p a ends around k i list place)
   where
@@ -103,7 +103,7 @@ pub lacks_next : (p : PlaneModel) (a : ℕ → ℕ) → HasEnds p → ((d : ℕ)
     → (d : ℕ) → d < darts p → (lacks p a (next p d) + a d) % 4 ≡ lacks p a (reverse_dart p d) % 4
 lacks_next p a ends angles around d l =
     close (lacks p a (next p d)) (lacks p a (reverse_dart p d)) (lack p a (reverse_dart p d)) (a (reverse_dart p (reverse_dart p d))) (a d)
-    (lacks_after p a ends angles around (reverse_dart p d) (ends.reverse_dart_inside d l)) refl (ap a (ends.reverse_dart_back d l)) (angles d l).1
+    (lacks_after p a ends angles around (reverse_dart p d) (ends.reverse_dart_in_range d l)) refl (ap a (ends.reverse_dart_back d l)) (angles d l).1
   where
     close : (x y w b c : ℕ) → x % 4 ≡ (y + w) % 4 → w ≡ 4 - b → b ≡ c → c ≤ 4 → (x + c) % 4 ≡ y % 4
     close x y w b c e1 e2 e3 h = omega arith

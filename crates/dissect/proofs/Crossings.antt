@@ -17,7 +17,7 @@ arrives_next p d = reverse_dart p (next p d)
 
 pub arrives_one : (p : PlaneModel) → HasEnds p → IsOneToOne (darts p) (arrives_next p)
 arrives_one p ends = record {
-  inside = λ d l. ends.reverse_dart_inside (next p d) (ends.next_one.inside d l);
+  inside = λ d l. ends.reverse_dart_in_range (next p d) (ends.next_one.inside d l);
   one = λ d e l k same.
       ends.next_one.one d e l k
       (sym (ends.reverse_dart_back (next p d) (ends.next_one.inside d l)) ∙ ap (reverse_dart p) same ∙ ends.reverse_dart_back (next p e) (ends.next_one.inside e k));
@@ -73,7 +73,7 @@ gained_off : (p : PlaneModel) → HasEnds p → (parent : ℕ → ℕ) (s : ℕ 
 gained_off p ends parent s shut d l off =
     none (s (face_at p (reverse_dart p d))) (s (face_at p d))
     (λ h. shut d l (not_from_false (in_tree (vertex_connections p) (reverse_dart p) parent d) off) h)
-    (λ h. shut (reverse_dart p d) (ends.reverse_dart_inside d l) (not_from_false (in_tree (vertex_connections p) (reverse_dart p) parent (reverse_dart p d)) (off_back p parent ends d l off))
+    (λ h. shut (reverse_dart p d) (ends.reverse_dart_in_range d l) (not_from_false (in_tree (vertex_connections p) (reverse_dart p) parent (reverse_dart p d)) (off_back p parent ends d l off))
     (subst (λ (e : ℕ). s (face_at p e) ≡ true) (sym (ends.reverse_dart_back d l)) h))
   where
     none : (a b : Bool) → (a ≡ true → b ≡ true) → (b ≡ true → a ≡ true) → (cond a 1 0 + 3 * cond b 1 0) % 4 ≡ 0

@@ -69,8 +69,8 @@ pub cut_paths : (w : DartMap) (d e way : ℕ) (new : DartMap) (n : ℕ) (reverse
     w.direction e < 4 → IsCut w d e way new → HasPaths w n reverse_dart quarters → HasPaths new n reverse_dart quarters
 cut_paths w d e way new n reverse_dart quarters tied quarter cut has =
     chord_paths cut.middle d w.darts way new n reverse_dart quarters
-    (split_tied w e (w.direction e) 2 cut.middle tied cut.e_in cut.split) cut.chord
-    (split_paths w e (w.direction e) cut.middle n reverse_dart quarters tied cut.e_in quarter cut.split has)
+    (split_tied w e (w.direction e) 2 cut.middle tied cut.e_in cut.subdivide) cut.chord
+    (split_paths w e (w.direction e) cut.middle n reverse_dart quarters tied cut.e_in quarter cut.subdivide has)
 
 -- the four directions are numbered below 4
 abbrev pub AreQuarters : DartMap → Type 0
@@ -78,13 +78,13 @@ AreQuarters w = (a : ℕ) → a < w.darts → w.direction a < 4
 
 pub cut_quarters : (w : DartMap) (d e way : ℕ) (new : DartMap) → AreQuarters w → IsCut w d e way new → AreQuarters new
 cut_quarters w d e way new quarters cut a l =
-    let split = cut.split in
+    let subdivide = cut.subdivide in
     let chord = cut.chord in
     let middle : AreQuarters cut.middle = λ a l.
     by_age w.darts (λ (a : ℕ). cut.middle.direction a < 4)
-    (λ a l. omega (arith, split.direction_old a l, quarters a l))
-    (omega (arith, split.direction_first, quarters e cut.e_in)) (omega (arith, split.direction_second))
-    a (omega (arith, split.darts)) in
+    (λ a l. omega (arith, subdivide.direction_old a l, quarters a l))
+    (omega (arith, subdivide.direction_first, quarters e cut.e_in)) (omega (arith, subdivide.direction_second))
+    a (omega (arith, subdivide.darts)) in
     by_age cut.middle.darts (λ (a : ℕ). new.direction a < 4)
     (λ a l. omega (arith, chord.direction_old a l, middle a l))
     (omega (arith, chord.direction_there, cut.fits.direction_quarter)) (omega (arith, chord.direction_back))

@@ -30,7 +30,7 @@ lesser_twice p a s ends rep =
       arith,
       both,
       sum_below-add n part (λ d. part (reverse_dart p d)),
-      sum_below-turned n (reverse_dart p) part ends.reverse_dart_inside ends.reverse_dart_back,
+      sum_below-turned n (reverse_dart p) part ends.reverse_dart_in_range ends.reverse_dart_back,
     )
   where
     one : (d : ℕ) → d < darts p → length (s d) ≡ lesser_length p s d + lesser_length p s (reverse_dart p d)
@@ -56,10 +56,10 @@ lesser_few p a s k ends rep inside =
     let n : ℕ = darts p in
     let part : ℕ → ℕ = lesser_length p s in
     let rest : n ≡ (k + 1) + (n - (k + 1)) = omega arith in
-    let split : sum_below n part ≡ sum_below (k + 1) part + sum_below (n - (k + 1)) (λ i. part (k + 1 + i)) =
+    let subdivide : sum_below n part ≡ sum_below (k + 1) part + sum_below (n - (k + 1)) (λ i. part (k + 1 + i)) =
     ap (λ (m : ℕ). sum_below m part) rest ∙ sum_below-split (k + 1) (n - (k + 1)) part in
     half (sum_below n (λ d. length (s d))) (sum_below n part) (sum_below k part + part k) (lesser_twice p a s ends rep)
-    (omega (arith, split, sum_below-more k part))
+    (omega (arith, subdivide, sum_below-more k part))
   where
     half : (t b x : ℕ) → t ≡ 2 * b → x ≤ b → x ≤ t / 2
     half t b x even le = omega (arith, even, le)

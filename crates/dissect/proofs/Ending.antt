@@ -7,9 +7,9 @@ use Rattle.faces.specs.Planes.{PlaneModel, IsPlane, HasEnds, darts, reverse_dart
 use Rattle.ortho_rep.specs.declared.turn.Turn.{Turn}
 use Rattle.ortho_rep.specs.Turns.{lefts, rights}
 use Rattle.ortho_rep.specs.Representation.{Rep, bends_of}
-use Rattle.dissect.specs.Headings.{AreHeadings}
+use Rattle.dissect.specs.Directions.{AreDirections}
 use Rattle.dissect.specs.DartMaps.{DartMap, IsSound}
-use Rattle.dissect.specs.FaceNumbers.{HasTurns, angles_round, darts_round}
+use Rattle.dissect.specs.FaceNumbers.{HasTurns, angles_around_face, darts_around_face}
 use Rattle.dissect.proofs.Splitting.{part, part_here, part_elsewhere}
 use Rattle.dissect.specs.Bare.{IsBare}
 use Rattle.dissect.specs.Steps.{AreBent}
@@ -40,7 +40,7 @@ module _ (p : PlaneModel) (a h : ℕ → ℕ) (total : ℕ) (w : DartMap) (face_
   none_owed : owing w owed ≡ 0
   none_owed = sum_below-none w.darts (λ x. length (owed x)) (λ x l. ap (length {A = Turn}) (paid x l))
 
-  gained_is : (f : ℕ) → gained w face_number owed f ≡ 2 * darts_round w face_number f
+  gained_is : (f : ℕ) → gained w face_number owed f ≡ 2 * darts_around_face w face_number f
   gained_is f =
       sum_below-same w.darts (part face_number (λ x. 2 + lefts (owed x)) f) (λ x. 2 * part face_number (λ _. 1) f x) (λ x l. same x l)
       ∙ sum_below-times w.darts 2 (part face_number (λ _. 1) f)
@@ -52,7 +52,7 @@ module _ (p : PlaneModel) (a h : ℕ → ℕ) (total : ℕ) (w : DartMap) (face_
             | inr off ↦ omega (arith, part_elsewhere face_number (λ x. 2 + lefts (owed x)) f x off, part_elsewhere face_number (λ _. 1) f x off)
           ]
 
-  lost_is : (f : ℕ) → lost w face_number owed f ≡ angles_round w face_number f
+  lost_is : (f : ℕ) → lost w face_number owed f ≡ angles_around_face w face_number f
   lost_is f = sum_below-same w.darts (part face_number (λ x. w.angle x + rights (owed x)) f) (part face_number w.angle f) (λ x l. same x l)
     where
       same : (x : ℕ) → x < w.darts → part face_number (λ x. w.angle x + rights (owed x)) f x ≡ part face_number w.angle f x
@@ -108,26 +108,26 @@ module _ (p : PlaneModel) (a h : ℕ → ℕ) (total : ℕ) (w : DartMap) (face_
 pub record HasBends (p : PlaneModel) (a : ℕ → ℕ) (s : ℕ → List Turn) (w : DartMap) : Type 0 where
   pub sound : IsSound w
   pub darts : KeepsDarts p a w
-  pub directions : AreHeadings p a s w.direction
+  pub directions : AreDirections p a s w.direction
   pub faces : KeepsFaces p w
   pub counts : CountsBends p s w
 
 pub all_bends : (p : PlaneModel) (a : ℕ → ℕ) (s : ℕ → List Turn) (h : ℕ → ℕ) (w new : DartMap) → IsPlane p → HasEnds p → Rep p a s →
-    AreHeadings p a s h → IsBare p a h w → AreBent p s 0 w new → HasBends p a s new
-all_bends p a s h w new plane ends rep headings bare steps =
+    AreDirections p a s h → IsBare p a h w → AreBent p s 0 w new → HasBends p a s new
+all_bends p a s h w new plane ends rep directions bare steps =
     let total : ℕ = sum_below (darts p) (λ d. length (s d)) in
     let (face_number, owed, owing_new, paid) = edges_on p a h total s 0 w new ends steps (face_at p) s
-    (owing_begins p a s h w plane ends rep headings bare) (behind_begins p a s h w plane ends rep headings bare) in
+    (owing_begins p a s h w plane ends rep directions bare) (behind_begins p a s h w plane ends rep directions bare) in
     record {
       sound = sound_ends p a h total new face_number owed owing_new paid;
       darts = darts_end p a h total new face_number owed owing_new paid;
       directions = record {
-        quarter = λ d l. omega (arith, owing_new.directions d l, headings.quarter d l);
+        quarter = λ d l. omega (arith, owing_new.directions d l, directions.quarter d l);
         angles = λ d l.
-            let there = owing_new.directions (reverse_dart p (next p d)) (ends.reverse_dart_inside (next p d) (ends.next_one.inside d l)) in
-            ap (λ (k : ℕ). (k + a d) % 4) there ∙ headings.angles d l ∙ sym (owing_new.directions d l);
+            let there = owing_new.directions (reverse_dart p (next p d)) (ends.reverse_dart_in_range (next p d) (ends.next_one.inside d l)) in
+            ap (λ (k : ℕ). (k + a d) % 4) there ∙ directions.angles d l ∙ sym (owing_new.directions d l);
         strings = λ d l.
-            ap (λ (k : ℕ). (k + 2 + lefts (s d)) % 4) (owing_new.directions (reverse_dart p d) (ends.reverse_dart_inside d l)) ∙ headings.strings d l
+            ap (λ (k : ℕ). (k + 2 + lefts (s d)) % 4) (owing_new.directions (reverse_dart p d) (ends.reverse_dart_in_range d l)) ∙ directions.strings d l
             ∙ sym (ap (λ (k : ℕ). (k + rights (s d)) % 4) (owing_new.directions d l));
       };
       faces = record {

@@ -6,7 +6,7 @@ use Rattle.faces.proofs.Ends.{plane_ends}
 use Rattle.ortho_rep.specs.declared.turn.Turn.{Turn}
 use Rattle.ortho_rep.specs.Turns.{lefts, rights}
 use Rattle.ortho_rep.specs.Representation.{Rep}
-use Rattle.dissect.specs.Headings.{AreHeadings}
+use Rattle.dissect.specs.Directions.{AreDirections}
 use Rattle.dissect.proofs.Reordered.{sum_at, sum_at-add, sum_at-times, sum_at-same, sum_at-four, reordered_at}
 use Rattle.dissect.proofs.Trees.{IsTree, Tree, tree}
 use Rattle.dissect.proofs.Peeling.{IsUp, nothing}
@@ -76,7 +76,7 @@ over_tree p a s rank parent base ends rep tree d l on =
     elim (tree_from (vertex_connections p) (reverse_dart p) parent d on) [
       | inl up ↦ over_up p a s rank parent base ends tree d l up
       | inr up ↦
-          let none : over p a s base (reverse_dart p d) ≡ 0 = over_up p a s rank parent base ends tree (reverse_dart p d) (ends.reverse_dart_inside d l) up in
+          let none : over p a s base (reverse_dart p d) ≡ 0 = over_up p a s rank parent base ends tree (reverse_dart p d) (ends.reverse_dart_in_range d l) up in
           close (base (tail p d - 1) + gap p a s d + 3 * base (head p d - 1)) (over p a s base (reverse_dart p d)) (over_pairs p a s base ends rep d l) none
     ]
   where
@@ -107,11 +107,11 @@ over_none p a s rank parent base plane ends rep first (rank', parent', base', se
     small x = omega arith
 
 -- the direction of a dart: the value at its head, and the sum of what the angles before its reverse lack
-abbrev heading : PlaneModel → (ℕ → ℕ) → (ℕ → ℕ) → ℕ → ℕ
-heading p a base d = (base (head p d - 1) + lacks p a (reverse_dart p d)) % 4
+abbrev direction : PlaneModel → (ℕ → ℕ) → (ℕ → ℕ) → ℕ → ℕ
+direction p a base d = (base (head p d - 1) + lacks p a (reverse_dart p d)) % 4
 
 heads_so : (p : PlaneModel) (a : ℕ → ℕ) (s : ℕ → List Turn) (base : ℕ → ℕ) → HasEnds p → Rep p a s → ((d : ℕ) → d < darts p → over p a s base d ≡ 0)
-    → AreHeadings p a s (heading p a base)
+    → AreDirections p a s (direction p a base)
 heads_so p a s base ends rep none = record {
   quarter = λ d l. small (base (head p d - 1) + lacks p a (reverse_dart p d));
   angles = λ d l.
@@ -132,9 +132,9 @@ heads_so p a s base ends rep none = record {
     string : (b' t b z y x m r : ℕ) → b' ≡ t → z ≡ y → (t + (y + 2 + m + 3 * (r + x)) + 3 * b) % 4 ≡ 0 → ((b' + z) % 4 + 2 + m) % 4 ≡ ((b + x) % 4 + r) % 4
     string b' t b z y x m r e1 e2 e3 = omega arith
 
-pub directions : (p : PlaneModel) (a : ℕ → ℕ) (s : ℕ → List Turn) → IsPlane p → Rep p a s → (h : ℕ → ℕ) × AreHeadings p a s h
-directions p a s plane rep =
+pub plane_directions : (p : PlaneModel) (a : ℕ → ℕ) (s : ℕ → List Turn) → IsPlane p → Rep p a s → (h : ℕ → ℕ) × AreDirections p a s h
+plane_directions p a s plane rep =
     let ends = plane_ends p plane in
     let (rank, parent, base, first) = tree (vertex_connections p) (gap p a s) (vertices_paired p ends).node (vertices_connect p plane) in
     let second = tree (face_connections p parent) (λ _. 0) (faces_paired p parent ends).node (faces_connect p plane (gap p a s) rank parent base first) in
-    (heading p a base, heads_so p a s base ends rep (over_none p a s rank parent base plane ends rep first second))
+    (direction p a base, heads_so p a s base ends rep (over_none p a s rank parent base plane ends rep first second))

@@ -1,6 +1,6 @@
 -- How a scan begins and how it ends.
 use Rattle.std.proofs.Common.{◌≡◌, ℕ, suc, ◌+◌, ◌*◌, ◌<◌, ◌∙◌, List, [], ◌∷◌, ◌++◌, length, length-append, map, append-nil, arith, subst, sym, ap, refl, inl, inr}
-use Rattle.dissect.specs.Turning.{total, HasNoHook, AreTurns, AreLefts}
+use Rattle.dissect.specs.Turning.{total, HasNoHook, AreCornerAngles, AreLefts}
 use Rattle.dissect.specs.DartMaps.{DartMap, IsSound}
 use Rattle.dissect.specs.Faces.{IsCorner, Trail, last_of, Ring, IsRectangle, In, concatenated, AreWaiting}
 use Rattle.dissect.specs.Scan.{down, IsScan}
@@ -23,7 +23,7 @@ pub ring_corners : (w : DartMap) (b : ℕ) (cs : List ℕ) → Ring w cs → In 
 ring_corners w b [] ring here = absurd here
 ring_corners w b (c ∷ cs) ring here = trail_corners w (last_of c cs) b (c ∷ cs) ring here
 
-pub turns_of : (w : DartMap) (st : List ℕ) → IsSound w → ((a : ℕ) → In a st → (a < w.darts) × IsCorner w a) → AreTurns (map w.angle st)
+pub turns_of : (w : DartMap) (st : List ℕ) → IsSound w → ((a : ℕ) → In a st → (a < w.darts) × IsCorner w a) → AreCornerAngles (map w.angle st)
 turns_of w [] sound each = tt
 turns_of w (c ∷ st) sound each =
     let here = each c (inl refl) in

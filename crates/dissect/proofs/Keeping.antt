@@ -12,10 +12,10 @@ pub record Keeps (w new : DartMap) : Type 0 where
 
 pub cut_keeps : (w : DartMap) (d e way : ℕ) (new : DartMap) → IsCut w d e way new → Keeps w new
 cut_keeps w d e way new cut = record {
-  more = omega (arith, cut.split.darts, cut.chord.darts);
-  more_vertices = omega (arith, cut.split.vertices, cut.chord.vertices);
-  head = λ a a_in. cut.chord.head_old a (omega (arith, a_in, cut.split.darts)) ∙ cut.split.head_old a a_in;
-  direction = λ a a_in. cut.chord.direction_old a (omega (arith, a_in, cut.split.darts)) ∙ cut.split.direction_old a a_in;
+  more = omega (arith, cut.subdivide.darts, cut.chord.darts);
+  more_vertices = omega (arith, cut.subdivide.vertices, cut.chord.vertices);
+  head = λ a a_in. cut.chord.head_old a (omega (arith, a_in, cut.subdivide.darts)) ∙ cut.subdivide.head_old a a_in;
+  direction = λ a a_in. cut.chord.direction_old a (omega (arith, a_in, cut.subdivide.darts)) ∙ cut.subdivide.direction_old a a_in;
 }
 
 pub keeps_on : (w mid new : DartMap) → Keeps w mid → Keeps mid new → Keeps w new

@@ -1,7 +1,7 @@
 -- Why a scan that cuts at each right turn followed by two left turns ends with four left turns.
 use Rattle.std.proofs.Common.{◌≡◌, ◌⊎◌, ℕ, ◌+◌, ◌*◌, ◌<◌, ◌≤◌, List, [], ◌∷◌, length, arith, subst, refl, inl, inr}
 use Rattle.std.proofs.lemmas.Bool.{cases_eq, cases_lt}
-use Rattle.dissect.specs.Turning.{total, Rising, Hopeful, HasNoHook, AreTurns, AreLefts}
+use Rattle.dissect.specs.Turning.{total, Rising, Hopeful, HasNoHook, AreCornerAngles, AreLefts}
 
 -- a corner turns left or right
 pub left_or_right : (x : ℕ) → 1 ≤ x → x ≤ 4 → (x ≡ 2 → ⊥) → (x ≡ 1) ⊎ (2 < x)
@@ -12,7 +12,7 @@ left_or_right x some most turns =
     pick x some turns low = elim (cases_eq x 2) [ inl two ↦ absurd (turns two) | inr other ↦ omega arith ]
 
 -- with nothing unread, a stack whose rights are made good for and hardly covered has only lefts
-pub all_left : (lefts : ℕ) (st : List ℕ) → AreTurns st → Hopeful lefts lefts st → HasNoHook lefts st → AreLefts st
+pub all_left : (lefts : ℕ) (st : List ℕ) → AreCornerAngles st → Hopeful lefts lefts st → HasNoHook lefts st → AreLefts st
 all_left lefts [] turns hopeful hookless = tt
 all_left lefts (x ∷ st) turns hopeful hookless =
     elim (left_or_right x turns.0 turns.1 turns.2) [
@@ -42,7 +42,7 @@ hopeful_shift sum count sum' count' (x ∷ st) same hopeful = (
 )
 
 -- two lefts above a hookless list cover no right, so a third does no harm
-pub hookless_more : (lefts : ℕ) (st : List ℕ) → 2 ≤ lefts → AreTurns st → HasNoHook lefts st → HasNoHook (lefts + 1) st
+pub hookless_more : (lefts : ℕ) (st : List ℕ) → 2 ≤ lefts → AreCornerAngles st → HasNoHook lefts st → HasNoHook (lefts + 1) st
 hookless_more lefts [] two turns hookless = tt
 hookless_more lefts (x ∷ st) two turns hookless = (
   λ right. absurd (omega (arith, (hookless.0 right).0, two)),
@@ -54,7 +54,7 @@ pub hookless_right : (x : ℕ) (st : List ℕ) → 2 < x → HasNoHook 0 st → 
 hookless_right x st right hookless = (λ _. (omega arith, hookless), λ left. absurd (omega (arith, left, right)))
 
 -- and so does a left, unless a left on a right is below it
-pub hookless_left : (x : ℕ) (st : List ℕ) → x ≡ 1 → AreTurns st → HasNoHook 0 st →
+pub hookless_left : (x : ℕ) (st : List ℕ) → x ≡ 1 → AreCornerAngles st → HasNoHook 0 st →
     ((y z : ℕ) (rest : List ℕ) → st ≡ y ∷ z ∷ rest → y ≡ 1 → 2 < z → ⊥) → HasNoHook 0 (x ∷ st)
 hookless_left x [] left turns hookless no_hook = (λ right. absurd (omega (arith, left, right)), λ _. tt)
 hookless_left x (y ∷ []) left turns hookless no_hook =

@@ -1,7 +1,7 @@
 -- What the writes of a split and of a chord make of a table.
 use Rattle.std.proofs.Common.{◌≡◌, ◌≢◌, ℕ, ◌+◌, ◌-◌, ◌%◌, ◌<◌, ◌≤◌, ◌∙◌, List, length, get_or, set, arith, subst, sym, ap, refl, get_or-set_same, get_or-set_other}
 use Rattle.std.proofs.Math.ListN.{length-set}
-use Rattle.dissect.specs.DartMaps.{DartMap, IsTied, IsSubdivided, IsChord, Fits, no_dart}
+use Rattle.dissect.specs.DartMaps.{DartMap, IsTied, IsSubdivided, IsChord, HasChordAngles, no_dart}
 
 -- the map of plain lists
 abbrev pub dart_map_from : (n v : ℕ) (next prev reverse_dart head direction angle before : List ℕ) → DartMap
@@ -109,7 +109,7 @@ split_made n v e t way bend N N1 N2 P P1 P2 T T1 T2 H H2 D D2 A A2 B B1 B2 tied 
     }
 
 pub chord_made : (n v d f way : ℕ) (N N1 N2 N3 N4 P P1 P2 P3 P4 T T1 H H1 H2 D D2 A A4 B B2 : List ℕ) (nd nf : ℕ) →
-    IsTied (dart_map_from n v N P T H D A B) → Fits (dart_map_from n v N P T H D A B) d f way →
+    IsTied (dart_map_from n v N P T H D A B) → HasChordAngles (dart_map_from n v N P T H D A B) d f way →
     nd ≡ get_or N d 0 → nf ≡ get_or N f 0 →
     n + 2 ≤ length N → n + 2 ≤ length P → n + 2 ≤ length T → n + 2 ≤ length H → n + 2 ≤ length D → n + 2 ≤ length A → n + 2 ≤ length B →
     N1 ≡ set N d n → N2 ≡ set N1 n nf → N3 ≡ set N2 f (n + 1) → N4 ≡ set N3 (n + 1) nd →
@@ -168,8 +168,8 @@ chord_made n v d f way N N1 N2 N3 N4 P P1 P2 P3 P4 T T1 H H1 H2 D D2 A A4 B B2 n
       direction_old = λ a l. two_D.other a (not_new a l).0 (not_new a l).1;
       direction_there = two_D.first;
       direction_back = two_D.second;
-      angle_d = omega (arith, more_A.first, fits.splits_d);
-      angle_f = omega (arith, more_A.second, fits.splits_f);
+      angle_d = omega (arith, more_A.first, fits.subdivides_d);
+      angle_f = omega (arith, more_A.second, fits.subdivides_f);
       angle_there = more_A.other n (λ h. (not_new d d_in).0 (sym h)) (λ h. (not_new f f_in).0 (sym h)) ∙ two_A.first;
       angle_back = more_A.other (n + 1) (λ h. (not_new d d_in).1 (sym h)) (λ h. (not_new f f_in).1 (sym h)) ∙ two_A.second;
       angle_other = λ a l nd nf. more_A.other a nd nf ∙ two_A.other a (not_new a l).0 (not_new a l).1;

@@ -18,7 +18,7 @@ pub detour_trail : (w surrounded : DartMap) (right side way : ℕ) (new : DartMa
     Trail new right (detour w.darts side)
 detour_trail w surrounded right side way new j =
     let n : ℕ = w.darts in
-    let s = j.bridge.split in
+    let s = j.bridge.subdivide in
     let t = j.bridge.chord in
     let middle = j.bridge.middle in
     let c : ℕ = corner_of w side in
@@ -31,7 +31,7 @@ detour_trail w surrounded right side way new j =
     let c_right : c ≢ right = λ h. omega (arith, h, j.right_in) in
     let e_in : n + side < middle.darts = omega (arith, d10, j.side_in) in
     let e_corner : IsCorner middle (n + side) =
-    λ h. omega (arith, h, s.angle_old (n + side) j.bridge.e_in, j.surround.angle_inner side j.side_in) in
+    λ h. omega (arith, h, s.angle_old (n + side) j.bridge.e_in, j.surround.angle_inside side j.side_in) in
     let along : new.next right ≡ n + 10 = t.next_d ∙ d10 in
     let to_side : Stretches new middle.darts (n + side) =
     chord_stretch_there middle right c surrounded.darts way new t (middle_of w surrounded right side way new j) (cutting_of w surrounded right side way new j)
@@ -58,8 +58,8 @@ detour_trail w surrounded right side way new j =
   where
     round : (k m : ℕ) → k < 4 → m ≡ (k + 1) % 4 → k ≢ (side + 3) % 4 → Stretches new (w.darts + k) (w.darts + m)
     round k m l e ne =
-        inside_stretch w surrounded right side way new j k m (omega arith) (omega (arith, e)) (j.surround.next_inner k l ∙ ap (λ (i : ℕ). w.darts + i) (sym e))
-        (λ h. omega (arith, h, j.surround.angle_inner m (omega (arith, e)))) (λ h. omega (arith, h, j.surround.angle_inner k l)) ne
+        inside_stretch w surrounded right side way new j k m (omega arith) (omega (arith, e)) (j.surround.next_inside k l ∙ ap (λ (i : ℕ). w.darts + i) (sym e))
+        (λ h. omega (arith, h, j.surround.angle_inside m (omega (arith, e)))) (λ h. omega (arith, h, j.surround.angle_inside k l)) ne
 
 -- what the bridge makes of the trail round the outer face
 pub record IsRound (w : DartMap) (right : ℕ) (new : DartMap) (b : ℕ) (bs : List ℕ) : Type 0 where
@@ -72,7 +72,7 @@ pub outer_round : (w surrounded : DartMap) (right side way : ℕ) (new : DartMap
     Ring w (b ∷ (bs ++ (right ∷ []))) → Below w.darts (b ∷ bs) → (In right (b ∷ bs) → ⊥) → IsRound w right new b bs
 outer_round w surrounded right side way new j b bs ring below out =
     let n : ℕ = w.darts in
-    let s = j.bridge.split in
+    let s = j.bridge.subdivide in
     let t = j.bridge.chord in
     let middle = j.bridge.middle in
     let c : ℕ = corner_of w side in
@@ -306,7 +306,7 @@ bridge_waits w surrounded right side way new j o o_in inner outer kept listed mo
     let n : ℕ = w.darts in
     let front : List ℕ = listed.front in
     let big : List ℕ = kept ++ detour n side in
-    let count : new.darts ≡ n + 12 = omega (arith, j.bridge.chord.darts, j.bridge.split.darts, j.surround.darts) in
+    let count : new.darts ≡ n + 12 = omega (arith, j.bridge.chord.darts, j.bridge.subdivide.darts, j.surround.darts) in
     let all_distinct : Distinct (concatenated inner ++ (front ++ (right ∷ []))) =
     subst (λ (xs : List ℕ). Distinct (concatenated inner ++ xs)) listed.ends listed.distinct in
     let all_below : Below n (concatenated inner ++ (front ++ (right ∷ []))) =

@@ -8,7 +8,7 @@ use Rattle.dissect.specs.Faces.{IsCorner, Trail, last_of, Ring, In, Distinct, Be
 use Rattle.dissect.specs.Turning.{total}
 use Rattle.dissect.proofs.Stretching.{stretch_more, stretch_direct}
 use Rattle.dissect.proofs.Rings.{last_of-append}
-use Rattle.dissect.specs.Walks.{steps, path, turning, IsOrbit}
+use Rattle.dissect.specs.Walks.{steps, path, turning, HasPeriod}
 
 pub steps_in : (w : DartMap) → IsTied w → (k a : ℕ) → a < w.darts → steps w k a < w.darts
 steps_in w tied zero a l = l
@@ -119,7 +119,7 @@ back_within w a (suc k) =
       ]
     ]
 
-pub orbit_of : (w : DartMap) → IsTied w → (a : ℕ) → a < w.darts → (p : ℕ) × IsOrbit w a p
+pub orbit_of : (w : DartMap) → IsTied w → (a : ℕ) → a < w.darts → (p : ℕ) × HasPeriod w a p
 orbit_of w tied a l =
     elim (back_within w a w.darts) [
       | inl found ↦ (found.0, record { some = found.1; most = found.2; back = found.3; first = found.4 })
@@ -134,9 +134,9 @@ orbit_of w tied a l =
           )
     ]
 
-pub orbit_distinct : (w : DartMap) (a p : ℕ) → IsTied w → a < w.darts → IsOrbit w a p → Distinct (path w a p)
-orbit_distinct w a p tied l orbit =
-    path_distinct w a p (λ i j some less most same. orbit.first (j - i) (omega arith) (omega arith) (steps_meet w tied a i j l less same))
+pub orbit_distinct : (w : DartMap) (a p : ℕ) → IsTied w → a < w.darts → HasPeriod w a p → Distinct (path w a p)
+orbit_distinct w a p tied l period =
+    path_distinct w a p (λ i j some less most same. period.first (j - i) (omega arith) (omega arith) (steps_meet w tied a i j l less same))
 
 -- one more of a list that is filtered by turning
 pub turning_straight : (w : DartMap) (a : ℕ) (xs : List ℕ) → w.angle a ≡ 2 → turning w (a ∷ xs) ≡ turning w xs
@@ -234,16 +234,16 @@ trail_ring w a front (c ∷ cs) e trail =
     subst (λ (b : ℕ). Trail w b (c ∷ cs)) (sym last) trail
 
 -- a walk from a corner ends with it
-pub orbit_ends : (w : DartMap) (a p : ℕ) → IsOrbit w a p → IsCorner w a →
+pub orbit_ends : (w : DartMap) (a p : ℕ) → HasPeriod w a p → IsCorner w a →
     turning w (path w a p) ≡ turning w (path w a (p - 1)) ++ (a ∷ [])
-orbit_ends w a zero orbit corner = absurd (omega (arith, orbit.some))
-orbit_ends w a (suc q) orbit corner =
+orbit_ends w a zero period corner = absurd (omega (arith, period.some))
+orbit_ends w a (suc q) period corner =
     let less : suc q - 1 ≡ q = omega arith in
-    ap (turning w) (path_more w a q ∙ ap (λ (b : ℕ). path w a q ++ (b ∷ [])) orbit.back)
+    ap (turning w) (path_more w a q ∙ ap (λ (b : ℕ). path w a q ++ (b ∷ [])) period.back)
     ∙ turning-append w (path w a q) (a ∷ [])
     ∙ ap (λ (zs : List ℕ). turning w (path w a q) ++ zs) (turning_corner w a [] corner)
     ∙ ap (λ (k : ℕ). turning w (path w a k) ++ (a ∷ [])) (sym less)
 
-pub orbit_ring : (w : DartMap) (a p : ℕ) → IsOrbit w a p → IsCorner w a → Ring w (turning w (path w a p))
-orbit_ring w a p orbit corner =
-    trail_ring w a (turning w (path w a (p - 1))) (turning w (path w a p)) (orbit_ends w a p orbit corner) (path_trail w a p)
+pub orbit_ring : (w : DartMap) (a p : ℕ) → HasPeriod w a p → IsCorner w a → Ring w (turning w (path w a p))
+orbit_ring w a p period corner =
+    trail_ring w a (turning w (path w a (p - 1))) (turning w (path w a p)) (orbit_ends w a p period corner) (path_trail w a p)

@@ -51,21 +51,21 @@ paths_same w n reverse_dart quarters quarters' same has = record {
 
 pub bent_more : (e : ℕ) (w : DartMap) (turns : List Turn) (new : DartMap) → IsBent e w turns new → w.darts ≤ new.darts
 bent_more e w turns new (straight v) = omega arith
-bent_more e w turns new (turned v mid last turn rest split bends) =
-    omega (arith, split.darts, bent_more e mid rest last bends)
+bent_more e w turns new (turned v mid last turn rest subdivide bends) =
+    omega (arith, subdivide.darts, bent_more e mid rest last bends)
 
 pub bent_tied : (e : ℕ) (w : DartMap) (turns : List Turn) (new : DartMap) → IsTied w → e < w.darts → IsBent e w turns new → IsTied new
 bent_tied e w turns new tied e_in (straight v) = tied
-bent_tied e w turns new tied e_in (turned v mid last turn rest split bends) =
-    bent_tied e mid rest last (split_tied v e (start_direction v e) (angle_of turn) mid tied e_in split)
-    (omega (arith, e_in, split.darts)) bends
+bent_tied e w turns new tied e_in (turned v mid last turn rest subdivide bends) =
+    bent_tied e mid rest last (split_tied v e (start_direction v e) (angle_of turn) mid tied e_in subdivide)
+    (omega (arith, e_in, subdivide.darts)) bends
 
 pub bent_extended : (e : ℕ) (w : DartMap) (turns : List Turn) (new : DartMap) → IsTied w → e < w.darts → IsBent e w turns new → IsExtended w new
 bent_extended e w turns new tied e_in (straight v) = extended_same w
-bent_extended e w turns new tied e_in (turned v mid last turn rest split bends) =
-    extended_on v mid last (split_extended v e (start_direction v e) (angle_of turn) mid tied e_in split)
-    (bent_extended e mid rest last (split_tied v e (start_direction v e) (angle_of turn) mid tied e_in split)
-    (omega (arith, e_in, split.darts)) bends)
+bent_extended e w turns new tied e_in (turned v mid last turn rest subdivide bends) =
+    extended_on v mid last (split_extended v e (start_direction v e) (angle_of turn) mid tied e_in subdivide)
+    (bent_extended e mid rest last (split_tied v e (start_direction v e) (angle_of turn) mid tied e_in subdivide)
+    (omega (arith, e_in, subdivide.darts)) bends)
 
 -- the quarters where the edge of e got these, in front on the way back
 abbrev pub with_turns : (ℕ → List ℕ) → ℕ → ℕ → List Turn → ℕ → List ℕ
@@ -102,18 +102,18 @@ bent_paths e w turns new n reverse_dart quarters quarters' tied e_in darts_fit r
       ]
     ]) has
 bent_paths e w turns new n reverse_dart quarters quarters' tied e_in darts_fit reverse_dart_in reverse_dart_back apart at_e at_reverse_dart other
-    (turned v mid last turn rest split bends) has =
+    (turned v mid last turn rest subdivide bends) has =
     let t : ℕ = reverse_dart e in
     let next : ℕ → List ℕ = with_turns quarters e t (turn ∷ []) in
     let next_e : next e ≡ quarters e ++ (angle_of turn ∷ []) = with_turns-at quarters e t (turn ∷ []) in
     let next_t : next t ≡ (4 - angle_of turn) ∷ quarters t =
     with_turns-back quarters e t (turn ∷ []) apart ∙ ap (λ (k : ℕ). k ∷ quarters t) (opposite_angle turn) in
-    let darts_fit_now : v.darts ≤ no_dart = omega (arith, darts_fit, bent_more e mid rest last bends, split.darts) in
+    let darts_fit_now : v.darts ≤ no_dart = omega (arith, darts_fit, bent_more e mid rest last bends, subdivide.darts) in
     let middle : HasPaths mid n reverse_dart next =
-    bend_paths v e (start_direction v e) (angle_of turn) mid n reverse_dart quarters next tied e_in darts_fit_now (omega arith) (quarter_angle turn) split
+    bend_paths v e (start_direction v e) (angle_of turn) mid n reverse_dart quarters next tied e_in darts_fit_now (omega arith) (quarter_angle turn) subdivide
     reverse_dart_in reverse_dart_back apart next_e next_t (λ d l not_e not_t. with_turns-other quarters e t (turn ∷ []) d not_e not_t) has in
     bent_paths e mid rest last n reverse_dart next quarters'
-    (split_tied v e (start_direction v e) (angle_of turn) mid tied (omega (arith, e_in, has.few)) split)
+    (split_tied v e (start_direction v e) (angle_of turn) mid tied (omega (arith, e_in, has.few)) subdivide)
     e_in darts_fit reverse_dart_in reverse_dart_back apart
     (at_e ∙ sym (append_assoc (quarters e) (angle_of turn ∷ []) (quarters_of rest))
     ∙ ap (λ (ts : List ℕ). ts ++ quarters_of rest) (sym next_e))
@@ -156,7 +156,7 @@ pub turned_bent : (p : PlaneModel) (s : ℕ → List Turn) (k : ℕ) (w mid : Da
     IsBent k w (s k) mid → HasTurned p s k w → HasTurned p s (k + 1) mid
 turned_bent p s k w mid ends mirrors k_in less tied darts_fit bends has =
     let t : ℕ = reverse_dart p k in
-    let t_in : t < darts p = ends.reverse_dart_inside k k_in in
+    let t_in : t < darts p = ends.reverse_dart_in_range k k_in in
     let apart : t ≢ k = ends.reverse_dart_apart k k_in in
     let at_k : has.quarters k ≡ [] = has.left k k_in (omega arith) (omega (arith, less)) in
     let at_t : has.quarters t ≡ [] =
@@ -172,7 +172,7 @@ turned_bent p s k w mid ends mirrors k_in less tied darts_fit bends has =
     ∙ ap quarters_of (sym (mirrors k k_in)) in
     record {
       quarters = next;
-      paths = bent_paths k w (s k) mid (darts p) (reverse_dart p) has.quarters next tied k_in darts_fit ends.reverse_dart_inside ends.reverse_dart_back apart
+      paths = bent_paths k w (s k) mid (darts p) (reverse_dart p) has.quarters next tied k_in darts_fit ends.reverse_dart_in_range ends.reverse_dart_back apart
           next_k next_t (λ d l not_k not_t. next_other d not_k not_t) bends has.paths;
       done = λ d l either. elim (cases_eq d k) [
         | inl is_k ↦ ap next is_k ∙ whole_k ∙ sym (ap (λ (i : ℕ). quarters_of (s i)) is_k)

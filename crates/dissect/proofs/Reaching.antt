@@ -64,9 +64,9 @@ chord_reaches w d f way new tied d_in f_in s reaches =
 
 pub cut_reaches : (w : DartMap) (d e way : ℕ) (new : DartMap) → IsTied w → IsCut w d e way new → ReachesCorners w → ReachesCorners new
 cut_reaches w d e way new tied cut reaches =
-    chord_reaches cut.middle d w.darts way new (split_tied w e (w.direction e) 2 cut.middle tied cut.e_in cut.split)
+    chord_reaches cut.middle d w.darts way new (split_tied w e (w.direction e) 2 cut.middle tied cut.e_in cut.subdivide)
     cut.fits.d_in cut.fits.f_in cut.chord
-    (split_reaches w e (w.direction e) cut.middle cut.split tied cut.e_in reaches)
+    (split_reaches w e (w.direction e) cut.middle cut.subdivide tied cut.e_in reaches)
 
 pub grows_sound : (w last : DartMap) → IsSound w → Grows w last → IsSound last
 grows_sound w last sound same = sound
@@ -79,7 +79,7 @@ grows_reaches w last sound (further mid new d e way more cut) reaches =
 
 -- each cut adds a vertex and takes one from what goes beyond straight
 pub cut_vertices : (w : DartMap) (d e way : ℕ) (new : DartMap) → IsCut w d e way new → new.vertices + reflex_turns new ≡ w.vertices + reflex_turns w
-cut_vertices w d e way new cut = omega (arith, cut_reflex_turns w d e way new cut, cut.chord.vertices, cut.split.vertices)
+cut_vertices w d e way new cut = omega (arith, cut_reflex_turns w d e way new cut, cut.chord.vertices, cut.subdivide.vertices)
 
 pub grows_vertices : (w last : DartMap) → Grows w last → last.vertices + reflex_turns last ≡ w.vertices + reflex_turns w
 grows_vertices w last same = refl

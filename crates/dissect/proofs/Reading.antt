@@ -4,10 +4,10 @@ use Rattle.std.proofs.lemmas.List.{drop-set-lt, take-append-drop, drop_more, dro
 use borrow.Rule.Slice.PartMut.{put_mid, mid_of}
 use Rattle.std.proofs.lemmas.List.Elements.{All-cons}
 use Rattle.std.proofs.Math.ListN.{length-set}
-use Rattle.dissect.specs.Turning.{Rising, HasNoHook, IsHighest}
+use Rattle.dissect.specs.Turning.{Rising, HasNoHook, IsPeak}
 use Rattle.dissect.specs.DartMaps.{DartMap, IsSound, Grows, same, further}
 use Rattle.std.proofs.lemmas.List.Sums.{sum_by-cons}
-use Rattle.dissect.specs.Faces.{Below, AreWaiting, pieces_of}
+use Rattle.dissect.specs.Faces.{Below, AreWaiting, slices_of}
 use Rattle.dissect.specs.Scan.{down, tops, IsScan, HasRoom, IsReading}
 use Rattle.dissect.proofs.Listing.{below_append, below_left, below_right}
 use Rattle.dissect.proofs.Scanning.{scan_reads}
@@ -98,9 +98,9 @@ reading_on w0 face room w new xs zs h read now h' read' now' first second = reco
 
 -- the beginning, from the place on where the walk has turned left most
 pub reading_begins : (w0 : DartMap) (face : List ℕ) (room m : ℕ) (xs : List ℕ) → IsSound w0 → (o : ℕ) (rs : List (List ℕ)) →
-    AreWaiting w0 o (face ∷ rs) → HasRoom w0 room → IsHighest (map w0.angle face) m → xs ≡ drop m face ++ take m face →
+    AreWaiting w0 o (face ∷ rs) → HasRoom w0 room → IsPeak (map w0.angle face) m → xs ≡ drop m face ++ take m face →
     All (λ a. a < room) xs → IsReading w0 face room w0 xs 0 0 room
-reading_begins w0 face room m xs sound o rs wait space highest said darts = record {
+reading_begins w0 face room m xs sound o rs wait space peak said darts = record {
   scan = record {
     sound = sound;
     grows = same;
@@ -111,7 +111,7 @@ reading_begins w0 face room m xs sound o rs wait space highest said darts = reco
     rising = subst (λ (zs : List ℕ). Rising (map w0.angle zs)) (sym said)
         (subst Rising (sym (map_apart w0.angle m face))
         (rising_turned (map w0.angle face) m
-        (omega (arith, wait.rings.0.1, length-map_angle w0.angle face)) highest));
+        (omega (arith, wait.rings.0.1, length-map_angle w0.angle face)) peak));
   };
   low = omega arith;
   inside = omega arith;
@@ -160,15 +160,15 @@ below_turned n m xs below =
     below_append n (drop m xs) (take m xs) (below_right n (take m xs) (drop m xs) apart) (below_left n (take m xs) (drop m xs) apart)
 
 -- the first of the pieces, and the others
-pub pieces_apart : (w : DartMap) (xs ns : List ℕ) (start i o : ℕ) → i < length ns → AreWaiting w o (pieces_of (drop start xs) (drop i ns)) →
-    AreWaiting w o (take (start + get_or ns i 0 - start) (drop start xs) ∷ pieces_of (drop (start + get_or ns i 0) xs) (drop (i + 1) ns))
+pub pieces_apart : (w : DartMap) (xs ns : List ℕ) (start i o : ℕ) → i < length ns → AreWaiting w o (slices_of (drop start xs) (drop i ns)) →
+    AreWaiting w o (take (start + get_or ns i 0 - start) (drop start xs) ∷ slices_of (drop (start + get_or ns i 0) xs) (drop (i + 1) ns))
 pieces_apart w xs ns start i o more waiting =
     let n : ℕ = get_or ns i 0 in
-    let first : AreWaiting w o (take n (drop start xs) ∷ pieces_of (drop n (drop start xs)) (drop (i + 1) ns)) =
-    subst (λ (zs : List ℕ). AreWaiting w o (pieces_of (drop start xs) zs)) (drop_more ns i 0 more) waiting in
+    let first : AreWaiting w o (take n (drop start xs) ∷ slices_of (drop n (drop start xs)) (drop (i + 1) ns)) =
+    subst (λ (zs : List ℕ). AreWaiting w o (slices_of (drop start xs) zs)) (drop_more ns i 0 more) waiting in
     let count : n ≡ start + n - start = omega arith in
-    subst (λ (k : ℕ). AreWaiting w o (take k (drop start xs) ∷ pieces_of (drop (start + n) xs) (drop (i + 1) ns))) count
-    (subst (λ (zs : List ℕ). AreWaiting w o (take n (drop start xs) ∷ pieces_of zs (drop (i + 1) ns))) (drop-drop n start xs) first)
+    subst (λ (k : ℕ). AreWaiting w o (take k (drop start xs) ∷ slices_of (drop (start + n) xs) (drop (i + 1) ns))) count
+    (subst (λ (zs : List ℕ). AreWaiting w o (take n (drop start xs) ∷ slices_of zs (drop (i + 1) ns))) (drop-drop n start xs) first)
 
 pub sum_apart : (ns : List ℕ) (i : ℕ) → i < length ns → sum (drop i ns) ≡ get_or ns i 0 + sum (drop (i + 1) ns)
 sum_apart ns i more = ap sum (drop_more ns i 0 more) ∙ sum_by-cons (λ (n : ℕ). n) (get_or ns i 0) (drop (i + 1) ns)

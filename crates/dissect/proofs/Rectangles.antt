@@ -11,7 +11,7 @@ use Rattle.dissect.proofs.StayingConnected.{cut_tied}
 use Rattle.dissect.proofs.Cuts.{AreQuarters, cut_quarters, chord_beside}
 use Rattle.dissect.proofs.SurroundedPaths.{surrounded_tied, surrounded_quarters}
 use Rattle.dissect.proofs.Sides.{HasChain, beside_chain, cut_chain, grows_chain}
-use Rattle.dissect.specs.Rectangle.{HasRectangle, IsConnectedAt}
+use Rattle.dissect.specs.Rectangle.{HasRectangle, IsBridgedAt}
 use Rattle.dissect.proofs.Keeping.{Keeps, cut_keeps, grows_keeps, keeps_on}
 
 module _ (w : DartMap) (outside : ℕ) (new : DartMap) (tied : IsTied w) (four : AreQuarters w) (e : IsEnclosed w outside new) where
@@ -53,7 +53,7 @@ module _ (w : DartMap) (outside : ℕ) (new : DartMap) (tied : IsTied w) (four :
   count_surrounded = e.surround.darts
 
   count_middle : e.bridge.middle.darts ≡ n + 10
-  count_middle = omega (arith, e.bridge.split.darts, e.surround.darts)
+  count_middle = omega (arith, e.bridge.subdivide.darts, e.surround.darts)
 
   inner_chain : (k : ℕ) → k < 4 → HasPath new (n + k) (n + 4 + k) []
   inner_chain k l =
@@ -64,11 +64,11 @@ module _ (w : DartMap) (outside : ℕ) (new : DartMap) (tied : IsTied w) (four :
           path = record {
             first_in = omega (arith, e.surround.darts);
             rest_in = tt;
-            start = e.surround.before_inner k l;
+            start = e.surround.before_inside k l;
             follows = tt;
             ends = refl;
           };
-          back = e.surround.reverse_dart_inner k l;
+          back = e.surround.reverse_dart_inside k l;
           turns = refl;
         };
         holds = inl refl;
@@ -83,11 +83,11 @@ module _ (w : DartMap) (outside : ℕ) (new : DartMap) (tied : IsTied w) (four :
           path = record {
             first_in = omega (arith, e.surround.darts);
             rest_in = tt;
-            start = e.surround.before_outer k l;
+            start = e.surround.before_outside k l;
             follows = tt;
             ends = refl;
           };
-          back = e.surround.reverse_dart_outer k l;
+          back = e.surround.reverse_dart_outside k l;
           turns = refl;
         };
         holds = inl refl;
@@ -97,9 +97,9 @@ module _ (w : DartMap) (outside : ℕ) (new : DartMap) (tied : IsTied w) (four :
   pub rectangle : ((k : ℕ) → k < 4 → AreWaiting new (n + 4 + k) []) → HasRectangle w new
   rectangle done = record {
     sides = λ k l. record { there = inner_chain k l; again = outer_chain k l };
-    directions = λ k l. keeps_surrounded.direction (n + k) (omega (arith, e.surround.darts)) ∙ e.surround.direction_inner k l;
-    inside = λ k l. keeps_surrounded.head (n + k) (omega (arith, e.surround.darts)) ∙ e.surround.head_inner k l;
-    corners = λ k l. keeps_surrounded.head (n + 4 + k) (omega (arith, e.surround.darts)) ∙ e.surround.head_outer k l;
+    directions = λ k l. keeps_surrounded.direction (n + k) (omega (arith, e.surround.darts)) ∙ e.surround.direction_inside k l;
+    inside = λ k l. keeps_surrounded.head (n + k) (omega (arith, e.surround.darts)) ∙ e.surround.head_inside k l;
+    corners = λ k l. keeps_surrounded.head (n + 4 + k) (omega (arith, e.surround.darts)) ∙ e.surround.head_outside k l;
     outside = λ k l.
         let at = done k l in
         let first : AreWaiting new (n + 4) [] =
@@ -156,25 +156,25 @@ module _ (w : DartMap) (outside : ℕ) (new : DartMap) (tied : IsTied w) (four :
       bridged_chain side_dart (n + 4 + e.side) e.surrounded.darts
       (beside_chain e.bridge.middle e.bridged side_dart (n + 4 + e.side) e.surrounded.darts []
       (chord_beside e.bridge.middle e.right e.surrounded.darts e.direction e.bridged
-      (split_tied e.surrounded side_dart (e.surrounded.direction side_dart) 2 e.bridge.middle tied_surrounded e.bridge.e_in e.bridge.split) e.bridge.chord)
+      (split_tied e.surrounded side_dart (e.surrounded.direction side_dart) 2 e.bridge.middle tied_surrounded e.bridge.e_in e.bridge.subdivide) e.bridge.chord)
       (record {
         path = path_doubled e.surrounded e.bridge.middle side_dart (n + 4 + e.side) side_dart e.surrounded.darts 0 [] []
             (record {
               first_in = e.bridge.e_in;
               rest_in = tt;
-              start = e.surround.before_inner e.side e.side_in;
+              start = e.surround.before_inside e.side e.side_in;
               follows = tt;
               ends = refl;
             })
-            (e.surround.reverse_dart_inner e.side e.side_in)
+            (e.surround.reverse_dart_inside e.side e.side_in)
             (split_doubled e.surrounded side_dart (e.surrounded.direction side_dart) 2 0 e.bridge.middle tied_surrounded e.bridge.e_in
-            (four_surrounded side_dart e.bridge.e_in) (omega arith) refl e.bridge.split)
+            (four_surrounded side_dart e.bridge.e_in) (omega arith) refl e.bridge.subdivide)
             (longer_end e.surrounded e.bridge.middle side_dart);
         holds = inl refl;
       }))
 
   -- the map is connected with the rectangle at the head of the right turn
-  pub bridge : IsConnectedAt w e.right new
+  pub bridge : IsBridgedAt w e.right new
   unfolding bridge_chain bridge_chain_back
   bridge =
       let first : e.bridge.middle.darts ≡ n + 10 = count_middle in
@@ -188,11 +188,11 @@ module _ (w : DartMap) (outside : ℕ) (new : DartMap) (tied : IsTied w) (four :
       let right_way : new.direction e.right ≡ w.direction e.right =
       keeps_surrounded.direction e.right right_surrounded ∙ e.surround.direction_old e.right e.right_in in
       let middle_way : e.bridge.middle.direction e.right ≡ w.direction e.right =
-      e.bridge.split.direction_old e.right right_surrounded ∙ e.surround.direction_old e.right e.right_in in
+      e.bridge.subdivide.direction_old e.right right_surrounded ∙ e.surround.direction_old e.right e.right_in in
       let middle_angle : e.bridge.middle.angle e.right ≡ w.angle e.right =
-      e.bridge.split.angle_old e.right right_surrounded ∙ e.surround.angle_old e.right e.right_in in
+      e.bridge.subdivide.angle_old e.right right_surrounded ∙ e.surround.angle_old e.right e.right_in in
       let right_head : new.head e.right ≡ e.bridge.middle.head e.right =
-      keeps_surrounded.head e.right right_surrounded ∙ sym (e.bridge.split.head_old e.right right_surrounded) in
+      keeps_surrounded.head e.right right_surrounded ∙ sym (e.bridge.subdivide.head_old e.right right_surrounded) in
       record {
         chain = record {
           there = (bridged_chain (n + 10) (n + 11) (n + 10) (record { path = bridge_chain; holds = inl refl })).path;
@@ -207,9 +207,9 @@ module _ (w : DartMap) (outside : ℕ) (new : DartMap) (tied : IsTied w) (four :
           way,
           e.side_in,
           e.bridge.fits.to_f,
-          e.bridge.split.angle_first,
-          e.bridge.split.direction_first,
-          e.surround.direction_inner e.side e.side_in,
+          e.bridge.subdivide.angle_first,
+          e.bridge.subdivide.direction_first,
+          e.surround.direction_inside e.side e.side_in,
         );
         to = keeps_bridged.head (n + 10) there_in ∙ ap e.bridged.head (sym first) ∙ e.bridge.chord.head_there
             ∙ ap e.bridge.middle.head count_surrounded

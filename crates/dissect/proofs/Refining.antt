@@ -10,11 +10,11 @@ use Rattle.dissect.specs.Surrounds.{IsSurrounded, IsEnclosed}
 use Rattle.dissect.specs.FaceNumbers.{AreFaceNumbers, HasTurns}
 use Rattle.dissect.specs.Scan.{CanCut, HasRoom}
 use Rattle.dissect.specs.Turning.{total}
-use Rattle.dissect.specs.Faces.{Stretches, IsRectangle, In, Distinct, Below, concatenated, AreWaiting, ReachesCorners, pieces_of}
+use Rattle.dissect.specs.Faces.{Stretches, IsRectangle, In, Distinct, Below, concatenated, AreWaiting, ReachesCorners, slices_of}
 use Rattle.dissect.proofs.Stretching.{stretch_direct, Stretches-inside}
 use Rattle.dissect.proofs.Scanning.{stretch_direction, cut_sound, cut_reflex_turns}
 use Rattle.dissect.proofs.Reaching.{cut_reaches, grows_sound, grows_reaches, cut_vertices, grows_vertices}
-use Rattle.dissect.specs.Listed.{AreFlat, AreConnectedFaces, AreListed, detour}
+use Rattle.dissect.specs.Listed.{AreFlat, AreMergedFaces, AreListed, detour}
 use Rattle.dissect.proofs.Orbits.{distinct_few}
 use Rattle.dissect.proofs.Turns.{listed_sum, turns_reach}
 use Rattle.dissect.proofs.Sounding.{by_side, surround_tied, surround_sound, surround_reflex_turns}
@@ -30,12 +30,12 @@ drop_own [] s = refl
 drop_own (x ∷ r) s = drop_own r s
 
 -- flat lists are cut up into the faces that they hold
-pub pieces_of_flat : (faces : List (List ℕ)) → pieces_of (concatenated faces) (map (λ (r : List ℕ). length r) faces) ≡ faces
+pub pieces_of_flat : (faces : List (List ℕ)) → slices_of (concatenated faces) (map (λ (r : List ℕ). length r) faces) ≡ faces
 pieces_of_flat [] = refl
 pieces_of_flat (r ∷ rs) =
     let lengths : List ℕ = map (λ (q : List ℕ). length q) rs in
-    ap (λ (xs : List ℕ). xs ∷ pieces_of (drop (length r) (r ++ concatenated rs)) lengths) (take_own r (concatenated rs))
-    ∙ ap (λ (xs : List ℕ). r ∷ pieces_of xs lengths) (drop_own r (concatenated rs))
+    ap (λ (xs : List ℕ). xs ∷ slices_of (drop (length r) (r ++ concatenated rs)) lengths) (take_own r (concatenated rs))
+    ∙ ap (λ (xs : List ℕ). r ∷ slices_of xs lengths) (drop_own r (concatenated rs))
     ∙ ap (λ (qs : List (List ℕ)). r ∷ qs) (pieces_of_flat rs)
 
 pub sum_flat : (faces : List (List ℕ)) → sum (map (λ (r : List ℕ). length r) faces) ≡ length (concatenated faces)
@@ -44,7 +44,7 @@ sum_flat (r ∷ rs) = omega (arith, sum_by-cons (λ (k : ℕ). k) (length r) (ma
 
 -- what a table of flat lists says of the faces that wait
 pub record AreReady (w : DartMap) (o : ℕ) (corners counts : List ℕ) : Type 0 where
-  pub waiting : AreWaiting w o (pieces_of corners counts)
+  pub waiting : AreWaiting w o (slices_of corners counts)
   pub all : sum counts ≡ length corners
   pub few : length corners ≤ w.darts
 
@@ -120,13 +120,13 @@ surround_reaches w new s tied reaches = λ a l.
     (λ a l. ((reaches a l).0, surround_stretch w new s tied (reaches a l).1.places a (reaches a l).0 l (reaches a l).1.stretch))
     (λ k l. (
       w.darts + (k + 1) % 4,
-      stretch_direct new (w.darts + k) (w.darts + (k + 1) % 4) (s.next_inner k l)
-          (λ h. omega (arith, h, s.angle_inner ((k + 1) % 4) (omega arith))),
+      stretch_direct new (w.darts + k) (w.darts + (k + 1) % 4) (s.next_inside k l)
+          (λ h. omega (arith, h, s.angle_inside ((k + 1) % 4) (omega arith))),
     ))
     (λ k l. (
       w.darts + 4 + (k + 3) % 4,
-      stretch_direct new (w.darts + 4 + k) (w.darts + 4 + (k + 3) % 4) (s.next_outer k l)
-          (λ h. omega (arith, h, s.angle_outer ((k + 3) % 4) (omega arith))),
+      stretch_direct new (w.darts + 4 + k) (w.darts + 4 + (k + 3) % 4) (s.next_outside k l)
+          (λ h. omega (arith, h, s.angle_outside ((k + 3) % 4) (omega arith))),
     ))
     a (omega (arith, s.darts, l))
 
@@ -134,7 +134,7 @@ surround_reaches w new s tied reaches = λ a l.
 pub cut_side_can : (w surrounded : DartMap) (right side : ℕ) → IsSound w → IsSurrounded w surrounded → right < w.darts → 2 < w.angle right → side < 4 →
     (side + w.angle right) % 4 ≡ w.direction right → CanCut surrounded right (w.darts + (side + 3) % 4)
 cut_side_can w surrounded right side sound s right_in turn side_in faces =
-    let behind : surrounded.next (w.darts + (side + 3) % 4) ≡ w.darts + side = omega (arith, s.next_inner ((side + 3) % 4) (omega arith)) in
+    let behind : surrounded.next (w.darts + (side + 3) % 4) ≡ w.darts + side = omega (arith, s.next_inside ((side + 3) % 4) (omega arith)) in
     record {
       d_in = omega (arith, s.darts, right_in);
       c_in = omega (arith, s.darts);
@@ -142,7 +142,7 @@ cut_side_can w surrounded right side sound s right_in turn side_in faces =
       faces = omega (
         arith,
         ap surrounded.direction behind,
-        s.direction_inner side side_in,
+        s.direction_inside side side_in,
         s.angle_old right right_in,
         s.direction_old right right_in,
         faces,
@@ -153,7 +153,7 @@ cut_side_can w surrounded right side sound s right_in turn side_in faces =
 pub bridging_of : (w surrounded : DartMap) (right side way : ℕ) (new : DartMap) → IsSound w → IsSurrounded w surrounded → right < w.darts → side < 4 →
     IsCut surrounded right (surrounded.next (w.darts + (side + 3) % 4)) way new → IsConnecting w surrounded right side way new
 bridging_of w surrounded right side way new sound s right_in side_in cut =
-    let behind : surrounded.next (w.darts + (side + 3) % 4) ≡ w.darts + side = omega (arith, s.next_inner ((side + 3) % 4) (omega arith)) in
+    let behind : surrounded.next (w.darts + (side + 3) % 4) ≡ w.darts + side = omega (arith, s.next_inside ((side + 3) % 4) (omega arith)) in
     record {
       tied = sound.tied;
       surround = s;
@@ -174,14 +174,14 @@ bridge_room w surrounded right side way room new j space =
       cut_reflex_turns surrounded right (w.darts + side) way new j.bridge,
       surround_reflex_turns w surrounded j.surround,
       j.bridge.chord.darts,
-      j.bridge.split.darts,
+      j.bridge.subdivide.darts,
       j.surround.darts,
       space,
     )
 
 pub bridge_ready : (w surrounded : DartMap) (right side way : ℕ) (new : DartMap) → IsSound w → IsConnecting w surrounded right side way new →
     (inner : List (List ℕ)) (outer corners counts : List ℕ) → (listed : AreListed w right inner outer) →
-    AreConnectedFaces w right side listed.front inner corners counts → (k : ℕ) → k < 4 → AreReady new (w.darts + 4 + k) corners counts
+    AreMergedFaces w right side listed.front inner corners counts → (k : ℕ) → k < 4 → AreReady new (w.darts + 4 + k) corners counts
 bridge_ready w surrounded right side way new sound j inner outer corners counts listed made k k_in =
     flat_ready new (w.darts + 4 + k) corners counts (inner ++ ((made.kept ++ detour w.darts side) ∷ [])) made.flat
     (bridge_waits w surrounded right side way new j k k_in inner outer made.kept listed (sound.meeting.most right j.right_in) made.is_kept)

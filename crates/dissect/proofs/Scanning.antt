@@ -4,7 +4,7 @@ use Rattle.std.proofs.lemmas.Bool.{cases_eq}
 use Rattle.common.specs.Sums.{sum_below}
 use Rattle.common.proofs.Sums.{sum_below-more, sum_below-changed, sum_below-member}
 use Rattle.dissect.specs.Turning.{total, Rising, Hopeful}
-use Rattle.dissect.specs.DartMaps.{DartMap, IsTied, IsSubdivided, IsChord, Fits, IsSound, IsCut, further, reflex_turns}
+use Rattle.dissect.specs.DartMaps.{DartMap, IsTied, IsSubdivided, IsChord, HasChordAngles, IsSound, IsCut, further, reflex_turns}
 use Rattle.dissect.specs.Faces.{IsCorner, StretchesIn, Stretches, Trail, last_of, Ring, In, Distinct, Below, concatenated, AreWaiting}
 use Rattle.dissect.specs.Scan.{down, IsScan, CanCut, HasRoom}
 use Rattle.dissect.proofs.Splitting.{split_tied, split_meeting, split_straight}
@@ -63,7 +63,7 @@ hook_faces w d c1 c sound d_in c1_in c_in to_first to_second left_first left =
 
 -- after the split, the chord fits
 pub chord_fits : (w : DartMap) (d c way : ℕ) (mid : DartMap) → IsSound w → CanCut w d c → way ≡ (w.direction d + 7 - w.angle d) % 4 →
-    IsSubdivided w (w.next c) (w.direction (w.next c)) 2 mid → Fits mid d w.darts way
+    IsSubdivided w (w.next c) (w.direction (w.next c)) 2 mid → HasChordAngles mid d w.darts way
 chord_fits w d c way mid sound can way_is s =
     let most : w.angle d ≤ 4 = sound.meeting.most d can.d_in in
     let q : w.direction d < 4 = sound.meeting.quarter d can.d_in in
@@ -75,16 +75,16 @@ chord_fits w d c way mid sound can way_is s =
       direction_quarter = omega (arith, way_is);
       from_d = omega (arith, way_is, s.angle_old d can.d_in, s.direction_old d can.d_in, most, q);
       to_f = omega (arith, way_is, s.angle_first, s.direction_first, can.faces, most, q, qe);
-      splits_d = omega (arith, s.angle_old d can.d_in, can.right);
-      splits_f = omega (arith, s.angle_first);
+      subdivides_d = omega (arith, s.angle_old d can.d_in, can.right);
+      subdivides_f = omega (arith, s.angle_first);
     }
 
 pub cut_sound : (w : DartMap) (d e way : ℕ) (new : DartMap) → IsSound w → IsCut w d e way new → IsSound new
 cut_sound w d e way new sound cut =
-    let l1 = split_tied w e (w.direction e) 2 cut.middle sound.tied cut.e_in cut.split in
+    let l1 = split_tied w e (w.direction e) 2 cut.middle sound.tied cut.e_in cut.subdivide in
     let m1 = split_meeting w e (w.direction e) 2 cut.middle sound.tied sound.meeting cut.e_in (sound.meeting.quarter e cut.e_in)
-    (omega arith) (omega arith) cut.split in
-    let s1 = split_straight w e cut.middle sound.tied sound.meeting cut.e_in sound.straight cut.split in
+    (omega arith) (omega arith) cut.subdivide in
+    let s1 = split_straight w e cut.middle sound.tied sound.meeting cut.e_in sound.straight cut.subdivide in
     record {
       tied = chord_tied cut.middle d w.darts way new l1 cut.fits cut.chord;
       meeting = chord_meeting cut.middle d w.darts way new l1 m1 cut.fits cut.chord;
@@ -94,7 +94,7 @@ cut_sound w d e way new sound cut =
 -- a cut adds a vertex and four darts, and takes one from what goes beyond straight
 pub cut_reflex_turns : (w : DartMap) (d e way : ℕ) (new : DartMap) → IsCut w d e way new → reflex_turns new + 1 ≡ reflex_turns w
 cut_reflex_turns w d e way new cut =
-    let s = cut.split in
+    let s = cut.subdivide in
     let t = cut.chord in
     let n : ℕ = w.darts in
     let F : ℕ → ℕ = λ a. new.angle a - 2 in
@@ -117,7 +117,7 @@ cut_reflex_turns w d e way new cut =
 
 pub cut_room : (w : DartMap) (d e way room : ℕ) (new : DartMap) → IsCut w d e way new → HasRoom w room → HasRoom new room
 cut_room w d e way room new cut has =
-    omega (arith, cut_reflex_turns w d e way new cut, cut.chord.darts, cut.split.darts, has)
+    omega (arith, cut_reflex_turns w d e way new cut, cut.chord.darts, cut.subdivide.darts, has)
 
 -- where a right is left, there is room for a cut
 pub right_room : (w : DartMap) (d room : ℕ) → d < w.darts → 2 < w.angle d → HasRoom w room → w.darts + 4 ≤ room
@@ -255,7 +255,7 @@ scan_cut_straight w0 face w d c1 c way st rest o rs new scan wait left_first lef
     let bite = scan_bites w0 face w d c1 c way st rest o rs new scan wait left_first left cut in
     let kept = scan_kept w0 face w d c1 c way st rest o rs new scan wait bite in
     let three : w.angle d ≡ 3 = omega (arith, bite_angle_d w d c1 c (w.next c) way new bite, straight) in
-    let x_one : new.angle (w.darts + 2) ≡ 1 = ap new.angle (sym cut.split.darts) ∙ cut.chord.angle_there in
+    let x_one : new.angle (w.darts + 2) ≡ 1 = ap new.angle (sym cut.subdivide.darts) ∙ cut.chord.angle_there in
     let hopeful : Hopeful (total (map w.angle rest)) (length rest) (1 ∷ 1 ∷ w.angle d ∷ map w.angle st) =
     subst (λ (k : ℕ). Hopeful (total (map w.angle rest)) (length rest) (1 ∷ k ∷ w.angle d ∷ map w.angle st)) left_first
     (subst (λ (k : ℕ). Hopeful (total (map w.angle rest)) (length rest) (k ∷ w.angle c1 ∷ w.angle d ∷ map w.angle st)) left scan.hopeful) in
@@ -284,7 +284,7 @@ scan_cut_turning w0 face w d c1 c way st rest o rs new scan wait left_first left
     let less = bite_angle_d w d c1 c (w.next c) way new bite in
     let four : w.angle d ≡ 4 = pick (w.angle d) (new.angle d) less cut.right (scan.sound.meeting.most d cut.d_in) corner in
     let three : new.angle d ≡ 3 = omega (arith, less, four) in
-    let x_one : new.angle (w.darts + 2) ≡ 1 = ap new.angle (sym cut.split.darts) ∙ cut.chord.angle_there in
+    let x_one : new.angle (w.darts + 2) ≡ 1 = ap new.angle (sym cut.subdivide.darts) ∙ cut.chord.angle_there in
     let hopeful : Hopeful (total (map w.angle rest)) (length rest) (1 ∷ 1 ∷ w.angle d ∷ map w.angle st) =
     subst (λ (k : ℕ). Hopeful (total (map w.angle rest)) (length rest) (1 ∷ k ∷ w.angle d ∷ map w.angle st)) left_first
     (subst (λ (k : ℕ). Hopeful (total (map w.angle rest)) (length rest) (k ∷ w.angle c1 ∷ w.angle d ∷ map w.angle st)) left scan.hopeful) in
@@ -322,7 +322,7 @@ read_split w d c e facing one two mid read s =
     (subst (λ (k : ℕ). IsSubdivided w e k 2 mid) read.facing_is s)
 
 pub read_fits : (w : DartMap) (d c e facing one two : ℕ) (mid : DartMap) → IsRead w d c e facing one two → IsSound w → CanCut w d c →
-    IsSubdivided w e facing 2 mid → Fits mid d w.darts ((one + 7 - two) % 4)
+    IsSubdivided w e facing 2 mid → HasChordAngles mid d w.darts ((one + 7 - two) % 4)
 read_fits w d c e facing one two mid read sound can s =
     chord_fits w d c ((one + 7 - two) % 4) mid sound can
     (ap (λ (k : ℕ). (k + 7 - two) % 4) read.direction_is ∙ ap (λ (k : ℕ). (w.direction d + 7 - k) % 4) read.angle_is)
@@ -342,7 +342,7 @@ read_cut w d c e facing one two mid new read sound can s chord = record {
   e_in = sound.tied.next_in c can.c_in;
   d_in = can.d_in;
   right = can.right;
-  split = read_split w d c e facing one two mid read s;
+  subdivide = read_split w d c e facing one two mid read s;
   fits = read_fits w d c e facing one two mid read sound can s;
   chord = chord;
 }

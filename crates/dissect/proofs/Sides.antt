@@ -32,21 +32,21 @@ chain_doubled w new end reverse_dart held front turns old doubled longer = recor
 
 pub split_chain : (w : DartMap) (e way : ℕ) (new : DartMap) (end reverse_dart held : ℕ) (turns : List ℕ) → IsTied w → e < w.darts → way < 4 →
     IsSubdivided w e way 2 new → HasChain w end reverse_dart held turns → HasChain new end reverse_dart held turns
-split_chain w e way new end reverse_dart held turns tied e_in quarter split old =
+split_chain w e way new end reverse_dart held turns tied e_in quarter subdivide old =
     let f : ℕ = old.path.first in
     let rest : List ℕ = old.path.rest in
     let longer = longer_turns w new f rest (bends w f rest) turns old.path.turns
-    (split_longer w e way new tied e_in quarter split f rest old.path.path.first_in old.path.path.rest_in old.path.path.follows) in
+    (split_longer w e way new tied e_in quarter subdivide f rest old.path.path.first_in old.path.path.rest_in old.path.path.follows) in
     elim (cases_eq f e) [
       | inl at ↦ chain_doubled w new end reverse_dart held w.darts turns old
           (subst (λ (k : ℕ). IsDoubled w new k w.darts 0) (sym at)
-          (split_doubled w e way 2 0 new tied e_in quarter (omega arith) refl split)) longer
+          (split_doubled w e way 2 0 new tied e_in quarter (omega arith) refl subdivide)) longer
       | inr not_e ↦ elim (cases_eq f (w.reverse_dart e)) [
         | inl at ↦ chain_doubled w new end reverse_dart held (w.darts + 1) turns old
             (subst (λ (k : ℕ). IsDoubled w new k (w.darts + 1) 0) (sym at)
-            (split_doubled_back w e way 2 0 new tied e_in quarter (omega arith) refl split)) longer
+            (split_doubled_back w e way 2 0 new tied e_in quarter (omega arith) refl subdivide)) longer
         | inr not_t ↦ chain_kept w new end reverse_dart held turns old
-            (split_kept w e way 2 new tied split f old.path.path.first_in not_e not_t) longer
+            (split_kept w e way 2 new tied subdivide f old.path.path.first_in not_e not_t) longer
       ]
     ]
 
@@ -61,8 +61,8 @@ pub cut_chain : (w : DartMap) (d e way : ℕ) (new : DartMap) (end reverse_dart 
     IsCut w d e way new → HasChain w end reverse_dart held turns → HasChain new end reverse_dart held turns
 cut_chain w d e way new end reverse_dart held turns tied quarter cut old =
     beside_chain cut.middle new end reverse_dart held turns
-    (chord_beside cut.middle d w.darts way new (split_tied w e (w.direction e) 2 cut.middle tied cut.e_in cut.split) cut.chord)
-    (split_chain w e (w.direction e) cut.middle end reverse_dart held turns tied cut.e_in quarter cut.split old)
+    (chord_beside cut.middle d w.darts way new (split_tied w e (w.direction e) 2 cut.middle tied cut.e_in cut.subdivide) cut.chord)
+    (split_chain w e (w.direction e) cut.middle end reverse_dart held turns tied cut.e_in quarter cut.subdivide old)
 
 pub grows_chain : (w new : DartMap) (end reverse_dart held : ℕ) (turns : List ℕ) → IsTied w → AreQuarters w → Grows w new →
     HasChain w end reverse_dart held turns → HasChain new end reverse_dart held turns

@@ -29,36 +29,36 @@ surround_tied w new s tied =
     record {
       next_in = all (λ a. new.next a < new.darts)
           (λ a l. omega (arith, s.darts, s.next_old a l, tied.next_in a l))
-          (λ k l. omega (arith, s.darts, s.next_inner k l))
-          (λ k l. omega (arith, s.darts, s.next_outer k l));
+          (λ k l. omega (arith, s.darts, s.next_inside k l))
+          (λ k l. omega (arith, s.darts, s.next_outside k l));
       prev_in = all (λ a. new.prev a < new.darts)
           (λ a l. omega (arith, s.darts, s.prev_old a l, tied.prev_in a l))
-          (λ k l. omega (arith, s.darts, s.prev_inner k l))
-          (λ k l. omega (arith, s.darts, s.prev_outer k l));
+          (λ k l. omega (arith, s.darts, s.prev_inside k l))
+          (λ k l. omega (arith, s.darts, s.prev_outside k l));
       next_back = all (λ a. new.prev (new.next a) ≡ a)
           (λ a l. ap new.prev (s.next_old a l) ∙ s.prev_old (w.next a) (tied.next_in a l) ∙ tied.next_back a l)
           (λ k l. let e : n + ((k + 1) % 4 + 3) % 4 ≡ n + k = omega arith in
-          ap new.prev (s.next_inner k l) ∙ s.prev_inner ((k + 1) % 4) (omega arith) ∙ e)
+          ap new.prev (s.next_inside k l) ∙ s.prev_inside ((k + 1) % 4) (omega arith) ∙ e)
           (λ k l. let e : n + 4 + ((k + 3) % 4 + 1) % 4 ≡ n + 4 + k = omega arith in
-          ap new.prev (s.next_outer k l) ∙ s.prev_outer ((k + 3) % 4) (omega arith) ∙ e);
+          ap new.prev (s.next_outside k l) ∙ s.prev_outside ((k + 3) % 4) (omega arith) ∙ e);
       prev_back = all (λ a. new.next (new.prev a) ≡ a)
           (λ a l. ap new.next (s.prev_old a l) ∙ s.next_old (w.prev a) (tied.prev_in a l) ∙ tied.prev_back a l)
           (λ k l. let e : n + ((k + 3) % 4 + 1) % 4 ≡ n + k = omega arith in
-          ap new.next (s.prev_inner k l) ∙ s.next_inner ((k + 3) % 4) (omega arith) ∙ e)
+          ap new.next (s.prev_inside k l) ∙ s.next_inside ((k + 3) % 4) (omega arith) ∙ e)
           (λ k l. let e : n + 4 + ((k + 1) % 4 + 3) % 4 ≡ n + 4 + k = omega arith in
-          ap new.next (s.prev_outer k l) ∙ s.next_outer ((k + 1) % 4) (omega arith) ∙ e);
+          ap new.next (s.prev_outside k l) ∙ s.next_outside ((k + 1) % 4) (omega arith) ∙ e);
       reverse_dart_in = all (λ a. new.reverse_dart a < new.darts)
           (λ a l. omega (arith, s.darts, s.reverse_dart_old a l, tied.reverse_dart_in a l))
-          (λ k l. omega (arith, s.darts, s.reverse_dart_inner k l))
-          (λ k l. omega (arith, s.darts, s.reverse_dart_outer k l));
+          (λ k l. omega (arith, s.darts, s.reverse_dart_inside k l))
+          (λ k l. omega (arith, s.darts, s.reverse_dart_outside k l));
       reverse_dart_back = all (λ a. new.reverse_dart (new.reverse_dart a) ≡ a)
           (λ a l. ap new.reverse_dart (s.reverse_dart_old a l) ∙ s.reverse_dart_old (w.reverse_dart a) (tied.reverse_dart_in a l) ∙ tied.reverse_dart_back a l)
-          (λ k l. ap new.reverse_dart (s.reverse_dart_inner k l) ∙ s.reverse_dart_outer k l)
-          (λ k l. ap new.reverse_dart (s.reverse_dart_outer k l) ∙ s.reverse_dart_inner k l);
+          (λ k l. ap new.reverse_dart (s.reverse_dart_inside k l) ∙ s.reverse_dart_outside k l)
+          (λ k l. ap new.reverse_dart (s.reverse_dart_outside k l) ∙ s.reverse_dart_inside k l);
       reverse_dart_apart = all (λ a. new.reverse_dart a ≢ a)
           (λ a l h. tied.reverse_dart_apart a l (sym (s.reverse_dart_old a l) ∙ h))
-          (λ k l h. omega (arith, s.reverse_dart_inner k l, h))
-          (λ k l h. omega (arith, s.reverse_dart_outer k l, h));
+          (λ k l h. omega (arith, s.reverse_dart_inside k l, h))
+          (λ k l h. omega (arith, s.reverse_dart_outside k l, h));
     }
 
 -- the angles at a vertex are those of the old darts and of the rectangle's
@@ -81,17 +81,17 @@ corner_sum w new s k l =
     inner : (k i : ℕ) → i < 4 → part new.head new.angle (w.vertices + k) (w.darts + i) ≡ cond (eqb i k) 1 0
     inner k i l =
         elim (cases_eq i k) [
-          | inl e ↦ part_here new.head new.angle (w.vertices + k) (w.darts + i) (omega (arith, s.head_inner i l, e)) ∙ s.angle_inner i l
+          | inl e ↦ part_here new.head new.angle (w.vertices + k) (w.darts + i) (omega (arith, s.head_inside i l, e)) ∙ s.angle_inside i l
               ∙ ap (λ (b : Bool). cond b 1 0) (sym (eq-eqb i k e))
-          | inr ne ↦ part_elsewhere new.head new.angle (w.vertices + k) (w.darts + i) (λ h. ne (omega (arith, h, s.head_inner i l)))
+          | inr ne ↦ part_elsewhere new.head new.angle (w.vertices + k) (w.darts + i) (λ h. ne (omega (arith, h, s.head_inside i l)))
               ∙ ap (λ (b : Bool). cond b 1 0) (sym (ne_eqb i k ne))
         ]
 
     outer : (k i : ℕ) → i < 4 → part new.head new.angle (w.vertices + k) (w.darts + (4 + i)) ≡ cond (eqb ((i + 3) % 4) k) 3 0
     outer k i l =
         let place : w.darts + (4 + i) ≡ w.darts + 4 + i = omega arith in
-        let head : new.head (w.darts + (4 + i)) ≡ w.vertices + (i + 3) % 4 = ap new.head place ∙ s.head_outer i l in
-        let angle : new.angle (w.darts + (4 + i)) ≡ 3 = ap new.angle place ∙ s.angle_outer i l in
+        let head : new.head (w.darts + (4 + i)) ≡ w.vertices + (i + 3) % 4 = ap new.head place ∙ s.head_outside i l in
+        let angle : new.angle (w.darts + (4 + i)) ≡ 3 = ap new.angle place ∙ s.angle_outside i l in
         elim (cases_eq ((i + 3) % 4) k) [
           | inl e ↦ part_here new.head new.angle (w.vertices + k) (w.darts + (4 + i)) (omega (arith, head, e)) ∙ angle
               ∙ ap (λ (b : Bool). cond b 3 0) (sym (eq-eqb ((i + 3) % 4) k e))
@@ -125,10 +125,10 @@ surround_whole w new s m u l =
     away w new s u old i l =
         part_elsewhere new.head new.angle u (w.darts + i)
         (elim (cases_lt i 4) [
-          | inl inner ↦ λ h. omega (arith, h, s.head_inner i inner)
+          | inl inner ↦ λ h. omega (arith, h, s.head_inside i inner)
           | inr outer ↦
               let e : w.darts + i ≡ w.darts + 4 + (i - 4) = omega arith in
-              λ h. omega (arith, h, ap new.head e, s.head_outer (i - 4) (omega arith))
+              λ h. omega (arith, h, ap new.head e, s.head_outside (i - 4) (omega arith))
         ])
 
 pub surround_meeting : (w new : DartMap) → IsSurrounded w new → IsTied w → IsMeeting w → IsMeeting new
@@ -141,23 +141,23 @@ surround_meeting w new s tied m =
     let clockwise_old : (a : ℕ) → a < n → new.reverse_dart (new.next a) ≡ w.reverse_dart (w.next a) =
     λ a l. ap new.reverse_dart (s.next_old a l) ∙ s.reverse_dart_old (w.next a) (tied.next_in a l) in
     let clockwise_inner : (k : ℕ) → k < 4 → new.reverse_dart (new.next (n + k)) ≡ n + 4 + (k + 1) % 4 =
-    λ k l. ap new.reverse_dart (s.next_inner k l) ∙ s.reverse_dart_inner ((k + 1) % 4) (omega arith) in
+    λ k l. ap new.reverse_dart (s.next_inside k l) ∙ s.reverse_dart_inside ((k + 1) % 4) (omega arith) in
     let clockwise_outer : (k : ℕ) → k < 4 → new.reverse_dart (new.next (n + 4 + k)) ≡ n + (k + 3) % 4 =
-    λ k l. ap new.reverse_dart (s.next_outer k l) ∙ s.reverse_dart_outer ((k + 3) % 4) (omega arith) in
+    λ k l. ap new.reverse_dart (s.next_outside k l) ∙ s.reverse_dart_outside ((k + 3) % 4) (omega arith) in
     record {
       head_in = all (λ a. new.head a < new.vertices)
           (λ a l. omega (arith, s.vertices, s.head_old a l, m.head_in a l))
-          (λ k l. omega (arith, s.vertices, s.head_inner k l))
-          (λ k l. omega (arith, s.vertices, s.head_outer k l));
+          (λ k l. omega (arith, s.vertices, s.head_inside k l))
+          (λ k l. omega (arith, s.vertices, s.head_outside k l));
       meets = all (λ a. new.head (new.reverse_dart (new.next a)) ≡ new.head a)
           (λ a l. ap new.head (clockwise_old a l) ∙ s.head_old (w.reverse_dart (w.next a)) (tied.reverse_dart_in (w.next a) (tied.next_in a l))
           ∙ m.meets a l ∙ sym (s.head_old a l))
-          (λ k l. omega (arith, ap new.head (clockwise_inner k l), s.head_outer ((k + 1) % 4) (omega arith), s.head_inner k l))
-          (λ k l. omega (arith, ap new.head (clockwise_outer k l), s.head_inner ((k + 3) % 4) (omega arith), s.head_outer k l));
+          (λ k l. omega (arith, ap new.head (clockwise_inner k l), s.head_outside ((k + 1) % 4) (omega arith), s.head_inside k l))
+          (λ k l. omega (arith, ap new.head (clockwise_outer k l), s.head_inside ((k + 3) % 4) (omega arith), s.head_outside k l));
       quarter = all (λ a. new.direction a < 4)
           (λ a l. omega (arith, s.direction_old a l, m.quarter a l))
-          (λ k l. omega (arith, s.direction_inner k l))
-          (λ k l. omega (arith, s.direction_outer k l));
+          (λ k l. omega (arith, s.direction_inside k l))
+          (λ k l. omega (arith, s.direction_outside k l));
       turns = all (λ a. (new.direction (new.reverse_dart (new.next a)) + new.angle a) % 4 ≡ new.direction a)
           (λ a l. omega (
             arith,
@@ -167,16 +167,16 @@ surround_meeting w new s tied m =
             s.direction_old a l,
             m.turns a l,
           ))
-          (λ k l. omega (arith, ap new.direction (clockwise_inner k l), s.direction_outer ((k + 1) % 4) (omega arith), s.angle_inner k l, s.direction_inner k l))
-          (λ k l. omega (arith, ap new.direction (clockwise_outer k l), s.direction_inner ((k + 3) % 4) (omega arith), s.angle_outer k l, s.direction_outer k l));
+          (λ k l. omega (arith, ap new.direction (clockwise_inner k l), s.direction_outside ((k + 1) % 4) (omega arith), s.angle_inside k l, s.direction_inside k l))
+          (λ k l. omega (arith, ap new.direction (clockwise_outer k l), s.direction_inside ((k + 3) % 4) (omega arith), s.angle_outside k l, s.direction_outside k l));
       some = all (λ a. 1 ≤ new.angle a)
           (λ a l. omega (arith, s.angle_old a l, m.some a l))
-          (λ k l. omega (arith, s.angle_inner k l))
-          (λ k l. omega (arith, s.angle_outer k l));
+          (λ k l. omega (arith, s.angle_inside k l))
+          (λ k l. omega (arith, s.angle_outside k l));
       most = all (λ a. new.angle a ≤ 4)
           (λ a l. omega (arith, s.angle_old a l, m.most a l))
-          (λ k l. omega (arith, s.angle_inner k l))
-          (λ k l. omega (arith, s.angle_outer k l));
+          (λ k l. omega (arith, s.angle_inside k l))
+          (λ k l. omega (arith, s.angle_outside k l));
       whole = surround_whole w new s m;
     }
 
@@ -190,8 +190,8 @@ surround_straight w new s tied straight = λ a l.
       s.direction_old a l,
       straight a l,
     ))
-    (λ k l. omega (arith, ap new.direction (s.reverse_dart_inner k l), s.direction_outer k l, s.direction_inner k l))
-    (λ k l. omega (arith, ap new.direction (s.reverse_dart_outer k l), s.direction_outer k l, s.direction_inner k l))
+    (λ k l. omega (arith, ap new.direction (s.reverse_dart_inside k l), s.direction_outside k l, s.direction_inside k l))
+    (λ k l. omega (arith, ap new.direction (s.reverse_dart_outside k l), s.direction_outside k l, s.direction_inside k l))
     a (omega (arith, s.darts, l))
 
 pub surround_sound : (w new : DartMap) → IsSurrounded w new → IsSound w → IsSound new
@@ -212,10 +212,10 @@ surround_reflex_turns w new s =
       arith,
       all,
       same,
-      s.angle_inner 0 (omega arith),
-      s.angle_inner 1 (omega arith),
-      s.angle_inner 2 (omega arith),
-      s.angle_inner 3 (omega arith),
+      s.angle_inside 0 (omega arith),
+      s.angle_inside 1 (omega arith),
+      s.angle_inside 2 (omega arith),
+      s.angle_inside 3 (omega arith),
       at 0 (omega arith),
       at 1 (omega arith),
       at 2 (omega arith),
@@ -223,4 +223,4 @@ surround_reflex_turns w new s =
     )
   where
     at : (k : ℕ) → k < 4 → new.angle (w.darts + (4 + k)) ≡ 3
-    at k l = let e : w.darts + (4 + k) ≡ w.darts + 4 + k = omega arith in ap new.angle e ∙ s.angle_outer k l
+    at k l = let e : w.darts + (4 + k) ≡ w.darts + 4 + k = omega arith in ap new.angle e ∙ s.angle_outside k l

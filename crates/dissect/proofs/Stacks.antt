@@ -4,7 +4,7 @@ use Rattle.std.proofs.lemmas.Bool.{cases_lt}
 use Rattle.std.proofs.lemmas.List.{drop-set-lt}
 use Rattle.std.proofs.lemmas.List.Elements.{All-set}
 use Rattle.std.proofs.Math.ListN.{length-set}
-use Rattle.dissect.specs.Turning.{HasNoHook, AreTurns}
+use Rattle.dissect.specs.Turning.{HasNoHook, AreCornerAngles}
 use Rattle.dissect.specs.DartMaps.{DartMap, IsCut}
 use Rattle.dissect.specs.Faces.{IsCorner, In, concatenated, AreWaiting}
 use Rattle.dissect.specs.Scan.{down, tops, IsScan, CanCut, HasRoom, IsHookOn}
@@ -74,7 +74,7 @@ stack_turns w0 face w st rest o rs scan wait a here =
     )
 
 -- where no hook stands uppermost, the stack is hookless
-pub unhooked : (w : DartMap) (st : List ℕ) → AreTurns (map w.angle st) → (IsHookOn w st → ⊥) → 1 ≤ length st →
+pub unhooked : (w : DartMap) (st : List ℕ) → AreCornerAngles (map w.angle st) → (IsHookOn w st → ⊥) → 1 ≤ length st →
     ((c : ℕ) (rest : List ℕ) → st ≡ c ∷ rest → HasNoHook 0 (map w.angle rest)) → HasNoHook 0 (map w.angle st)
 unhooked w [] turns clear some tail = tt
 unhooked w (c ∷ st) turns clear some tail =
@@ -158,7 +158,7 @@ top_turning w0 room face w xs k read way o rs new top wait hook cut corner =
     let one_back : k + 2 - 1 ≡ k + 1 = omega arith in
     let same_tail : tops ys (k + 2 - 1) ≡ d ∷ tops xs k =
     ap (tops ys) one_back ∙ tops_set xs (k + 1) x (k + 1) (omega arith) ∙ tops_more xs k in
-    let rights : 2 < new.angle d = beyond (new.angle d) (w.angle d) cut.chord.angle_d (cut.split.angle_old d cut.d_in) cut.right corner in
+    let rights : 2 < new.angle d = beyond (new.angle d) (w.angle d) cut.chord.angle_d (cut.subdivide.angle_old d cut.d_in) cut.right corner in
     let hookless = below_top w xs k top.tail in
     record {
       scan = subst (λ (st : List ℕ). IsScan w0 face new st (drop read ys)) (sym same_tops)
@@ -213,21 +213,21 @@ hook_from w xs h three left left_first right =
     (subst (λ (j : ℕ). w.angle (get_or xs j 0) ≡ 1) e1 left, subst (λ (j : ℕ). w.angle (get_or xs j 0) ≡ 1) e2 left_first, right))
 
 -- the angles of the three uppermost
-pub three_turns : (w : DartMap) (xs : List ℕ) (h : ℕ) → 3 ≤ h → AreTurns (map w.angle (tops xs h)) →
-    AreTurns (w.angle (get_or xs (h - 1) 0) ∷ w.angle (get_or xs (h - 2) 0) ∷ w.angle (get_or xs (h - 3) 0) ∷ [])
+pub three_turns : (w : DartMap) (xs : List ℕ) (h : ℕ) → 3 ≤ h → AreCornerAngles (map w.angle (tops xs h)) →
+    AreCornerAngles (w.angle (get_or xs (h - 1) 0) ∷ w.angle (get_or xs (h - 2) 0) ∷ w.angle (get_or xs (h - 3) 0) ∷ [])
 three_turns w xs h three turns =
     let k : ℕ = h - 3 in
     let e : h ≡ k + 3 = omega arith in
     let e1 : k + 2 ≡ h - 1 = omega arith in
     let e2 : k + 1 ≡ h - 2 = omega arith in
-    let all : AreTurns (map w.angle (get_or xs (k + 2) 0 ∷ get_or xs (k + 1) 0 ∷ get_or xs k 0 ∷ tops xs k)) =
-    subst (λ (st : List ℕ). AreTurns (map w.angle st)) (ap (tops xs) e ∙ tops_three xs k) turns in
-    subst (λ (i : ℕ). AreTurns (w.angle (get_or xs i 0) ∷ w.angle (get_or xs (h - 2) 0) ∷ w.angle (get_or xs k 0) ∷ [])) e1
-    (subst (λ (i : ℕ). AreTurns (w.angle (get_or xs (k + 2) 0) ∷ w.angle (get_or xs i 0) ∷ w.angle (get_or xs k 0) ∷ [])) e2
+    let all : AreCornerAngles (map w.angle (get_or xs (k + 2) 0 ∷ get_or xs (k + 1) 0 ∷ get_or xs k 0 ∷ tops xs k)) =
+    subst (λ (st : List ℕ). AreCornerAngles (map w.angle st)) (ap (tops xs) e ∙ tops_three xs k) turns in
+    subst (λ (i : ℕ). AreCornerAngles (w.angle (get_or xs i 0) ∷ w.angle (get_or xs (h - 2) 0) ∷ w.angle (get_or xs k 0) ∷ [])) e1
+    (subst (λ (i : ℕ). AreCornerAngles (w.angle (get_or xs (k + 2) 0) ∷ w.angle (get_or xs i 0) ∷ w.angle (get_or xs k 0) ∷ [])) e2
     (all.0, all.1, all.2, (all.3.0, all.3.1, all.3.2, (all.3.3.0, all.3.3.1, all.3.3.2, tt))))
 
 -- among corners, only a right turn has more right angles than two others, and only than two left turns
-pub hook_compared : (top below right : ℕ) → AreTurns (top ∷ below ∷ right ∷ []) → below + top < right →
+pub hook_compared : (top below right : ℕ) → AreCornerAngles (top ∷ below ∷ right ∷ []) → below + top < right →
     (top ≡ 1) × (below ≡ 1) × (2 < right)
 hook_compared top below right turns less =
     let small : below + top < 4 = omega (arith, less, turns.3.3.1) in (
@@ -286,7 +286,7 @@ turning_at w0 room face w xs h read way o rs new top wait hook cut corner =
 
 -- the corners on the stack turn
 pub turns_at : (w0 : DartMap) (room : ℕ) (face : List ℕ) (w : DartMap) (xs : List ℕ) (h read : ℕ) (o : ℕ) (rs : List (List ℕ)) →
-    IsTop w0 room face w xs h read → AreWaiting w0 o (face ∷ rs) → AreTurns (map w.angle (tops xs h))
+    IsTop w0 room face w xs h read → AreWaiting w0 o (face ∷ rs) → AreCornerAngles (map w.angle (tops xs h))
 turns_at w0 room face w xs h read o rs top wait =
     turns_of w (tops xs h) top.scan.sound (stack_turns w0 face w (tops xs h) (drop read xs) o rs top.scan wait)
 
@@ -298,9 +298,9 @@ unhooked_at w0 room face w xs h read o rs top wait clear =
     let some : 1 ≤ h = top.some in
     let e : h ≡ k + 1 = omega arith in
     let same : tops xs h ≡ get_or xs k 0 ∷ tops xs k = ap (tops xs) e ∙ tops_more xs k in
-    let turns : AreTurns (map w.angle (tops xs h)) = turns_at w0 room face w xs h read o rs top wait in
+    let turns : AreCornerAngles (map w.angle (tops xs h)) = turns_at w0 room face w xs h read o rs top wait in
     subst (λ (st : List ℕ). HasNoHook 0 (map w.angle st)) (sym same)
-    (unhooked w (get_or xs k 0 ∷ tops xs k) (subst (λ (st : List ℕ). AreTurns (map w.angle st)) same turns)
+    (unhooked w (get_or xs k 0 ∷ tops xs k) (subst (λ (st : List ℕ). AreCornerAngles (map w.angle st)) same turns)
     (λ hook. clear (subst (IsHookOn w) (sym same) hook)) (omega arith)
     (λ c rest e. let tail : tops xs k ≡ rest = cc in subst (λ (zs : List ℕ). HasNoHook 0 (map w.angle zs)) tail top.tail))
 

@@ -10,7 +10,7 @@ use Rattle.ortho_rep.specs.declared.turn.Turn.{Turn}
 use Rattle.ortho_rep.specs.Turns.{lefts, rights}
 use Rattle.ortho_rep.specs.Representation.{Rep}
 use Rattle.ortho_rep.proofs.WeakDuality.{left_sums, right_sums, turning-split}
-use Rattle.dissect.specs.Headings.{AreHeadings}
+use Rattle.dissect.specs.Directions.{AreDirections}
 use Rattle.dissect.specs.DartMaps.{DartMap, IsTied, IsMeeting, around, reflex_turns}
 use Rattle.dissect.specs.FaceNumbers.{AreFaceNumbers}
 use Rattle.dissect.proofs.Splitting.{part, part_same}
@@ -20,7 +20,7 @@ use Rattle.dissect.proofs.OwedTurns.{IsOwing, owing, gained, lost, Turns}
 use Rattle.dissect.proofs.Stepping.{IsBehind}
 
 module _ (p : PlaneModel) (a : ℕ → ℕ) (s : ℕ → List Turn) (h : ℕ → ℕ) (w : DartMap) (plane : IsPlane p) (ends : HasEnds p) (rep : Rep p a s)
-    (headings : AreHeadings p a s h) (bare : IsBare p a h w) where
+    (directions : AreDirections p a s h) (bare : IsBare p a h w) where
   in_plane : (x : ℕ) → x < w.darts → x < darts p
   in_plane x l = omega (arith, bare.dart_count)
 
@@ -34,8 +34,8 @@ module _ (p : PlaneModel) (a : ℕ → ℕ) (s : ℕ → List Turn) (h : ℕ →
         prev_in = λ x l. let (d, inside, at, back) = behind x l in omega (arith, inside, back, bare.dart_count);
         next_back = λ x l. ap w.prev (bare.nexts x (in_plane x l)) ∙ bare.prevs x (in_plane x l);
         prev_back = λ x l. let (d, inside, at, back) = behind x l in ap w.next back ∙ bare.nexts d inside ∙ at;
-        reverse_dart_in = λ x l. omega (arith, bare.reverse_darts x (in_plane x l), ends.reverse_dart_inside x (in_plane x l), bare.dart_count);
-        reverse_dart_back = λ x l. ap w.reverse_dart (bare.reverse_darts x (in_plane x l)) ∙ bare.reverse_darts (reverse_dart p x) (ends.reverse_dart_inside x (in_plane x l))
+        reverse_dart_in = λ x l. omega (arith, bare.reverse_darts x (in_plane x l), ends.reverse_dart_in_range x (in_plane x l), bare.dart_count);
+        reverse_dart_back = λ x l. ap w.reverse_dart (bare.reverse_darts x (in_plane x l)) ∙ bare.reverse_darts (reverse_dart p x) (ends.reverse_dart_in_range x (in_plane x l))
             ∙ ends.reverse_dart_back x (in_plane x l);
         reverse_dart_apart = λ x l same. ends.reverse_dart_apart x (in_plane x l) (sym (bare.reverse_darts x (in_plane x l)) ∙ same);
       }
@@ -70,18 +70,18 @@ module _ (p : PlaneModel) (a : ℕ → ℕ) (s : ℕ → List Turn) (h : ℕ →
         omega (
           arith,
           ap w.head (arrives x b),
-          bare.heads (reverse_dart p (next p x)) (ends.reverse_dart_inside (next p x) n_in),
+          bare.heads (reverse_dart p (next p x)) (ends.reverse_dart_in_range (next p x) n_in),
           ends.reverse_dart_head (next p x) n_in,
           ends.next_tail x b,
           bare.heads x b,
         );
-    quarter = λ x l. omega (arith, bare.directions x (in_plane x l), headings.quarter x (in_plane x l));
+    quarter = λ x l. omega (arith, bare.directions x (in_plane x l), directions.quarter x (in_plane x l));
     turns = λ x l.
         let b = in_plane x l in
         let n_in = ends.next_one.inside x b in
         let there : w.direction (w.reverse_dart (w.next x)) ≡ h (reverse_dart p (next p x)) =
-        ap w.direction (arrives x b) ∙ bare.directions (reverse_dart p (next p x)) (ends.reverse_dart_inside (next p x) n_in) in
-        omega (arith, there, bare.angles x b, bare.directions x b, headings.angles x b);
+        ap w.direction (arrives x b) ∙ bare.directions (reverse_dart p (next p x)) (ends.reverse_dart_in_range (next p x) n_in) in
+        omega (arith, there, bare.angles x b, bare.directions x b, directions.angles x b);
     some = λ x l. omega (arith, bare.angles x (in_plane x l), (rep.angles x (in_plane x l)).0);
     most = λ x l. omega (arith, bare.angles x (in_plane x l), (rep.angles x (in_plane x l)).1);
     whole = whole;
@@ -138,8 +138,8 @@ module _ (p : PlaneModel) (a : ℕ → ℕ) (s : ℕ → List Turn) (h : ℕ →
         ways = λ x l.
             let b = in_plane x l in
             let there : w.direction (w.reverse_dart x) ≡ h (reverse_dart p x) =
-            ap w.direction (bare.reverse_darts x b) ∙ bare.directions (reverse_dart p x) (ends.reverse_dart_inside x b) in
-            ap (λ (k : ℕ). (k + 2 + lefts (s x)) % 4) there ∙ headings.strings x b
+            ap w.direction (bare.reverse_darts x b) ∙ bare.directions (reverse_dart p x) (ends.reverse_dart_in_range x b) in
+            ap (λ (k : ℕ). (k + 2 + lefts (s x)) % 4) there ∙ directions.strings x b
             ∙ sym (ap (λ (k : ℕ). (k + rights (s x)) % 4) (bare.directions x b));
         face_numbers = face_numbers;
         named = λ x l. ends.face_named x (in_plane x l);

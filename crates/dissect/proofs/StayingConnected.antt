@@ -1,7 +1,7 @@
 -- Splits, chords and cuts leave a connected map connected.
 use Rattle.std.proofs.Common.{◌≡◌, ℕ, ◌+◌, ◌<◌, ◌∙◌, Bool, true, arith, subst, sym, ap, inl, inr}
 use Rattle.std.proofs.lemmas.Bool.{cases_eq}
-use Rattle.dissect.specs.DartMaps.{DartMap, IsTied, IsSubdivided, IsChord, Fits, IsCut, Grows, same, further}
+use Rattle.dissect.specs.DartMaps.{DartMap, IsTied, IsSubdivided, IsChord, HasChordAngles, IsCut, Grows, same, further}
 use Rattle.dissect.specs.Paths.{IsConnected}
 use Rattle.dissect.proofs.Splitting.{by_age, split_tied}
 use Rattle.dissect.proofs.Chords.{chord_tied}
@@ -49,52 +49,52 @@ extended_connected w new extended connected s next reverse_dart a b l_a l_b h =
     extended.all s shut (λ c l_c. connected s old.next old.reverse_dart found.0 c found.1 l_c found.2) b l_b
 
 pub split_extended : (w : DartMap) (e way bend : ℕ) (new : DartMap) → IsTied w → e < w.darts → IsSubdivided w e way bend new → IsExtended w new
-split_extended w e way bend new tied e_in split =
+split_extended w e way bend new tied e_in subdivide =
     let n : ℕ = w.darts in
     let t : ℕ = w.reverse_dart e in
     let t_in : t < w.darts = tied.reverse_dart_in e e_in in
-    let old_in : (a : ℕ) → a < w.darts → a < new.darts = λ a l. omega (arith, split.darts) in
-    let first_in : n < new.darts = omega (arith, split.darts) in
-    let second_in : n + 1 < new.darts = omega (arith, split.darts) in
+    let old_in : (a : ℕ) → a < w.darts → a < new.darts = λ a l. omega (arith, subdivide.darts) in
+    let first_in : n < new.darts = omega (arith, subdivide.darts) in
+    let second_in : n + 1 < new.darts = omega (arith, subdivide.darts) in
     record {
       shut = λ s shut. record {
         next = λ a l h. elim (cases_eq a (w.prev e)) [
           | inl at ↦
-              let on = by_next new s a n shut (old_in a l) (ap new.next at ∙ split.next_before) h in
-              by_next new s n (w.next a) shut first_in (split.next_first ∙ sym (ap w.next at ∙ tied.prev_back e e_in)) on
+              let on = by_next new s a n shut (old_in a l) (ap new.next at ∙ subdivide.next_before) h in
+              by_next new s n (w.next a) shut first_in (subdivide.next_first ∙ sym (ap w.next at ∙ tied.prev_back e e_in)) on
           | inr not_c ↦ elim (cases_eq a (w.prev t)) [
             | inl at ↦
-                let on = by_next new s a (n + 1) shut (old_in a l) (ap new.next at ∙ split.next_back) h in
-                by_next new s (n + 1) (w.next a) shut second_in (split.next_second ∙ sym (ap w.next at ∙ tied.prev_back t t_in)) on
-            | inr not_p ↦ by_next new s a (w.next a) shut (old_in a l) (split.next_other a l not_c not_p) h
+                let on = by_next new s a (n + 1) shut (old_in a l) (ap new.next at ∙ subdivide.next_back) h in
+                by_next new s (n + 1) (w.next a) shut second_in (subdivide.next_second ∙ sym (ap w.next at ∙ tied.prev_back t t_in)) on
+            | inr not_p ↦ by_next new s a (w.next a) shut (old_in a l) (subdivide.next_other a l not_c not_p) h
           ]
         ];
         reverse_dart = λ a l h. elim (cases_eq a e) [
           | inl at ↦
-              let on = by_reverse_dart new s a (n + 1) shut (old_in a l) (ap new.reverse_dart at ∙ split.reverse_dart_e) h in
-              by_next new s (n + 1) (w.reverse_dart a) shut second_in (split.next_second ∙ sym (ap w.reverse_dart at)) on
+              let on = by_reverse_dart new s a (n + 1) shut (old_in a l) (ap new.reverse_dart at ∙ subdivide.reverse_dart_e) h in
+              by_next new s (n + 1) (w.reverse_dart a) shut second_in (subdivide.next_second ∙ sym (ap w.reverse_dart at)) on
           | inr not_e ↦ elim (cases_eq a t) [
             | inl at ↦
-                let on = by_reverse_dart new s a n shut (old_in a l) (ap new.reverse_dart at ∙ split.reverse_dart_reverse_dart) h in
-                by_next new s n (w.reverse_dart a) shut first_in (split.next_first ∙ sym (ap w.reverse_dart at ∙ tied.reverse_dart_back e e_in)) on
-            | inr not_t ↦ by_reverse_dart new s a (w.reverse_dart a) shut (old_in a l) (split.reverse_dart_other a l not_e not_t) h
+                let on = by_reverse_dart new s a n shut (old_in a l) (ap new.reverse_dart at ∙ subdivide.reverse_dart_reverse_dart) h in
+                by_next new s n (w.reverse_dart a) shut first_in (subdivide.next_first ∙ sym (ap w.reverse_dart at ∙ tied.reverse_dart_back e e_in)) on
+            | inr not_t ↦ by_reverse_dart new s a (w.reverse_dart a) shut (old_in a l) (subdivide.reverse_dart_other a l not_e not_t) h
           ]
         ];
       };
       some = λ s shut a l. by_age n (λ (a : ℕ). s a ≡ true → (b : ℕ) × (b < w.darts) × (s b ≡ true))
           (λ a l h. (a, l, h))
-          (λ h. (e, e_in, by_next new s n e shut first_in split.next_first h))
-          (λ h. (t, t_in, by_next new s (n + 1) t shut second_in split.next_second h))
-          a (omega (arith, split.darts));
+          (λ h. (e, e_in, by_next new s n e shut first_in subdivide.next_first h))
+          (λ h. (t, t_in, by_next new s (n + 1) t shut second_in subdivide.next_second h))
+          a (omega (arith, subdivide.darts));
       all = λ s shut each a l. by_age n (λ (a : ℕ). s a ≡ true) each
-          (by_next new s (w.prev e) n shut (old_in (w.prev e) (tied.prev_in e e_in)) split.next_before
+          (by_next new s (w.prev e) n shut (old_in (w.prev e) (tied.prev_in e e_in)) subdivide.next_before
           (each (w.prev e) (tied.prev_in e e_in)))
-          (by_next new s (w.prev t) (n + 1) shut (old_in (w.prev t) (tied.prev_in t t_in)) split.next_back
+          (by_next new s (w.prev t) (n + 1) shut (old_in (w.prev t) (tied.prev_in t t_in)) subdivide.next_back
           (each (w.prev t) (tied.prev_in t t_in)))
-          a (omega (arith, split.darts));
+          a (omega (arith, subdivide.darts));
     }
 
-pub chord_extended : (w : DartMap) (d f way : ℕ) (new : DartMap) → IsTied w → Fits w d f way → IsChord w d f way new → IsExtended w new
+pub chord_extended : (w : DartMap) (d f way : ℕ) (new : DartMap) → IsTied w → HasChordAngles w d f way → IsChord w d f way new → IsExtended w new
 chord_extended w d f way new tied fits chord =
     let n : ℕ = w.darts in
     let old_in : (a : ℕ) → a < w.darts → a < new.darts = λ a l. omega (arith, chord.darts) in
@@ -131,14 +131,14 @@ chord_extended w d f way new tied fits chord =
 pub cut_tied : (w : DartMap) (d e way : ℕ) (new : DartMap) → IsTied w → IsCut w d e way new → IsTied new
 cut_tied w d e way new tied cut =
     chord_tied cut.middle d w.darts way new
-    (split_tied w e (w.direction e) 2 cut.middle tied cut.e_in cut.split) cut.fits cut.chord
+    (split_tied w e (w.direction e) 2 cut.middle tied cut.e_in cut.subdivide) cut.fits cut.chord
 
 pub cut_extended : (w : DartMap) (d e way : ℕ) (new : DartMap) → IsTied w → IsCut w d e way new → IsExtended w new
 cut_extended w d e way new tied cut =
     extended_on w cut.middle new
-    (split_extended w e (w.direction e) 2 cut.middle tied cut.e_in cut.split)
+    (split_extended w e (w.direction e) 2 cut.middle tied cut.e_in cut.subdivide)
     (chord_extended cut.middle d w.darts way new
-    (split_tied w e (w.direction e) 2 cut.middle tied cut.e_in cut.split) cut.fits cut.chord)
+    (split_tied w e (w.direction e) 2 cut.middle tied cut.e_in cut.subdivide) cut.fits cut.chord)
 
 pub grows_tied : (w new : DartMap) → IsTied w → Grows w new → IsTied new
 grows_tied w new tied same = tied

@@ -29,35 +29,35 @@ surrounded_tied w new tied f =
     record {
       next_in = λ a l. by_side n (λ (a : ℕ). new.next a < new.darts)
           (λ a l. omega (arith, f.next_old a l, tied.next_in a l, f.darts))
-          (λ k l. omega (arith, f.next_inner k l, f.darts)) (λ k l. omega (arith, f.next_outer k l, f.darts))
+          (λ k l. omega (arith, f.next_inside k l, f.darts)) (λ k l. omega (arith, f.next_outside k l, f.darts))
           a (omega (arith, f.darts));
       prev_in = λ a l. by_side n (λ (a : ℕ). new.prev a < new.darts)
           (λ a l. omega (arith, f.prev_old a l, tied.prev_in a l, f.darts))
-          (λ k l. omega (arith, f.prev_inner k l, f.darts)) (λ k l. omega (arith, f.prev_outer k l, f.darts))
+          (λ k l. omega (arith, f.prev_inside k l, f.darts)) (λ k l. omega (arith, f.prev_outside k l, f.darts))
           a (omega (arith, f.darts));
       next_back = λ a l. by_side n (λ (a : ℕ). new.prev (new.next a) ≡ a)
           (λ a l. ap new.prev (f.next_old a l) ∙ f.prev_old (w.next a) (tied.next_in a l) ∙ tied.next_back a l)
-          (λ k l. ap new.prev (f.next_inner k l) ∙ f.prev_inner ((k + 1) % 4) (omega arith) ∙ omega (arith, l))
-          (λ k l. ap new.prev (f.next_outer k l) ∙ f.prev_outer ((k + 3) % 4) (omega arith) ∙ omega (arith, l))
+          (λ k l. ap new.prev (f.next_inside k l) ∙ f.prev_inside ((k + 1) % 4) (omega arith) ∙ omega (arith, l))
+          (λ k l. ap new.prev (f.next_outside k l) ∙ f.prev_outside ((k + 3) % 4) (omega arith) ∙ omega (arith, l))
           a (omega (arith, f.darts));
       prev_back = λ a l. by_side n (λ (a : ℕ). new.next (new.prev a) ≡ a)
           (λ a l. ap new.next (f.prev_old a l) ∙ f.next_old (w.prev a) (tied.prev_in a l) ∙ tied.prev_back a l)
-          (λ k l. ap new.next (f.prev_inner k l) ∙ f.next_inner ((k + 3) % 4) (omega arith) ∙ omega (arith, l))
-          (λ k l. ap new.next (f.prev_outer k l) ∙ f.next_outer ((k + 1) % 4) (omega arith) ∙ omega (arith, l))
+          (λ k l. ap new.next (f.prev_inside k l) ∙ f.next_inside ((k + 3) % 4) (omega arith) ∙ omega (arith, l))
+          (λ k l. ap new.next (f.prev_outside k l) ∙ f.next_outside ((k + 1) % 4) (omega arith) ∙ omega (arith, l))
           a (omega (arith, f.darts));
       reverse_dart_in = λ a l. by_side n (λ (a : ℕ). new.reverse_dart a < new.darts)
           (λ a l. omega (arith, f.reverse_dart_old a l, tied.reverse_dart_in a l, f.darts))
-          (λ k l. omega (arith, f.reverse_dart_inner k l, f.darts)) (λ k l. omega (arith, f.reverse_dart_outer k l, f.darts))
+          (λ k l. omega (arith, f.reverse_dart_inside k l, f.darts)) (λ k l. omega (arith, f.reverse_dart_outside k l, f.darts))
           a (omega (arith, f.darts));
       reverse_dart_back = λ a l. by_side n (λ (a : ℕ). new.reverse_dart (new.reverse_dart a) ≡ a)
           (λ a l. ap new.reverse_dart (f.reverse_dart_old a l) ∙ f.reverse_dart_old (w.reverse_dart a) (tied.reverse_dart_in a l) ∙ tied.reverse_dart_back a l)
-          (λ k l. ap new.reverse_dart (f.reverse_dart_inner k l) ∙ f.reverse_dart_outer k l)
-          (λ k l. ap new.reverse_dart (f.reverse_dart_outer k l) ∙ f.reverse_dart_inner k l)
+          (λ k l. ap new.reverse_dart (f.reverse_dart_inside k l) ∙ f.reverse_dart_outside k l)
+          (λ k l. ap new.reverse_dart (f.reverse_dart_outside k l) ∙ f.reverse_dart_inside k l)
           a (omega (arith, f.darts));
       reverse_dart_apart = λ a l. by_side n (λ (a : ℕ). new.reverse_dart a ≢ a)
           (λ a l h. tied.reverse_dart_apart a l (sym (f.reverse_dart_old a l) ∙ h))
-          (λ k l h. omega (arith, f.reverse_dart_inner k l, h))
-          (λ k l h. omega (arith, f.reverse_dart_outer k l, h))
+          (λ k l h. omega (arith, f.reverse_dart_inside k l, h))
+          (λ k l h. omega (arith, f.reverse_dart_outside k l, h))
           a (omega (arith, f.darts));
     }
 
@@ -65,7 +65,7 @@ pub surrounded_quarters : (w new : DartMap) → AreQuarters w → IsSurrounded w
 surrounded_quarters w new quarters f a l =
     by_side w.darts (λ (a : ℕ). new.direction a < 4)
     (λ a l. omega (arith, f.direction_old a l, quarters a l))
-    (λ k l. omega (arith, f.direction_inner k l, l)) (λ k l. omega (arith, f.direction_outer k l))
+    (λ k l. omega (arith, f.direction_inside k l, l)) (λ k l. omega (arith, f.direction_outside k l))
     a (omega (arith, f.darts))
 
 pub surrounded_beside : (w new : DartMap) → IsTied w → IsSurrounded w new → IsBeside w new
@@ -79,7 +79,7 @@ surrounded_beside w new tied f = record {
     direction = ap new.direction (f.reverse_dart_old b l) ∙ f.direction_old (w.reverse_dart b) (tied.reverse_dart_in b l);
   };
   fresh = λ a l late. by_side w.darts (λ (a : ℕ). w.darts ≤ a → new.before a ≡ no_dart)
-      (λ a l late. absurd (omega (arith, l, late))) (λ k l _. f.before_inner k l) (λ k l _. f.before_outer k l)
+      (λ a l late. absurd (omega (arith, l, late))) (λ k l _. f.before_inside k l) (λ k l _. f.before_outside k l)
       a (omega (arith, f.darts)) late;
 }
 
@@ -117,7 +117,7 @@ ring_turned w new s k (suc i) f shut l h =
     let on : s (w.darts + (k + i) % 4) ≡ true = ring_turned w new s k i f shut l h in
     let inside : w.darts + (k + i) % 4 < new.darts = omega (arith, f.darts) in
     let step : new.next (w.darts + (k + i) % 4) ≡ w.darts + (k + suc i) % 4 =
-    f.next_inner ((k + i) % 4) (omega arith) ∙ omega arith in
+    f.next_inside ((k + i) % 4) (omega arith) ∙ omega arith in
     by_next new s (w.darts + (k + i) % 4) (w.darts + (k + suc i) % 4) shut inside step on
 
 -- a closed set that holds one dart of the rectangle holds them all
@@ -128,7 +128,7 @@ ring_whole w new s k f shut l h a a_in late =
     subst (λ (i : ℕ). s (w.darts + i) ≡ true) (there k j l l_j) (ring_turned w new s k (j + 4 - k) f shut l h) in
     by_side w.darts (λ (a : ℕ). w.darts ≤ a → s a ≡ true)
     (λ a l late. absurd (omega (arith, l, late))) (λ j l_j _. inner j l_j)
-    (λ j l_j _. by_reverse_dart new s (w.darts + j) (w.darts + 4 + j) shut (omega (arith, f.darts, l_j)) (f.reverse_dart_inner j l_j) (inner j l_j))
+    (λ j l_j _. by_reverse_dart new s (w.darts + j) (w.darts + 4 + j) shut (omega (arith, f.darts, l_j)) (f.reverse_dart_inside j l_j) (inner j l_j))
     a (omega (arith, f.darts)) late
   where
     there : (k j : ℕ) → k < 4 → j < 4 → (k + (j + 4 - k)) % 4 ≡ j
@@ -140,7 +140,7 @@ pub ring_some : (w new : DartMap) (s : ℕ → Bool) (a : ℕ) → IsSurrounded 
 ring_some w new s a f shut a_in late =
     by_side w.darts (λ (a : ℕ). w.darts ≤ a → s a ≡ true → (k : ℕ) × (k < 4) × (s (w.darts + k) ≡ true))
     (λ a l late h. absurd (omega (arith, l, late))) (λ k l _ h. (k, l, h))
-    (λ k l _ h. (k, l, by_reverse_dart new s (w.darts + 4 + k) (w.darts + k) shut (omega (arith, f.darts, l)) (f.reverse_dart_outer k l) h))
+    (λ k l _ h. (k, l, by_reverse_dart new s (w.darts + 4 + k) (w.darts + k) shut (omega (arith, f.darts, l)) (f.reverse_dart_outside k l) h))
     a (omega (arith, f.darts)) late
 
 -- the bridge leads from the map to the rectangle
@@ -149,23 +149,23 @@ pub bridge_there : (surrounded : DartMap) (right e way : ℕ) (new : DartMap) (s
 bridge_there surrounded right e way new s cut shut h =
     let there : s cut.middle.darts ≡ true =
     by_next new s right cut.middle.darts shut (omega (arith, cut.chord.darts, cut.fits.d_in)) cut.chord.next_d h in
-    by_next new s cut.middle.darts e shut (omega (arith, cut.chord.darts)) (cut.chord.next_there ∙ cut.split.next_first) there
+    by_next new s cut.middle.darts e shut (omega (arith, cut.chord.darts)) (cut.chord.next_there ∙ cut.subdivide.next_first) there
 
 -- and back
 pub bridge_back : (surrounded : DartMap) (right e way : ℕ) (new : DartMap) (s : ℕ → Bool) → IsTied surrounded → IsCut surrounded right e way new →
     IsClosedUnder new s → right ≢ surrounded.prev e → right ≢ surrounded.prev (surrounded.reverse_dart e) → s (surrounded.prev e) ≡ true →
     s (surrounded.next right) ≡ true
 bridge_back surrounded right e way new s tied cut shut not_c not_p h =
-    let tied_middle = split_tied surrounded e (surrounded.direction e) 2 cut.middle tied cut.e_in cut.split in
+    let tied_middle = split_tied surrounded e (surrounded.direction e) 2 cut.middle tied cut.e_in cut.subdivide in
     let middle : IsClosedUnder cut.middle s =
     (chord_extended cut.middle right surrounded.darts way new tied_middle cut.fits cut.chord).shut s shut in
     let first : s surrounded.darts ≡ true =
-    by_next cut.middle s (surrounded.prev e) surrounded.darts middle (omega (arith, cut.split.darts, tied.prev_in e cut.e_in))
-    cut.split.next_before h in
+    by_next cut.middle s (surrounded.prev e) surrounded.darts middle (omega (arith, cut.subdivide.darts, tied.prev_in e cut.e_in))
+    cut.subdivide.next_before h in
     let back : s (cut.middle.darts + 1) ≡ true =
-    by_next new s surrounded.darts (cut.middle.darts + 1) shut (omega (arith, cut.chord.darts, cut.split.darts)) cut.chord.next_f first in
+    by_next new s surrounded.darts (cut.middle.darts + 1) shut (omega (arith, cut.chord.darts, cut.subdivide.darts)) cut.chord.next_f first in
     by_next new s (cut.middle.darts + 1) (surrounded.next right) shut (omega (arith, cut.chord.darts))
-    (cut.chord.next_back ∙ cut.split.next_other right cut.d_in not_c not_p) back
+    (cut.chord.next_back ∙ cut.subdivide.next_other right cut.d_in not_c not_p) back
 
 -- a connected map stays connected with the rectangle that a cut leads to
 pub bridge_connected : (w surrounded : DartMap) (right side way : ℕ) (new : DartMap) → IsTied w → IsConnected w → IsSurrounded w surrounded → right < w.darts →
@@ -178,9 +178,9 @@ bridge_connected w surrounded right side way new tied connected f right_in side_
     let shut_surrounded : IsClosedUnder surrounded s = extended.shut s shut in
     let shut_old : IsClosedUnder w s = surrounded_shut w surrounded s f shut_surrounded in
     let found = extended.some s shut a l_a h in
-    let prev_e : surrounded.prev e ≡ w.darts + (side + 3) % 4 = f.prev_inner side side_in in
+    let prev_e : surrounded.prev e ≡ w.darts + (side + 3) % 4 = f.prev_inside side side_in in
     let prev_t : surrounded.prev (surrounded.reverse_dart e) ≡ w.darts + 4 + (side + 1) % 4 =
-    ap surrounded.prev (f.reverse_dart_inner side side_in) ∙ f.prev_outer side side_in in
+    ap surrounded.prev (f.reverse_dart_inside side side_in) ∙ f.prev_outside side side_in in
     let from_old : (c : ℕ) → c < w.darts → s c ≡ true → (k : ℕ) → k < surrounded.darts → s k ≡ true = λ c l_c at k l_k.
     elim (cases_lt k w.darts) [
       | inl low ↦ connected s shut_old.next shut_old.reverse_dart c k l_c low at

@@ -109,15 +109,15 @@ beside_step : (w new : DartMap) → IsBeside w new → IsStep w new
 beside_step w new beside = record { keeps = beside.keeps; stays = λ b l. inl (beside.kept b l) }
 
 split_step : (w : DartMap) (e way : ℕ) (new : DartMap) → IsTied w → e < w.darts → way < 4 → IsSubdivided w e way 2 new → IsStep w new
-split_step w e way new tied e_in quarter split = record {
-  keeps = split_keeps w e way 2 new split;
+split_step w e way new tied e_in quarter subdivide = record {
+  keeps = split_keeps w e way 2 new subdivide;
   stays = λ b l. elim (cases_eq b e) [
     | inl at ↦ subst (StaysBehind w new) (sym at)
-        (inr (w.darts, split_doubled w e way 2 0 new tied e_in quarter (omega arith) refl split))
+        (inr (w.darts, split_doubled w e way 2 0 new tied e_in quarter (omega arith) refl subdivide))
     | inr not_e ↦ elim (cases_eq b (w.reverse_dart e)) [
       | inl at ↦ subst (StaysBehind w new) (sym at)
-          (inr (w.darts + 1, split_doubled_back w e way 2 0 new tied e_in quarter (omega arith) refl split))
-      | inr not_t ↦ inl (split_kept w e way 2 new tied split b l not_e not_t)
+          (inr (w.darts + 1, split_doubled_back w e way 2 0 new tied e_in quarter (omega arith) refl subdivide))
+      | inr not_t ↦ inl (split_kept w e way 2 new tied subdivide b l not_e not_t)
     ]
   ];
 }
@@ -125,9 +125,9 @@ split_step w e way new tied e_in quarter split = record {
 cut_through : (w : DartMap) (d e way : ℕ) (new : DartMap) (end : ℕ) (held : List ℕ) → IsTied w → w.direction e < 4 → IsCut w d e way new →
     GoesThrough w end held → GoesThrough new end held
 cut_through w d e way new end held tied quarter cut old =
-    let tied_middle = split_tied w e (w.direction e) 2 cut.middle tied cut.e_in cut.split in
+    let tied_middle = split_tied w e (w.direction e) 2 cut.middle tied cut.e_in cut.subdivide in
     step_through cut.middle new end held (beside_step cut.middle new (chord_beside cut.middle d w.darts way new tied_middle cut.chord))
-    (step_through w cut.middle end held (split_step w e (w.direction e) cut.middle tied cut.e_in quarter cut.split) old)
+    (step_through w cut.middle end held (split_step w e (w.direction e) cut.middle tied cut.e_in quarter cut.subdivide) old)
 
 grows_through : (w new : DartMap) (end : ℕ) (held : List ℕ) → IsTied w → AreQuarters w → Grows w new → GoesThrough w end held →
     GoesThrough new end held

@@ -5,7 +5,7 @@ use Rattle.dissect.specs.DartMaps.{DartMap, IsTied}
 use Rattle.dissect.specs.Faces.{IsCorner, Ring, In, Distinct, Below, concatenated, TurnsOnce, AreRings}
 use Rattle.dissect.specs.FaceNumbers.{HasTurns}
 use Rattle.dissect.proofs.Listing.{in_append, in_left, in_right, below_append, distinct_append}
-use Rattle.dissect.specs.Walks.{steps, path, turning, IsOrbit, IsFlagged, IsWalked}
+use Rattle.dissect.specs.Walks.{steps, path, turning, HasPeriod, IsFlagged, IsWalked}
 use Rattle.dissect.specs.Listed.{AreListed, AreFlat}
 use Rattle.dissect.proofs.Orbits.{steps_in, steps_more, steps_add, path_member, path_holds, path_below, length-path, orbit_distinct, in_turning, turning_in, turning_distinct, turning_below, turning_straight, turning_corner, orbit_ends, orbit_ring}
 use Rattle.dissect.proofs.Turns.{orbit_holds, orbit_once, orbit_outside}
@@ -24,20 +24,20 @@ rings_more w [] r rings ring once = ((ring, once), tt)
 rings_more w (q ∷ rs) r rings ring once = (rings.0, rings_more w rs r rings.1 ring once)
 
 -- a walk that is back holds what follows each of its darts
-pub path_closed : (w : DartMap) (a p x : ℕ) → IsOrbit w a p → In x (path w a p) → In (w.next x) (path w a p)
-path_closed w a p x orbit here =
+pub path_closed : (w : DartMap) (a p x : ℕ) → HasPeriod w a p → In x (path w a p) → In (w.next x) (path w a p)
+path_closed w a p x period here =
     let m = path_member w x a p here in
     elim (cases_eq m.0 p) [
       | inl e ↦
-          let there : w.next x ≡ steps w 1 a = ap w.next (sym m.3 ∙ ap (λ (k : ℕ). steps w k a) e ∙ orbit.back) in
-          subst (λ (z : ℕ). In z (path w a p)) (sym there) (path_holds w a p 1 (omega arith) orbit.some)
+          let there : w.next x ≡ steps w 1 a = ap w.next (sym m.3 ∙ ap (λ (k : ℕ). steps w k a) e ∙ period.back) in
+          subst (λ (z : ℕ). In z (path w a p)) (sym there) (path_holds w a p 1 (omega arith) period.some)
       | inr less ↦
           let there : w.next x ≡ steps w (suc m.0) a = ap w.next (sym m.3) ∙ sym (steps_more w m.0 a) in
           subst (λ (z : ℕ). In z (path w a p)) (sym there) (path_holds w a p (suc m.0) (omega arith) (omega (arith, m.2, less)))
     ]
 
-pub path_self : (w : DartMap) (a p : ℕ) → IsOrbit w a p → In a (path w a p)
-path_self w a p orbit = subst (λ (z : ℕ). In z (path w a p)) orbit.back (path_holds w a p p orbit.some (omega arith))
+pub path_self : (w : DartMap) (a p : ℕ) → HasPeriod w a p → In a (path w a p)
+path_self w a p period = subst (λ (z : ℕ). In z (path w a p)) period.back (path_holds w a p p period.some (omega arith))
 
 -- flags that "next" stays within
 abbrev pub AreShut : DartMap → List Bool → Type 0
@@ -48,13 +48,13 @@ shut_steps w flags tied shut zero a l m = m
 shut_steps w flags tied shut (suc k) a l m = shut_steps w flags tied shut k (w.next a) (tied.next_in a l) (shut a l m)
 
 -- a walk that passes a flagged dart began at one
-pub shut_back : (w : DartMap) (flags : List Bool) (a p x : ℕ) → IsTied w → AreShut w flags → a < w.darts → IsOrbit w a p →
+pub shut_back : (w : DartMap) (flags : List Bool) (a p x : ℕ) → IsTied w → AreShut w flags → a < w.darts → HasPeriod w a p →
     In x (path w a p) → IsFlagged flags x → IsFlagged flags a
-shut_back w flags a p x tied shut l orbit here m =
+shut_back w flags a p x tied shut l period here m =
     let j = path_member w x a p here in
     let e : j.0 + (p - j.0) ≡ p = omega (arith, j.2) in
     let back : steps w (p - j.0) x ≡ a =
-    ap (steps w (p - j.0)) (sym j.3) ∙ sym (steps_add w j.0 (p - j.0) a) ∙ ap (λ (k : ℕ). steps w k a) e ∙ orbit.back in
+    ap (steps w (p - j.0)) (sym j.3) ∙ sym (steps_add w j.0 (p - j.0) a) ∙ ap (λ (k : ℕ). steps w k a) e ∙ period.back in
     let inside : x < w.darts = subst (λ (z : ℕ). z < w.darts) j.3 (steps_in w tied j.0 a l) in
     subst (IsFlagged flags) back (shut_steps w flags tied shut (p - j.0) x inside m)
 
@@ -71,7 +71,7 @@ pub record IsTracing (w : DartMap) (right : ℕ) (flags : List Bool) (corners co
   pub known : (a : ℕ) → IsFlagged flags a → IsCorner w a → In a (concatenated inner) ⊎ In a outer
   pub passed : (a : ℕ) → a < d → IsCorner w a → IsFlagged flags a
   pub places : ℕ
-  pub orbit : IsOrbit w right places
+  pub period : HasPeriod w right places
   pub outer_is : outer ≡ turning w (path w right places)
   pub held : (a : ℕ) → In a (path w right places) → IsFlagged flags a
   pub apart : (a : ℕ) → In a (concatenated inner) → In a (path w right places) → ⊥
@@ -87,7 +87,7 @@ trace_begins w right none flags outer blank size walked = record {
   size = size;
   shut = λ a l m. elim (walked.only a m) [
     | inl old ↦ absurd (blank a old)
-    | inr here ↦ walked.passed (w.next a) (path_closed w right walked.places a walked.orbit here)
+    | inr here ↦ walked.passed (w.next a) (path_closed w right walked.places a walked.period here)
   ];
   listed = λ a h. absurd h;
   known = λ a m corner. elim (walked.only a m) [
@@ -96,7 +96,7 @@ trace_begins w right none flags outer blank size walked = record {
   ];
   passed = λ a l. absurd (omega arith);
   places = walked.places;
-  orbit = walked.orbit;
+  period = walked.period;
   outer_is = walked.corners;
   held = walked.passed;
   apart = λ a h. absurd h;
@@ -123,7 +123,7 @@ trace_skips w right flags corners counts outer d trace skip = record {
     | inr other ↦ trace.passed a (omega arith) corner
   ];
   places = trace.places;
-  orbit = trace.orbit;
+  period = trace.period;
   outer_is = trace.outer_is;
   held = trace.held;
   apart = trace.apart;
@@ -140,9 +140,9 @@ trace_more w right face_number flags after corners counts outer new d count tied
     let r : List ℕ = turning w (path w d p) in
     let inner : List (List ℕ) = trace.inner in
     let fresh : (x : ℕ) → In x (path w d p) → IsFlagged flags x → ⊥ =
-    λ x here m. bare (shut_back w flags d p x tied trace.shut d_in walked.orbit here m) in
+    λ x here m. bare (shut_back w flags d p x tied trace.shut d_in walked.period here m) in
     let inside : face_number d ≢ face_number right =
-    λ h. bare (trace.held d (orbit_holds w face_number right trace.places d tied turns.face_numbers right_in trace.orbit d_in h)) in
+    λ h. bare (trace.held d (orbit_holds w face_number right trace.places d tied turns.face_numbers right_in trace.period d_in h)) in
     let long : count ≡ length r = omega (arith, counted, ap length walked.corners, length-append corners r) in
     record {
       inner = inner ++ (r ∷ []);
@@ -151,17 +151,17 @@ trace_more w right face_number flags after corners counts outer new d count tied
         lengths = ap (λ (k : ℕ). counts ++ (k ∷ [])) long ∙ ap (λ (xs : List ℕ). xs ++ (length r ∷ [])) trace.flat.lengths
             ∙ sym (lengths_more inner r);
       };
-      rings = rings_more w inner r trace.rings (orbit_ring w d p walked.orbit corner)
-          (orbit_once w face_number (face_number right) d p tied turns d_in walked.orbit inside);
+      rings = rings_more w inner r trace.rings (orbit_ring w d p walked.period corner)
+          (orbit_once w face_number (face_number right) d p tied turns d_in walked.period inside);
       distinct = subst Distinct (sym (concatenated_more inner r))
-          (distinct_append (concatenated inner) r trace.distinct (turning_distinct w (path w d p) (orbit_distinct w d p tied d_in walked.orbit))
+          (distinct_append (concatenated inner) r trace.distinct (turning_distinct w (path w d p) (orbit_distinct w d p tied d_in walked.period))
           (λ a left right. fresh a (in_turning w a (path w d p) right).0 (trace.listed a left)));
       below = subst (Below w.darts) (sym (concatenated_more inner r))
           (below_append w.darts (concatenated inner) r trace.below (turning_below w w.darts (path w d p) (path_below w tied d p d_in)));
       size = omega (arith, trace.size, same_size);
       shut = λ a l m. elim (walked.only a m) [
         | inl old ↦ walked.kept (w.next a) (trace.shut a l old)
-        | inr here ↦ walked.passed (w.next a) (path_closed w d p a walked.orbit here)
+        | inr here ↦ walked.passed (w.next a) (path_closed w d p a walked.period here)
       ];
       listed = λ a h. elim (in_append a (concatenated inner) r (subst (In a) (concatenated_more inner r) h)) [
         | inl left ↦ walked.kept a (trace.listed a left)
@@ -175,11 +175,11 @@ trace_more w right face_number flags after corners counts outer new d count tied
         | inr here ↦ inl (subst (In a) (sym (concatenated_more inner r)) (in_right a (concatenated inner) r (turning_in w a (path w d p) here turn)))
       ];
       passed = λ a l turn. elim (cases_eq a d) [
-        | inl e ↦ subst (IsFlagged after) (sym e) (walked.passed d (path_self w d p walked.orbit))
+        | inl e ↦ subst (IsFlagged after) (sym e) (walked.passed d (path_self w d p walked.period))
         | inr other ↦ walked.kept a (trace.passed a (omega arith) turn)
       ];
       places = trace.places;
-      orbit = trace.orbit;
+      period = trace.period;
       outer_is = trace.outer_is;
       held = λ a h. walked.kept a (trace.held a h);
       apart = λ a h outside. elim (in_append a (concatenated inner) r (subst (In a) (concatenated_more inner r) h)) [
@@ -198,14 +198,14 @@ trace_done w right face_number flags corners counts outer d tied right_in turn t
     let listed : AreListed w right trace.inner r = record {
       rings = trace.rings;
       distinct = distinct_append (concatenated trace.inner) r trace.distinct
-          (turning_distinct w (path w right p) (orbit_distinct w right p tied right_in trace.orbit))
+          (turning_distinct w (path w right p) (orbit_distinct w right p tied right_in trace.period))
           (λ a left outside. trace.apart a left (in_turning w a (path w right p) outside).0);
       below = below_append w.darts (concatenated trace.inner) r trace.below
           (turning_below w w.darts (path w right p) (path_below w tied right p right_in));
-      ring = orbit_ring w right p trace.orbit corner;
+      ring = orbit_ring w right p trace.period corner;
       front = turning w (path w right (p - 1));
-      ends = orbit_ends w right p trace.orbit corner;
-      turns_back = orbit_outside w face_number right p tied turns right_in trace.orbit;
+      ends = orbit_ends w right p trace.period corner;
+      turns_back = orbit_outside w face_number right p tied turns right_in trace.period;
       all = λ a l turn. elim (trace.known a (trace.passed a (omega (arith, l, all)) turn) turn) [
         | inl left ↦ in_left a (concatenated trace.inner) r left
         | inr outside ↦ in_right a (concatenated trace.inner) r (subst (In a) trace.outer_is outside)
@@ -231,7 +231,7 @@ walked_few w start before after others listed walked =
       length-append others (turning w (path w start walked.places)),
       turning_few w (path w start walked.places),
       length-path w start walked.places,
-      walked.orbit.most,
+      walked.period.most,
     )
 
 -- at first no dart is flagged

@@ -7,8 +7,8 @@ use Rattle.common.proofs.Sums.{sum_below-same, sum_below-none, sum_below-add, su
 use Rattle.dissect.specs.DartMaps.{DartMap, IsTied}
 use Rattle.dissect.specs.Faces.{Stretches, Trail, In, Distinct, Below, TurnsOnce, ReachesCorners}
 use Rattle.dissect.specs.Turning.{total}
-use Rattle.dissect.specs.FaceNumbers.{AreFaceNumbers, darts_round, angles_round, HasTurns}
-use Rattle.dissect.specs.Walks.{steps, path, turning, IsOrbit}
+use Rattle.dissect.specs.FaceNumbers.{AreFaceNumbers, darts_around_face, angles_around_face, HasTurns}
+use Rattle.dissect.specs.Walks.{steps, path, turning, HasPeriod}
 use Rattle.dissect.proofs.Orbits.{steps_more, path_member, path_holds, path_below, path_trail, any_in, in_any, orbit_of, orbit_distinct, turning_total}
 
 pub face_number_along : (w : DartMap) (face_number : ℕ → ℕ) → IsTied w → AreFaceNumbers w face_number → (k a : ℕ) → a < w.darts → face_number (steps w k a) ≡ face_number a
@@ -16,22 +16,22 @@ face_number_along w face_number tied face_numbers zero a l = refl
 face_number_along w face_number tied face_numbers (suc k) a l = face_number_along w face_number tied face_numbers k (w.next a) (tied.next_in a l) ∙ face_numbers.stays a l
 
 -- the walk passes each dart with its number
-pub orbit_holds : (w : DartMap) (face_number : ℕ → ℕ) (a p x : ℕ) → IsTied w → AreFaceNumbers w face_number → a < w.darts → IsOrbit w a p →
+pub orbit_holds : (w : DartMap) (face_number : ℕ → ℕ) (a p x : ℕ) → IsTied w → AreFaceNumbers w face_number → a < w.darts → HasPeriod w a p →
     x < w.darts → face_number x ≡ face_number a → In x (path w a p)
-orbit_holds w face_number a p x tied face_numbers l orbit x_in same =
+orbit_holds w face_number a p x tied face_numbers l period x_in same =
     let s : ℕ → Bool = λ y. list_any (eqb y) (path w a p) in
     let closed : (y : ℕ) → y < w.darts → s y ≡ true → s (w.next y) ≡ true = λ y l h.
     let m = path_member w y a p (any_in y (path w a p) h) in
     in_any (w.next y) (path w a p) (elim (cases_eq m.0 p) [
       | inl e ↦
-          let here : w.next y ≡ steps w 1 a = ap w.next (sym m.3 ∙ ap (λ (k : ℕ). steps w k a) e ∙ orbit.back) in
-          subst (λ (z : ℕ). In z (path w a p)) (sym here) (path_holds w a p 1 (omega arith) orbit.some)
+          let here : w.next y ≡ steps w 1 a = ap w.next (sym m.3 ∙ ap (λ (k : ℕ). steps w k a) e ∙ period.back) in
+          subst (λ (z : ℕ). In z (path w a p)) (sym here) (path_holds w a p 1 (omega arith) period.some)
       | inr less ↦
           let here : w.next y ≡ steps w (suc m.0) a = ap w.next (sym m.3) ∙ sym (steps_more w m.0 a) in
           subst (λ (z : ℕ). In z (path w a p)) (sym here) (path_holds w a p (suc m.0) (omega arith) (omega (arith, m.2, less)))
     ]) in
     let begins : s a ≡ true = in_any a (path w a p)
-    (subst (λ (z : ℕ). In z (path w a p)) orbit.back (path_holds w a p p orbit.some (omega arith))) in
+    (subst (λ (z : ℕ). In z (path w a p)) period.back (path_holds w a p p period.some (omega arith))) in
     any_in x (path w a p) (face_numbers.least s closed a x l x_in (sym same) begins)
 
 -- the sum over the darts of a list
@@ -42,7 +42,7 @@ listed_sum n f (y ∷ ys) distinct below =
     let one : ℕ → ℕ = λ x. cond (eqb y x) (f x) 0 in
     let more : ℕ → ℕ = λ x. cond (list_any (eqb x) ys) (f x) 0 in
     let each : sum_below n (λ x. cond (list_any (eqb x) (y ∷ ys)) (f x) 0) ≡ sum_below n (λ x. one x + more x) =
-    sum_below-same n (λ x. cond (list_any (eqb x) (y ∷ ys)) (f x) 0) (λ x. one x + more x) (λ x l. split f x y ys distinct.0) in
+    sum_below-same n (λ x. cond (list_any (eqb x) (y ∷ ys)) (f x) 0) (λ x. one x + more x) (λ x l. subdivide f x y ys distinct.0) in
     omega (arith, each, sum_below-add n one more, sum_below-one n y f below.0, listed_sum n f ys distinct.1 below.1)
   where
     at_first : (f : ℕ → ℕ) (x : ℕ) (b c d : Bool) → b ≡ true → c ≡ true → d ≡ false →
@@ -53,9 +53,9 @@ listed_sum n f (y ∷ ys) distinct below =
         cond (b || d) (f x) 0 ≡ cond c (f x) 0 + cond d (f x) 0
     at_later f x b c d hb hc = rw (hb, hc) (omega arith)
 
-    split : (f : ℕ → ℕ) (x y : ℕ) (ys : List ℕ) → (In y ys → ⊥) →
+    subdivide : (f : ℕ → ℕ) (x y : ℕ) (ys : List ℕ) → (In y ys → ⊥) →
         cond (list_any (eqb x) (y ∷ ys)) (f x) 0 ≡ cond (eqb y x) (f x) 0 + cond (list_any (eqb x) ys) (f x) 0
-    split f x y ys out =
+    subdivide f x y ys out =
         elim (cases_eq x y) [
           | inl e ↦
               let none : list_any (eqb x) ys ≡ false = elim (cases_Bool (list_any (eqb x) ys)) [
@@ -67,17 +67,17 @@ listed_sum n f (y ∷ ys) distinct below =
         ]
 
 -- the same sum, over the darts with the number
-pub numbered_sum : (w : DartMap) (face_number : ℕ → ℕ) (a p : ℕ) (f : ℕ → ℕ) → IsTied w → AreFaceNumbers w face_number → a < w.darts → IsOrbit w a p →
+pub numbered_sum : (w : DartMap) (face_number : ℕ → ℕ) (a p : ℕ) (f : ℕ → ℕ) → IsTied w → AreFaceNumbers w face_number → a < w.darts → HasPeriod w a p →
     sum_below w.darts (λ x. cond (eqb (face_number x) (face_number a)) (f x) 0) ≡ total (map f (path w a p))
-numbered_sum w face_number a p f tied face_numbers l orbit =
+numbered_sum w face_number a p f tied face_numbers l period =
     sum_below-same w.darts (λ x. cond (eqb (face_number x) (face_number a)) (f x) 0) (λ x. cond (list_any (eqb x) (path w a p)) (f x) 0)
     (λ x x_in. ap (λ (b : Bool). cond b (f x) 0) (same x x_in))
-    ∙ listed_sum w.darts f (path w a p) (orbit_distinct w a p tied l orbit) (path_below w tied a p l)
+    ∙ listed_sum w.darts f (path w a p) (orbit_distinct w a p tied l period) (path_below w tied a p l)
   where
     same : (x : ℕ) → x < w.darts → eqb (face_number x) (face_number a) ≡ list_any (eqb x) (path w a p)
     same x x_in =
         elim (cases_eq (face_number x) (face_number a)) [
-          | inl e ↦ eq-eqb (face_number x) (face_number a) e ∙ sym (in_any x (path w a p) (orbit_holds w face_number a p x tied face_numbers l orbit x_in e))
+          | inl e ↦ eq-eqb (face_number x) (face_number a) e ∙ sym (in_any x (path w a p) (orbit_holds w face_number a p x tied face_numbers l period x_in e))
           | inr ne ↦ elim (cases_Bool (list_any (eqb x) (path w a p))) [
             | inl there ↦
                 let m = path_member w x a p (any_in x (path w a p) there) in
@@ -91,35 +91,35 @@ total-ones [] = refl
 total-ones (x ∷ xs) = omega (arith, total-ones xs)
 
 -- the angles on the walk are those of the face, and so are the darts
-pub orbit_angles : (w : DartMap) (face_number : ℕ → ℕ) (a p : ℕ) → IsTied w → AreFaceNumbers w face_number → a < w.darts → IsOrbit w a p →
-    angles_round w face_number (face_number a) ≡ total (map w.angle (path w a p))
-orbit_angles w face_number a p tied face_numbers l orbit = numbered_sum w face_number a p w.angle tied face_numbers l orbit
+pub orbit_angles : (w : DartMap) (face_number : ℕ → ℕ) (a p : ℕ) → IsTied w → AreFaceNumbers w face_number → a < w.darts → HasPeriod w a p →
+    angles_around_face w face_number (face_number a) ≡ total (map w.angle (path w a p))
+orbit_angles w face_number a p tied face_numbers l period = numbered_sum w face_number a p w.angle tied face_numbers l period
 
-pub orbit_darts : (w : DartMap) (face_number : ℕ → ℕ) (a p : ℕ) → IsTied w → AreFaceNumbers w face_number → a < w.darts → IsOrbit w a p →
-    darts_round w face_number (face_number a) ≡ length (path w a p)
-orbit_darts w face_number a p tied face_numbers l orbit = numbered_sum w face_number a p (λ _. 1) tied face_numbers l orbit ∙ total-ones (path w a p)
+pub orbit_darts : (w : DartMap) (face_number : ℕ → ℕ) (a p : ℕ) → IsTied w → AreFaceNumbers w face_number → a < w.darts → HasPeriod w a p →
+    darts_around_face w face_number (face_number a) ≡ length (path w a p)
+orbit_darts w face_number a p tied face_numbers l period = numbered_sum w face_number a p (λ _. 1) tied face_numbers l period ∙ total-ones (path w a p)
 
 -- so the corners on the walk turn once to the left,
-pub orbit_once : (w : DartMap) (face_number : ℕ → ℕ) (outer a p : ℕ) → IsTied w → HasTurns w face_number outer → a < w.darts → IsOrbit w a p →
+pub orbit_once : (w : DartMap) (face_number : ℕ → ℕ) (outer a p : ℕ) → IsTied w → HasTurns w face_number outer → a < w.darts → HasPeriod w a p →
     face_number a ≢ outer → TurnsOnce w (turning w (path w a p))
-orbit_once w face_number outer a p tied turns l orbit inner =
+orbit_once w face_number outer a p tied turns l period inner =
     omega (
       arith,
       turning_total w (path w a p),
-      orbit_angles w face_number a p tied turns.face_numbers l orbit,
-      orbit_darts w face_number a p tied turns.face_numbers l orbit,
+      orbit_angles w face_number a p tied turns.face_numbers l period,
+      orbit_darts w face_number a p tied turns.face_numbers l period,
       turns.inner a l inner,
     )
 
 -- and those round the outer face once to the right
-pub orbit_outside : (w : DartMap) (face_number : ℕ → ℕ) (a p : ℕ) → IsTied w → HasTurns w face_number (face_number a) → a < w.darts → IsOrbit w a p →
+pub orbit_outside : (w : DartMap) (face_number : ℕ → ℕ) (a p : ℕ) → IsTied w → HasTurns w face_number (face_number a) → a < w.darts → HasPeriod w a p →
     total (map w.angle (turning w (path w a p))) ≡ 2 * length (turning w (path w a p)) + 4
-orbit_outside w face_number a p tied turns l orbit =
+orbit_outside w face_number a p tied turns l period =
     omega (
       arith,
       turning_total w (path w a p),
-      orbit_angles w face_number a p tied turns.face_numbers l orbit,
-      orbit_darts w face_number a p tied turns.face_numbers l orbit,
+      orbit_angles w face_number a p tied turns.face_numbers l period,
+      orbit_darts w face_number a p tied turns.face_numbers l period,
       turns.outside,
     )
 
@@ -131,26 +131,26 @@ flat_total f (x ∷ xs) flat = omega (arith, flat x (inl refl), flat_total f xs 
 -- on each walk there is a corner
 pub turns_reach : (w : DartMap) (face_number : ℕ → ℕ) (outer : ℕ) → IsTied w → HasTurns w face_number outer → ReachesCorners w
 turns_reach w face_number outer tied turns = λ a l.
-    let orbit = orbit_of w tied a l in
-    first w a (turning w (path w a orbit.0)) (path_trail w a orbit.0) (some a l orbit.0 orbit.1)
+    let period = orbit_of w tied a l in
+    first w a (turning w (path w a period.0)) (path_trail w a period.0) (some a l period.0 period.1)
   where
     first : (w : DartMap) (a : ℕ) (cs : List ℕ) → Trail w a cs → 0 < length cs → (c : ℕ) × Stretches w a c
     first w a [] trail more = absurd (omega arith)
     first w a (c ∷ cs) trail more = (c, trail.0)
 
-    some : (a : ℕ) → a < w.darts → (p : ℕ) → IsOrbit w a p → 0 < length (turning w (path w a p))
-    some a l p orbit =
+    some : (a : ℕ) → a < w.darts → (p : ℕ) → HasPeriod w a p → 0 < length (turning w (path w a p))
+    some a l p period =
         elim (cases_eq (length (turning w (path w a p))) 0) [
           | inl none ↦
               let empty : total (map w.angle (turning w (path w a p))) ≡ 0 = no_total (turning w (path w a p)) none in
               elim (cases_eq (face_number a) outer) [
                 | inl e ↦ absurd (omega (
                   arith,
-                  orbit_outside w face_number a p tied (subst (HasTurns w face_number) (sym e) turns) l orbit,
+                  orbit_outside w face_number a p tied (subst (HasTurns w face_number) (sym e) turns) l period,
                   none,
                   empty,
                 ))
-                | inr inner ↦ absurd (omega (arith, orbit_once w face_number outer a p tied turns l orbit inner, none, empty))
+                | inr inner ↦ absurd (omega (arith, orbit_once w face_number outer a p tied turns l period inner, none, empty))
               ]
           | inr more ↦ omega arith
         ]

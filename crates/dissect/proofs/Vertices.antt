@@ -33,7 +33,7 @@ face_connections p parent = record {
 
 pub vertices_paired : (p : PlaneModel) → HasEnds p → IsPaired (vertex_connections p) (reverse_dart p)
 vertices_paired p ends = record {
-  inside = ends.reverse_dart_inside;
+  inside = ends.reverse_dart_in_range;
   back = ends.reverse_dart_back;
   from = λ d l. ap (λ (v : ℕ). v - 1) (sym (ends.reverse_dart_head d l));
   node = λ d l. omega (arith, ends.head_from d l, ends.head_to d l);
@@ -41,7 +41,7 @@ vertices_paired p ends = record {
 
 pub faces_paired : (p : PlaneModel) (parent : ℕ → ℕ) → HasEnds p → IsPaired (face_connections p parent) (reverse_dart p)
 faces_paired p parent ends = record {
-  inside = ends.reverse_dart_inside;
+  inside = ends.reverse_dart_in_range;
   back = ends.reverse_dart_back;
   from = λ d l. refl;
   node = ends.face_named;

@@ -26,7 +26,7 @@ pub hook_of : (w : DartMap) (d c1 c e way : ℕ) (new : DartMap) → (bite : IsB
     IsHook bite.cut.middle d c1 c w.darts
 hook_of w d c1 c e way new bite =
     let cut = bite.cut in
-    let s = cut.split in
+    let s = cut.subdivide in
     record {
       cutting = record {
         d_in = omega (arith, s.darts, cut.d_in);
@@ -46,7 +46,7 @@ hook_of w d c1 c e way new bite =
 
 pub middle_tied : (w : DartMap) (d c1 c e way : ℕ) (new : DartMap) → (bite : IsBite w d c1 c e way new) → IsTied bite.cut.middle
 middle_tied w d c1 c e way new bite =
-    split_tied w e (w.direction e) 2 bite.cut.middle bite.tied bite.cut.e_in bite.cut.split
+    split_tied w e (w.direction e) 2 bite.cut.middle bite.tied bite.cut.e_in bite.cut.subdivide
 
 pub bite_apart : (w : DartMap) (d c1 c e way : ℕ) (new : DartMap) → IsBite w d c1 c e way new → (d ≢ c1) × (d ≢ c)
 bite_apart w d c1 c e way new bite =
@@ -56,10 +56,10 @@ bite_apart w d c1 c e way new bite =
 pub bite_angle : (w : DartMap) (d c1 c e way b : ℕ) (new : DartMap) → IsBite w d c1 c e way new → b < w.darts → b ≢ d →
     new.angle b ≡ w.angle b
 bite_angle w d c1 c e way b new bite l nd =
-    bite.cut.chord.angle_other b (omega (arith, bite.cut.split.darts, l)) nd (λ h. omega (arith, h, l)) ∙ bite.cut.split.angle_old b l
+    bite.cut.chord.angle_other b (omega (arith, bite.cut.subdivide.darts, l)) nd (λ h. omega (arith, h, l)) ∙ bite.cut.subdivide.angle_old b l
 
 pub bite_angle_d : (w : DartMap) (d c1 c e way : ℕ) (new : DartMap) → IsBite w d c1 c e way new → new.angle d + 1 ≡ w.angle d
-bite_angle_d w d c1 c e way new bite = bite.cut.chord.angle_d ∙ bite.cut.split.angle_old d bite.cut.d_in
+bite_angle_d w d c1 c e way new bite = bite.cut.chord.angle_d ∙ bite.cut.subdivide.angle_old d bite.cut.d_in
 
 pub clear_of : (n m d c : ℕ) (xs : List ℕ) → n ≤ m → Below n xs → (In d xs → ⊥) → (In c xs → ⊥) → Clear m d c xs
 clear_of n m d c [] le below out_d out_c = tt
@@ -98,7 +98,7 @@ pub other_rings : (w : DartMap) (d c1 c e way : ℕ) (new : DartMap) → IsBite 
 other_rings w d c1 c e way new bite [] below out_d out_c rings = tt
 other_rings w d c1 c e way new bite (r ∷ rs) below out_d out_c rings =
     let cut = bite.cut in
-    let s = cut.split in
+    let s = cut.subdivide in
     let here = hook_of w d c1 c e way new bite in
     let tied = middle_tied w d c1 c e way new bite in
     let below_r : Below w.darts r = below_left w.darts r (concatenated rs) below in
@@ -123,7 +123,7 @@ pub bite_places : (w : DartMap) (o d c1 c e way : ℕ) (new : DartMap) (before t
     (a : ℕ) → a < new.darts → IsCorner new a → In a list ⊎ (IsRectangle new 1 a ⊎ IsOutside new o a)
 bite_places w o d c1 c e way new before tail list bite placed x_in d_stays before_in tail_in a l corner =
     let cut = bite.cut in
-    let s = cut.split in
+    let s = cut.subdivide in
     let t = cut.chord in
     let hook = hook_of w d c1 c e way new bite in
     let tied = middle_tied w d c1 c e way new bite in
@@ -171,7 +171,7 @@ bite_places w o d c1 c e way new before tail list bite placed x_in d_stays befor
 pub bite_outside : (w : DartMap) (o d c1 c e way : ℕ) (new : DartMap) → IsBite w d c1 c e way new → o < w.darts → IsRectangle w 3 o → IsRectangle new 3 o
 bite_outside w o d c1 c e way new bite l four =
     let cut = bite.cut in
-    let s = cut.split in
+    let s = cut.subdivide in
     let outside : IsOutside w o o = record { four = four; holds = inl refl } in
     let after : IsOutside new o o = cut_outside cut.middle o d c1 c w.darts way o new cut.chord (middle_tied w d c1 c e way new bite)
     (hook_of w d c1 c e way new bite) (omega (arith, s.darts, l))
@@ -223,7 +223,7 @@ pub bite_ring : (w : DartMap) (d c1 c e way : ℕ) (new : DartMap) (before rest 
     × (new.angle d ≡ 2 → Ring new (before ++ ((w.darts + 2) ∷ rest)) × TurnsOnce new (before ++ ((w.darts + 2) ∷ rest)))
 bite_ring w d c1 c e way new before rest others bite parts ring once below =
     let cut = bite.cut in
-    let s = cut.split in
+    let s = cut.subdivide in
     let t = cut.chord in
     let two : cut.middle.darts ≡ w.darts + 2 = s.darts in
     let hook = hook_of w d c1 c e way new bite in
@@ -297,7 +297,7 @@ pub kept_waiting : (w : DartMap) (d c1 c e way : ℕ) (new : DartMap) (before re
     AreWaiting w o ((before ++ (d ∷ c1 ∷ c ∷ rest)) ∷ rs) → AreWaiting new o ((before ++ (d ∷ (w.darts + 2) ∷ rest)) ∷ rs)
 kept_waiting w d c1 c e way new before rest o rs bite corner waiting =
     let cut = bite.cut in
-    let s = cut.split in
+    let s = cut.subdivide in
     let t = cut.chord in
     let two : cut.middle.darts ≡ w.darts + 2 = s.darts in
     let more : w.darts + 2 < new.darts = omega (arith, t.darts, two) in
@@ -338,7 +338,7 @@ pub gone_waiting : (w : DartMap) (d c1 c e way : ℕ) (new : DartMap) (before re
     AreWaiting w o ((before ++ (d ∷ c1 ∷ c ∷ rest)) ∷ rs) → AreWaiting new o ((before ++ ((w.darts + 2) ∷ rest)) ∷ rs)
 gone_waiting w d c1 c e way new before rest o rs bite straight waiting =
     let cut = bite.cut in
-    let s = cut.split in
+    let s = cut.subdivide in
     let t = cut.chord in
     let two : cut.middle.darts ≡ w.darts + 2 = s.darts in
     let more : w.darts + 2 < new.darts = omega (arith, t.darts, two) in

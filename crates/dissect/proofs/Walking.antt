@@ -33,19 +33,19 @@ seek_on w a k dart next seek low to =
 pub seek_fails : (w : DartMap) (face_number : ℕ → ℕ) (a k dart : ℕ) → IsTied w → HasTurns w face_number (face_number a) → a < w.darts →
     w.darts ≤ k → IsSeeking w a k dart → ⊥
 seek_fails w face_number a k dart tied turns l all seek =
-    let orbit = orbit_of w tied a l in
-    let p : ℕ = orbit.0 in
+    let period = orbit_of w tied a l in
+    let p : ℕ = period.0 in
     let flat : (x : ℕ) → In x (path w a p) → w.angle x ≤ 2 = λ x h.
     let m = path_member w x a p h in
     elim (cases_eq m.0 p) [
-      | inl e ↦ subst (λ (d : ℕ). w.angle d ≤ 2) (sym orbit.1.back ∙ ap (λ (i : ℕ). steps w i a) (sym e) ∙ m.3) (seek.flat 0 (omega (arith, all, l)))
-      | inr less ↦ subst (λ (d : ℕ). w.angle d ≤ 2) m.3 (seek.flat m.0 (omega (arith, m.2, less, orbit.1.most, all)))
+      | inl e ↦ subst (λ (d : ℕ). w.angle d ≤ 2) (sym period.1.back ∙ ap (λ (i : ℕ). steps w i a) (sym e) ∙ m.3) (seek.flat 0 (omega (arith, all, l)))
+      | inr less ↦ subst (λ (d : ℕ). w.angle d ≤ 2) m.3 (seek.flat m.0 (omega (arith, m.2, less, period.1.most, all)))
     ] in
     omega (
       arith,
       flat_total w.angle (path w a p) flat,
-      orbit_angles w face_number a p tied turns.face_numbers l orbit.1,
-      orbit_darts w face_number a p tied turns.face_numbers l orbit.1,
+      orbit_angles w face_number a p tied turns.face_numbers l period.1,
+      orbit_darts w face_number a p tied turns.face_numbers l period.1,
       turns.outside,
     )
 
@@ -153,7 +153,7 @@ pub walk_ends : (w : DartMap) (start : ℕ) (before after : List Bool) (others l
     IsStepped w start before after others listed k dart → k < w.darts → dart ≡ start → IsWalked w start before after others listed
 walk_ends w start before after others listed k dart step inside back = record {
   places = suc k;
-  orbit = record {
+  period = record {
     some = omega arith;
     most = omega arith;
     back = sym step.here ∙ back;
@@ -169,8 +169,8 @@ walk_ends w start before after others listed k dart step inside back = record {
 pub walk_fails : (w : DartMap) (start : ℕ) (before after : List Bool) (others listed : List ℕ) (k dart : ℕ) → IsTied w → start < w.darts →
     w.darts ≤ k → IsWalking w start before after others listed k dart → ⊥
 walk_fails w start before after others listed k dart tied l all walk =
-    let orbit = orbit_of w tied start l in
-    walk.away orbit.0 orbit.1.some (omega (arith, orbit.1.most, all)) orbit.1.back
+    let period = orbit_of w tied start l in
+    walk.away period.0 period.1.some (omega (arith, period.1.most, all)) period.1.back
 
 pub seek_in : (w : DartMap) (a k dart : ℕ) → IsTied w → a < w.darts → IsSeeking w a k dart → dart < w.darts
 seek_in w a k dart tied l seek = subst (λ (d : ℕ). d < w.darts) (sym seek.here) (steps_in w tied k a l)

@@ -4,11 +4,11 @@ use Rattle.std.proofs.lemmas.Bool.{cases_eq}
 use Rattle.std.proofs.lemmas.List.{get_or-set_same, get_or-set_other}
 
 -- the entries below k are those of f
-abbrev pub IsFilled : List ℕ → (ℕ → ℕ) → ℕ → Type 0
-IsFilled xs f k = (d : ℕ) → d < k → get_or xs d 0 ≡ f d
+abbrev pub IsNonempty : List ℕ → (ℕ → ℕ) → ℕ → Type 0
+IsNonempty xs f k = (d : ℕ) → d < k → get_or xs d 0 ≡ f d
 
-pub filled_more : (xs ys : List ℕ) (f : ℕ → ℕ) (k v : ℕ) → IsFilled xs f k → k < length xs → ys ≡ set xs k v → v ≡ f k →
-    IsFilled ys f (k + 1)
+pub filled_more : (xs ys : List ℕ) (f : ℕ → ℕ) (k v : ℕ) → IsNonempty xs f k → k < length xs → ys ≡ set xs k v → v ≡ f k →
+    IsNonempty ys f (k + 1)
 filled_more xs ys f k v filled inside ys_is v_is d l =
     let at : get_or ys d 0 ≡ get_or (set xs k v) d 0 = ap (λ (zs : List ℕ). get_or zs d 0) ys_is in
     elim (cases_eq d k) [

@@ -1,7 +1,7 @@
 -- What the map of a plane keeps of it once its edges have their bends.
 use Rattle.std.specs.Prelude.{◌≡◌, ℕ, ◌+◌, ◌-◌, ◌*◌, ◌<◌, ◌≤◌, List}
 use Rattle.faces.specs.Planes.{PlaneModel, darts, vertices, head, face_at}
-pub use Rattle.dissect.specs.Headings.{AreHeadings}
+pub use Rattle.dissect.specs.Directions.{AreDirections}
 use Rattle.ortho_rep.specs.declared.turn.Turn.{Turn}
 use Rattle.ortho_rep.specs.Representation.{bends_of}
 use Rattle.dissect.specs.DartMaps.{DartMap, reflex_turns}

@@ -7,18 +7,18 @@ use Rattle.ortho_rep.specs.Representation.{bends_of}
 use Rattle.dissect.specs.DartMaps.{DartMap, IsSound}
 use Rattle.dissect.specs.Faces.{In, Distinct}
 use Rattle.dissect.specs.Paths.{HasPaths, IsPath}
-use Rattle.dissect.specs.Bends.{AreHeadings, CountsBends, KeepsDarts, KeepsFaces}
+use Rattle.dissect.specs.Bends.{AreDirections, CountsBends, KeepsDarts, KeepsFaces}
 use Rattle.dissect.specs.Steps.{angle_of}
 use Rattle.dissect.specs.Chains.{AreChains}
 use Rattle.dissect.specs.Boxes.{BoxesModel, AreBoxes, dart_map}
-use Rattle.dissect.specs.Rectangle.{HasRectangle, IsConnectedAt}
+use Rattle.dissect.specs.Rectangle.{HasRectangle, IsBridgedAt}
 
 -- the map of the shape, with straight edges, before anything is put round it: it has the plane's vertices and darts, a
 -- vertex at each bend, and the plane's faces
 pub record IsMapOfShape (p : PlaneModel) (shape : ShapeModel) (w : DartMap) : Type 0 where
   pub sound : IsSound w
   pub kept : KeepsDarts p (angle_at shape) w
-  pub directions : AreHeadings p (angle_at shape) (turns_at shape) w.direction
+  pub directions : AreDirections p (angle_at shape) (turns_at shape) w.direction
   pub faces : KeepsFaces p w
   pub counts : CountsBends p (turns_at shape) w
   pub paths : HasPaths w (darts p) (reverse_dart p) (λ d. map angle_of (turns_at shape d))
@@ -44,7 +44,7 @@ pub record IsEnclosedMap (p : PlaneModel) (shape : ShapeModel) (b : BoxesModel) 
   pub right_in : right < enclosed_map.darts
   pub turns_right : 2 < enclosed_map.angle right
   pub outer : of_shape.faces.face_number right ≡ p.outer
-  pub bridge : IsConnectedAt enclosed_map right (dart_map b)
+  pub bridge : IsBridgedAt enclosed_map right (dart_map b)
 
 -- the paths of the plane's darts lie apart
 pub record ArePathsApart (p : PlaneModel) (w : DartMap) : Type 0 where

@@ -125,15 +125,15 @@ pub record IsChord (w : DartMap) (d f way : ℕ) (new : DartMap) : Type 0 where
   pub before_old : (a : ℕ) → a < w.darts → new.before a ≡ w.before a
 
 -- the chord leaves each of its corners so that the angles that are left fit
-pub record Fits (w : DartMap) (d f way : ℕ) : Type 0 where
+pub record HasChordAngles (w : DartMap) (d f way : ℕ) : Type 0 where
   pub d_in : d < w.darts
   pub f_in : f < w.darts
   pub apart : d ≢ f
   pub direction_quarter : way < 4
   pub from_d : (way + 1 + w.angle d) % 4 ≡ w.direction d
   pub to_f : (way + w.angle f) % 4 ≡ (w.direction f + 1) % 4
-  pub splits_d : 1 < w.angle d
-  pub splits_f : 1 < w.angle f
+  pub subdivides_d : 1 < w.angle d
+  pub subdivides_f : 1 < w.angle f
 
 -- a map whose edges are straight
 pub record IsSound (w : DartMap) : Type 0 where
@@ -148,8 +148,8 @@ pub record IsCut (w : DartMap) (d e way : ℕ) (new : DartMap) : Type 0 where
   pub e_in : e < w.darts
   pub d_in : d < w.darts
   pub right : 2 < w.angle d
-  pub split : IsSubdivided w e (w.direction e) 2 middle
-  pub fits : Fits middle d w.darts way
+  pub subdivide : IsSubdivided w e (w.direction e) 2 middle
+  pub fits : HasChordAngles middle d w.darts way
   pub chord : IsChord middle d w.darts way new
 
 -- cuts, one after another

@@ -11,15 +11,15 @@ pub record AreFaceNumbers (w : DartMap) (face_number : ℕ → ℕ) : Type 0 whe
       → (a b : ℕ) → a < w.darts → b < w.darts → face_number a ≡ face_number b → s a ≡ true → s b ≡ true
 
 -- how many darts the face f has
-abbrev pub darts_round : DartMap → (ℕ → ℕ) → ℕ → ℕ
-darts_round w face_number f = sum_below w.darts (λ a. if face_number a == f then 1 else 0)
+abbrev pub darts_around_face : DartMap → (ℕ → ℕ) → ℕ → ℕ
+darts_around_face w face_number f = sum_below w.darts (λ a. if face_number a == f then 1 else 0)
 
 -- the sum of their angles
-abbrev pub angles_round : DartMap → (ℕ → ℕ) → ℕ → ℕ
-angles_round w face_number f = sum_below w.darts (λ a. if face_number a == f then w.angle a else 0)
+abbrev pub angles_around_face : DartMap → (ℕ → ℕ) → ℕ → ℕ
+angles_around_face w face_number f = sum_below w.darts (λ a. if face_number a == f then w.angle a else 0)
 
 -- the walk turns once to the right round the outer face, and once to the left round each other face
 pub record HasTurns (w : DartMap) (face_number : ℕ → ℕ) (outer : ℕ) : Type 0 where
   pub face_numbers : AreFaceNumbers w face_number
-  pub inner : (a : ℕ) → a < w.darts → face_number a ≢ outer → angles_round w face_number (face_number a) + 4 ≡ 2 * darts_round w face_number (face_number a)
-  pub outside : angles_round w face_number outer ≡ 2 * darts_round w face_number outer + 4
+  pub inner : (a : ℕ) → a < w.darts → face_number a ≢ outer → angles_around_face w face_number (face_number a) + 4 ≡ 2 * darts_around_face w face_number (face_number a)
+  pub outside : angles_around_face w face_number outer ≡ 2 * darts_around_face w face_number outer + 4

@@ -95,6 +95,6 @@ pub record AreWaiting (w : DartMap) (o : ℕ) (faces : List (List ℕ)) : Type 0
   pub placed : (a : ℕ) → a < w.darts → IsCorner w a → In a (concatenated faces) ⊎ (IsRectangle w 1 a ⊎ IsOutside w o a)
 
 -- the list cut up into pieces of these lengths
-abbrev pub pieces_of : List ℕ → List ℕ → List (List ℕ)
-pieces_of xs [] = []
-pieces_of xs (n ∷ ns) = take n xs ∷ pieces_of (drop n xs) ns
+abbrev pub slices_of : List ℕ → List ℕ → List (List ℕ)
+slices_of xs [] = []
+slices_of xs (n ∷ ns) = take n xs ∷ slices_of (drop n xs) ns

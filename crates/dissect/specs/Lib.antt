@@ -1,5 +1,5 @@
-pub mod Headings
-pub mod HeadingSearch
+pub mod Directions
+pub mod DirectionSearch
 pub mod DartMaps
 pub mod Faces
 pub mod Turning
@@ -18,4 +18,4 @@ pub mod Boxes
 pub mod Rectangle
 pub mod Boxed
 pub mod Ordered
-pub mod Headed
+pub mod DirectionLists

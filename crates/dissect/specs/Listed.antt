@@ -33,7 +33,7 @@ pub record AreKeptCorners (w : DartMap) (right : ℕ) (front kept : List ℕ) : 
   pub turning : w.angle right ≢ 3 → kept ≡ front ++ (right ∷ [])
 
 -- the faces of the map connected with its rectangle
-pub record AreConnectedFaces (w : DartMap) (right side : ℕ) (front : List ℕ) (inner : List (List ℕ)) (corners counts : List ℕ) : Type 0 where
+pub record AreMergedFaces (w : DartMap) (right side : ℕ) (front : List ℕ) (inner : List (List ℕ)) (corners counts : List ℕ) : Type 0 where
   pub kept : List ℕ
   pub is_kept : AreKeptCorners w right front kept
   pub flat : AreFlat corners counts (inner ++ ((kept ++ detour w.darts side) ∷ []))

@@ -31,7 +31,7 @@ pub record HasRectangle (inner w : DartMap) : Type 0 where
 
 -- A straight chain of darts, which ends with the dart n + 10 and the other way with n + 11, connects the map with a side of its
 -- rectangle: it sets out where the dart `right` arrives, and leaves a right angle between itself and the next edge on its left.
-pub record IsConnectedAt (inner : DartMap) (right : ℕ) (w : DartMap) : Type 0 where
+pub record IsBridgedAt (inner : DartMap) (right : ℕ) (w : DartMap) : Type 0 where
   pub chain : IsStraightChain w (inner.darts + 10) (inner.darts + 11)
   pub from : w.head (inner.darts + 11) ≡ w.head right
   pub leaves : (w.direction (inner.darts + 10) + 1 + inner.angle right) % 4 ≡ w.direction right

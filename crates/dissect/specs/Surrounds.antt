@@ -15,20 +15,20 @@ pub record IsSurrounded (w new : DartMap) : Type 0 where
   pub direction_old : (a : ℕ) → a < w.darts → new.direction a ≡ w.direction a
   pub angle_old : (a : ℕ) → a < w.darts → new.angle a ≡ w.angle a
   pub before_old : (a : ℕ) → a < w.darts → new.before a ≡ w.before a
-  pub next_inner : (k : ℕ) → k < 4 → new.next (w.darts + k) ≡ w.darts + (k + 1) % 4
-  pub next_outer : (k : ℕ) → k < 4 → new.next (w.darts + 4 + k) ≡ w.darts + 4 + (k + 3) % 4
-  pub prev_inner : (k : ℕ) → k < 4 → new.prev (w.darts + k) ≡ w.darts + (k + 3) % 4
-  pub prev_outer : (k : ℕ) → k < 4 → new.prev (w.darts + 4 + k) ≡ w.darts + 4 + (k + 1) % 4
-  pub reverse_dart_inner : (k : ℕ) → k < 4 → new.reverse_dart (w.darts + k) ≡ w.darts + 4 + k
-  pub reverse_dart_outer : (k : ℕ) → k < 4 → new.reverse_dart (w.darts + 4 + k) ≡ w.darts + k
-  pub head_inner : (k : ℕ) → k < 4 → new.head (w.darts + k) ≡ w.vertices + k
-  pub head_outer : (k : ℕ) → k < 4 → new.head (w.darts + 4 + k) ≡ w.vertices + (k + 3) % 4
-  pub direction_inner : (k : ℕ) → k < 4 → new.direction (w.darts + k) ≡ k
-  pub direction_outer : (k : ℕ) → k < 4 → new.direction (w.darts + 4 + k) ≡ (k + 2) % 4
-  pub angle_inner : (k : ℕ) → k < 4 → new.angle (w.darts + k) ≡ 1
-  pub angle_outer : (k : ℕ) → k < 4 → new.angle (w.darts + 4 + k) ≡ 3
-  pub before_inner : (k : ℕ) → k < 4 → new.before (w.darts + k) ≡ no_dart
-  pub before_outer : (k : ℕ) → k < 4 → new.before (w.darts + 4 + k) ≡ no_dart
+  pub next_inside : (k : ℕ) → k < 4 → new.next (w.darts + k) ≡ w.darts + (k + 1) % 4
+  pub next_outside : (k : ℕ) → k < 4 → new.next (w.darts + 4 + k) ≡ w.darts + 4 + (k + 3) % 4
+  pub prev_inside : (k : ℕ) → k < 4 → new.prev (w.darts + k) ≡ w.darts + (k + 3) % 4
+  pub prev_outside : (k : ℕ) → k < 4 → new.prev (w.darts + 4 + k) ≡ w.darts + 4 + (k + 1) % 4
+  pub reverse_dart_inside : (k : ℕ) → k < 4 → new.reverse_dart (w.darts + k) ≡ w.darts + 4 + k
+  pub reverse_dart_outside : (k : ℕ) → k < 4 → new.reverse_dart (w.darts + 4 + k) ≡ w.darts + k
+  pub head_inside : (k : ℕ) → k < 4 → new.head (w.darts + k) ≡ w.vertices + k
+  pub head_outside : (k : ℕ) → k < 4 → new.head (w.darts + 4 + k) ≡ w.vertices + (k + 3) % 4
+  pub direction_inside : (k : ℕ) → k < 4 → new.direction (w.darts + k) ≡ k
+  pub direction_outside : (k : ℕ) → k < 4 → new.direction (w.darts + 4 + k) ≡ (k + 2) % 4
+  pub angle_inside : (k : ℕ) → k < 4 → new.angle (w.darts + k) ≡ 1
+  pub angle_outside : (k : ℕ) → k < 4 → new.angle (w.darts + 4 + k) ≡ 3
+  pub before_inside : (k : ℕ) → k < 4 → new.before (w.darts + k) ≡ no_dart
+  pub before_outside : (k : ℕ) → k < 4 → new.before (w.darts + 4 + k) ≡ no_dart
 
 -- a map in its rectangle, with which it is connected by a cut from a right turn of its own, on the face of the dart
 -- `outside`, to a side of the rectangle, and then cut up further

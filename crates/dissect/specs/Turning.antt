@@ -22,16 +22,16 @@ HasNoHook lefts [] = Unit {0}
 HasNoHook lefts (x ∷ st) = (2 < x → (lefts ≤ 1) × HasNoHook 0 st) × (x ≡ 1 → HasNoHook (lefts + 1) st)
 
 -- the angles of corners
-abbrev pub AreTurns : List ℕ → Type 0
-AreTurns [] = Unit {0}
-AreTurns (x ∷ xs) = (1 ≤ x) × (x ≤ 4) × (x ≡ 2 → ⊥) × AreTurns xs
+abbrev pub AreCornerAngles : List ℕ → Type 0
+AreCornerAngles [] = Unit {0}
+AreCornerAngles (x ∷ xs) = (1 ≤ x) × (x ≤ 4) × (x ≡ 2 → ⊥) × AreCornerAngles xs
 
 abbrev pub AreLefts : List ℕ → Type 0
 AreLefts [] = Unit {0}
 AreLefts (x ∷ xs) = (x ≡ 1) × AreLefts xs
 
 -- the walk along these corners has turned left most in front of place m, and less in front of each place before it
-pub record IsHighest (xs : List ℕ) (m : ℕ) : Type 0 where
+pub record IsPeak (xs : List ℕ) (m : ℕ) : Type 0 where
   pub within : m ≤ length xs
   pub first : (j : ℕ) → j < m → 2 * j + total (take m xs) + 1 ≤ 2 * m + total (take j xs)
   pub most : (j : ℕ) → j ≤ length xs → 2 * j + total (take m xs) ≤ 2 * m + total (take j xs)

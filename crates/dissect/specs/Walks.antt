@@ -19,7 +19,7 @@ turning w [] = []
 turning w (a ∷ rest) = if w.angle a == 2 then turning w rest else (a ∷ turning w rest)
 
 -- the walk from a is back at a after so many steps, and not before
-pub record IsOrbit (w : DartMap) (a places : ℕ) : Type 0 where
+pub record HasPeriod (w : DartMap) (a places : ℕ) : Type 0 where
   pub some : 1 ≤ places
   pub most : places ≤ w.darts
   pub back : steps w places a ≡ a
@@ -32,7 +32,7 @@ IsFlagged flags a = slice_index_or flags a false ≡ true
 -- the walk from `start` once round its face has flagged its darts and listed the corners among them
 pub record IsWalked (w : DartMap) (start : ℕ) (before after : List Bool) (others listed : List ℕ) : Type 0 where
   pub places : ℕ
-  pub orbit : IsOrbit w start places
+  pub period : HasPeriod w start places
   pub corners : listed ≡ others ++ turning w (path w start places)
   pub kept : (a : ℕ) → IsFlagged before a → IsFlagged after a
   pub passed : (a : ℕ) → In a (path w start places) → IsFlagged after a

@@ -4,10 +4,10 @@ ghost use Rattle.std.specs.Prelude.{ℕ, List};
 ghost use Rattle.faces.specs.Planes.{IsPlane, PlaneModel};
 ghost use Rattle.ortho_rep.specs.declared.turn.Turn.{Turn};
 ghost use Rattle.ortho_rep.specs.Representation.{Rep};
-ghost use Rattle.dissect.specs.Headings.{AreHeadings};
+ghost use Rattle.dissect.specs.Directions.{AreDirections};
 
 /// Each orthogonal representation of a plane gives its darts directions.
 pub fn directions_exist()
     ensures { (p : PlaneModel) (a : ℕ → ℕ) (s : ℕ → List Turn) → IsPlane p → Rep p a s
-        → (h : ℕ → ℕ) × AreHeadings p a s h }
+        → (h : ℕ → ℕ) × AreDirections p a s h }
 {}

@@ -3,11 +3,11 @@
 ghost use Rattle.std.specs.Prelude.{IfOk};
 ghost use Rattle.ortho_rep.specs.Representation.{IsShape};
 ghost use Rattle.dissect.specs.Boxed.{IsBoxed};
-ghost use Rattle.dissect.specs.Headed.{AreHeadingsOf};
+ghost use Rattle.dissect.specs.DirectionLists.{AreDirectionsOf};
 
 use crate::boxes::Boxes;
+use crate::direction_search::{DirectionSearch, directions_in};
 use crate::edges::lesser_darts_of;
-use crate::heading_search::{HeadingSearch, headings_in};
 use crate::normalization::normalize_into;
 use crate::parts::paths_of;
 use crate::refinement::refine_in;
@@ -50,14 +50,14 @@ pub fn dissect_in(
     requires { IsShape plane.now shape.now }
     ensures { IfOk result (IsBoxed plane.now shape.now) }
 {
-    let lent = mem::replace(&mut scratch.search, HeadingSearch::empty(alloc));
-    let search = headings_in(plane, shape, lent)?;
-    let boxes = dissect_along(alloc, scratch, plane, shape, &search.headings)?;
+    let lent = mem::replace(&mut scratch.search, DirectionSearch::empty(alloc));
+    let search = directions_in(plane, shape, lent)?;
+    let boxes = dissect_along(alloc, scratch, plane, shape, &search.directions)?;
     scratch.search = search;
     Ok(boxes)
 }
 
-/// The same where the directions of the plane's darts are known, as `headings_in` finds them.
+/// The same where the directions of the plane's darts are known, as `directions_in` finds them.
 ///
 /// # Errors
 ///
@@ -67,10 +67,10 @@ pub fn dissect_along(
     scratch: &mut Scratch,
     plane: &Plane,
     shape: &Shape,
-    headings: &[u8],
+    directions: &[u8],
 ) -> Result<Boxes, AllocError>
     requires shape { IsShape plane.now shape.now }
-    requires headings { AreHeadingsOf plane.now shape.now headings.now }
+    requires directions { AreDirectionsOf plane.now shape.now directions.now }
     ensures { IfOk result (IsBoxed plane.now shape.now) }
 {
     let Scratch {
@@ -82,7 +82,7 @@ pub fn dissect_along(
         starts,
     } = mem::replace(scratch, Scratch::empty(alloc));
     let edges = lesser_darts_of(plane, edges)?;
-    let mut table = normalize_into(table, plane, shape, headings, &edges)?;
+    let mut table = normalize_into(table, plane, shape, directions, &edges)?;
     let outside = plane.least_dart(plane.outer());
     let faces = refine_in(&mut table, u32::from(outside), faces)?;
     let old = plane.graph().vertices();

@@ -37,7 +37,7 @@ pub fn bend_edge(table: &mut DartTable, e: u32, turns: &[Turn])
     'turns: for turn in turns {
         let reverse_dart = table.reverse_dart[e as usize];
         let way = (table.direction[reverse_dart as usize] + 2) % 4;
-        table.split(e, way, angle_of(*turn));
+        table.subdivide(e, way, angle_of(*turn));
     }
 }
 

@@ -4,7 +4,7 @@ ghost use Rattle.std.specs.Prelude.{◌≡◌, ◌<◌, ◌≤◌, ◌+◌, ℕ,
 ghost use Rattle.dissect.specs.FaceNumbers.{HasTurns};
 ghost use Rattle.dissect.specs.Tables.{room, dart_map_of};
 ghost use Rattle.dissect.specs.DartMaps.{IsTied};
-ghost use Rattle.dissect.specs.Listed.{AreFlat, AreConnectedFaces, AreListed};
+ghost use Rattle.dissect.specs.Listed.{AreFlat, AreMergedFaces, AreListed};
 
 use crate::table::DartTable;
 use crate::walks::walk;
@@ -80,7 +80,7 @@ pub fn list_faces(table: &DartTable, right: u32, faces: Faces) -> Result<Faces, 
 /// Adds the face that a cut from `right` to the side `side` makes of the outer face and the inside of
 /// the rectangle: behind `right` it goes along the cut, round the inside of the rectangle and back.
 /// `right` stays one of its corners unless the cut leaves it straight.
-pub fn add_connected_face(
+pub fn add_merged_face(
     table: &DartTable,
     right: u32,
     side: u32,
@@ -92,7 +92,7 @@ pub fn add_connected_face(
     requires listed { (inner : List (List ℕ)) × AreListed (dart_map_of table.now) right inner faces.old.outer.items }
     ensures connected { OnOk result ((inner : List (List ℕ)) → (listed : AreListed (dart_map_of table.now) right inner faces.old.outer.items)
         → AreFlat faces.old.corners.items faces.old.counts.items inner
-        → AreConnectedFaces (dart_map_of table.now) right side listed.front inner faces.new.corners.items faces.new.counts.items) }
+        → AreMergedFaces (dart_map_of table.now) right side listed.front inner faces.new.corners.items faces.new.counts.items) }
 {
     let n = table.darts;
     if table.angle[right as usize] == 3 {

@@ -9,7 +9,7 @@ ghost use Rattle.faces.specs.Planes.{darts, reverse_dart, vertices};
 ghost use Rattle.ortho_rep.specs.Edges.{lesser_darts};
 ghost use Rattle.ortho_rep.specs.Shapes.{angle_at, turns_at};
 ghost use Rattle.ortho_rep.specs.Representation.{IsShape};
-ghost use Rattle.dissect.specs.Headings.{AreHeadings};
+ghost use Rattle.dissect.specs.Directions.{AreDirections};
 ghost use Rattle.dissect.specs.declared.table.TheConstants.{RECTANGLE_ROOM};
 ghost use Rattle.dissect.specs.DartMaps.{IsSound, reflex_turns};
 ghost use Rattle.dissect.specs.Tables.{dart_map_of, room};
@@ -46,11 +46,11 @@ pub fn normalize_into(
 ) -> Result<DartTable, AllocError>
     requires shape { IsShape plane.now shape.now }
     requires count { length directions.now ≡ darts plane.now }
-    requires headings { AreHeadings plane.now (angle_at shape.now) (turns_at shape.now) (slice_index directions.now) }
+    requires directions { AreDirections plane.now (angle_at shape.now) (turns_at shape.now) (slice_index directions.now) }
     requires edges { edges.now ≡ lesser_darts plane.now }
     ensures sound { IfOk result (λ t. IsSound (dart_map_of t)) }
     ensures darts { IfOk result (λ t. KeepsDarts plane.now (angle_at shape.now) (dart_map_of t)) }
-    ensures directions { IfOk result (λ t. AreHeadings plane.now (angle_at shape.now)
+    ensures directions { IfOk result (λ t. AreDirections plane.now (angle_at shape.now)
         (turns_at shape.now) (dart_map_of t).direction) }
     ensures faces { IfOk result (λ t. KeepsFaces plane.now (dart_map_of t)) }
     ensures counts { IfOk result (λ t. CountsBends plane.now (turns_at shape.now) (dart_map_of t)) }

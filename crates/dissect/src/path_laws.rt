@@ -15,7 +15,7 @@ pub fn darts_are_paths()
 {}
 
 /// A subdivision that does not turn keeps the turns of each edge.
-pub fn splits_keep_paths()
+pub fn subdivisions_keep_paths()
     ensures { (w : DartMap) (e way : ℕ) (new : DartMap) (n : ℕ) (reverse_dart : ℕ → ℕ) (quarters : ℕ → List ℕ)
         → IsTied w → e < w.darts → way < 4 → IsSubdivided w e way 2 new
         → HasPaths w n reverse_dart quarters → HasPaths new n reverse_dart quarters }
@@ -47,7 +47,7 @@ pub fn rectangles_keep_paths()
 {}
 
 /// A subdivision of an edge leaves a connected map connected.
-pub fn splits_stay_connected()
+pub fn subdivisions_stay_connected()
     ensures { (w : DartMap) (e way bend : ℕ) (new : DartMap) → IsTied w → e < w.darts → IsSubdivided w e way bend new
         → IsConnected w → IsConnected new }
 {}

@@ -12,7 +12,7 @@ ghost use Rattle.dissect.specs.FaceNumbers.{HasTurns};
 ghost use Rattle.dissect.specs.Tables.{room, dart_map_of};
 ghost use Rattle.dissect.specs.DartMaps.{IsSound, reflex_turns};
 
-use crate::face_list::{Faces, add_connected_face, list_faces};
+use crate::face_list::{Faces, add_merged_face, list_faces};
 use crate::rectangle::surround;
 use crate::scan::{cut_across, cut_faces};
 use crate::table::DartTable;
@@ -55,7 +55,7 @@ pub fn refine_in(table: &mut DartTable, outside: u32, faces: Faces) -> Result<Fa
     let right = find_right(table, outside);
     let mut faces = list_faces(table, right, faces)?;
     let side = cut_side(table, right);
-    add_connected_face(table, right, side, &mut faces)?;
+    add_merged_face(table, right, side, &mut faces)?;
     let corner = table.darts + (side + 3) % 4;
     surround(table);
     cut_across(table, right, corner);

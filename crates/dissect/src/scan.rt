@@ -9,8 +9,8 @@
 ghost use Rattle.std.specs.Prelude.{◌≡◌, ◌≢◌, ℕ, ◌+◌, ◌-◌, ◌*◌, ◌^◌, ◌<◌, ◌≤◌, ◌↔◌, List, [], ◌∷◌, length, map, drop, take, ◌++◌, sum, slice_index, true, All};
 ghost use Rattle.dissect.specs.DartMaps.{IsSound, IsCut, Grows};
 ghost use Rattle.dissect.specs.Tables.{dart_map_of, room};
-ghost use Rattle.dissect.specs.Faces.{AreWaiting, pieces_of};
-ghost use Rattle.dissect.specs.Turning.{AreTurns, HasNoHook, IsHighest};
+ghost use Rattle.dissect.specs.Faces.{AreWaiting, slices_of};
+ghost use Rattle.dissect.specs.Turning.{AreCornerAngles, HasNoHook, IsPeak};
 ghost use Rattle.dissect.specs.Scan.{CanCut, HasRoom, IsHookOn, IsReading, down, tops};
 
 use crate::table::DartTable;
@@ -32,7 +32,7 @@ pub fn cut_across(table: &mut DartTable, d: u32, c: u32)
     let edge_direction = table.direction[e as usize];
     let chord_direction = (table.direction[d as usize] + 7 - table.angle[d as usize]) % 4;
     let first = table.darts;
-    table.split(e, edge_direction, 2);
+    table.subdivide(e, edge_direction, 2);
     table.chord(d, first, chord_direction);
 }
 
@@ -40,7 +40,7 @@ pub fn cut_across(table: &mut DartTable, d: u32, c: u32)
 fn has_hook(table: &DartTable, ring: &[u32], height: usize) -> bool
     requires high { height ≤ length ring.now }
     requires inside { All (λ a. a < room table.now) ring.now }
-    requires turns { AreTurns (map (dart_map_of table.now).angle (tops ring.now height)) }
+    requires turns { AreCornerAngles (map (dart_map_of table.now).angle (tops ring.now height)) }
     ensures { (result ≡ true) ↔ IsHookOn (dart_map_of table.now) (tops ring.now height) }
 {
     if height < 3 {
@@ -83,11 +83,11 @@ fn read_corner(table: &mut DartTable, ring: &mut [u32], height: usize, read: usi
 }
 
 /// The place in front of which the walk along the corners has turned left most, the first of them.
-fn highest(angle: &[u8], ring: &[u32]) -> usize
+fn peak(angle: &[u8], ring: &[u32]) -> usize
     requires inside { All (λ a. a < length angle.now) ring.now }
     requires small { All (λ a. slice_index angle.now a ≤ 4) ring.now }
     requires few { length ring.now < 2 ^ 32 }
-    ensures { IsHighest (map (λ a. slice_index angle.now a) ring.now) result }
+    ensures { IsPeak (map (λ a. slice_index angle.now a) ring.now) result }
 {
     let mut best: usize = 0;
     let mut best_sum: u64 = 0;
@@ -128,7 +128,7 @@ pub fn cut_face(table: &mut DartTable, ring: &mut [u32])
     if ring.len() == BOX_CORNERS {
         return;
     }
-    let start = highest(table.angle.as_slice(), ring);
+    let start = peak(table.angle.as_slice(), ring);
     start_at(ring, start);
     let mut height = 0;
     'corners: for read in 0..ring.len() {
@@ -141,13 +141,13 @@ pub fn cut_face(table: &mut DartTable, ring: &mut [u32])
 /// Linear in the corners.
 pub fn cut_faces(table: &mut DartTable, corners: &mut [u32], counts: &[u32])
     requires sound { IsSound (dart_map_of table.old) }
-    requires waiting { (o : ℕ) × AreWaiting (dart_map_of table.old) o (pieces_of corners.old counts.now) }
+    requires waiting { (o : ℕ) × AreWaiting (dart_map_of table.old) o (slices_of corners.old counts.now) }
     requires space { HasRoom (dart_map_of table.old) (room table.old) }
     requires all { sum counts.now ≡ length corners.old }
     requires few { length corners.old < 2 ^ 32 }
     ensures sound { IsSound (dart_map_of table.new) }
     ensures grows { Grows (dart_map_of table.old) (dart_map_of table.new) }
-    ensures done { (o : ℕ) → AreWaiting (dart_map_of table.old) o (pieces_of corners.old counts.now) → AreWaiting (dart_map_of table.new) o [] }
+    ensures done { (o : ℕ) → AreWaiting (dart_map_of table.old) o (slices_of corners.old counts.now) → AreWaiting (dart_map_of table.new) o [] }
     ensures space { HasRoom (dart_map_of table.new) (room table.new) }
     ensures room { room table.new ≡ room table.old }
 {

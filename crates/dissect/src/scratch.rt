@@ -3,8 +3,8 @@
 ghost use Rattle.std.specs.Prelude.{◌≡◌};
 ghost use Rattle.dissect.specs.Tables.{room};
 
+use crate::direction_search::DirectionSearch;
 use crate::face_list::Faces;
-use crate::heading_search::HeadingSearch;
 use crate::table::DartTable;
 use std::alloc::Global;
 
@@ -12,7 +12,7 @@ use std::alloc::Global;
 #[derive(Drop)]
 pub struct Scratch {
     pub(crate) table: DartTable,
-    pub(crate) search: HeadingSearch,
+    pub(crate) search: DirectionSearch,
     pub(crate) faces: Faces,
     pub(crate) edges: Vec<u16>,
     pub(crate) darts: Vec<u32>,
@@ -26,7 +26,7 @@ impl Scratch {
     {
         Scratch {
             table: DartTable::empty(alloc),
-            search: HeadingSearch::empty(alloc),
+            search: DirectionSearch::empty(alloc),
             faces: Faces::empty(alloc),
             edges: Vec::new(alloc),
             darts: Vec::new(alloc),

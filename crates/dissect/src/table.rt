@@ -2,7 +2,7 @@
 
 ghost use Rattle.std.specs.Prelude.{◌≡◌, ◌≢◌, ◌+◌, ◌^◌, ◌<◌, ◌≤◌, vec_len};
 
-use crate::ties::{pair, put_in_front, take_over, tie};
+use crate::ties::{pair, put_before, set_next, take_over};
 use std::alloc::Global;
 
 /// Stands where there is no dart.
@@ -46,7 +46,7 @@ pub struct DartTable {
 }
 
 impl DartTable {
-    ghost use Rattle.dissect.specs.DartMaps.{IsTied, IsSubdivided, IsChord, Fits};
+    ghost use Rattle.dissect.specs.DartMaps.{IsTied, IsSubdivided, IsChord, HasChordAngles};
     ghost use Rattle.dissect.specs.Tables.{dart_map_of, room};
 
     /// A table with no darts and no room. It takes no memory.
@@ -68,21 +68,21 @@ impl DartTable {
 
     /// Subdivides the edge of the dart `e` by a new vertex, at which the walk along `e` arrives in the
     /// direction `way` and has the angle `bend` on its left.
-    pub fn split(&mut self, e: u32, way: u8, bend: u8)
+    pub fn subdivide(&mut self, e: u32, way: u8, bend: u8)
         requires tied { IsTied (dart_map_of self.old) }
         requires e_in { e < self.old.darts }
         requires space { self.old.darts + 2 ≤ room self.old }
         requires quarter { way < 4 }
         requires short { bend ≤ 4 }
-        ensures split { IsSubdivided (dart_map_of self.old) e way bend (dart_map_of self.new) }
+        ensures subdivide { IsSubdivided (dart_map_of self.old) e way bend (dart_map_of self.new) }
         ensures room { room self.new ≡ room self.old }
     {
         let first = self.darts;
         let second = first + 1;
         let vertex = self.vertices;
         let reverse_dart = self.reverse_dart[e as usize];
-        put_in_front(&mut self.next, &mut self.prev, first, e);
-        put_in_front(&mut self.next, &mut self.prev, second, reverse_dart);
+        put_before(&mut self.next, &mut self.prev, first, e);
+        put_before(&mut self.next, &mut self.prev, second, reverse_dart);
         pair(&mut self.reverse_dart, e, second);
         pair(&mut self.reverse_dart, reverse_dart, first);
         take_over(&mut self.before, first, e);
@@ -101,7 +101,7 @@ impl DartTable {
     /// edge that leaves in the direction `way`.
     pub fn chord(&mut self, d: u32, f: u32, way: u8)
         requires tied { IsTied (dart_map_of self.old) }
-        requires fits { Fits (dart_map_of self.old) d f way }
+        requires fits { HasChordAngles (dart_map_of self.old) d f way }
         requires space { self.old.darts + 2 ≤ room self.old }
         ensures chord { IsChord (dart_map_of self.old) d f way (dart_map_of self.new) }
         ensures room { room self.new ≡ room self.old }
@@ -110,10 +110,10 @@ impl DartTable {
         let back = there + 1;
         let after_d = self.next[d as usize];
         let after_f = self.next[f as usize];
-        tie(&mut self.next, &mut self.prev, d, there);
-        tie(&mut self.next, &mut self.prev, there, after_f);
-        tie(&mut self.next, &mut self.prev, f, back);
-        tie(&mut self.next, &mut self.prev, back, after_d);
+        set_next(&mut self.next, &mut self.prev, d, there);
+        set_next(&mut self.next, &mut self.prev, there, after_f);
+        set_next(&mut self.next, &mut self.prev, f, back);
+        set_next(&mut self.next, &mut self.prev, back, after_d);
         pair(&mut self.reverse_dart, there, back);
         self.head[there as usize] = self.head[f as usize];
         self.head[back as usize] = self.head[d as usize];

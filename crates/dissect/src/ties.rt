@@ -3,7 +3,7 @@
 ghost use Rattle.std.specs.Prelude.{◌≡◌, ◌<◌, vec_len, slice_index, slice_set};
 
 /// Puts the dart `new` in front of the dart `old` on its face.
-pub fn put_in_front(next: &mut Vec<u32>, prev: &mut Vec<u32>, new: u32, old: u32)
+pub fn put_before(next: &mut Vec<u32>, prev: &mut Vec<u32>, new: u32, old: u32)
     requires new_next { new < vec_len next.old }
     requires new_prev { new < vec_len prev.old }
     requires old_prev { old < vec_len prev.old }
@@ -23,7 +23,7 @@ pub fn put_in_front(next: &mut Vec<u32>, prev: &mut Vec<u32>, new: u32, old: u32
 }
 
 /// Lets `b` follow `a` on its face.
-pub fn tie(next: &mut Vec<u32>, prev: &mut Vec<u32>, a: u32, b: u32)
+pub fn set_next(next: &mut Vec<u32>, prev: &mut Vec<u32>, a: u32, b: u32)
     requires a_in { a < vec_len next.old }
     requires b_in { b < vec_len prev.old }
     ensures next { next.new.items ≡ slice_set next.old.items a b }

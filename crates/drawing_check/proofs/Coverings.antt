@@ -8,7 +8,7 @@ use Rattle.std.proofs.lemmas.Bool.{cases_lt}
 use Rattle.geometry.specs.declared.rectangles.Rectangle.{Rectangle}
 use Rattle.geometry.specs.Rectangles.{Covers, AreApart}
 use Rattle.ortho_rep.specs.declared.points.Point.{Point}
-use Rattle.drawing_check.specs.Walks.{HasNoRepeat}
+use Rattle.drawing_check.specs.Walks.{AreDistinct}
 use Rattle.drawing_check.specs.Shown.{Enumerates, Shows}
 
 -- points with the same coordinates are the same
@@ -22,7 +22,7 @@ point_is p q ex ey =
 behind : (l m : List Point) (i : ℕ) (d : Point) → get_or (l ++ m) (length l + i) d ≡ get_or m i d
 behind l m i d = get_or-append_right l m (length l + i) d (omega arith) ∙ ap (λ (k : ℕ). get_or m k d) (omega arith)
 
-pub no_repeat_append : (l m : List Point) → HasNoRepeat l → HasNoRepeat m → ((p : Point) → Contains l p → Contains m p → ⊥) → HasNoRepeat (l ++ m)
+pub no_repeat_append : (l m : List Point) → AreDistinct l → AreDistinct m → ((p : Point) → Contains l p → Contains m p → ⊥) → AreDistinct (l ++ m)
 no_repeat_append l m in_l in_m apart = λ i j d lt within same.
     let size = length-append l m in
     ⊎_elim
@@ -37,16 +37,16 @@ no_repeat_append l m in_l in_m apart = λ i j d lt within same.
     (cases_lt i (length l)))
     (cases_lt j (length l))
 
-pub no_repeat_left : (l m : List Point) → HasNoRepeat (l ++ m) → HasNoRepeat l
+pub no_repeat_left : (l m : List Point) → AreDistinct (l ++ m) → AreDistinct l
 no_repeat_left l m h = λ i j d lt within same.
     h i j d lt (omega (arith, length-append l m)) (get_or_append_left l m d i (omega arith) ∙ same ∙ sym (get_or_append_left l m d j within))
 
-pub no_repeat_right : (l m : List Point) → HasNoRepeat (l ++ m) → HasNoRepeat m
+pub no_repeat_right : (l m : List Point) → AreDistinct (l ++ m) → AreDistinct m
 no_repeat_right l m h = λ i j d lt within same.
     let size = length-append l m in
     h (length l + i) (length l + j) d (omega arith) (omega arith) (behind l m i d ∙ same ∙ sym (behind l m j d))
 
-pub no_repeat_apart : (l m : List Point) → HasNoRepeat (l ++ m) → (p : Point) → Contains l p → Contains m p → ⊥
+pub no_repeat_apart : (l m : List Point) → AreDistinct (l ++ m) → (p : Point) → Contains l p → Contains m p → ⊥
 no_repeat_apart l m h p a b =
     let size = length-append l m in
     h a.0 (length l + b.0) p (omega (arith, a.1)) (omega (arith, b.1))
@@ -69,20 +69,20 @@ shown_from [] ps s k d lt p h = absurd (omega arith)
 shown_from (r ∷ rs) ps s zero d lt p h = subst (λ (l : List Point). Contains l p) (sym s.2) (Contains-append_left s.0 s.1 p ((s.3.covered p).1 h))
 shown_from (r ∷ rs) ps s (suc k) d lt p h = subst (λ (l : List Point). Contains l p) (sym s.2) (Contains-append_right s.0 s.1 p (shown_from rs s.1 s.4 k d (omega arith) p h))
 
-pub apart_from_no_repeat : (rs : List Rectangle) (ps : List Point) → Shows rs ps → HasNoRepeat ps → AllPairs AreApart rs
+pub apart_from_no_repeat : (rs : List Rectangle) (ps : List Point) → Shows rs ps → AreDistinct ps → AllPairs AreApart rs
 apart_from_no_repeat [] ps s h = λ i j d lt within. absurd (omega arith)
 apart_from_no_repeat (r ∷ rs) ps s h =
-    let split : HasNoRepeat (s.0 ++ s.1) = subst (λ (l : List Point). HasNoRepeat l) s.2 h in
+    let split : AreDistinct (s.0 ++ s.1) = subst (λ (l : List Point). AreDistinct l) s.2 h in
     AllPairs-cons AreApart r rs
     (λ k d lt x y in_r in_k.
     let p : Point = record { x = x; y = y } in
     no_repeat_apart s.0 s.1 split p ((s.3.covered p).1 in_r) (shown_from rs s.1 s.4 k d lt p in_k))
     (apart_from_no_repeat rs s.1 s.4 (no_repeat_right s.0 s.1 split))
 
-pub no_repeat_from_apart : (rs : List Rectangle) (ps : List Point) → Shows rs ps → AllPairs AreApart rs → HasNoRepeat ps
+pub no_repeat_from_apart : (rs : List Rectangle) (ps : List Point) → Shows rs ps → AllPairs AreApart rs → AreDistinct ps
 no_repeat_from_apart [] ps s h = λ i j d lt within same. let none : length ps ≡ 0 = ap length s in omega arith
 no_repeat_from_apart (r ∷ rs) ps s h =
-    subst (λ (l : List Point). HasNoRepeat l) (sym s.2)
+    subst (λ (l : List Point). AreDistinct l) (sym s.2)
     (no_repeat_append s.0 s.1 s.3.once
     (no_repeat_from_apart rs s.1 s.4 (λ i j d lt within. h (suc i) (suc j) d (omega arith) (omega arith)))
     (λ p front back. let k = shown_in rs s.1 s.4 p back in h 0 (suc k.0) r (omega arith) (omega (arith, k.1)) p.x p.y ((s.3.covered p).0 front) (k.2 r)))

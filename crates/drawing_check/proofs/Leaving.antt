@@ -102,7 +102,7 @@ pub record IsLeaving (p : PlaneModel) (points : PointsModel) (directions : List 
 pub leaving_more : (p : PlaneModel) (points : PointsModel) (old new : List Direction) (n i j : ℕ) (v w : Direction) → HasEnds p → IsLeaving p points old n → n < darts p → i ≡ n → j ≡ reverse_dart p n → new ≡ set (set old i v) j w → v ≡ leaving p points n → w ≡ leaving p points (reverse_dart p n) → IsLeaving p points new (n + 1)
 leaving_more p points old new n i j v w ends is inside is_i is_j is_new is_v is_w =
     let room = is.room in
-    let reverse_dart_in : reverse_dart p n < darts p = ends.reverse_dart_inside n inside in
+    let reverse_dart_in : reverse_dart p n < darts p = ends.reverse_dart_in_range n inside in
     let i_in : i < length old = omega arith in
     let j_in : j < length old = omega arith in
     let v_is : v ≡ leaving p points i = is_v ∙ ap (leaving p points) (sym is_i) in
@@ -135,7 +135,7 @@ all_leave p points directions n ends is all d inside =
     (λ ge.
     let back = ends.reverse_dart_back d inside in
     let lesser : is_lesser p (reverse_dart p d) ≡ true = lesser_back d (reverse_dart p d) (reverse_dart p (reverse_dart p d)) ge (λ e. ends.reverse_dart_apart d inside e) back in
-    subst (λ (e : ℕ). direction_at directions e ≡ leaving p points e) back (is.back (reverse_dart p d) (let inner = ends.reverse_dart_inside d inside in omega arith) lesser))
+    subst (λ (e : ℕ). direction_at directions e ≡ leaving p points e) back (is.back (reverse_dart p d) (let inner = ends.reverse_dart_in_range d inside in omega arith) lesser))
     (cases_lt d (reverse_dart p d))
   where
     lesser_back : (a b c : ℕ) → b ≤ a → (b ≡ a → ⊥) → c ≡ a → ltb b c ≡ true
@@ -150,13 +150,13 @@ turns_as_said p shape points said turning out ends edges is both = (
   λ h. record {
     edges = edges.0 (both.0 h).0;
     heads = λ d inside.
-        sym (is (reverse_dart p d) (ends.reverse_dart_inside d inside)) ∙ (both.0 h).1 d inside
+        sym (is (reverse_dart p d) (ends.reverse_dart_in_range d inside)) ∙ (both.0 h).1 d inside
         ∙ ap (lefts (angle_at shape d)) (is (next p d) (ends.next_one.inside d inside));
   },
   λ turns. both.1 (
     edges.1 turns.edges,
     λ d inside.
-        is (reverse_dart p d) (ends.reverse_dart_inside d inside) ∙ turns.heads d inside
+        is (reverse_dart p d) (ends.reverse_dart_in_range d inside) ∙ turns.heads d inside
         ∙ sym (ap (lefts (angle_at shape d)) (is (next p d) (ends.next_one.inside d inside))),
   ),
 )

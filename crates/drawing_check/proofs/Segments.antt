@@ -78,11 +78,11 @@ line_south x y a c n some room is_x is_y =
 pub segment_lists : (a b : Point) (n : ℕ) → IsAxis a b → 1 ≤ n → n ≤ distance a b → Enumerates (rectangle_between (step_from a b 1) (step_from a b n)) (walk a b n)
 segment_lists a b n axis some within =
     ⊎_elim
-    (λ upright.
-    let same_x = λ (k : ℕ). toward_same a.x b.x k upright.0 in
+    (λ vertical.
+    let same_x = λ (k : ℕ). toward_same a.x b.x k vertical.0 in
     ⊎_elim
     (λ up. line_north (toward a.x b.x) (toward a.y b.y) a.y a.x n some same_x (λ k. toward_up a.y b.y k up))
-    (λ ge. let down : b.y < a.y = omega (arith, upright.1) in line_south (toward a.x b.x) (toward a.y b.y) a.y a.x n some (omega (arith, upright.0)) same_x (λ k. toward_down a.y b.y k down))
+    (λ ge. let down : b.y < a.y = omega (arith, vertical.1) in line_south (toward a.x b.x) (toward a.y b.y) a.y a.x n some (omega (arith, vertical.0)) same_x (λ k. toward_down a.y b.y k down))
     (cases_lt a.y b.y))
     (λ level.
     let same_y = λ (k : ℕ). toward_same a.y b.y k level.1 in

@@ -6,9 +6,9 @@ use Rattle.std.proofs.lemmas.List.{append-nil}
 use Rattle.std.proofs.lemmas.List.Concat.{flat_map-append}
 use Rattle.std.proofs.lemmas.List.Elements.{All-append, All-cons, All-tail, All-head, All-nil}
 use Rattle.geometry.specs.declared.rectangles.Rectangle.{Rectangle}
-use Rattle.geometry.specs.Rectangles.{Covers, IsFilled, AreApart}
+use Rattle.geometry.specs.Rectangles.{Covers, IsNonempty, AreApart}
 use Rattle.ortho_rep.specs.declared.points.Point.{Point}
-use Rattle.drawing_check.specs.Walks.{step_from, distance, walk, inner, HasNoRepeat}
+use Rattle.drawing_check.specs.Walks.{step_from, distance, walk, interior, AreDistinct}
 use Rattle.drawing_check.specs.Paths.{point_of}
 use Rattle.drawing_check.specs.Draws.{IsAxis, IsOnAxes, AreOnAxes}
 use Rattle.drawing_check.specs.Shown.{rectangle_between, same_point, strips, Enumerates, Shows}
@@ -19,7 +19,7 @@ use Rattle.drawing_check.proofs.Segments.{toward_up, toward_down, toward_same, s
 ways : (a b : Point) → IsAxis a b → (((a.x ≡ b.x) × (a.y < b.y)) ⊎ ((a.x ≡ b.x) × (b.y < a.y))) ⊎ (((a.y ≡ b.y) × (a.x < b.x)) ⊎ ((a.y ≡ b.y) × (b.x < a.x)))
 ways a b axis =
     ⊎_elim
-    (λ upright. inl (⊎_elim (λ up. inl (upright.0, up)) (λ ge. inr (upright.0, omega (arith, upright.1))) (cases_lt a.y b.y)))
+    (λ vertical. inl (⊎_elim (λ up. inl (vertical.0, up)) (λ ge. inr (vertical.0, omega (arith, vertical.1))) (cases_lt a.y b.y)))
     (λ level. inr (⊎_elim (λ up. inl (level.1, up)) (λ ge. inr (level.1, omega (arith, level.0))) (cases_lt a.x b.x)))
     axis
 
@@ -97,12 +97,12 @@ axes_rest a path h k lt =
     let e : suc k + 1 ≡ suc (k + 1) = omega arith in
     subst (λ (n : ℕ). IsAxis (point_of path k) (point_of (a ∷ path) n)) e (h (suc k) (omega arith))
 
-pub shows_strips : (path : List Point) → IsOnAxes path → Shows (strips path) (inner path)
+pub shows_strips : (path : List Point) → IsOnAxes path → Shows (strips path) (interior path)
 shows_strips [] h = refl
 shows_strips (a ∷ []) h = refl
 shows_strips (a ∷ b ∷ []) h = last (h 0 (omega arith)) (cases_Bool (same_point (step_from a b 1) b))
   where
-    last : IsAxis a b → (same_point (step_from a b 1) b ≡ true) ⊎ (same_point (step_from a b 1) b ≡ false) → Shows (strips (a ∷ b ∷ [])) (inner (a ∷ b ∷ []))
+    last : IsAxis a b → (same_point (step_from a b 1) b ≡ true) ⊎ (same_point (step_from a b 1) b ≡ false) → Shows (strips (a ∷ b ∷ [])) (interior (a ∷ b ∷ []))
     last axis (inl end) =
         let one = one_step a b axis (same_point-true (step_from a b 1) b end) in
         rw end (rw one refl)
@@ -117,16 +117,16 @@ shows_strips (a ∷ b ∷ []) h = last (h 0 (omega arith)) (cases_Bool (same_poi
 shows_strips (a ∷ b ∷ c ∷ rest) h =
     let axis = h 0 (omega arith) in (
       walk a b (distance a b),
-      inner (b ∷ c ∷ rest),
+      interior (b ∷ c ∷ rest),
       refl,
       subst (λ (p : Point). Enumerates (rectangle_between (step_from a b 1) p) (walk a b (distance a b))) (all_steps a b axis) (segment_lists a b (distance a b) axis (steps_some a b axis) (omega arith)),
       shows_strips (b ∷ c ∷ rest) (axes_rest a (b ∷ c ∷ rest) h),
     )
 
-pub shows_paths : (ps : List (List Point)) → AreOnAxes ps → Shows (flat_map strips ps) (flat_map inner ps)
+pub shows_paths : (ps : List (List Point)) → AreOnAxes ps → Shows (flat_map strips ps) (flat_map interior ps)
 shows_paths [] h = refl
 shows_paths (path ∷ ps) h =
-    shows_append (strips path) (flat_map strips ps) (inner path) (flat_map inner ps) (shows_strips path (All-head IsOnAxes path ps h)) (shows_paths ps (All-tail IsOnAxes path ps h))
+    shows_append (strips path) (flat_map strips ps) (interior path) (flat_map interior ps) (shows_strips path (All-head IsOnAxes path ps h)) (shows_paths ps (All-tail IsOnAxes path ps h))
 
 -- a vertex is a rectangle of one point
 point_lists : (p : Point) → Enumerates (rectangle_between p p) (p ∷ [])
@@ -144,31 +144,31 @@ shows_points (p ∷ ps) = (p ∷ [], ps, refl, point_lists p, shows_points ps)
 
 -- ---- each is a rectangle
 
-rectangle_filled : (a b : Point) → IsFilled (rectangle_between a b)
+rectangle_filled : (a b : Point) → IsNonempty (rectangle_between a b)
 rectangle_filled a b = (omega arith, omega arith)
 
-points_filled : (ps : List Point) → All IsFilled (map (λ p. rectangle_between p p) ps)
-points_filled [] = All-nil IsFilled
-points_filled (p ∷ ps) = All-cons IsFilled (rectangle_between p p) (map (λ q. rectangle_between q q) ps) (rectangle_filled p p) (points_filled ps)
+points_filled : (ps : List Point) → All IsNonempty (map (λ p. rectangle_between p p) ps)
+points_filled [] = All-nil IsNonempty
+points_filled (p ∷ ps) = All-cons IsNonempty (rectangle_between p p) (map (λ q. rectangle_between q q) ps) (rectangle_filled p p) (points_filled ps)
 
-strips_filled : (path : List Point) → All IsFilled (strips path)
-strips_filled [] = All-nil IsFilled
-strips_filled (a ∷ []) = All-nil IsFilled
+strips_filled : (path : List Point) → All IsNonempty (strips path)
+strips_filled [] = All-nil IsNonempty
+strips_filled (a ∷ []) = All-nil IsNonempty
 strips_filled (a ∷ b ∷ []) = last (same_point (step_from a b 1) b)
   where
-    last : (t : Bool) → All IsFilled (cond t [] (rectangle_between (step_from a b 1) (step_from b a 1) ∷ []))
-    last true = All-nil IsFilled
-    last false = All-cons IsFilled (rectangle_between (step_from a b 1) (step_from b a 1)) [] (rectangle_filled (step_from a b 1) (step_from b a 1)) (All-nil IsFilled)
+    last : (t : Bool) → All IsNonempty (cond t [] (rectangle_between (step_from a b 1) (step_from b a 1) ∷ []))
+    last true = All-nil IsNonempty
+    last false = All-cons IsNonempty (rectangle_between (step_from a b 1) (step_from b a 1)) [] (rectangle_filled (step_from a b 1) (step_from b a 1)) (All-nil IsNonempty)
 strips_filled (a ∷ b ∷ c ∷ rest) =
-    All-cons IsFilled (rectangle_between (step_from a b 1) b) (strips (b ∷ c ∷ rest)) (rectangle_filled (step_from a b 1) b) (strips_filled (b ∷ c ∷ rest))
+    All-cons IsNonempty (rectangle_between (step_from a b 1) b) (strips (b ∷ c ∷ rest)) (rectangle_filled (step_from a b 1) b) (strips_filled (b ∷ c ∷ rest))
 
-paths_filled : (ps : List (List Point)) → All IsFilled (flat_map strips ps)
-paths_filled [] = All-nil IsFilled
-paths_filled (path ∷ ps) = All-append IsFilled (strips path) (flat_map strips ps) (strips_filled path) (paths_filled ps)
+paths_filled : (ps : List (List Point)) → All IsNonempty (flat_map strips ps)
+paths_filled [] = All-nil IsNonempty
+paths_filled (path ∷ ps) = All-append IsNonempty (strips path) (flat_map strips ps) (strips_filled path) (paths_filled ps)
 
 -- each rectangle of the vertices and the paths is one
-pub listed_filled : (vertices : List Point) (ps : List (List Point)) (rs : List Rectangle) → rs ≡ map (λ p. rectangle_between p p) vertices ++ flat_map strips ps → All IsFilled rs
-listed_filled vertices ps rs is = rw is (All-append IsFilled (map (λ p. rectangle_between p p) vertices) (flat_map strips ps) (points_filled vertices) (paths_filled ps))
+pub listed_filled : (vertices : List Point) (ps : List (List Point)) (rs : List Rectangle) → rs ≡ map (λ p. rectangle_between p p) vertices ++ flat_map strips ps → All IsNonempty rs
+listed_filled vertices ps rs is = rw is (All-append IsNonempty (map (λ p. rectangle_between p p) vertices) (flat_map strips ps) (points_filled vertices) (paths_filled ps))
 
 -- ---- one part more
 
@@ -209,8 +209,8 @@ paths_step base old new ps path done is_new =
     (ap (λ (s : List Rectangle). flat_map strips ps ++ s) (sym (append-nil (strips path))) ∙ sym (flat_map-append strips ps (path ∷ [])))
 
 -- the rectangles of all vertices and all paths are apart exactly where no point is met twice
-pub apart_is_no_repeat : (vertices : List Point) (ps : List (List Point)) (rs : List Rectangle) → AreOnAxes ps → rs ≡ map (λ p. rectangle_between p p) vertices ++ flat_map strips ps → AllPairs AreApart rs ↔ HasNoRepeat (vertices ++ flat_map inner ps)
+pub apart_is_no_repeat : (vertices : List Point) (ps : List (List Point)) (rs : List Rectangle) → AreOnAxes ps → rs ≡ map (λ p. rectangle_between p p) vertices ++ flat_map strips ps → AllPairs AreApart rs ↔ AreDistinct (vertices ++ flat_map interior ps)
 apart_is_no_repeat vertices ps rs axes is =
-    let shown = shows_append (map (λ p. rectangle_between p p) vertices) (flat_map strips ps) vertices (flat_map inner ps) (shows_points vertices) (shows_paths ps axes) in
-    let all : Shows rs (vertices ++ flat_map inner ps) = subst (λ (l : List Rectangle). Shows l (vertices ++ flat_map inner ps)) (sym is) shown in
-    (no_repeat_from_apart rs (vertices ++ flat_map inner ps) all, apart_from_no_repeat rs (vertices ++ flat_map inner ps) all)
+    let shown = shows_append (map (λ p. rectangle_between p p) vertices) (flat_map strips ps) vertices (flat_map interior ps) (shows_points vertices) (shows_paths ps axes) in
+    let all : Shows rs (vertices ++ flat_map interior ps) = subst (λ (l : List Rectangle). Shows l (vertices ++ flat_map interior ps)) (sym is) shown in
+    (no_repeat_from_apart rs (vertices ++ flat_map interior ps) all, apart_from_no_repeat rs (vertices ++ flat_map interior ps) all)

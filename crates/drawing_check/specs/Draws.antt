@@ -13,7 +13,7 @@ use Rattle.ortho_rep.specs.Shapes.{ShapeModel, angle_at, turns_at}
 use Rattle.ortho_rep.specs.Points.{PointsModel}
 use Rattle.ortho_rep.specs.Edges.{lesser_darts}
 use Rattle.drawing_check.specs.Paths.{path_along, paths, dart_path, point_of}
-use Rattle.drawing_check.specs.Walks.{inner, HasNoRepeat}
+use Rattle.drawing_check.specs.Walks.{interior, AreDistinct}
 
 -- ---- 1. every coordinate is 0 to 65,535
 
@@ -71,7 +71,7 @@ pub record TurnAsSaid (p : PlaneModel) (shape : ShapeModel) (points : PointsMode
 -- ---- 4. the list of all vertex points and of all points met between the ends of paths has no repeat
 
 abbrev pub MeetNowhere : PointsModel → List (List Point) → Type 0
-MeetNowhere points ps = HasNoRepeat (points.vertices ++ flat_map inner ps)
+MeetNowhere points ps = AreDistinct (points.vertices ++ flat_map interior ps)
 
 -- the points draw the shape
 pub record Draws (p : PlaneModel) (shape : ShapeModel) (points : PointsModel) : Type 0 where

@@ -3,7 +3,7 @@ use Rattle.std.specs.Prelude.{◌≡◌, ◌↔◌, min, max, Bool, ◌==◌, �
 use Rattle.geometry.specs.declared.rectangles.Rectangle.{Rectangle}
 use Rattle.geometry.specs.Rectangles.{Covers}
 use Rattle.ortho_rep.specs.declared.points.Point.{Point}
-use Rattle.drawing_check.specs.Walks.{step_from, HasNoRepeat}
+use Rattle.drawing_check.specs.Walks.{step_from, AreDistinct}
 
 -- the least rectangle that covers both points
 abbrev pub rectangle_between : Point → Point → Rectangle
@@ -24,7 +24,7 @@ strips (a ∷ b ∷ c ∷ rest) = rectangle_between (step_from a b 1) b ∷ stri
 
 -- the list has each point of the rectangle once, and no other
 pub record Enumerates (r : Rectangle) (points : List Point) : Type 0 where
-  pub once : HasNoRepeat points
+  pub once : AreDistinct points
   pub covered : (p : Point) → Contains points p ↔ Covers r p.x p.y
 
 -- the list is a list for each of the rectangles, one after another

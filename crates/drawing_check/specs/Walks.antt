@@ -20,12 +20,12 @@ abbrev pub walk : Point → Point → ℕ → List Point
 walk a b n = map (step_from a b) (range_with_len 1 n)
 
 -- the points of a path between its ends, in walking order, each as often as it is met and a corner once
-abbrev pub inner : List Point → List Point
-inner [] = []
-inner (a ∷ []) = []
-inner (a ∷ b ∷ []) = walk a b (distance a b - 1)
-inner (a ∷ b ∷ c ∷ rest) = walk a b (distance a b) ++ inner (b ∷ c ∷ rest)
+abbrev pub interior : List Point → List Point
+interior [] = []
+interior (a ∷ []) = []
+interior (a ∷ b ∷ []) = walk a b (distance a b - 1)
+interior (a ∷ b ∷ c ∷ rest) = walk a b (distance a b) ++ interior (b ∷ c ∷ rest)
 
 -- no point stands at two places of the list
-abbrev pub HasNoRepeat : List Point → Type 0
-HasNoRepeat points = AllPairs (λ p q. p ≢ q) points
+abbrev pub AreDistinct : List Point → Type 0
+AreDistinct points = AllPairs (λ p q. p ≢ q) points

@@ -6,7 +6,7 @@ ghost use Rattle.ortho_rep.specs.Representation.{HasDarts, IsShape};
 ghost use Rattle.drawing_check.specs.Draws.{Draws};
 ghost use Rattle.drawing_check.specs.Faults.{IsFirstFault, KeepsFirstThree};
 
-use crate::edges::walk_edges;
+use crate::edges::scan_edges;
 use crate::fault::CheckFault;
 use crate::scratch::Scratch;
 use crate::turning::turn_as_said;
@@ -159,7 +159,7 @@ fn first_fault(
 {
     // Only the proof needs this: `graph` says where darts end.
     let _graph = plane.graph();
-    let seen = walk_edges(plane, shape, points, &mut scratch.rectangles, directions);
+    let seen = scan_edges(plane, shape, points, &mut scratch.rectangles, directions);
     if !seen.in_grid {
         return Some(CheckFault::OutOfGrid);
     }

@@ -35,7 +35,7 @@ pub(crate) struct EdgesSeen {
 /// Walks over all edges once. All three tests are made of each edge, so that it is known which fails first; and the
 /// rectangles of all vertices and all paths are listed, as far as there is memory. The direction in which each dart leaves
 /// its tail is written over the list that is lent.
-pub(crate) fn walk_edges(
+pub(crate) fn scan_edges(
     plane: &Plane,
     shape: &Shape,
     points: &Points,

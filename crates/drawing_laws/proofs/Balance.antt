@@ -67,7 +67,7 @@ bends_across p a s y ends rep prices =
     let n : ℕ = darts p in
     let own : ℕ → ℕ = λ d. y (face_at p d) in
     let over : ℕ → ℕ = λ d. y (face_at p (reverse_dart p d)) in
-    let back : weighed n over (lefts_of s) ≡ weighed n own (λ d. lefts_of s (reverse_dart p d)) = paired n (reverse_dart p) own (lefts_of s) ends.reverse_dart_inside ends.reverse_dart_back in
+    let back : weighed n over (lefts_of s) ≡ weighed n own (λ d. lefts_of s (reverse_dart p d)) = paired n (reverse_dart p) own (lefts_of s) ends.reverse_dart_in_range ends.reverse_dart_back in
     let here : sum_below n (λ d. own d * rights (s d)) ≡ weighed n own (λ d. lefts_of s (reverse_dart p d)) =
     sum_below-same n (λ d. own d * rights (s d)) (λ d. own d * lefts_of s (reverse_dart p d)) (λ d l. ap (λ (z : ℕ). own d * z) (rights_are p a s rep d l)) in
     let up : weighed n over (lefts_of s) ≡ sum_below n (λ d. own d * lefts (s d) + lefts_of s d) =

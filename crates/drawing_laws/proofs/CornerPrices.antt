@@ -62,7 +62,7 @@ circle p plane d e l m same =
 -- the face of the dart after d is the face across d
 after_face : (p : PlaneModel) → IsPlane p → HasEnds p → (d : ℕ) → d < darts p → face_at p (after p d) ≡ face_at p (reverse_dart p d)
 after_face p plane ends d l =
-    ap (λ (x : ℕ). face_at p (after p x)) (sym (ends.reverse_dart_back d l)) ∙ plane.faces.closed (reverse_dart p d) (ends.reverse_dart_inside d l)
+    ap (λ (x : ℕ). face_at p (after p x)) (sym (ends.reverse_dart_back d l)) ∙ plane.faces.closed (reverse_dart p d) (ends.reverse_dart_in_range d l)
 
 -- where the two faces of a dart have prices of at most w, the face of each dart from its tail has one of at most w + 1
 pub near_tail : (p : PlaneModel) (a : ℕ → ℕ) (s : ℕ → List Turn) (y : ℕ → ℕ) → IsPlane p → HasEnds p → AreFacePrices p a s y
@@ -73,9 +73,9 @@ near_tail p a s y plane ends prices d e w l m same here across =
       | inl is ↦ omega (arith, here, ap (λ (x : ℕ). y (face_at p x)) is)
       | inr (inl is) ↦ omega (arith, across, one, ap (λ (x : ℕ). y (face_at p x)) is)
       | inr (inr (inl is)) ↦
-          let inside = ends.after_inside d l in
+          let inside = ends.after_in_range d l in
           omega (arith, across, one, ap y (after_face p plane ends (after p d) inside), prices.near (after p d) inside, ap (λ (x : ℕ). y (face_at p x)) is)
       | inr (inr (inr is)) ↦
           let back : y (face_at p (reverse_dart p (reverse_dart p e))) ≡ y (face_at p e) = ap (λ (x : ℕ). y (face_at p x)) (ends.reverse_dart_back e m) in
-          omega (arith, here, back, ap y (after_face p plane ends e m), prices.near (reverse_dart p e) (ends.reverse_dart_inside e m), ap (λ (x : ℕ). y (face_at p x)) is)
+          omega (arith, here, back, ap y (after_face p plane ends e m), prices.near (reverse_dart p e) (ends.reverse_dart_in_range e m), ap (λ (x : ℕ). y (face_at p x)) is)
     ]

@@ -16,13 +16,13 @@ use Rattle.entries.specs.declared.answer.Answer.{Answer}
 use Rattle.entries.specs.declared.answer.Answer.TheVariants.{Laid, Refused, NoMemory}
 use Rattle.entries.specs.Answers.{IsLaid, Answers}
 use Rattle.drawing_laws.specs.Drawings.{HasDrawing, IsDrawnIfLaid}
-use Rattle.drawing_laws.specs.Least.{HasNoOrder}
+use Rattle.drawing_laws.specs.Least.{HasNoCoordinates}
 use Rattle.drawing_laws.specs.Remaining.{MayShow}
 use Rattle.drawing_laws.proofs.Remaining.{remaining_of_least}
 use Rattle.drawing_laws.proofs.WideOnly.{shown_wide}
 
 -- some coordinates are in the order of the boxes
-some_order : (plane : PlaneModel) (shape : ShapeModel) (b : BoxesModel) → IsBoxed plane shape b → ¬ HasNoOrder b
+some_order : (plane : PlaneModel) (shape : ShapeModel) (b : BoxesModel) → IsBoxed plane shape b → ¬ HasNoCoordinates b
 some_order plane shape b boxed none =
     let (x, y, ordered) = boxes_ordered b boxed.boxes in
     none x y ordered

@@ -24,7 +24,7 @@ use Rattle.drawing_check.specs.declared.fault.CheckFault.{CheckFault}
 use Rattle.drawing_check.specs.declared.fault.CheckFault.TheVariants.{OutOfGrid, NotAxis, WrongTurn, Meet, Memory}
 use Rattle.drawing_check.specs.Faults.{IsFirstFault}
 use Rattle.drawing_check.specs.Paths.{path_along, paths, point_of}
-use Rattle.drawing_check.specs.Walks.{inner, HasNoRepeat}
+use Rattle.drawing_check.specs.Walks.{interior, AreDistinct}
 use Rattle.drawing_check.specs.Draws.{AreInGrid, IsInGrid, IsOnAxes, IsTurning, TurnAsSaid, MeetNowhere, Draws, direction_of, direction_between, leaving}
 use Rattle.drawing_check.proofs.Coverings.{no_repeat_append}
 use Rattle.drawing_check.proofs.Leaving.{leaving-lesser, leaving-reverse_dart}
@@ -114,7 +114,7 @@ module _ (p : PlaneModel) (shape : ShapeModel) (b : BoxesModel) (plane : IsPlane
   start_is : (d : ℕ) (d_in : d < darts p) → (dart_map b).head ((dart_map b).reverse_dart (path_of d d_in).first) ≡ tail p d - 1
   start_is d d_in =
       let ends = plane_ends p plane in
-      ap (dart_map b).head (path_of d d_in).back ∙ boxed.heads (reverse_dart p d) (ends.reverse_dart_inside d d_in)
+      ap (dart_map b).head (path_of d d_in).back ∙ boxed.heads (reverse_dart p d) (ends.reverse_dart_in_range d d_in)
       ∙ ap (λ (v : ℕ). v - 1) (ends.reverse_dart_head d d_in)
 
   abbrev line_of : (d : ℕ) → d < darts p → List Point
@@ -196,7 +196,7 @@ module _ (p : PlaneModel) (shape : ShapeModel) (b : BoxesModel) (plane : IsPlane
         | inr more ↦
             let back = ends.reverse_dart_back d d_in in
             let lesser : is_lesser p r ≡ true = smaller d r (reverse_dart p r) more (ends.reverse_dart_apart d d_in) back in
-            sym (ap (leaving p points) back) ∙ reverse_leaves r (ends.reverse_dart_inside d d_in) lesser
+            sym (ap (leaving p points) back) ∙ reverse_leaves r (ends.reverse_dart_in_range d d_in) lesser
       ]
     where
       smaller : (d r e : ℕ) → r ≤ d → (r ≡ d → ⊥) → e ≡ d → ltb r e ≡ true
@@ -213,10 +213,10 @@ module _ (p : PlaneModel) (shape : ShapeModel) (b : BoxesModel) (plane : IsPlane
             let n : ℕ = next p d in
             let n_in = ends.next_one.inside d d_in in
             let m : ℕ = reverse_dart p n in
-            let m_in = ends.reverse_dart_inside n n_in in
+            let m_in = ends.reverse_dart_in_range n n_in in
             let k : ℕ = ((dart_map b).direction m + 2) % 4 in
             let turn : ((dart_map b).direction d + 2) % 4 ≡ (k + angle_at shape d) % 4 = omega (arith, boxed.angles d d_in) in
-            leaves r (ends.reverse_dart_inside d d_in)
+            leaves r (ends.reverse_dart_in_range d d_in)
             ∙ ap (λ (e : ℕ). way_of (((dart_map b).direction e + 2) % 4)) (ends.reverse_dart_back d d_in)
             ∙ ap way_of turn
             ∙ sym (ways_left (angle_at shape d) k (omega arith))
@@ -236,25 +236,25 @@ module _ (p : PlaneModel) (shape : ShapeModel) (b : BoxesModel) (plane : IsPlane
       distinct_from (dart_map b).head (has.first ∷ has.rest) (boxed.apart.once d has.first has.rest d_in has.path).1
 
   -- each point between the ends of an edge is passed by a part of it, before its end
-  path_met : (d : ℕ) → d < darts p → is_lesser p d ≡ true → (q : Point) → Contains (inner (path_along p points d)) q
+  path_met : (d : ℕ) → d < darts p → is_lesser p d ≡ true → (q : Point) → Contains (interior (path_along p points d)) q
       → (z : ℕ) × IsPart (dart_map b) d z × PassesAt (dart_map b) x y q.x q.y z × IsBefore (dart_map b) x y q.x q.y z d
   path_met d d_in lesser q within =
       let has = path_of d d_in in
       let end = has.path.ends in
       elim (line_met (dart_map b) boxed.boxes.sound x y ordered ((dart_map b).head ((dart_map b).reverse_dart has.first)) has.first has.rest q
       has.path.first_in has.path.rest_in has.path.follows (path_distinct d d_in) (first_goes d d_in)
-      (subst (λ (path : List Point). Contains (inner path) q) (line_is d d_in lesser) within)) [
+      (subst (λ (path : List Point). Contains (interior path) q) (line_is d d_in lesser) within)) [
         | inl (passes, before) ↦
             (has.first, path_part d d_in has.first (inl refl), passes, λ ex ey e. before ex ey (e ∙ sym end))
         | inr (z, inside, passes, before) ↦
             (z, path_part d d_in z (inr inside), passes, λ ex ey e. before ex ey (e ∙ sym end))
       ]
 
-  path_once : (d : ℕ) → d < darts p → is_lesser p d ≡ true → HasNoRepeat (inner (path_along p points d))
+  path_once : (d : ℕ) → d < darts p → is_lesser p d ≡ true → AreDistinct (interior (path_along p points d))
   path_once d d_in lesser =
       let has = path_of d d_in in
       let distinct = path_distinct d d_in in
-      subst (λ (path : List Point). HasNoRepeat (inner path)) (sym (line_is d d_in lesser))
+      subst (λ (path : List Point). AreDistinct (interior path)) (sym (line_is d d_in lesser))
       (line_once (dart_map b) boxed.boxes.sound x y ordered (IsPart (dart_map b) d)
       (λ z c px py one two passes passes'. one_path p shape b plane boxed x y ordered d z c px py d_in one two passes passes')
       ((dart_map b).head ((dart_map b).reverse_dart has.first)) has.first has.rest (λ z. z ≡ has.first)
@@ -274,11 +274,11 @@ module _ (p : PlaneModel) (shape : ShapeModel) (b : BoxesModel) (plane : IsPlane
   all_edges = (each_lesser IsEdge p).1 (λ d d_in lesser. (d_in, lesser))
 
   -- what is met along some edge of a list
-  met_in : (ds : List ℕ) (q : Point) → Contains (flat_map inner (map (path_along p points) ds)) q
-      → (e : ℕ) × Contains ds e × Contains (inner (path_along p points e)) q
+  met_in : (ds : List ℕ) (q : Point) → Contains (flat_map interior (map (path_along p points) ds)) q
+      → (e : ℕ) × Contains ds e × Contains (interior (path_along p points e)) q
   met_in [] q within = absurd (omega (arith, within.1))
   met_in (d ∷ ds) q within =
-      elim (Contains-append_cases (inner (path_along p points d)) (flat_map inner (map (path_along p points) ds)) q within) [
+      elim (Contains-append_cases (interior (path_along p points d)) (flat_map interior (map (path_along p points) ds)) q within) [
         | inl first ↦ (d, (0, omega arith, refl), first)
         | inr later ↦
             let (e, (k, k_in, at), here) = met_in ds q later in
@@ -289,12 +289,12 @@ module _ (p : PlaneModel) (shape : ShapeModel) (b : BoxesModel) (plane : IsPlane
   two_edges d e (d_in, lesser) (e_in, lesser') less (inl same) = omega (arith, same, less)
   two_edges d e (d_in, lesser) (e_in, lesser') less (inr back) = omega (arith, ltb-true e (reverse_dart p e) lesser', back, less)
 
-  edges_once : (ds : List ℕ) → All IsEdge ds → AllPairs (λ d e. d < e) ds → HasNoRepeat (flat_map inner (map (path_along p points) ds))
+  edges_once : (ds : List ℕ) → All IsEdge ds → AllPairs (λ d e. d < e) ds → AreDistinct (flat_map interior (map (path_along p points) ds))
   edges_once [] all pairs = λ i j d less within same. absurd (omega (arith, within))
   edges_once (d ∷ ds) all pairs =
       let here : IsEdge d = All-head IsEdge d ds all in
       let rest : All IsEdge ds = All-tail IsEdge d ds all in
-      no_repeat_append (inner (path_along p points d)) (flat_map inner (map (path_along p points) ds))
+      no_repeat_append (interior (path_along p points d)) (flat_map interior (map (path_along p points) ds))
       (path_once d here.0 here.1)
       (edges_once ds rest (λ i j c less within. pairs (suc i) (suc j) c (omega (arith, less)) (omega (arith, within))))
       (λ q one others.
@@ -321,7 +321,7 @@ module _ (p : PlaneModel) (shape : ShapeModel) (b : BoxesModel) (plane : IsPlane
       ap (λ (ps : List Point). get_or ps k q) taken.vertices
       ∙ get_or-map-range_with_len (point_at x y) 0 b.old k k q k_in (omega arith)
 
-  vertices_once : HasNoRepeat points.vertices
+  vertices_once : AreDistinct points.vertices
   vertices_once = λ i j q less within same.
       let j_in : j < b.old = omega (arith, within, taken.vertex_count) in
       let i_in : i < b.old = omega (arith, less, j_in) in
@@ -333,14 +333,14 @@ module _ (p : PlaneModel) (shape : ShapeModel) (b : BoxesModel) (plane : IsPlane
 
   meet_nowhere : MeetNowhere points (paths p points)
   meet_nowhere =
-      no_repeat_append points.vertices (flat_map inner (paths p points)) vertices_once (edges_once (lesser_darts p) all_edges increasing)
+      no_repeat_append points.vertices (flat_map interior (paths p points)) vertices_once (edges_once (lesser_darts p) all_edges increasing)
       (λ q vertex path.
       let (v, inside, at) = vertex in
       let v_in : v < b.old = omega (arith, inside, taken.vertex_count) in
       let is : point_at x y v ≡ q = sym (point_k v q v_in) ∙ at in
       let (e, among, met) = met_in (lesser_darts p) q path in
       let edge : IsEdge e = All-contains IsEdge (lesser_darts p) e all_edges among in
-      let (z, part, passes, before) = path_met e edge.0 edge.1 (point_at x y v) (subst (λ (r : Point). Contains (inner (path_along p points e)) r) (sym is) met) in
+      let (z, part, passes, before) = path_met e edge.0 edge.1 (point_at x y v) (subst (λ (r : Point). Contains (interior (path_along p points e)) r) (sym is) met) in
       off_path p shape b plane boxed x y ordered e z v edge.0 (omega (arith, v_in, boxed.old)) part passes before)
 
   -- ---- the grid

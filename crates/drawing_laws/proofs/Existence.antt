@@ -11,7 +11,7 @@ use Rattle.networks.specs.declared.arc.Cap.TheVariants.{AtMost, Any}
 use Rattle.networks.specs.Networks.{NetworkModel, net_of, no_arc, arc_at, supply_at}
 use Rattle.faces.specs.Planes.{PlaneModel, IsPlane, darts, vertices, head, reverse_dart, face_at, degree}
 use Rattle.faces.proofs.Ends.{plane_ends}
-use Rattle.flow_network.specs.FaceNet.{IsFaceNet, arrivals}
+use Rattle.flow_network.specs.FaceNet.{IsFaceNet, vertex_degree}
 use Rattle.flow_network.proofs.Flowing.{net_flows}
 use Rattle.flow_network.proofs.Faultless.{arc_ends}
 use Rattle.ortho_rep.specs.declared.turn.Turn.{Turn}
@@ -34,7 +34,7 @@ abbrev arc_of : PlaneModel → ℕ → Arc
 arc_of p i = cond (ltb i (darts p)) (corner_arc p i) (crossing_arc p (i - darts p))
 
 abbrev supply_of : PlaneModel → ℕ → ℤ
-supply_of p k = cond (ltb k (vertices p)) (pos 4 -ℤ pos (arrivals p (k + 1))) (whole_turn p (k - vertices p) -ℤ pos (degree p (k - vertices p)))
+supply_of p k = cond (ltb k (vertices p)) (pos 4 -ℤ pos (vertex_degree p (k + 1))) (whole_turn p (k - vertices p) -ℤ pos (degree p (k - vertices p)))
 
 abbrev net : PlaneModel → NetworkModel
 net p = net_of (map (supply_of p) (range_with_len 0 (vertices p + p.faces))) (map (arc_of p) (range_with_len 0 (darts p + darts p)))
@@ -58,12 +58,12 @@ is_net p = record {
   at_vertex = λ v from to.
       let back : v - 1 + 1 ≡ v = omega arith in
       supply_is p (v - 1) (omega arith)
-      ∙ cond-true {A = ℤ} (ltb (v - 1) (vertices p)) (pos 4 -ℤ pos (arrivals p (v - 1 + 1))) (whole_turn p (v - 1 - vertices p) -ℤ pos (degree p (v - 1 - vertices p))) (lt-ltb (v - 1) (vertices p) (omega arith))
-      ∙ ap (λ (u : ℕ). pos 4 -ℤ pos (arrivals p u)) back;
+      ∙ cond-true {A = ℤ} (ltb (v - 1) (vertices p)) (pos 4 -ℤ pos (vertex_degree p (v - 1 + 1))) (whole_turn p (v - 1 - vertices p) -ℤ pos (degree p (v - 1 - vertices p))) (lt-ltb (v - 1) (vertices p) (omega arith))
+      ∙ ap (λ (u : ℕ). pos 4 -ℤ pos (vertex_degree p u)) back;
   at_face = λ f b.
       let back : vertices p + f - vertices p ≡ f = omega arith in
       supply_is p (vertices p + f) (omega arith)
-      ∙ cond-false {A = ℤ} (ltb (vertices p + f) (vertices p)) (pos 4 -ℤ pos (arrivals p (vertices p + f + 1))) (whole_turn p (vertices p + f - vertices p) -ℤ pos (degree p (vertices p + f - vertices p))) (le-ltb (vertices p + f) (vertices p) (omega arith))
+      ∙ cond-false {A = ℤ} (ltb (vertices p + f) (vertices p)) (pos 4 -ℤ pos (vertex_degree p (vertices p + f + 1))) (whole_turn p (vertices p + f - vertices p) -ℤ pos (degree p (vertices p + f - vertices p))) (le-ltb (vertices p + f) (vertices p) (omega arith))
       ∙ ap (λ (g : ℕ). whole_turn p g -ℤ pos (degree p g)) back;
 }
 

@@ -46,10 +46,10 @@ around_all p y ends =
     let over : ℕ → ℕ = λ d. y (face_at p (reverse_dart p d)) in
     let to : ℕ → ℕ = λ d. dearest p y (head p d - 1) in
     let from : ℕ → ℕ = λ d. dearest p y (tail p d - 1) in
-    let across : sum_below n over ≡ sum_below n own = sum_below-turned n (reverse_dart p) own ends.reverse_dart_inside ends.reverse_dart_back in
+    let across : sum_below n over ≡ sum_below n own = sum_below-turned n (reverse_dart p) own ends.reverse_dart_in_range ends.reverse_dart_back in
     let back : sum_below n from ≡ sum_below n to =
     sum_below-same n from (λ d. to (reverse_dart p d)) (λ d l. ap (λ (v : ℕ). dearest p y (v - 1)) (sym (ends.reverse_dart_head d l)))
-    ∙ sum_below-turned n (reverse_dart p) to ends.reverse_dart_inside ends.reverse_dart_back in
+    ∙ sum_below-turned n (reverse_dart p) to ends.reverse_dart_in_range ends.reverse_dart_back in
     omega (arith, across, back, sum_below-add n (λ d. own d + over d + to d) from, sum_below-add n (λ d. own d + over d) to, sum_below-add n own over)
 
 -- a dart is near the dearest face at its head
@@ -58,7 +58,7 @@ near_head : (p : PlaneModel) (a : ℕ → ℕ) (s : ℕ → List Turn) (y : ℕ 
 near_head p a s y plane ends prices d l =
     let own : y (face_at p d) ≤ dearest p y (head p d - 1) = dearest-to p y plane ends d l in
     let over : y (face_at p (reverse_dart p d)) ≤ dearest p y (head p d - 1) =
-    omega (arith, dearest-from p y (reverse_dart p d) (ends.reverse_dart_inside d l), ap (λ (v : ℕ). dearest p y (v - 1)) (ends.reverse_dart_tail d l)) in
+    omega (arith, dearest-from p y (reverse_dart p d) (ends.reverse_dart_in_range d l), ap (λ (v : ℕ). dearest p y (v - 1)) (ends.reverse_dart_tail d l)) in
     omega (arith, own, over, dearest-near p a s y plane ends prices d (dearest p y (head p d - 1)) l own over)
 
 -- and near its face
@@ -66,7 +66,7 @@ near_face : (p : PlaneModel) (a : ℕ → ℕ) (s : ℕ → List Turn) (y : ℕ 
     → (d : ℕ) → d < darts p → around p y d ≤ 4 * y (face_at p d) + 5
 near_face p a s y plane ends prices d l =
     let back = reverse_dart p d in
-    let back_in = ends.reverse_dart_inside d l in
+    let back_in = ends.reverse_dart_in_range d l in
     let over : y (face_at p back) ≤ y (face_at p d) + 1 = prices.near d l in
     let own : y (face_at p (reverse_dart p back)) ≤ y (face_at p d) + 1 = omega (arith, ap (λ (e : ℕ). y (face_at p e)) (ends.reverse_dart_back d l)) in
     omega (

@@ -72,7 +72,7 @@ module _ (p : PlaneModel) (shape : ShapeModel) (b : BoxesModel) (plane : IsPlane
               let other : IsPart (dart_map b) (reverse_dart p d) z =
               subst (λ (k : ℕ). IsPart (dart_map b) (reverse_dart p d) k) (sym back) (part_back p shape b plane boxed d c d_in two) in
               absurd (ends.reverse_dart_apart d d_in
-              (one_part p shape b plane boxed (reverse_dart p d) d z (ends.reverse_dart_inside d d_in) d_in other one))
+              (one_part p shape b plane boxed (reverse_dart p d) d z (ends.reverse_dart_in_range d d_in) d_in other one))
         ]
         | inr (there, column, row) ↦ vertex_once p shape b plane boxed d z c d_in one two there
       ]

@@ -94,7 +94,7 @@ pub record Moved (p : PlaneModel) (a l y : ℕ → ℕ) (k : ℕ) (reached : ℕ
 -- at first it stands at the face across
 pub starts : (p : PlaneModel) (a l y : ℕ → ℕ) (k : ℕ) (reached : ℕ → Bool) → HasEnds p → k < darts p → ((d : ℕ) → d < darts p → (1 ≤ a d) × (a d ≤ 4)) → Moved p a l y k reached (across_at p k)
 starts p a l y k reached ends inside sizes =
-    let below : across_at p k < p.faces = ends.face_named (reverse_dart p k) (ends.reverse_dart_inside k inside) in
+    let below : across_at p k < p.faces = ends.face_named (reverse_dart p k) (ends.reverse_dart_in_range k inside) in
     record {
       angles = a;
       lefts = l;
@@ -178,8 +178,8 @@ left_sum-lefts p f g d inside others here k =
 
 pub right_sum-lefts : (p : PlaneModel) (a f g : ℕ → ℕ) (d : ℕ) → HasEnds p → d < darts p → ((e : ℕ) → e < darts p → e ≢ d → f e ≡ g e) → g d ≡ f d + 1 → (k : ℕ) → right_sum_at p a g k ≡ right_sum_at p a f k + one_at (across_at p d) k
 right_sum-lefts p a f g d ends inside others here k =
-    part-more (darts p) (reverse_dart p d) (face_at p) (λ e. a e + f (reverse_dart p e)) (λ e. a e + g (reverse_dart p e)) (ends.reverse_dart_inside d inside)
-    (λ e b ne. ap (λ (x : ℕ). a e + x) (others (reverse_dart p e) (ends.reverse_dart_inside e b) (λ q. ne (sym (ends.reverse_dart_back e b) ∙ ap (reverse_dart p) q))))
+    part-more (darts p) (reverse_dart p d) (face_at p) (λ e. a e + f (reverse_dart p e)) (λ e. a e + g (reverse_dart p e)) (ends.reverse_dart_in_range d inside)
+    (λ e b ne. ap (λ (x : ℕ). a e + x) (others (reverse_dart p e) (ends.reverse_dart_in_range e b) (λ q. ne (sym (ends.reverse_dart_back e b) ∙ ap (reverse_dart p) q))))
     (omega (arith, here, ap f (ends.reverse_dart_back d inside), ap g (ends.reverse_dart_back d inside))) k
 
 pub total-lefts : (p : PlaneModel) (f g : ℕ → ℕ) (d : ℕ) → d < darts p → ((e : ℕ) → e < darts p → e ≢ d → f e ≡ g e) → g d ≡ f d + 1 → sum_below (darts p) g ≡ sum_below (darts p) f + 1
@@ -250,7 +250,7 @@ bend p a l y k reached d ends inside level from to m =
     let here : new d ≡ m.lefts d + 1 = put-here m.lefts d (m.lefts d + 1) in
     let others : (e : ℕ) → e < darts p → e ≢ d → m.lefts e ≡ new e = λ e b ne. sym (put-other m.lefts d (m.lefts d + 1) e ne) in
     let below : w < p.faces = ends.face_named d inside in
-    let below' : across_at p d < p.faces = ends.face_named (reverse_dart p d) (ends.reverse_dart_inside d inside) in
+    let below' : across_at p d < p.faces = ends.face_named (reverse_dart p d) (ends.reverse_dart_in_range d inside) in
     record {
       angles = m.angles;
       lefts = new;
@@ -276,7 +276,7 @@ straighten p a l y k reached d ends inside before some level from to m =
     let here : m.lefts d ≡ new d + 1 = omega (arith, put-here m.lefts d (m.lefts d - 1)) in
     let others : (e : ℕ) → e < darts p → e ≢ d → new e ≡ m.lefts e = λ e b ne. put-other m.lefts d (m.lefts d - 1) e ne in
     let below : face_at p d < p.faces = ends.face_named d inside in
-    let below' : w < p.faces = ends.face_named (reverse_dart p d) (ends.reverse_dart_inside d inside) in
+    let below' : w < p.faces = ends.face_named (reverse_dart p d) (ends.reverse_dart_in_range d inside) in
     record {
       angles = m.angles;
       lefts = new;

@@ -73,7 +73,7 @@ module _ (p : PlaneModel) (shape : ShapeModel) (b : BoxesModel) (plane : IsPlane
   -- the reverse of a part is one of the way back
   pub part_back : (d a : ℕ) → d < darts p → IsPart (dart_map b) d a → IsPart (dart_map b) (reverse_dart p d) ((dart_map b).reverse_dart a)
   part_back d a d_in part =
-      let back = boxed.paths.paths (reverse_dart p d) ((plane_ends p plane).reverse_dart_inside d d_in) in
+      let back = boxed.paths.paths (reverse_dart p d) ((plane_ends p plane).reverse_dart_in_range d d_in) in
       let all : List ℕ = part.first ∷ part.rest in
       record {
         first = back.first;
@@ -95,7 +95,7 @@ module _ (p : PlaneModel) (shape : ShapeModel) (b : BoxesModel) (plane : IsPlane
       let e' : ℕ = reverse_dart p e in
       let there : IsPart (dart_map b) e' a =
       subst (λ (k : ℕ). IsPart (dart_map b) e' k) (boxed.boxes.sound.tied.reverse_dart_back a (part_in d a one)) (part_back e ((dart_map b).reverse_dart a) e_in two) in
-      inr (one_part d e' a d_in ((plane_ends p plane).reverse_dart_inside e e_in) one there)
+      inr (one_part d e' a d_in ((plane_ends p plane).reverse_dart_in_range e e_in) one there)
 
   -- two parts of one dart, on one path
   on_path : (d c first : ℕ) (rest : List ℕ) → IsPath (dart_map b) d first rest → IsPart (dart_map b) d c → In c (first ∷ rest)
@@ -114,7 +114,7 @@ module _ (p : PlaneModel) (shape : ShapeModel) (b : BoxesModel) (plane : IsPlane
       let has = boxed.paths.paths d d_in in
       let on = on_path d a has.first has.rest has.path part in
       let start : (dart_map b).head ((dart_map b).reverse_dart has.first) ≡ tail p d - 1 =
-      ap (dart_map b).head has.back ∙ boxed.heads (reverse_dart p d) (ends.reverse_dart_inside d d_in)
+      ap (dart_map b).head has.back ∙ boxed.heads (reverse_dart p d) (ends.reverse_dart_in_range d d_in)
       ∙ ap (λ (k : ℕ). k - 1) (ends.reverse_dart_head d d_in) in
       (boxed.apart.once d has.first has.rest d_in has.path).0
       (subst (λ (k : ℕ). In k (map (dart_map b).head (has.first ∷ has.rest))) (same ∙ sym start) (in_mapped (dart_map b).head a (has.first ∷ has.rest) on))
@@ -157,7 +157,7 @@ module _ (p : PlaneModel) (shape : ShapeModel) (b : BoxesModel) (plane : IsPlane
                 | inr other ↦
                     let back : IsPart (dart_map b) (reverse_dart p e) a' =
                     subst (λ (k : ℕ). IsPart (dart_map b) (reverse_dart p e) k) (ap (dart_map b).reverse_dart (sym before') ∙ sym other) (part_back e c e_in two) in
-                    inl (inr (one_part d (reverse_dart p e) a' d_in ((plane_ends p plane).reverse_dart_inside e e_in) one' back))
+                    inl (inr (one_part d (reverse_dart p e) a' d_in ((plane_ends p plane).reverse_dart_in_range e e_in) one' back))
               ]
         ]
       ]

@@ -8,7 +8,7 @@ use Rattle.dissect.specs.DartMaps.{DartMap, IsSound}
 use Rattle.dissect.specs.Faces.{Below, last_of, In, Distinct}
 use Rattle.dissect.specs.Paths.{Follows, turn_to, turning_vertices}
 use Rattle.dissect.specs.Ordered.{IsOrdered, tail, point_at}
-use Rattle.drawing_check.specs.Walks.{step_from, distance, walk, inner, HasNoRepeat}
+use Rattle.drawing_check.specs.Walks.{step_from, distance, walk, interior, AreDistinct}
 use Rattle.drawing_check.proofs.Coverings.{no_repeat_append}
 use Rattle.drawing_check.proofs.Segments.{toward_up, toward_down, toward_same, segment_lists}
 use Rattle.drawing_laws.proofs.Sides.{Goes}
@@ -104,7 +104,7 @@ steps_some (suc (suc (suc k))) x y u v goes = omega (arith, goes.0)
 
 -- a walk meets no point twice
 walk_once : (k : ℕ) (x y : ℕ → ℕ) (u v n : ℕ) → Goes k x y u v → n ≤ distance (point_at x y u) (point_at x y v)
-    → HasNoRepeat (walk (point_at x y u) (point_at x y v) n)
+    → AreDistinct (walk (point_at x y u) (point_at x y v) n)
 walk_once k x y u v zero goes few = λ i j d less within same. absurd (omega (arith, within))
 walk_once k x y u v (suc n) goes few =
     (segment_lists (point_at x y u) (point_at x y v) (suc n) (goes_axis k x y u v goes) (omega arith) few).once
@@ -129,20 +129,20 @@ IsMet w x y u a rest px py =
     (Passes (w.direction a) x y px py u (w.head a) × IsBefore w x y px py a (last_of a rest))
     ⊎ ((z : ℕ) × In z rest × PassesAt w x y px py z × IsBefore w x y px py z (last_of a rest))
 
-inner_more : (a b e : Point) (ps : List Point) → inner (a ∷ b ∷ (ps ++ e ∷ [])) ≡ walk a b (distance a b) ++ inner (b ∷ (ps ++ e ∷ []))
+inner_more : (a b e : Point) (ps : List Point) → interior (a ∷ b ∷ (ps ++ e ∷ [])) ≡ walk a b (distance a b) ++ interior (b ∷ (ps ++ e ∷ []))
 inner_more a b e [] = refl
 inner_more a b e (p ∷ ps) = refl
 
 -- up to a corner, and on from there
-inner_turn : (w : DartMap) (x y : ℕ → ℕ) (u a b : ℕ) (bs : List ℕ) → turn_to w a b ≢ 0 → inner (line w x y u a (b ∷ bs))
-    ≡ walk (point_at x y u) (point_at x y (w.head a)) (distance (point_at x y u) (point_at x y (w.head a))) ++ inner (line w x y (w.head a) b bs)
+inner_turn : (w : DartMap) (x y : ℕ → ℕ) (u a b : ℕ) (bs : List ℕ) → turn_to w a b ≢ 0 → interior (line w x y u a (b ∷ bs))
+    ≡ walk (point_at x y u) (point_at x y (w.head a)) (distance (point_at x y u) (point_at x y (w.head a))) ++ interior (line w x y (w.head a) b bs)
 inner_turn w x y u a b bs some =
-    ap inner (line_turn w x y u a b bs some)
+    ap interior (line_turn w x y u a b bs some)
     ∙ inner_more (point_at x y u) (point_at x y (w.head a)) (point_at x y (w.head (last_of b bs))) (map (point_at x y) (turning_vertices w b bs))
 
 module _ (w : DartMap) (sound : IsSound w) (x y : ℕ → ℕ) (ordered : IsOrdered w x y) where
   pub line_met : (u a : ℕ) (rest : List ℕ) (q : Point) → a < w.darts → Below w.darts rest → Follows w a rest → Distinct (a ∷ rest)
-      → Goes (w.direction a) x y u (w.head a) → Contains (inner (line w x y u a rest)) q → IsMet w x y u a rest q.x q.y
+      → Goes (w.direction a) x y u (w.head a) → Contains (interior (line w x y u a rest)) q → IsMet w x y u a rest q.x q.y
   line_met u a [] q a_in below follows distinct goes within =
       let n : ℕ = distance (point_at x y u) (point_at x y (w.head a)) - 1 in
       let some = steps_some (w.direction a) x y u (w.head a) goes in
@@ -156,7 +156,7 @@ module _ (w : DartMap) (sound : IsSound w) (x y : ℕ → ℕ) (ordered : IsOrde
         | inl none ↦
             let (way, on) = on_straight w sound x y ordered u a b a_in below.0 follows.1 none goes in
             let next : Goes (w.direction b) x y (w.head a) (w.head b) = on_turn w sound x y ordered a b below.0 follows.1 in
-            elim (line_met u b bs q below.0 below.1 follows.2 distinct.1 on (subst (λ (path : List Point). Contains (inner path) q) (line_straight w x y u a b bs none) within)) [
+            elim (line_met u b bs q below.0 below.1 follows.2 distinct.1 on (subst (λ (path : List Point). Contains (interior path) q) (line_straight w x y u a b bs none) within)) [
               | inl (passes, before) ↦ elim (passes_split (w.direction b) x y q.x q.y u (w.head a) (w.head b) next passes) [
                 | inl first ↦ inl (subst (λ (k : ℕ). Passes k x y q.x q.y u (w.head a)) way first, λ ex ey. not_last)
                 | inr later ↦ inr (b, inl refl, subst (λ (v : ℕ). Passes (w.direction b) x y q.x q.y v (w.head b)) (sym follows.1) later, before)
@@ -165,7 +165,7 @@ module _ (w : DartMap) (sound : IsSound w) (x y : ℕ → ℕ) (ordered : IsOrde
             ]
         | inr some ↦
             let next : Goes (w.direction b) x y (w.head a) (w.head b) = on_turn w sound x y ordered a b below.0 follows.1 in
-            elim (Contains-append_cases (walk (point_at x y u) (point_at x y (w.head a)) (distance (point_at x y u) (point_at x y (w.head a)))) (inner (line w x y (w.head a) b bs)) q
+            elim (Contains-append_cases (walk (point_at x y u) (point_at x y (w.head a)) (distance (point_at x y u) (point_at x y (w.head a)))) (interior (line w x y (w.head a) b bs)) q
             (subst (λ (ps : List Point). Contains ps q) (inner_turn w x y u a b bs some) within)) [
               | inl first ↦ inl (
                 walk_passes (w.direction a) x y u (w.head a) q (distance (point_at x y u) (point_at x y (w.head a))) goes (omega arith) first,
@@ -184,7 +184,7 @@ module _ (w : DartMap) (sound : IsSound w) (x y : ℕ → ℕ) (ordered : IsOrde
       → Goes (w.direction a) x y u (w.head a)
       → ((z : ℕ) → first z → all z) → ((z : ℕ) → In z rest → all z) → ((z c : ℕ) → first z → In c rest → z ≢ c)
       → ((px py : ℕ) → Passes (w.direction a) x y px py u (w.head a) → (z : ℕ) × first z × PassesAt w x y px py z)
-      → HasNoRepeat (inner (line w x y u a rest))
+      → AreDistinct (interior (line w x y u a rest))
   line_once all one u a [] first a_in below follows distinct goes in_first in_rest apart covers =
       walk_once (w.direction a) x y u (w.head a) (distance (point_at x y u) (point_at x y (w.head a)) - 1) goes (omega arith)
   line_once all one u a (b ∷ bs) first a_in below follows distinct goes in_first in_rest apart covers =
@@ -194,7 +194,7 @@ module _ (w : DartMap) (sound : IsSound w) (x y : ℕ → ℕ) (ordered : IsOrde
       elim (cases_eq (turn_to w a b) 0) [
         | inl none ↦
             let (way, on) = on_straight w sound x y ordered u a b a_in below.0 follows.1 none goes in
-            subst (λ (path : List Point). HasNoRepeat (inner path)) (sym (line_straight w x y u a b bs none))
+            subst (λ (path : List Point). AreDistinct (interior path)) (sym (line_straight w x y u a b bs none))
             (line_once all one u b bs (λ z. first z ⊎ (z ≡ b)) below.0 below.1 follows.2 distinct.1 on
             (λ z this. elim this [ inl early ↦ in_first z early | inr at ↦ subst all (sym at) (in_rest b (inl refl)) ])
             (λ z later. in_rest z (inr later))
@@ -210,8 +210,8 @@ module _ (w : DartMap) (sound : IsSound w) (x y : ℕ → ℕ) (ordered : IsOrde
             ]))
         | inr some ↦
             let n : ℕ = distance (point_at x y u) (point_at x y (w.head a)) in
-            subst HasNoRepeat (sym (inner_turn w x y u a b bs some))
-            (no_repeat_append (walk (point_at x y u) (point_at x y (w.head a)) n) (inner (line w x y (w.head a) b bs))
+            subst AreDistinct (sym (inner_turn w x y u a b bs some))
+            (no_repeat_append (walk (point_at x y u) (point_at x y (w.head a)) n) (interior (line w x y (w.head a) b bs))
             (walk_once (w.direction a) x y u (w.head a) n goes (omega arith))
             (line_once all one (w.head a) b bs (λ z. z ≡ b) below.0 below.1 follows.2 distinct.1 next
             (λ z at. subst all (sym at) (in_rest b (inl refl)))

@@ -80,7 +80,7 @@ further p a l y k reached ends moved =
                 let rest = and_parts (ltb 0 (l d)) (rises p y d) both.1 in
                 inl (record {
                   node = across_at p d;
-                  inside = omega (arith, ends.face_named (reverse_dart p d) (ends.reverse_dart_inside d b));
+                  inside = omega (arith, ends.face_named (reverse_dart p d) (ends.reverse_dart_in_range d b));
                   new = to;
                   moved = straighten p a l y k reached d ends b (ltb-true d k both.0) (ltb-true 0 (l d) rest.0) (eqb-true (y (across_at p d)) (y (face_at p d) + 1) rest.1) from to (moved (face_at p d) from);
                 })

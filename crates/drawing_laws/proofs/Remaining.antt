@@ -16,7 +16,7 @@ use Rattle.entries.specs.declared.cause.Cause.{Cause}
 use Rattle.entries.specs.declared.cause.Cause.TheVariants.{Wide, OutOfGrid, NotAxis, WrongTurn, Meet}
 use Rattle.entries.specs.Drawn.{ShowsCause}
 use Rattle.entries.specs.Answers.{IsLaid}
-use Rattle.drawing_laws.specs.Least.{HasNoOrder}
+use Rattle.drawing_laws.specs.Least.{HasNoCoordinates}
 use Rattle.drawing_laws.specs.Remaining.{MayShow}
 use Rattle.drawing_laws.proofs.Lowest.{least_exist, least_are_few, all_ends, all_bends}
 
@@ -28,7 +28,7 @@ laid_in_grid b points boxes laid =
 pub never_out : (plane : PlaneModel) (shape : ShapeModel) (b : BoxesModel) → IsBoxed plane shape b → ¬ ShowsCause plane shape b OutOfGrid
 never_out plane shape b boxed fails = fails.first (laid_in_grid b fails.points boxed.boxes fails.laid_out)
 
-no_order : (b : BoxesModel) → AreBoxes b → b.vertices ≤ MAX_COORDINATE + 1 → FitsNoGrid b → HasNoOrder b
+no_order : (b : BoxesModel) → AreBoxes b → b.vertices ≤ MAX_COORDINATE + 1 → FitsNoGrid b → HasNoCoordinates b
 no_order b boxes few none x y o =
     let l = least_exist b x y boxes o in
     let (v, inside, wide) = none l.0 l.1 l.2.ordered in

@@ -43,8 +43,8 @@ pub face_prices : (p : PlaneModel) (a : ℕ → ℕ) (s : ℕ → List Turn) (v 
 face_prices p a s v q ends prove = (
   λ f. shifted (least_shift p q) (q f),
   record {
-    near = λ d l. shifted-near (least_shift p q) (q (face_at p d)) (q (face_at p (reverse_dart p d))) (enough d l) (enough (reverse_dart p d) (ends.reverse_dart_inside d l)) (prove d l).crossed;
-    bent = λ d l some. shifted-bent (least_shift p q) (q (face_at p d)) (q (face_at p (reverse_dart p d))) (enough d l) (enough (reverse_dart p d) (ends.reverse_dart_inside d l)) ((prove d l).tight some);
+    near = λ d l. shifted-near (least_shift p q) (q (face_at p d)) (q (face_at p (reverse_dart p d))) (enough d l) (enough (reverse_dart p d) (ends.reverse_dart_in_range d l)) (prove d l).crossed;
+    bent = λ d l some. shifted-bent (least_shift p q) (q (face_at p d)) (q (face_at p (reverse_dart p d))) (enough d l) (enough (reverse_dart p d) (ends.reverse_dart_in_range d l)) ((prove d l).tight some);
     corner = λ d e l m same more less.
         shifted-le (least_shift p q) (q (face_at p e)) (q (face_at p d)) (enough e m) (enough d l)
         (between (q (face_at p e)) (v (head p e)) (v (head p d)) (q (face_at p d)) ((prove e m).wider less) (ap v (sym same)) ((prove d l).narrower more));

@@ -11,7 +11,7 @@ use Rattle.entries.specs.declared.cause.Cause.{Cause}
 use Rattle.entries.specs.declared.cause.Cause.TheVariants.{Wide, OutOfGrid, NotAxis, WrongTurn, Meet}
 use Rattle.entries.specs.Drawn.{ShowsCause}
 use Rattle.entries.specs.Answers.{IsLaid}
-use Rattle.drawing_laws.specs.Least.{HasNoOrder}
+use Rattle.drawing_laws.specs.Least.{HasNoCoordinates}
 use Rattle.drawing_laws.specs.Remaining.{MayShow}
 use Rattle.drawing_laws.proofs.Remaining.{remaining_of_least}
 
@@ -24,7 +24,7 @@ shown_wide plane shape b WrongTurn is boxed shown = absurd (shown.first.2 (laid_
 shown_wide plane shape b Meet is boxed shown = absurd (shown.first.3 (laid_out_draws plane shape b shown.points is boxed shown.laid_out).apart)
 
 pub laid_wide : (choice : Choice) (bytes : List ℕ) (plane : PlaneModel) (shape : ShapeModel) (prices : PricesModel) (cause : Cause)
-    → IsLaid choice bytes plane shape prices (Err cause) → (boxes : BoxesModel) × IsBoxed plane shape boxes × HasNoOrder boxes × (cause ≡ Wide)
+    → IsLaid choice bytes plane shape prices (Err cause) → (boxes : BoxesModel) × IsBoxed plane shape boxes × HasNoCoordinates boxes × (cause ≡ Wide)
 laid_wide choice bytes plane shape prices cause is =
     let found = is.drawn in
     let wide = shown_wide plane shape found.boxes cause is.rules found.boxed found.shown in (

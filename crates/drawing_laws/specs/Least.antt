@@ -20,8 +20,8 @@ abbrev pub HasNoGap : ℕ → (ℕ → ℕ) → Type 0
 HasNoGap n x = (v k : ℕ) → v < n → k ≤ x v → (u : ℕ) × (u < n) × (x u ≡ k)
 
 -- no coordinates grow along the darts of the boxes
-abbrev pub HasNoOrder : BoxesModel → Type 0
-HasNoOrder b = (x y : ℕ → ℕ) → ¬ IsOrdered (dart_map b) x y
+abbrev pub HasNoCoordinates : BoxesModel → Type 0
+HasNoCoordinates b = (x y : ℕ → ℕ) → ¬ IsOrdered (dart_map b) x y
 
 -- both coordinates of a point are less than n
 abbrev pub IsBelow : ℕ → Point → Type 0

@@ -3,11 +3,11 @@ use Rattle.std.specs.Prelude.{⊤}
 use Rattle.dissect.specs.Boxes.{BoxesModel}
 use Rattle.entries.specs.declared.cause.Cause.{Cause}
 use Rattle.entries.specs.declared.cause.Cause.TheVariants.{Wide, OutOfGrid, NotAxis, WrongTurn, Meet}
-use Rattle.drawing_laws.specs.Least.{HasNoOrder}
+use Rattle.drawing_laws.specs.Least.{HasNoCoordinates}
 
 -- `Wide` only where no coordinates at all grow along the darts of the boxes, and `OutOfGrid` never
 abbrev pub MayShow : BoxesModel → Cause → Type 0
-MayShow boxes Wide = HasNoOrder boxes
+MayShow boxes Wide = HasNoCoordinates boxes
 MayShow boxes OutOfGrid = ⊥
 MayShow boxes NotAxis = ⊤
 MayShow boxes WrongTurn = ⊤

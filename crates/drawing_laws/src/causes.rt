@@ -15,7 +15,7 @@ ghost use Rattle.dissect.specs.Ordered.{AreLaidOut};
 ghost use Rattle.entries.specs.declared.cause.Cause.{Cause};
 ghost use Rattle.entries.specs.Drawn.{ShowsCause};
 ghost use Rattle.entries.specs.Answers.{IsLaid};
-ghost use Rattle.drawing_laws.specs.Least.{HasNoOrder};
+ghost use Rattle.drawing_laws.specs.Least.{HasNoCoordinates};
 ghost use Rattle.drawing_laws.specs.Remaining.{MayShow};
 
 /// The points and corners of a layout are within the grid, so no boxes of a shape show `OutOfGrid`.
@@ -47,5 +47,5 @@ pub fn only_wide()
         → IsPlane plane → IsBoxed plane shape b → ShowsCause plane shape b cause → cause ≡ Cause.Wide }
     ensures laid { (choice : Choice) (bytes : List ℕ) (plane : PlaneModel) (shape : ShapeModel) (prices : PricesModel) (cause : Cause)
         → IsLaid choice bytes plane shape prices (Err cause)
-        → (boxes : BoxesModel) × IsBoxed plane shape boxes × HasNoOrder boxes × (cause ≡ Cause.Wide) }
+        → (boxes : BoxesModel) × IsBoxed plane shape boxes × HasNoCoordinates boxes × (cause ≡ Cause.Wide) }
 {}

@@ -17,10 +17,10 @@ ghost use Rattle.faces.specs.Planes.{PlaneModel};
 ghost use Rattle.ortho_rep.specs.Shapes.{ShapeModel};
 ghost use Rattle.dissect.specs.Boxes.{BoxesModel, AreBoxes};
 ghost use Rattle.dissect.specs.Boxed.{IsBoxed};
-ghost use Rattle.drawing_laws.specs.Orders.{HasOrder};
+ghost use Rattle.drawing_laws.specs.Orders.{HasCoordinates};
 
 /// All boxes have coordinates that grow along their darts; so have those that dissect a shape of a plane.
 pub fn coordinates_in_order_exist()
-    ensures boxes { (b : BoxesModel) → AreBoxes b → HasOrder b }
-    ensures shape { (p : PlaneModel) (shape : ShapeModel) (b : BoxesModel) → IsBoxed p shape b → HasOrder b }
+    ensures boxes { (b : BoxesModel) → AreBoxes b → HasCoordinates b }
+    ensures shape { (p : PlaneModel) (shape : ShapeModel) (b : BoxesModel) → IsBoxed p shape b → HasCoordinates b }
 {}

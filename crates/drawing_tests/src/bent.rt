@@ -1,7 +1,9 @@
 //! A drawing worked out by hand, and refused allocations.
 
 use crate::planes::{EDGE, TRIANGLE, bent_triangle_in, plane_in, plane_of, same, spiral_in};
-use dissect::{DartTable, HeadingSearch, NO_DART, headings_in, lesser_darts_of, normalize_into};
+use dissect::{
+    DartTable, DirectionSearch, NO_DART, directions_in, lesser_darts_of, normalize_into,
+};
 use faces::Plane;
 use ortho_rep::{Shape, is_shape};
 use std::alloc::{AllocError, Global};
@@ -16,13 +18,13 @@ fn bend_of(
     shape: &Shape,
 ) -> Result<DartTable, AllocError> {
     assert!(rt; is_shape(plane, shape));
-    let found = headings_in(plane, shape, HeadingSearch::empty(alloc))?;
+    let found = directions_in(plane, shape, DirectionSearch::empty(alloc))?;
     let edges = lesser_darts_of(plane, Vec::new(alloc))?;
     normalize_into(
         DartTable::empty(alloc),
         plane,
         shape,
-        &found.headings,
+        &found.directions,
         &edges,
     )
 }

@@ -1,7 +1,7 @@
 //! Directions worked out by hand, and refused allocations.
 
 use crate::planes::{EDGE, TRIANGLE, bent_triangle_in, plane_in, same, shape_in};
-use dissect::{HeadingSearch, headings_in};
+use dissect::{DirectionSearch, directions_in};
 use faces::Plane;
 use ortho_rep::{Shape, Turn, is_shape};
 use std::alloc::{AllocError, Global};
@@ -10,13 +10,13 @@ use std::process::Abort;
 /// The directions of a shape, by the second call where the first finds no memory.
 fn headings_at_last(rt: &impl Abort, alloc: Global, plane: &Plane, shape: &Shape) -> Vec<u8> {
     assert!(rt; is_shape(plane, shape));
-    let found = match headings_in(plane, shape, HeadingSearch::empty(alloc)) {
+    let found = match directions_in(plane, shape, DirectionSearch::empty(alloc)) {
         Ok(found) => found,
-        Err(AllocError) => headings_in(plane, shape, HeadingSearch::empty(alloc)).expect(
+        Err(AllocError) => directions_in(plane, shape, DirectionSearch::empty(alloc)).expect(
             rt, "memory",
         ),
     };
-    found.headings
+    found.directions
 }
 
 /// Whether a shape of the plane of these bytes has these directions; nothing where memory is wanting before.

@@ -5,7 +5,7 @@ use Rattle.std.proofs.lemmas.Bool.{cases_eq, cases_lt}
 use Rattle.std.proofs.lemmas.Grind.{same_number_lists}
 use Rattle.embedding.specs.Darts.{heads, dart_count, first_dart, head_of, tail_of, reverse_of, after_of}
 use Rattle.embedding.specs.Rules.{KeepsBefore}
-use Rattle.embedding.specs.Tables.{IsTable, AreTies}
+use Rattle.embedding.specs.Tables.{IsTable, IsRotation}
 use Rattle.embedding.proofs.Entries.{Stands, stands_at, stands_below}
 use Rattle.embedding.proofs.Rotation.{one_dart, reverse_is, after_place, tail_at}
 
@@ -32,23 +32,23 @@ table_push n f table x m next is t =
 
 -- ---- links
 
-pub ties_none : (g : List (List ℕ)) (n : ℕ) (ties : List ℕ) → n ≡ 0 → ties ≡ [] → AreTies g n ties
-ties_none g n ties none empty =
+pub ties_none : (g : List (List ℕ)) (n : ℕ) (rotation : List ℕ) → n ≡ 0 → rotation ≡ [] → IsRotation g n rotation
+ties_none g n rotation none empty =
     record {
       size = omega (arith, ap length empty);
       reverses = λ d b. absurd (omega arith);
       afters = λ d b. absurd (omega arith);
     }
 
-pub ties_push : (g : List (List ℕ)) (n : ℕ) (ties : List ℕ) (x y m : ℕ) → m ≡ n + 1 → x ≡ reverse_of g n → y ≡ after_of g n → AreTies g n ties
-    → AreTies g m ((ties ++ x ∷ []) ++ y ∷ [])
-ties_push g n ties x y m next turned follows l =
-    let half = ties ++ x ∷ [] in
-    let long : length half ≡ 2 * n + 1 = length-append ties (x ∷ []) ∙ omega (arith, l.size) in
-    let kept : (i : ℕ) → i < length ties → get_or (half ++ y ∷ []) i 0 ≡ get_or ties i 0 =
-    λ i b. get_or_append_left half (y ∷ []) 0 i (omega (arith, long, l.size)) ∙ get_or_append_left ties (x ∷ []) 0 i b in
+pub ties_push : (g : List (List ℕ)) (n : ℕ) (rotation : List ℕ) (x y m : ℕ) → m ≡ n + 1 → x ≡ reverse_of g n → y ≡ after_of g n → IsRotation g n rotation
+    → IsRotation g m ((rotation ++ x ∷ []) ++ y ∷ [])
+ties_push g n rotation x y m next turned follows l =
+    let half = rotation ++ x ∷ [] in
+    let long : length half ≡ 2 * n + 1 = length-append rotation (x ∷ []) ∙ omega (arith, l.size) in
+    let kept : (i : ℕ) → i < length rotation → get_or (half ++ y ∷ []) i 0 ≡ get_or rotation i 0 =
+    λ i b. get_or_append_left half (y ∷ []) 0 i (omega (arith, long, l.size)) ∙ get_or_append_left rotation (x ∷ []) 0 i b in
     let here : get_or (half ++ y ∷ []) (2 * n) 0 ≡ x =
-    get_or_append_left half (y ∷ []) 0 (2 * n) (omega (arith, long)) ∙ get_or_at ties x [] 0 (2 * n) l.size in
+    get_or_append_left half (y ∷ []) 0 (2 * n) (omega (arith, long)) ∙ get_or_at rotation x [] 0 (2 * n) l.size in
     let there : get_or (half ++ y ∷ []) (2 * n + 1) 0 ≡ y = get_or_at half y [] 0 (2 * n + 1) long in
     record {
       size = length-append half (y ∷ []) ∙ omega (arith, long);

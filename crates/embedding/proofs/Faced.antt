@@ -6,8 +6,8 @@ use Rattle.common.proofs.Sums.{sum_below-same}
 use Rattle.embedding.specs.Darts.{dart_count, next_of, reverse_of}
 use Rattle.embedding.specs.Rules.{KeepsBefore}
 use Rattle.embedding.specs.Faces.{HasFaces, degree_in}
-use Rattle.embedding.specs.Tables.{AreTies}
-use Rattle.embedding.specs.Walk.{AreTied, HasDegrees, HasFaceTable, at, next_in}
+use Rattle.embedding.specs.Tables.{IsRotation}
+use Rattle.embedding.specs.Walk.{AreRotations, HasDegrees, HasFaceTable, at, next_in}
 use Rattle.embedding.proofs.Rotation.{reverse_is, next_one}
 
 -- a part of a list of one value has that value everywhere
@@ -30,33 +30,33 @@ pub same_degree : (n : ℕ) (face other : ℕ → ℕ) (k : ℕ) → ((d : ℕ) 
 same_degree n face other k is = sum_below-same n (λ d. cond (other d == k) 1 0) (λ d. cond (face d == k) 1 0) (λ d b. ap (λ (x : ℕ). cond (x == k) 1 0) (is d b))
 
 -- faces and degrees stand behind the links
-pub faced : (ties faces table : List ℕ) (n count : ℕ) → AreTied n ties → length faces ≡ n → HasDegrees (ties ++ faces) (length faces) (at faces) count table → HasFaces n (next_in ties) (at faces) count → HasFaceTable n ties count table
-faced ties faces table n count tied all behind numbered =
-    let front = ties ++ faces in
+pub faced : (rotation faces table : List ℕ) (n count : ℕ) → AreRotations n rotation → length faces ≡ n → HasDegrees (rotation ++ faces) (length faces) (at faces) count table → HasFaces n (next_in rotation) (at faces) count → HasFaceTable n rotation count table
+faced rotation faces table n count tied all behind numbered =
+    let front = rotation ++ faces in
     let long = tied.size in
-    let size : length front ≡ 3 * n = length-append ties faces ∙ omega (arith, long, all) in
+    let size : length front ≡ 3 * n = length-append rotation faces ∙ omega (arith, long, all) in
     let read : (i : ℕ) → i < 3 * n → get_or table i 0 ≡ get_or front i 0 =
-    λ i b. sym (get_or-take (length front) table i 0 (omega (arith, size, b))) ∙ ap (λ (t : List ℕ). get_or t i 0) behind.front_is in
+    λ i b. sym (get_or-take (length front) table i 0 (omega (arith, size, b))) ∙ ap (λ (t : List ℕ). get_or t i 0) behind.prefix_is in
     let face_is : (d : ℕ) → d < n → get_or table (2 * n + d) 0 ≡ get_or faces d 0 =
-    λ d b. read (2 * n + d) (omega (arith, b)) ∙ ap (λ (m : ℕ). get_or front (m + d) 0) (sym long) ∙ get_or-append-add ties faces d 0 in
+    λ d b. read (2 * n + d) (omega (arith, b)) ∙ ap (λ (m : ℕ). get_or front (m + d) 0) (sym long) ∙ get_or-append-add rotation faces d 0 in
     record {
       size = behind.size ∙ omega (arith, size);
-      ties_are = λ i b. read i (omega (arith, b)) ∙ get_or_append_left ties faces 0 i (omega (arith, long, b));
-      faces_are = same_faces n (next_in ties) (next_in ties) (at faces) (λ d. get_or table (2 * n + d) 0) count tied.walked.inside (λ d b. refl) face_is numbered;
+      rotation_is = λ i b. read i (omega (arith, b)) ∙ get_or_append_left rotation faces 0 i (omega (arith, long, b));
+      faces_are = same_faces n (next_in rotation) (next_in rotation) (at faces) (λ d. get_or table (2 * n + d) 0) count tied.walked.inside (λ d b. refl) face_is numbered;
       degrees_are = λ k b.
           ap (λ (m : ℕ). get_or table (m + k) 0) (sym size) ∙ behind.degrees_are k b ∙ ap (λ (m : ℕ). degree_in m (at faces) k) all
           ∙ sym (same_degree n (at faces) (λ d. get_or table (2 * n + d) 0) k face_is);
     }
 
 -- what the links lead to is what the graph's darts lead to
-pub next_is : (g : List (List ℕ)) → KeepsBefore g 8 → (ties : List ℕ) → AreTies g (dart_count g) ties → (d : ℕ) → d < dart_count g → next_in ties d ≡ next_of g d
-next_is g rules ties l d below =
+pub next_is : (g : List (List ℕ)) → KeepsBefore g 8 → (rotation : List ℕ) → IsRotation g (dart_count g) rotation → (d : ℕ) → d < dart_count g → next_in rotation d ≡ next_of g d
+next_is g rules rotation l d below =
     let inside = (reverse_is g rules d below).inside in
-    ap (λ (e : ℕ). get_or ties (2 * e + 1) 0) (l.reverses d below) ∙ l.afters (reverse_of g d) inside
+    ap (λ (e : ℕ). get_or rotation (2 * e + 1) 0) (l.reverses d below) ∙ l.afters (reverse_of g d) inside
 
-pub tied : (g : List (List ℕ)) → KeepsBefore g 8 → (ties : List ℕ) → AreTies g (dart_count g) ties → AreTied (dart_count g) ties
-tied g rules ties l =
-    let is = next_is g rules ties l in
+pub tied : (g : List (List ℕ)) → KeepsBefore g 8 → (rotation : List ℕ) → IsRotation g (dart_count g) rotation → AreRotations (dart_count g) rotation
+tied g rules rotation l =
+    let is = next_is g rules rotation l in
     let one = next_one g rules in
     record {
       size = l.size;

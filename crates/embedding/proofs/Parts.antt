@@ -8,7 +8,7 @@ use Rattle.embedding.specs.Darts.{heads, dart_count, first_dart, next_of}
 use Rattle.embedding.specs.Walk.{HasFaceTable, next_in}
 use Rattle.embedding.proofs.Faced.{tied, next_is, same_faces, same_degree}
 use Rattle.embedding.specs.Rules.{KeepsBefore}
-use Rattle.embedding.specs.Tables.{parts_at, IsTable, AreTies, AreTables}
+use Rattle.embedding.specs.Tables.{slices_at, IsTable, IsRotation, AreTables}
 use Rattle.embedding.proofs.EachList.{list_of-add}
 use Rattle.embedding.proofs.Building.{first_dart-more}
 
@@ -71,22 +71,22 @@ vertex_part g {ends} kept v i j from to place at within read-from read-to =
     rw here (part_between g ends i from to kept.heads_are (omega arith) (start_read g kept i j from (omega arith) place read-from) (start_read g kept (i + 1) (j + 1) to (omega arith) (omega arith) read-to))
 
 -- split where they start, the heads are the lists
-pub parts_whole : (g : List (List ℕ)) (starts ends : List ℕ) → IsTable (length g + 1) (first_dart g) starts → ends ≡ heads g → parts_at starts ends ≡ g
+pub parts_whole : (g : List (List ℕ)) (starts ends : List ℕ) → IsTable (length g + 1) (first_dart g) starts → ends ≡ heads g → slices_at starts ends ≡ g
 parts_whole g starts ends table same =
     let part : ℕ → List ℕ = λ k. slice_range ends (get_or starts k 0) (get_or starts (k + 1) 0) in
     let n = length starts - 1 in
-    let long : length (parts_at starts ends) ≡ n = length-map-range_with_len part 0 n in
+    let long : length (slices_at starts ends) ≡ n = length-map-range_with_len part 0 n in
     let count : n ≡ length g = omega (arith, table.size) in
-    ext_get_or [] (parts_at starts ends) g (long ∙ count) (λ k b.
+    ext_get_or [] (slices_at starts ends) g (long ∙ count) (λ k b.
     let inside : k < n = omega (arith, long) in
     get_or-map-range_with_len part 0 n k k [] inside (omega arith)
     ∙ (part_between g ends k (get_or starts k 0) (get_or starts (k + 1) 0) same (omega (arith, count)) (table.each k (omega (arith, count))) (table.each (k + 1) (omega (arith, count)))).part)
 
 -- the table in which links, faces and degrees stand before the starts
-pub kept_whole : (g : List (List ℕ)) (ends ties front starts table : List ℕ) (count : ℕ) → KeepsBefore g 8 → length g < 256 → ends ≡ heads g
-    → AreTies g (dart_count g) ties → HasFaceTable (dart_count g) ties count front → IsTable (length g + 1) (first_dart g) starts → table ≡ front ++ starts
-    → (parts_at (drop (3 * length ends + count) table) ends ≡ g) × AreTables g ends count table
-kept_whole g ends ties front starts table count rules order same l f s is =
+pub kept_whole : (g : List (List ℕ)) (ends rotation front starts table : List ℕ) (count : ℕ) → KeepsBefore g 8 → length g < 256 → ends ≡ heads g
+    → IsRotation g (dart_count g) rotation → HasFaceTable (dart_count g) rotation count front → IsTable (length g + 1) (first_dart g) starts → table ≡ front ++ starts
+    → (slices_at (drop (3 * length ends + count) table) ends ≡ g) × AreTables g ends count table
+kept_whole g ends rotation front starts table count rules order same l f s is =
     let n = dart_count g in
     let size : length front ≡ 3 * length ends + count = omega (arith, f.size, ap length same) in
     let behind : drop (3 * length ends + count) table ≡ starts =
@@ -94,17 +94,17 @@ kept_whole g ends ties front starts table count rules order same l f s is =
     let read : (i : ℕ) → i < 3 * n + count → get_or table i 0 ≡ get_or front i 0 =
     λ i below. ap (λ (t : List ℕ). get_or t i 0) is ∙ get_or_append_left front starts 0 i (omega (arith, f.size, below)) in
     let face_is : (d : ℕ) → d < n → get_or table (2 * n + d) 0 ≡ get_or front (2 * n + d) 0 = λ d b. read (2 * n + d) (omega (arith, b)) in
-    let walk = tied g rules ties l in (
-      ap (λ (t : List ℕ). parts_at t ends) behind ∙ parts_whole g starts ends s same,
+    let walk = tied g rules rotation l in (
+      ap (λ (t : List ℕ). slices_at t ends) behind ∙ parts_whole g starts ends s same,
       record {
         rules = rules;
         order = order;
         heads_are = same;
         size = omega (arith, ap length is, length-append front starts, f.size, s.size);
         starts_are = subst (IsTable (length g + 1) (first_dart g)) (sym behind) s;
-        reverses_are = λ d below. read (2 * d) (omega (arith, below)) ∙ f.ties_are (2 * d) (omega (arith, below)) ∙ l.reverses d below;
-        afters_are = λ d below. read (2 * d + 1) (omega (arith, below)) ∙ f.ties_are (2 * d + 1) (omega (arith, below)) ∙ l.afters d below;
-        faces_are = same_faces n (next_in ties) (next_of g) (λ d. get_or front (2 * n + d) 0) (λ d. get_or table (2 * n + d) 0) count walk.walked.inside (λ d b. sym (next_is g rules ties l d b)) face_is f.faces_are;
+        reverses_are = λ d below. read (2 * d) (omega (arith, below)) ∙ f.rotation_is (2 * d) (omega (arith, below)) ∙ l.reverses d below;
+        afters_are = λ d below. read (2 * d + 1) (omega (arith, below)) ∙ f.rotation_is (2 * d + 1) (omega (arith, below)) ∙ l.afters d below;
+        faces_are = same_faces n (next_in rotation) (next_of g) (λ d. get_or front (2 * n + d) 0) (λ d. get_or table (2 * n + d) 0) count walk.walked.inside (λ d b. sym (next_is g rules rotation l d b)) face_is f.faces_are;
         degrees_are = λ k b. read (3 * n + k) (omega (arith, b)) ∙ f.degrees_are k b ∙ sym (same_degree n (λ d. get_or front (2 * n + d) 0) (λ d. get_or table (2 * n + d) 0) k face_is);
       },
     )

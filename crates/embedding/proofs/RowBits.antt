@@ -4,7 +4,7 @@ use Rattle.std.specs.Int.{bit_at}
 use Rattle.std.proofs.lemmas.Bool.{cases_eq}
 use Rattle.std.proofs.lemmas.Nat.Bits.{bit_at-lt, bit_at-zero, bit_at-pow_other, bit_at_and, bit_at_or, bit_at_set_other, bit_at_mask_inside}
 use Rattle.std.proofs.lemmas.Nat.{one_shl}
-use Rattle.embedding.specs.Rows.{HasBit, IsKeptBy}
+use Rattle.embedding.specs.Rows.{HasBit, IsClosedUnderRows}
 use Rattle.embedding.proofs.EachList.{blank_le}
 
 -- ---- bits
@@ -47,7 +47,7 @@ pub first_within : (s : ℕ → Bool) → s 1 ≡ true → IsWithin 2 s
 first_within s one v has = ap s (two_has v has) ∙ one
 
 -- a row of a vertex in the set is read
-pub reads_within : (rows : List ℕ) (s : ℕ → Bool) (old kept mask vertex : ℕ) → IsKeptBy rows s → s vertex ≡ true → IsWithin old s → ((v : ℕ) → HasBit kept v → HasBit old v) → IsWithin (bit_or kept (bit_and (get_or rows vertex 0) mask)) s
+pub reads_within : (rows : List ℕ) (s : ℕ → Bool) (old kept mask vertex : ℕ) → IsClosedUnderRows rows s → s vertex ≡ true → IsWithin old s → ((v : ℕ) → HasBit kept v → HasBit old v) → IsWithin (bit_or kept (bit_and (get_or rows vertex 0) mask)) s
 reads_within rows s old kept mask vertex closed here within less v has =
     elim (bit_of_or _ _ v has) [
       | inl before ↦ within v (less v before)

@@ -5,7 +5,7 @@ use Rattle.std.proofs.lemmas.Bool.{true≢false}
 use Rattle.embedding.specs.Lists.{list_of}
 use Rattle.embedding.specs.declared.rules.Rule.TheVariants.{Range, Loop, Multi, Asymmetric, Edgeless, Degree, Disconnected, Genus}
 use Rattle.embedding.specs.Rules.{KeepsBefore, NamesTwice}
-use Rattle.embedding.specs.Rows.{HasBit, IsRow, IsRows, IsKeptBy}
+use Rattle.embedding.specs.Rows.{HasBit, IsRow, IsRows, IsClosedUnderRows}
 use Rattle.embedding.proofs.EachList.{none_below}
 
 -- the lists are rows, each vertex stands in the lists of its neighbours, and the rows reach all vertices
@@ -14,7 +14,7 @@ pub record IsSmall (g : List (List ℕ)) (rows : List ℕ) : Type 0 where
   pub words : IsRows g rows
   pub each : (k : ℕ) → k < length g → IsRow (length g) (k + 1) (get_or g k [])
   pub answered : (k : ℕ) → k < length g → All (λ v. HasBit (get_or rows v 0) (k + 1)) (get_or g k [])
-  pub reached : (s : ℕ → Bool) → s 1 ≡ true → IsKeptBy rows s → (v : ℕ) → 0 < v → v ≤ length g → s v ≡ true
+  pub reached : (s : ℕ → Bool) → s 1 ≡ true → IsClosedUnderRows rows s → (v : ℕ) → 0 < v → v ≤ length g → s v ≡ true
 
 pub small_keeps : (g : List (List ℕ)) (rows : List ℕ) → IsSmall g rows → KeepsBefore g 8
 small_keeps g rows m Range _ broken =
@@ -34,7 +34,7 @@ small_keeps g rows m Degree _ broken =
 small_keeps g rows m Disconnected _ (s, one, closed, (u, from, to, missing)) =
     true≢false (sym (m.reached s one kept u from to) ∙ missing)
   where
-    kept : IsKeptBy rows s
+    kept : IsClosedUnderRows rows s
     kept u v has here =
         let there = m.words u v has in
         subst (λ (x : ℕ). s x ≡ true) there.2 (closed u here there.0 v there.1)

@@ -21,5 +21,5 @@ abbrev pub IsRows : List (List ℕ) → List ℕ → Type 0
 IsRows g rows = (u v : ℕ) → HasBit (slice_index rows u) v → Contains (list_of g u) v
 
 -- the set s of vertices holds with each vertex all those of its word
-abbrev pub IsKeptBy : List ℕ → (ℕ → Bool) → Type 0
-IsKeptBy rows s = (u v : ℕ) → HasBit (slice_index rows u) v → s u ≡ true → s v ≡ true
+abbrev pub IsClosedUnderRows : List ℕ → (ℕ → Bool) → Type 0
+IsClosedUnderRows rows s = (u v : ℕ) → HasBit (slice_index rows u) v → s u ≡ true → s v ≡ true

@@ -6,8 +6,8 @@ use Rattle.embedding.specs.Faces.{HasFaces, degree_in}
 use Rattle.embedding.specs.Rules.{KeepsBefore}
 
 -- the parts into which the starts split a list: part k goes from start k up to start k + 1
-abbrev pub parts_at : List ℕ → List ℕ → List (List ℕ)
-parts_at starts ends =
+abbrev pub slices_at : List ℕ → List ℕ → List (List ℕ)
+slices_at starts ends =
     map (λ k. slice_range ends (slice_index starts k) (slice_index starts (k + 1))) (range_with_len 0 (length starts - 1))
 
 -- the list holds the values of f at the numbers below n, in order
@@ -16,10 +16,10 @@ pub record IsTable (n : ℕ) (f : ℕ → ℕ) (table : List ℕ) : Type 0 where
   pub each : (d : ℕ) → d < n → slice_index table d ≡ f d
 
 -- the ties of the first n darts: of each its reverse and the dart after it
-pub record AreTies (g : List (List ℕ)) (n : ℕ) (ties : List ℕ) : Type 0 where
-  pub size : length ties ≡ 2 * n
-  pub reverses : (d : ℕ) → d < n → slice_index ties (2 * d) ≡ reverse_of g d
-  pub afters : (d : ℕ) → d < n → slice_index ties (2 * d + 1) ≡ after_of g d
+pub record IsRotation (g : List (List ℕ)) (n : ℕ) (rotation : List ℕ) : Type 0 where
+  pub size : length rotation ≡ 2 * n
+  pub reverses : (d : ℕ) → d < n → slice_index rotation (2 * d) ≡ reverse_of g d
+  pub afters : (d : ℕ) → d < n → slice_index rotation (2 * d + 1) ≡ after_of g d
 
 -- the lists g of a graph keep the first seven rules, and the tables are theirs: in one stand the ties, the faces of all
 -- darts, the degrees of so many faces and the starts

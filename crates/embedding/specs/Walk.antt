@@ -21,23 +21,23 @@ at xs d = slice_index xs d
 
 -- the next dart of a dart's face: in the ties, the one after the dart's reverse
 abbrev pub next_in : List ℕ → ℕ → ℕ
-next_in ties d = slice_index ties (2 * slice_index ties (2 * d) + 1)
+next_in rotation d = slice_index rotation (2 * slice_index rotation (2 * d) + 1)
 
 -- the ties lead from each of n darts to one of them, and from no two to one
-pub record AreTied (n : ℕ) (ties : List ℕ) : Type 0 where
-  pub size : length ties ≡ 2 * n
-  pub back : (d : ℕ) → d < n → slice_index ties (2 * d) < n
-  pub walked : IsOneToOne n (next_in ties)
+pub record AreRotations (n : ℕ) (rotation : List ℕ) : Type 0 where
+  pub size : length rotation ≡ 2 * n
+  pub back : (d : ℕ) → d < n → slice_index rotation (2 * d) < n
+  pub walked : IsOneToOne n (next_in rotation)
 
 -- the table begins with the front, and behind it stand the degrees of so many faces
 pub record HasDegrees (front : List ℕ) (n : ℕ) (face : ℕ → ℕ) (count : ℕ) (table : List ℕ) : Type 0 where
   pub size : length table ≡ length front + count
-  pub front_is : take (length front) table ≡ front
+  pub prefix_is : take (length front) table ≡ front
   pub degrees_are : (k : ℕ) → k < count → slice_index table (length front + k) ≡ degree_in n face k
 
 -- the ties stand in the table, behind them the faces of n darts, and behind these the degrees of so many faces
-pub record HasFaceTable (n : ℕ) (ties : List ℕ) (count : ℕ) (table : List ℕ) : Type 0 where
+pub record HasFaceTable (n : ℕ) (rotation : List ℕ) (count : ℕ) (table : List ℕ) : Type 0 where
   pub size : length table ≡ 3 * n + count
-  pub ties_are : (i : ℕ) → i < 2 * n → slice_index table i ≡ slice_index ties i
-  pub faces_are : HasFaces n (next_in ties) (λ d. slice_index table (2 * n + d)) count
+  pub rotation_is : (i : ℕ) → i < 2 * n → slice_index table i ≡ slice_index rotation i
+  pub faces_are : HasFaces n (next_in rotation) (λ d. slice_index table (2 * n + d)) count
   pub degrees_are : (k : ℕ) → k < count → slice_index table (3 * n + k) ≡ degree_in n (λ d. slice_index table (2 * n + d)) k

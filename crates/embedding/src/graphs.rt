@@ -43,14 +43,14 @@ pub struct Graph {
 
 impl Model for Graph {
     ghost use Rattle.std.specs.Prelude.{ℕ, List, ◌+◌, ◌*◌, length, drop};
-    ghost use Rattle.embedding.specs.Tables.{parts_at, AreTables};
+    ghost use Rattle.embedding.specs.Tables.{slices_at, AreTables};
 
     ghost Value = { List (List ℕ) };
 
-    ghost view = { λ g. parts_at (drop (3 * length g.heads.items + g.faces) g.table.items) g.heads.items };
+    ghost view = { λ g. slices_at (drop (3 * length g.heads.items + g.faces) g.table.items) g.heads.items };
 
     ghost invariant = { λ g.
-        AreTables (parts_at (drop (3 * length g.heads.items + g.faces) g.table.items) g.heads.items) g.heads.items g.faces
+        AreTables (slices_at (drop (3 * length g.heads.items + g.faces) g.table.items) g.heads.items) g.heads.items g.faces
         g.table.items };
 }
 

@@ -3,7 +3,7 @@
 ghost use Rattle.std.specs.Prelude.{◌≡◌, ◌+◌, ◌*◌, ◌<◌, ◌≤◌, ◌++◌, ℕ, length, slice_index, IfOk, OnOk};
 ghost use Rattle.embedding.specs.declared.graphs.TheConstants.{MAX_DARTS};
 ghost use Rattle.embedding.specs.Faces.{HasFaces, degree_in};
-ghost use Rattle.embedding.specs.Walk.{IsTraced, AreTied, HasDegrees, HasFaceTable, at, next_in};
+ghost use Rattle.embedding.specs.Walk.{IsTraced, AreRotations, HasDegrees, HasFaceTable, at, next_in};
 
 use crate::graphs::MAX_DARTS;
 use std::alloc::AllocError;
@@ -15,19 +15,19 @@ pub(crate) const UNSET: u16 = u16::MAX;
 pub(crate) const FEW_DARTS: usize = 128;
 
 /// Walks the face of `start` once round, and gives its darts the number `face`.
-fn walk_face(ties: &[u16], faces: &mut [u16], start: u16, face: u16)
-    requires tied { AreTied (length faces.old) ties.now }
+fn walk_face(rotation: &[u16], faces: &mut [u16], start: u16, face: u16)
+    requires tied { AreRotations (length faces.old) rotation.now }
     requires few { length faces.old ≤ MAX_DARTS }
     requires inside { start < length faces.old }
     requires unset { slice_index faces.old start ≡ UNSET }
-    requires traced { IsTraced (length faces.old) (next_in ties.now) (at faces.old) face start }
-    ensures { IsTraced (length faces.old) (next_in ties.now) (at faces.new) (face + 1) (start + 1) }
+    requires traced { IsTraced (length faces.old) (next_in rotation.now) (at faces.old) face start }
+    ensures { IsTraced (length faces.old) (next_in rotation.now) (at faces.new) (face + 1) (start + 1) }
 {
     let mut dart = start;
     loop {
         faces[usize::from(dart)] = face;
-        let back = ties[2 * usize::from(dart)];
-        dart = ties[2 * usize::from(back) + 1];
+        let back = rotation[2 * usize::from(dart)];
+        dart = rotation[2 * usize::from(back) + 1];
         if dart == start {
             return;
         }
@@ -36,17 +36,17 @@ fn walk_face(ties: &[u16], faces: &mut [u16], start: u16, face: u16)
 
 /// Numbers the faces from 0 in the order of their least darts, gives each dart its face, and says how
 /// many faces there are. Each dart is walked over once.
-fn number_faces(ties: &[u16], faces: &mut [u16]) -> u16
-    requires tied { AreTied (length faces.old) ties.now }
+fn number_faces(rotation: &[u16], faces: &mut [u16]) -> u16
+    requires tied { AreRotations (length faces.old) rotation.now }
     requires few { length faces.old ≤ MAX_DARTS }
     requires unset { (d : ℕ) → d < length faces.old → slice_index faces.old d ≡ UNSET }
-    ensures numbered { HasFaces (length faces.old) (next_in ties.now) (at faces.new) result }
+    ensures numbered { HasFaces (length faces.old) (next_in rotation.now) (at faces.new) result }
     ensures few { result ≤ length faces.old }
 {
     let mut count = 0;
     for dart in 0..faces.len() as u16 {
         if faces[usize::from(dart)] == UNSET {
-            walk_face(ties, faces, dart, count);
+            walk_face(rotation, faces, dart, count);
             count += 1;
         }
     }
@@ -84,7 +84,7 @@ fn add_table(table: &mut Vec<u16>, faces: &[u16], count: u16) -> Result<(), Allo
 /// Puts the face of each dart and the degree of each face behind the ties, and says how many faces there are. They are
 /// numbered in this memory.
 fn add_on(table: &mut Vec<u16>, faces: &mut [u16]) -> Result<u16, AllocError>
-    requires tied { AreTied (length faces.old) table.old.items }
+    requires tied { AreRotations (length faces.old) table.old.items }
     requires few { length faces.old ≤ MAX_DARTS }
     requires unset { (d : ℕ) → d < length faces.old → slice_index faces.old d ≡ UNSET }
     ensures { IfOk result (λ count. HasFaceTable (length faces.old) table.old.items count table.new.items) }
@@ -96,7 +96,7 @@ fn add_on(table: &mut Vec<u16>, faces: &mut [u16]) -> Result<u16, AllocError>
 
 /// The same for so many darts.
 pub(crate) fn add_faces(table: &mut Vec<u16>, darts: usize) -> Result<u16, AllocError>
-    requires tied { AreTied darts table.old.items }
+    requires tied { AreRotations darts table.old.items }
     requires few { darts ≤ MAX_DARTS }
     ensures { IfOk result (λ count. HasFaceTable darts table.old.items count table.new.items) }
 {

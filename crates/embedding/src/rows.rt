@@ -3,7 +3,7 @@
 
 ghost use Rattle.std.specs.Prelude.{◌≡◌, ◌≢◌, ℕ, ◌+◌, ◌<◌, ◌≤◌, Bool, true, [], length, slice_index, slice_index_or, IsTrue, IfSome, OnSome, All, Contains};
 ghost use Rattle.embedding.specs.Rules.{KeepsBefore};
-ghost use Rattle.embedding.specs.Rows.{HasBit, IsRow, IsRows, IsKeptBy};
+ghost use Rattle.embedding.specs.Rows.{HasBit, IsRow, IsRows, IsClosedUnderRows};
 
 use crate::lists::Lists;
 
@@ -66,7 +66,7 @@ fn fill_rows(rows: &mut [u64; 64], columns: &mut [u64; 64], lists: &Lists<'_>) -
 /// Whether the rows lead from vertex 1 to each of n vertices, each row read once.
 fn reaches_all(rows: &[u64; 64], n: u8) -> bool
     requires { n ≤ FEW }
-    ensures { IsTrue result → (s : ℕ → Bool) → s 1 ≡ true → IsKeptBy rows.now s
+    ensures { IsTrue result → (s : ℕ → Bool) → s 1 ≡ true → IsClosedUnderRows rows.now s
         → (v : ℕ) → 0 < v → v ≤ n → s v ≡ true }
 {
     let mut reached = 2u64;

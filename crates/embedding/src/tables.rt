@@ -5,7 +5,7 @@ ghost use Rattle.std.specs.Prelude.{◌≡◌, ℕ, ◌+◌, ◌*◌, ◌<◌, �
 ghost use Rattle.embedding.specs.Lists.{list_of};
 ghost use Rattle.embedding.specs.Darts.{dart_count, first_dart, head_of, tail_of, reverse_of, after_of};
 ghost use Rattle.embedding.specs.Rules.{KeepsBefore};
-ghost use Rattle.embedding.specs.Tables.{parts_at, IsTable, AreTies, AreTables};
+ghost use Rattle.embedding.specs.Tables.{slices_at, IsTable, IsRotation, AreTables};
 
 use crate::lists::Lists;
 use crate::numbering::add_faces;
@@ -34,17 +34,17 @@ fn after_in(next: u16, first: u16, end: u16) -> u16
 
 /// Adds the darts of the list at a place. Each list has at most four entries, so to search one for a reverse takes
 /// constant time.
-fn add_darts(heads: &mut Vec<u8>, ties: &mut Vec<u16>, lists: &Lists<'_>, place: u8)
+fn add_darts(heads: &mut Vec<u8>, rotation: &mut Vec<u16>, lists: &Lists<'_>, place: u8)
     requires rules { KeepsBefore lists.now 8 }
     requires within { place < length lists.now }
     requires heads { IsTable (first_dart lists.now place) (head_of lists.now) heads.old.items }
-    requires ties { AreTies lists.now (first_dart lists.now place) ties.old.items }
+    requires rotation { IsRotation lists.now (first_dart lists.now place) rotation.old.items }
     requires head_room { dart_count lists.now ≤ vec_capacity heads.old }
-    requires tie_room { 2 * dart_count lists.now ≤ vec_capacity ties.old }
+    requires rotation_room { 2 * dart_count lists.now ≤ vec_capacity rotation.old }
     ensures heads { IsTable (first_dart lists.now (place + 1)) (head_of lists.now) heads.new.items }
-    ensures ties { AreTies lists.now (first_dart lists.now (place + 1)) ties.new.items }
+    ensures rotation { IsRotation lists.now (first_dart lists.now (place + 1)) rotation.new.items }
     ensures head_room { dart_count lists.now ≤ vec_capacity heads.new }
-    ensures tie_room { vec_capacity ties.new ≡ vec_capacity ties.old }
+    ensures rotation_room { vec_capacity rotation.new ≡ vec_capacity rotation.old }
 {
     let list = lists.at(place);
     let first = lists.first_dart(place);
@@ -53,8 +53,8 @@ fn add_darts(heads: &mut Vec<u8>, ties: &mut Vec<u16>, lists: &Lists<'_>, place:
     'darts: for head in list {
         next += 1;
         heads.push_reserved(*head);
-        ties.push_reserved(reverse_between(lists, place + 1, *head));
-        ties.push_reserved(after_in(next, first, end));
+        rotation.push_reserved(reverse_between(lists, place + 1, *head));
+        rotation.push_reserved(after_in(next, first, end));
     }
 }
 
@@ -91,7 +91,7 @@ pub(crate) fn darts_in(
     requires few { length lists.now < 256 }
     ensures kept { IfOk result (λ t. AreTables lists.now t.heads.items t.faces t.table.items) }
     ensures lists { IfOk result (λ t.
-        parts_at (drop (3 * length t.heads.items + t.faces) t.table.items) t.heads.items ≡ lists.now) }
+        slices_at (drop (3 * length t.heads.items + t.faces) t.table.items) t.heads.items ≡ lists.now) }
 {
     let darts = lists.darts();
     let mut heads = emptied(old_heads, darts)?;

@@ -24,12 +24,12 @@ plane_ends p is =
       tail_to = λ d h. (tail_within g d h).1;
       head_from = λ d h. (head_within g rules d h).0;
       head_to = λ d h. (head_within g rules d h).1;
-      reverse_dart_inside = λ d h. (reverse_involution g rules).inside d h;
+      reverse_dart_in_range = λ d h. (reverse_involution g rules).inside d h;
       reverse_dart_back = λ d h. (reverse_involution g rules).back d h;
       reverse_dart_apart = reverse_apart g rules;
       reverse_dart_tail = λ d h. (reverse_is g rules d h).tail;
       reverse_dart_head = λ d h. (reverse_is g rules d h).head;
-      after_inside = λ d h. (after_tail g d h).0;
+      after_in_range = λ d h. (after_tail g d h).0;
       after_tail = λ d h. (after_tail g d h).1;
       next_one = next_one g rules;
       next_tail = λ d h. let o = reverse_is g rules d h in (after_tail g (reverse_of g d) o.inside).1 ∙ o.tail;

@@ -78,12 +78,12 @@ pub record HasEnds (p : PlaneModel) : Type 0 where
   pub tail_to : (d : ℕ) → d < darts p → tail p d ≤ vertices p
   pub head_from : (d : ℕ) → d < darts p → 1 ≤ head p d
   pub head_to : (d : ℕ) → d < darts p → head p d ≤ vertices p
-  pub reverse_dart_inside : (d : ℕ) → d < darts p → reverse_dart p d < darts p
+  pub reverse_dart_in_range : (d : ℕ) → d < darts p → reverse_dart p d < darts p
   pub reverse_dart_back : (d : ℕ) → d < darts p → reverse_dart p (reverse_dart p d) ≡ d
   pub reverse_dart_apart : (d : ℕ) → d < darts p → reverse_dart p d ≢ d
   pub reverse_dart_tail : (d : ℕ) → d < darts p → tail p (reverse_dart p d) ≡ head p d
   pub reverse_dart_head : (d : ℕ) → d < darts p → head p (reverse_dart p d) ≡ tail p d
-  pub after_inside : (d : ℕ) → d < darts p → after p d < darts p
+  pub after_in_range : (d : ℕ) → d < darts p → after p d < darts p
   pub after_tail : (d : ℕ) → d < darts p → tail p (after p d) ≡ tail p d
   pub next_one : IsOneToOne (darts p) (next p)
   pub next_tail : (d : ℕ) → d < darts p → tail p (next p d) ≡ head p d

@@ -8,8 +8,8 @@ use Rattle.faces.specs.Planes.{PlaneModel, IsPlane, darts, vertices, reverse_dar
 use Rattle.faces.proofs.Ends.{plane_ends}
 use Rattle.faces.proofs.Degrees.{degree_few}
 use Rattle.networks.specs.declared.arc.Arc.{Arc}
-use Rattle.networks.specs.Networks.{NetworkModel, node_count, arc_count, arc_at, supply_at, IsFair, IsNetwork}
-use Rattle.flow_network.specs.FaceNet.{IsFaceNet, arrivals}
+use Rattle.networks.specs.Networks.{NetworkModel, node_count, arc_count, arc_at, supply_at, IsInSupplyRange, IsNetwork}
+use Rattle.flow_network.specs.FaceNet.{IsFaceNet, vertex_degree}
 use Rattle.flow_network.proofs.VertexDegrees.{arrivals_most}
 
 -- a fact of each arc of the network
@@ -35,17 +35,17 @@ arc_ends p net plane is =
     ))
     (λ d l. (
       omega (arith, ap (λ (a : Arc). a.from) (is.crossing d l), is.nodes, ends.face_named d l),
-      omega (arith, ap (λ (a : Arc). a.to) (is.crossing d l), is.nodes, ends.face_named (reverse_dart p d) (ends.reverse_dart_inside d l)),
+      omega (arith, ap (λ (a : Arc). a.to) (is.crossing d l), is.nodes, ends.face_named (reverse_dart p d) (ends.reverse_dart_in_range d l)),
     ))
 
-pub supply_fair : (p : PlaneModel) (net : NetworkModel) → IsPlane p → IsFaceNet p net → (k : ℕ) → k < node_count net → IsFair (supply_at net k)
+pub supply_fair : (p : PlaneModel) (net : NetworkModel) → IsPlane p → IsFaceNet p net → (k : ℕ) → k < node_count net → IsInSupplyRange (supply_at net k)
 supply_fair p net plane is k l =
     let ends = plane_ends p plane in
     elim (cases_lt k (vertices p)) [
       | inl vertex ↦
           let back : k + 1 - 1 ≡ k = omega arith in
-          at_vertex (supply_at net k) (arrivals p (k + 1))
-          (subst (λ (j : ℕ). supply_at net j ≡ pos 4 -ℤ pos (arrivals p (k + 1))) back (is.at_vertex (k + 1) (omega arith) (omega arith)))
+          at_vertex (supply_at net k) (vertex_degree p (k + 1))
+          (subst (λ (j : ℕ). supply_at net j ≡ pos 4 -ℤ pos (vertex_degree p (k + 1))) back (is.at_vertex (k + 1) (omega arith) (omega arith)))
           (arrivals_most p plane (k + 1))
       | inr face ↦
           let f : ℕ = k - vertices p in
@@ -55,10 +55,10 @@ supply_fair p net plane is k l =
           (omega (arith, degree_few (darts p) (face_at p) f, ends.few_darts))
     ]
   where
-    at_vertex : (z : ℤ) (k : ℕ) → z ≡ pos 4 -ℤ pos k → k ≤ 4 → IsFair z
+    at_vertex : (z : ℤ) (k : ℕ) → z ≡ pos 4 -ℤ pos k → k ≤ 4 → IsInSupplyRange z
     at_vertex z k is few = (omega (arith, ints), omega (arith, ints))
 
-    at_face : (b : Bool) (z : ℤ) (k : ℕ) → z ≡ (if b then negsuc 3 else pos 4) -ℤ pos k → k ≤ MAX_DARTS → IsFair z
+    at_face : (b : Bool) (z : ℤ) (k : ℕ) → z ≡ (if b then negsuc 3 else pos 4) -ℤ pos k → k ≤ MAX_DARTS → IsInSupplyRange z
     at_face true z k is few = (omega (arith, ints), omega (arith, ints))
     at_face false z k is few = (omega (arith, ints), omega (arith, ints))
 

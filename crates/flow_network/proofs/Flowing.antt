@@ -12,11 +12,11 @@ use Rattle.faces.proofs.Connected.{faces_connected}
 use Rattle.faces.proofs.Degrees.{degrees_sum}
 use Rattle.networks.specs.declared.arc.Arc.{Arc}
 use Rattle.networks.specs.Networks.{NetworkModel, node_count, arc_count, arc_at, supply_at}
-use Rattle.networks.specs.Flow.{Flow, IsWithinCap, leaves, enters, balance}
-use Rattle.min_cost_flow.specs.Excess.{KeepsCaps}
+use Rattle.networks.specs.Flow.{Flow, IsWithinCap, outflow, inflow, net_outflow}
+use Rattle.min_cost_flow.specs.Excess.{IsWithinCaps}
 use Rattle.min_cost_flow.specs.Existence.{HasUnlimitedPaths, SuppliesSumToZero}
 use Rattle.min_cost_flow.proofs.Existence.{flow_where_joined, excess_leaves}
-use Rattle.flow_network.specs.FaceNet.{IsFaceNet, arrivals}
+use Rattle.flow_network.specs.FaceNet.{IsFaceNet, vertex_degree}
 use Rattle.flow_network.proofs.VertexDegrees.{vertex_has_dart, arrivals_most}
 
 -- the last number below n that passes, where one does
@@ -56,18 +56,18 @@ chosen_arrives p plane v one most =
 
 -- each vertex sends what it supplies into its chosen corner, and nothing crosses
 abbrev pub start : PlaneModel → ℕ → ℕ
-start p i = if nat_lt i (darts p) then (if chosen p (head p i) == i then 4 - arrivals p (head p i) else 0) else 0
+start p i = if nat_lt i (darts p) then (if chosen p (head p i) == i then 4 - vertex_degree p (head p i) else 0) else 0
 
-pub start_at : (p : PlaneModel) (d : ℕ) → d < darts p → start p d ≡ (if chosen p (head p d) == d then 4 - arrivals p (head p d) else 0)
-start_at p d l = cond-true {A = ℕ} (ltb d (darts p)) (if chosen p (head p d) == d then 4 - arrivals p (head p d) else 0) 0 (lt-ltb d (darts p) l)
+pub start_at : (p : PlaneModel) (d : ℕ) → d < darts p → start p d ≡ (if chosen p (head p d) == d then 4 - vertex_degree p (head p d) else 0)
+start_at p d l = cond-true {A = ℕ} (ltb d (darts p)) (if chosen p (head p d) == d then 4 - vertex_degree p (head p d) else 0) 0 (lt-ltb d (darts p) l)
 
 pub start_past : (p : PlaneModel) (d : ℕ) → start p (darts p + d) ≡ 0
 start_past p d =
     cond-false {A = ℕ} (ltb (darts p + d) (darts p))
-    (if chosen p (head p (darts p + d)) == darts p + d then 4 - arrivals p (head p (darts p + d)) else 0) 0 (le-ltb (darts p + d) (darts p) (omega arith))
+    (if chosen p (head p (darts p + d)) == darts p + d then 4 - vertex_degree p (head p (darts p + d)) else 0) 0 (le-ltb (darts p + d) (darts p) (omega arith))
 
 -- a dart that arrives counts
-pub arrivals_some : (p : PlaneModel) (d : ℕ) → d < darts p → 1 ≤ arrivals p (head p d)
+pub arrivals_some : (p : PlaneModel) (d : ℕ) → d < darts p → 1 ≤ vertex_degree p (head p d)
 arrivals_some p d l =
     omega (
       arith,
@@ -75,7 +75,7 @@ arrivals_some p d l =
       cond-true {A = ℕ} (eqb (head p d) (head p d)) 1 0 (eq-eqb (head p d) (head p d) refl),
     )
 
-pub start_keeps : (p : PlaneModel) (net : NetworkModel) → IsFaceNet p net → KeepsCaps net (start p)
+pub start_keeps : (p : PlaneModel) (net : NetworkModel) → IsFaceNet p net → IsWithinCaps net (start p)
 start_keeps p net is i l =
     elim (cases_lt i (darts p)) [
       | inl corner ↦
@@ -91,21 +91,21 @@ start_keeps p net is i l =
     small : (p : PlaneModel) (d : ℕ) → d < darts p → start p d ≤ 3
     small p d l =
         elim (cases_Bool (eqb (chosen p (head p d)) d)) [
-          | inl here ↦ omega (arith, start_at p d l, cond-true {A = ℕ} (eqb (chosen p (head p d)) d) (4 - arrivals p (head p d)) 0 here, arrivals_some p d l)
-          | inr away ↦ omega (arith, start_at p d l, cond-false {A = ℕ} (eqb (chosen p (head p d)) d) (4 - arrivals p (head p d)) 0 away)
+          | inl here ↦ omega (arith, start_at p d l, cond-true {A = ℕ} (eqb (chosen p (head p d)) d) (4 - vertex_degree p (head p d)) 0 here, arrivals_some p d l)
+          | inr away ↦ omega (arith, start_at p d l, cond-false {A = ℕ} (eqb (chosen p (head p d)) d) (4 - vertex_degree p (head p d)) 0 away)
         ]
 
 -- what leaves a vertex is its supply
 pub start_leaves : (p : PlaneModel) (net : NetworkModel) → IsPlane p → IsFaceNet p net → (v : ℕ) → 1 ≤ v → v ≤ vertices p →
-    leaves net (start p) (v - 1) ≡ 4 - arrivals p v
+    outflow net (start p) (v - 1) ≡ 4 - vertex_degree p v
 start_leaves p net plane is v one most =
     let n : ℕ = darts p in
     let ends = plane_ends p plane in
     let f : ℕ → ℕ = λ i. if (arc_at net i).from == v - 1 then start p i else 0 in
     let c : ℕ = chosen p v in
     let c_arrives = chosen_arrives p plane v one most in
-    let units : ℕ = 4 - arrivals p v in
-    let whole : leaves net (start p) (v - 1) ≡ sum_below n f + sum_below n (λ d. f (n + d)) =
+    let units : ℕ = 4 - vertex_degree p v in
+    let whole : outflow net (start p) (v - 1) ≡ sum_below n f + sum_below n (λ d. f (n + d)) =
     ap (λ (m : ℕ). sum_below m f) is.arcs ∙ sum_below-split n n f in
     let corners : sum_below n f ≡ sum_below n (λ d. cond (eqb c d) units 0) =
     sum_below-same n f (λ d. cond (eqb c d) units 0) (λ d l. corner p net plane is v one most d l) in
@@ -119,7 +119,7 @@ start_leaves p net plane is v one most =
     none false k e = refl
 
     corner : (p : PlaneModel) (net : NetworkModel) → IsPlane p → IsFaceNet p net → (v : ℕ) → 1 ≤ v → v ≤ vertices p → (d : ℕ) → d < darts p →
-        cond (eqb (arc_at net d).from (v - 1)) (start p d) 0 ≡ cond (eqb (chosen p v) d) (4 - arrivals p v) 0
+        cond (eqb (arc_at net d).from (v - 1)) (start p d) 0 ≡ cond (eqb (chosen p v) d) (4 - vertex_degree p v) 0
     corner p net plane is v one most d l =
         let ends = plane_ends p plane in
         let from : (arc_at net d).from ≡ head p d - 1 = ap (λ (a : Arc). a.from) (is.corner d l) in
@@ -127,20 +127,20 @@ start_leaves p net plane is v one most =
           | inl arrives ↦
               cond-true {A = ℕ} (eqb (arc_at net d).from (v - 1)) (start p d) 0 (eq-eqb (arc_at net d).from (v - 1) (from ∙ ap (λ (k : ℕ). k - 1) arrives))
               ∙ start_at p d l
-              ∙ ap (λ (u : ℕ). cond (eqb (chosen p u) d) (4 - arrivals p u) 0) arrives
+              ∙ ap (λ (u : ℕ). cond (eqb (chosen p u) d) (4 - vertex_degree p u) 0) arrives
           | inr away ↦
               let other : (arc_at net d).from ≢ v - 1 = λ h. away (omega (arith, from, h, ends.head_from d l, one)) in
               let not_chosen : chosen p v ≢ d = λ h. away (ap (head p) (sym h) ∙ (chosen_arrives p plane v one most).1) in
               cond-false {A = ℕ} (eqb (arc_at net d).from (v - 1)) (start p d) 0 (ne_eqb (arc_at net d).from (v - 1) other)
-              ∙ sym (cond-false {A = ℕ} (eqb (chosen p v) d) (4 - arrivals p v) 0 (ne_eqb (chosen p v) d not_chosen))
+              ∙ sym (cond-false {A = ℕ} (eqb (chosen p v) d) (4 - vertex_degree p v) 0 (ne_eqb (chosen p v) d not_chosen))
         ]
 
 -- nothing enters a vertex
-pub start_enters : (p : PlaneModel) (net : NetworkModel) → IsFaceNet p net → (k : ℕ) → k < vertices p → enters net (start p) k ≡ 0
+pub start_enters : (p : PlaneModel) (net : NetworkModel) → IsFaceNet p net → (k : ℕ) → k < vertices p → inflow net (start p) k ≡ 0
 start_enters p net is k below =
     let n : ℕ = darts p in
     let f : ℕ → ℕ = λ i. if (arc_at net i).to == k then start p i else 0 in
-    let whole : enters net (start p) k ≡ sum_below n f + sum_below n (λ d. f (n + d)) =
+    let whole : inflow net (start p) k ≡ sum_below n f + sum_below n (λ d. f (n + d)) =
     ap (λ (m : ℕ). sum_below m f) is.arcs ∙ sum_below-split n n f in
     let corners : sum_below n f ≡ 0 = sum_below-none n f (λ d l.
     let to : (arc_at net d).to ≡ vertices p + face_at p d = ap (λ (a : Arc). a.to) (is.corner d l) in
@@ -154,22 +154,22 @@ start_enters p net is k below =
 
 -- so no vertex has anything over, or wants anything
 pub vertex_even : (p : PlaneModel) (net : NetworkModel) → IsPlane p → IsFaceNet p net → (k : ℕ) → k < vertices p →
-    supply_at net k -ℤ balance net (start p) k ≡ pos 0
+    supply_at net k -ℤ net_outflow net (start p) k ≡ pos 0
 vertex_even p net plane is k below =
     let v : ℕ = k + 1 in
     let back : v - 1 ≡ k = omega arith in
-    let supply : supply_at net k ≡ pos 4 -ℤ pos (arrivals p v) =
-    subst (λ (j : ℕ). supply_at net j ≡ pos 4 -ℤ pos (arrivals p v)) back (is.at_vertex v (omega arith) (omega arith)) in
-    let out : leaves net (start p) k ≡ 4 - arrivals p v =
-    subst (λ (j : ℕ). leaves net (start p) j ≡ 4 - arrivals p v) back (start_leaves p net plane is v (omega arith) (omega arith)) in
-    even (supply_at net k) (leaves net (start p) k) (enters net (start p) k) (arrivals p v) supply out (start_enters p net is k below)
+    let supply : supply_at net k ≡ pos 4 -ℤ pos (vertex_degree p v) =
+    subst (λ (j : ℕ). supply_at net j ≡ pos 4 -ℤ pos (vertex_degree p v)) back (is.at_vertex v (omega arith) (omega arith)) in
+    let out : outflow net (start p) k ≡ 4 - vertex_degree p v =
+    subst (λ (j : ℕ). outflow net (start p) j ≡ 4 - vertex_degree p v) back (start_leaves p net plane is v (omega arith) (omega arith)) in
+    even (supply_at net k) (outflow net (start p) k) (inflow net (start p) k) (vertex_degree p v) supply out (start_enters p net is k below)
     (arrivals_most p plane v)
   where
     even : (s : ℤ) (out into many : ℕ) → s ≡ pos 4 -ℤ pos many → out ≡ 4 - many → into ≡ 0 → many ≤ 4 → s -ℤ (pos out -ℤ pos into) ≡ pos 0
     even s out into many supply left nothing few = omega (arith, ints)
 
 -- what is over at one face can cross to each other face
-pub start_joined : (p : PlaneModel) (net : NetworkModel) → IsPlane p → IsFaceNet p net → HasUnlimitedPaths net (λ v. supply_at net v -ℤ balance net (start p) v)
+pub start_joined : (p : PlaneModel) (net : NetworkModel) → IsPlane p → IsFaceNet p net → HasUnlimitedPaths net (λ v. supply_at net v -ℤ net_outflow net (start p) v)
 start_joined p net plane is = record {
   meets = λ s closed u v u_in v_in here over wants.
       let n : ℕ = vertices p in
@@ -199,7 +199,7 @@ start_joined p net plane is = record {
     wants_zero z e less = omega (arith, ints)
 
     face_node : (p : PlaneModel) (net : NetworkModel) → IsPlane p → IsFaceNet p net → (w : ℕ) →
-        (supply_at net w -ℤ balance net (start p) w ≡ pos 0 → ⊥) → vertices p ≤ w
+        (supply_at net w -ℤ net_outflow net (start p) w ≡ pos 0 → ⊥) → vertices p ≤ w
     face_node p net plane is w uneven =
         elim (cases_lt w (vertices p)) [ inl below ↦ absurd (uneven (vertex_even p net plane is w below)) | inr face ↦ face ]
 
@@ -211,22 +211,22 @@ supplies_sum_to_zero p net plane is =
     let ends = plane_ends p plane in
     let apart : total_below (node_count net) (supply_at net) ≡ total_below n (supply_at net) +ℤ total_below m (λ f. supply_at net (n + f)) =
     ap (λ (k : ℕ). total_below k (supply_at net)) is.nodes ∙ total_below-split n m (supply_at net) in
-    let at_vertices : total_below n (supply_at net) ≡ pos (sum_below n (λ _. 4)) -ℤ pos (sum_below n (λ k. arrivals p (k + 1))) =
-    total_below-parts n (supply_at net) (λ _. 4) (λ k. arrivals p (k + 1)) (λ k l.
+    let at_vertices : total_below n (supply_at net) ≡ pos (sum_below n (λ _. 4)) -ℤ pos (sum_below n (λ k. vertex_degree p (k + 1))) =
+    total_below-parts n (supply_at net) (λ _. 4) (λ k. vertex_degree p (k + 1)) (λ k l.
     let back : k + 1 - 1 ≡ k = omega arith in
-    subst (λ (j : ℕ). supply_at net j ≡ pos 4 -ℤ pos (arrivals p (k + 1))) back (is.at_vertex (k + 1) (omega arith) (omega arith))) in
+    subst (λ (j : ℕ). supply_at net j ≡ pos 4 -ℤ pos (vertex_degree p (k + 1))) back (is.at_vertex (k + 1) (omega arith) (omega arith))) in
     let at_faces : total_below m (λ f. supply_at net (n + f)) ≡ pos (sum_below m (λ f. if f == p.outer then 0 else 4)) -ℤ pos (sum_below m (λ f. degree p f + (if f == p.outer then 4 else 0))) =
     total_below-parts m (λ f. supply_at net (n + f)) (λ f. if f == p.outer then 0 else 4) (λ f. degree p f + (if f == p.outer then 4 else 0))
     (λ f l. is.at_face f l ∙ turned (f == p.outer) (degree p f)) in
     let fours : sum_below n (λ _. 4) ≡ n * 4 = sum_below-constant n 4 in
-    let all_arrive : sum_below n (λ k. arrivals p (k + 1)) ≡ darts p = heads_sum p ends in
+    let all_arrive : sum_below n (λ k. vertex_degree p (k + 1)) ≡ darts p = heads_sum p ends in
     let face_fours : sum_below m (λ f. if f == p.outer then 0 else 4) + 4 ≡ m * 4 = inner_sum p plane in
     let face_degrees : sum_below m (λ f. degree p f + (if f == p.outer then 4 else 0)) ≡ darts p + 4 =
     sum_below-add m (degree p) (λ f. if f == p.outer then 4 else 0)
     ∙ ap (λ (k : ℕ). k + sum_below m (λ f. if f == p.outer then 4 else 0)) (degrees_sum (darts p) m (face_at p) ends.face_named)
     ∙ ap (λ (k : ℕ). darts p + k) (outer_sum p plane) in
     close (total_below (node_count net) (supply_at net)) (total_below n (supply_at net)) (total_below m (λ f. supply_at net (n + f)))
-    n m (darts p) (sum_below n (λ _. 4)) (sum_below n (λ k. arrivals p (k + 1)))
+    n m (darts p) (sum_below n (λ _. 4)) (sum_below n (λ k. vertex_degree p (k + 1)))
     (sum_below m (λ f. if f == p.outer then 0 else 4)) (sum_below m (λ f. degree p f + (if f == p.outer then 4 else 0)))
     apart at_vertices at_faces fours all_arrive face_fours face_degrees plane.euler
   where
@@ -245,9 +245,9 @@ supplies_sum_to_zero p net plane is =
           | inr ne ↦ ne_eqb h (k + 1) ne ∙ sym (ne_eqb (h - 1) k (λ e. ne (omega (arith, e, one))))
         ]
 
-    heads_sum : (p : PlaneModel) → HasEnds p → sum_below (vertices p) (λ k. arrivals p (k + 1)) ≡ darts p
+    heads_sum : (p : PlaneModel) → HasEnds p → sum_below (vertices p) (λ k. vertex_degree p (k + 1)) ≡ darts p
     heads_sum p ends =
-        sum_below-same (vertices p) (λ k. arrivals p (k + 1)) (λ k. sum_below (darts p) (λ d. cond (eqb (head p d - 1) k) 1 0))
+        sum_below-same (vertices p) (λ k. vertex_degree p (k + 1)) (λ k. sum_below (darts p) (λ d. cond (eqb (head p d - 1) k) 1 0))
         (λ k l. sum_below-same (darts p) (λ d. if head p d == k + 1 then 1 else 0) (λ d. cond (eqb (head p d - 1) k) 1 0)
         (λ d b. ap (λ (c : Bool). cond c 1 0) (alike (head p d) k (ends.head_from d b))))
         ∙ exchanged-ones (darts p) (vertices p) (λ d. head p d - 1) (λ d b. omega (arith, ends.head_from d b, ends.head_to d b))
@@ -274,5 +274,5 @@ supplies_sum_to_zero p net plane is =
 
 pub net_flows : (p : PlaneModel) (net : NetworkModel) → IsPlane p → IsFaceNet p net → ((i : ℕ) → i < arc_count net → ((arc_at net i).from < node_count net) × ((arc_at net i).to < node_count net)) → (y : ℕ → ℕ) × Flow net y
 net_flows p net plane is ends =
-    flow_where_joined net (start p) (λ v. supply_at net v -ℤ balance net (start p) v) ends (supplies_sum_to_zero p net plane is)
+    flow_where_joined net (start p) (λ v. supply_at net v -ℤ net_outflow net (start p) v) ends (supplies_sum_to_zero p net plane is)
     (start_keeps p net is) (excess_leaves net (start p)) (start_joined p net plane is)

@@ -7,9 +7,9 @@ use Rattle.embedding.specs.declared.graphs.TheConstants.{MAX_DARTS}
 use Rattle.faces.specs.Planes.{PlaneModel, IsPlane, darts, vertices, face_at, degree, with_outer}
 use Rattle.faces.proofs.Ends.{plane_ends}
 use Rattle.faces.proofs.Degrees.{degree_few}
-use Rattle.networks.specs.Networks.{NetworkModel, supply_at, shifted, HasFairSupplies}
+use Rattle.networks.specs.Networks.{NetworkModel, supply_at, shifted, HasSuppliesInRange}
 use Rattle.networks.proofs.Moving.{delta, moved_at, length-moved}
-use Rattle.flow_network.specs.FaceNet.{IsFaceNet, arrivals}
+use Rattle.flow_network.specs.FaceNet.{IsFaceNet, vertex_degree}
 use Rattle.flow_network.proofs.VertexDegrees.{arrivals_most}
 
 turned_face : (b c : Bool) (s s' : ℤ) (k : ℕ) → s ≡ (if b then negsuc 3 else pos 4) -ℤ pos k → s' ≡ s +ℤ (pos (cond {A = ℕ} b 8 0) -ℤ pos (cond {A = ℕ} c 8 0)) → s' ≡ (if c then negsuc 3 else pos 4) -ℤ pos k
@@ -57,14 +57,14 @@ face_fair true z k is few = (omega (arith, ints), omega (arith, ints))
 face_fair false z k is few = (omega (arith, ints), omega (arith, ints))
 
 -- whichever face is the outer one, the supplies are fair
-pub turned_fair : (p : PlaneModel) (net : NetworkModel) (face : ℕ) → IsPlane p → IsFaceNet (with_outer p face) net → HasFairSupplies net
+pub turned_fair : (p : PlaneModel) (net : NetworkModel) (face : ℕ) → IsPlane p → IsFaceNet (with_outer p face) net → HasSuppliesInRange net
 turned_fair p net face plane is k l =
     let ends = plane_ends p plane in
     elim (cases_lt k (vertices p)) [
       | inl vertex ↦
           let back : k + 1 - 1 ≡ k = omega arith in
-          vertex_fair (supply_at net k) (arrivals p (k + 1))
-          (subst (λ (j : ℕ). supply_at net j ≡ pos 4 -ℤ pos (arrivals p (k + 1))) back (is.at_vertex (k + 1) (omega arith) (omega arith)))
+          vertex_fair (supply_at net k) (vertex_degree p (k + 1))
+          (subst (λ (j : ℕ). supply_at net j ≡ pos 4 -ℤ pos (vertex_degree p (k + 1))) back (is.at_vertex (k + 1) (omega arith) (omega arith)))
           (arrivals_most p plane (k + 1))
       | inr other ↦
           let f : ℕ = k - vertices p in

@@ -13,7 +13,7 @@ use Rattle.embedding.proofs.Rotation.{list_of-place, tail_at, dart_below}
 use Rattle.embedding.proofs.KeptFacts.{list_of-short}
 use Rattle.faces.specs.Planes.{PlaneModel, IsPlane, HasEnds, darts, vertices, head, tail, reverse_dart}
 use Rattle.faces.proofs.Ends.{seven_rules, plane_ends}
-use Rattle.flow_network.specs.FaceNet.{arrivals}
+use Rattle.flow_network.specs.FaceNet.{vertex_degree}
 
 -- some number below n passes, or none does
 pub search_below : (n : ℕ) (p : ℕ → Bool) → ((k : ℕ) × (k < n) × (p k ≡ true)) ⊎ ((k : ℕ) → k < n → p k ≡ false)
@@ -60,7 +60,7 @@ vertex_has_dart p plane v one most =
         ((d : ℕ) → d < darts p → head p d ≢ v) → ⊥
     lonely p plane ends v one most away =
         let no_tail : (d : ℕ) → d < darts p → tail p d ≢ v = λ d l h.
-        away (reverse_dart p d) (ends.reverse_dart_inside d l) (ends.reverse_dart_head d l ∙ h) in
+        away (reverse_dart p d) (ends.reverse_dart_in_range d l) (ends.reverse_dart_head d l ∙ h) in
         elim (cases_eq v 1) [
           | inl is_one ↦
               let s : ℕ → Bool = λ u. eqb u 1 in
@@ -89,9 +89,9 @@ abbrev leaving : PlaneModel → ℕ → ℕ → ℕ
 leaving p v d = if tail p d == v then 1 else 0
 
 -- so many darts arrive at a vertex as leave it
-pub arrivals-leaving : (p : PlaneModel) → HasEnds p → (v : ℕ) → arrivals p v ≡ sum_below (darts p) (λ d. if tail p d == v then 1 else 0)
-arrivals-leaving p ends v =
-    sym (sum_below-turned (darts p) (reverse_dart p) (λ d. if head p d == v then 1 else 0) ends.reverse_dart_inside ends.reverse_dart_back)
+pub vertex_degree-leaving : (p : PlaneModel) → HasEnds p → (v : ℕ) → vertex_degree p v ≡ sum_below (darts p) (λ d. if tail p d == v then 1 else 0)
+vertex_degree-leaving p ends v =
+    sym (sum_below-turned (darts p) (reverse_dart p) (λ d. if head p d == v then 1 else 0) ends.reverse_dart_in_range ends.reverse_dart_back)
     ∙ sum_below-same (darts p) (λ d. if head p (reverse_dart p d) == v then 1 else 0) (λ d. if tail p d == v then 1 else 0)
     (λ d l. ap (λ (u : ℕ). if u == v then 1 else 0) (ends.reverse_dart_head d l))
 
@@ -115,9 +115,9 @@ counted (suc n) first len f ones zeros =
     ]
 
 -- as many darts arrive at a vertex as its list has entries
-pub arrivals-degree : (p : PlaneModel) → IsPlane p → (v : ℕ) → 0 < v → v ≤ vertices p → arrivals p v ≡ length (list_of p.lists v)
-arrivals-degree p plane zero some within = absurd (omega (arith, some))
-arrivals-degree p plane (suc k) some within =
+pub vertex_degree-degree : (p : PlaneModel) → IsPlane p → (v : ℕ) → 0 < v → v ≤ vertices p → vertex_degree p v ≡ length (list_of p.lists v)
+vertex_degree-degree p plane zero some within = absurd (omega (arith, some))
+vertex_degree-degree p plane (suc k) some within =
     let first : ℕ = first_dart p.lists k in
     let len : ℕ = length (get_or p.lists k []) in
     let place : k < length p.lists = omega (arith, within) in
@@ -127,7 +127,7 @@ arrivals-degree p plane (suc k) some within =
       | inl long ↦ omega (arith, below (len - 1) (omega (arith, long)), long)
       | inr none ↦ omega (arith, none)
     ] in
-    arrivals-leaving p (plane_ends p plane) (suc k) ∙ counted (darts p) first len (leaving p (suc k)) (here p k place) (elsewhere p k) ∙ all
+    vertex_degree-leaving p (plane_ends p plane) (suc k) ∙ counted (darts p) first len (leaving p (suc k)) (here p k place) (elsewhere p k) ∙ all
   where
     here : (p : PlaneModel) (k : ℕ) → k < length p.lists → (d : ℕ) → d < darts p → first_dart p.lists k ≤ d →
         d < first_dart p.lists k + length (get_or p.lists k []) → leaving p (suc k) d ≡ 1
@@ -168,7 +168,7 @@ near_few n first f ones near = omega (arith, capped n first f ones near)
         ]
 
 -- at most four darts leave a vertex
-pub arrivals_most : (p : PlaneModel) → IsPlane p → (v : ℕ) → arrivals p v ≤ 4
+pub arrivals_most : (p : PlaneModel) → IsPlane p → (v : ℕ) → vertex_degree p v ≤ 4
 arrivals_most p plane v =
     let ends = plane_ends p plane in
     elim (search_below (darts p) (λ d. eqb (tail p d) v)) [
@@ -176,13 +176,13 @@ arrivals_most p plane v =
           let nothing : sum_below (darts p) (λ d. if tail p d == v then 1 else 0) ≡ 0 =
           sum_below-none (darts p) (λ d. if tail p d == v then 1 else 0)
           (λ d l. cond-false {A = ℕ} (eqb (tail p d) v) 1 0 (none d l)) in
-          omega (arith, arrivals-leaving p ends v, nothing)
+          omega (arith, vertex_degree-leaving p ends v, nothing)
       | inl found ↦
           let (k, i, at) = dart_stands 1 p.lists found.0 found.1 in
           let vertex : suc k ≡ v = sym (tail_at p.lists found.0 k i at) ∙ eqb-true (tail p found.0) v found.2 in
           let short : length (get_or p.lists k []) ≤ 4 =
           list_of-short p.lists (seven_rules p.lists plane.rules) (suc k) in
-          omega (arith, arrivals-leaving p ends v, few p v k vertex short)
+          omega (arith, vertex_degree-leaving p ends v, few p v k vertex short)
     ]
   where
     -- those that leave it stand behind one another

@@ -8,8 +8,8 @@ use Rattle.networks.specs.declared.arc.Cap.TheVariants.{AtMost, Any}
 use Rattle.networks.specs.Networks.{NetworkModel, node_count, arc_count, arc_at, supply_at}
 
 -- how many darts arrive at a vertex
-abbrev pub arrivals : PlaneModel → ℕ → ℕ
-arrivals p v = sum_below (darts p) (λ d. if head p d == v then 1 else 0)
+abbrev pub vertex_degree : PlaneModel → ℕ → ℕ
+vertex_degree p v = sum_below (darts p) (λ d. if head p d == v then 1 else 0)
 
 -- with n vertices and D darts, node v - 1 is that of vertex v, node n + f of face f, arc d the corner arc of dart d,
 -- and arc D + d its crossing arc
@@ -21,7 +21,7 @@ pub record IsFaceNet (p : PlaneModel) (net : NetworkModel) : Type 0 where
   -- its crossing arc carries the left turns along it
   pub crossing : (d : ℕ) → d < darts p → arc_at net (darts p + d) ≡ record { from = vertices p + face_at p d; to = vertices p + face_at p (reverse_dart p d); cap = Any; cost = 1 }
   -- four right angles round a vertex, of which each corner has one without any flow
-  pub at_vertex : (v : ℕ) → 1 ≤ v → v ≤ vertices p → supply_at net (v - 1) ≡ pos 4 -ℤ pos (arrivals p v)
+  pub at_vertex : (v : ℕ) → 1 ≤ v → v ≤ vertices p → supply_at net (v - 1) ≡ pos 4 -ℤ pos (vertex_degree p v)
   -- an inner face turns once to the left, the outer face once to the right
   pub at_face : (f : ℕ) → f < p.faces → supply_at net (vertices p + f) ≡ (if f == p.outer then negsuc 3 else pos 4) -ℤ pos (degree p f)
 
@@ -32,7 +32,7 @@ pub record FaceNetModel : Type 0 where
   pub darts : ℕ
 
 -- it is the network of this plane
-pub record IsNetOf (p : PlaneModel) (n : FaceNetModel) : Type 0 where
+pub record IsFaceNetOf (p : PlaneModel) (n : FaceNetModel) : Type 0 where
   pub vertices : n.vertices ≡ vertices p
   pub darts : n.darts ≡ darts p
   pub network : IsFaceNet p n.network

@@ -45,7 +45,7 @@ impl Model for FaceNet {
 }
 
 impl FaceNet {
-    ghost use Rattle.flow_network.specs.FaceNet.{IsNetOf};
+    ghost use Rattle.flow_network.specs.FaceNet.{IsFaceNetOf};
 
     /// The network of a plane. Linear in the darts.
     ///
@@ -53,7 +53,7 @@ impl FaceNet {
     ///
     /// `AllocError` where there is no memory for it.
     pub fn build(alloc: Global, plane: &Plane) -> Result<FaceNet, AllocError>
-        ensures net { IfOk result (IsNetOf plane.now) }
+        ensures net { IfOk result (IsFaceNetOf plane.now) }
         ensures flow { IfOk result (λ n. (y : ℕ → ℕ) × Flow n.network y) }
     {
         let mut scratch = Scratch::empty(alloc);
@@ -71,7 +71,7 @@ impl FaceNet {
         scratch: &mut Scratch,
         plane: &Plane,
     ) -> Result<FaceNet, AllocError>
-        ensures net { IfOk result (IsNetOf plane.now) }
+        ensures net { IfOk result (IsFaceNetOf plane.now) }
         ensures flow { IfOk result (λ n. (y : ℕ → ℕ) × Flow n.network y) }
     {
         let supplies = supplies_of(mem::replace(&mut scratch.supplies, Vec::new(alloc)), plane)?;
@@ -102,9 +102,9 @@ impl FaceNet {
     /// Turns a face out in place of the plane's outer one: eight units more are supplied at the old one, and
     /// eight less at the new one. It takes no memory.
     pub fn turn_out(&mut self, plane: &Plane, face: u16)
-        requires net { IsNetOf plane.now self.old }
+        requires net { IsFaceNetOf plane.now self.old }
         requires face { face < plane.now.faces }
-        ensures net { IsNetOf (with_outer plane.now face) self.new }
+        ensures net { IsFaceNetOf (with_outer plane.now face) self.new }
         ensures moved { self.new.network
             ≡ shifted self.old.network (self.old.vertices + plane.now.outer) (self.old.vertices + face) 8 }
     {

@@ -4,7 +4,7 @@ ghost use Rattle.std.specs.Prelude.{◌≡◌, [], ◌+◌, ◌-◌, ◌<◌, �
 ghost use Rattle.faces.specs.Planes.{darts, vertices, head, reverse_dart, face_at, degree};
 ghost use Rattle.networks.specs.declared.arc.Cap.TheVariants.{AtMost, Any};
 ghost use Rattle.networks.specs.Networks.{no_arc};
-ghost use Rattle.flow_network.specs.FaceNet.{arrivals};
+ghost use Rattle.flow_network.specs.FaceNet.{vertex_degree};
 
 use common::emptied;
 use faces::Plane;
@@ -15,7 +15,7 @@ use std::alloc::AllocError;
 fn degree_of(plane: &Plane, vertex: u8) -> u8
     requires some { 0 < vertex }
     requires within { vertex ≤ vertices plane.now }
-    ensures { result ≡ arrivals plane.now vertex }
+    ensures { result ≡ vertex_degree plane.now vertex }
 {
     plane.graph().neighbours(vertex).len() as u8
 }
@@ -35,7 +35,7 @@ fn face_supply(plane: &Plane, face: u16) -> i32
 pub fn supplies_of(old: Vec<i32>, plane: &Plane) -> Result<Vec<i32>, AllocError>
     ensures nodes { IfOk result (λ s. length s.items ≡ vertices plane.now + plane.now.faces) }
     ensures at_vertex { IfOk result (λ s. (v : ℕ) → 1 ≤ v → v ≤ vertices plane.now
-        → slice_index_or s.items (v - 1) (pos 0) ≡ pos 4 -ℤ pos (arrivals plane.now v)) }
+        → slice_index_or s.items (v - 1) (pos 0) ≡ pos 4 -ℤ pos (vertex_degree plane.now v)) }
     ensures at_face { IfOk result (λ s. (f : ℕ) → f < plane.now.faces
         → slice_index_or s.items (vertices plane.now + f) (pos 0)
         ≡ (if f == plane.now.outer then negsuc 3 else pos 4) -ℤ pos (degree plane.now f)) }

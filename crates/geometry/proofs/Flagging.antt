@@ -8,7 +8,7 @@ use Rattle.std.proofs.lemmas.Nat.Bits.{bit_at_lowest, bit_at-suc, bit_at-zero, b
 use Rattle.std.proofs.lemmas.List.{get_or_default, get_or-take, get_or-drop, places}
 use borrow.Rule.Slice.PartMut.{put_mid, mid_of}
 use Rattle.geometry.specs.declared.rectangles.Rectangle.{Rectangle}
-use Rattle.geometry.specs.Rectangles.{Covers, IsFilled, AreApart}
+use Rattle.geometry.specs.Rectangles.{Covers, IsNonempty, AreApart}
 use Rattle.geometry.specs.Masks.{Flags, IsMet}
 use Rattle.geometry.proofs.Frontiers.{written, below, above}
 use Rattle.geometry.proofs.Holdings.{none_there, at}
@@ -61,7 +61,7 @@ no_column r x out =
 
 -- ---- the rows of a rectangle
 
-module _ (frontier : List ℕ) (r : Rectangle) (full : IsFilled r) (low : r.top < length frontier) where
+module _ (frontier : List ℕ) (r : Rectangle) (full : IsNonempty r) (low : r.top < length frontier) where
   abbrev rows : ℕ
   rows = r.top + 1 - r.bottom
 

@@ -5,8 +5,8 @@ use Rattle.std.proofs.lemmas.Bool.{cases_lt, cases_eq}
 use Rattle.std.proofs.lemmas.List.{get_or_default, get_or-take, get_or-drop, places, length-replicate, get_or-replicate}
 use borrow.Rule.Slice.PartMut.{put_mid, mid_of}
 use Rattle.geometry.specs.declared.rectangles.Rectangle.{Rectangle}
-use Rattle.geometry.specs.Rectangles.{IsFilled, AreApart}
-use Rattle.geometry.specs.Frontier.{HasRow, Passes, IsBeyond}
+use Rattle.geometry.specs.Rectangles.{IsNonempty, AreApart}
+use Rattle.geometry.specs.Frontier.{HasRow, MovesPast, IsBeyond}
 use Rattle.geometry.proofs.Holdings.{none_there, at}
 
 -- The sweep has met the first i of the list, which are apart, and in each row the frontier is one past the
@@ -32,7 +32,7 @@ has_row r y =
     (λ above. ⊎_elim (λ high. inr (λ row. omega arith)) (λ within. inl (above, within)) (cases_lt r.top y))
     (cases_lt y r.bottom)
 
-pub IsFrontier-more : (before after : List ℕ) (xs : List Rectangle) (i : ℕ) → IsFrontier before xs i → IsFilled (at xs i) → Passes before after (at xs i) → IsFrontier after xs (i + 1)
+pub IsFrontier-more : (before after : List ℕ) (xs : List Rectangle) (i : ℕ) → IsFrontier before xs i → IsNonempty (at xs i) → MovesPast before after (at xs i) → IsFrontier after xs (i + 1)
 IsFrontier-more before after xs i f full p =
     record {
       past = λ m y lt row. ⊎_elim (λ same. newest m y same row) (λ ne. earlier m y (omega arith) row) (cases_eq m i);
@@ -64,7 +64,7 @@ IsFrontier-more before after xs i f full p =
         let old = f.past m y lt (one.2, one.3) in let free = p.free y (other.2, other.3) in omega arith
 
 -- Where the frontier is beyond the left column of the next one, that has a point in common with one before it.
-pub reached_not_apart : (frontier : List ℕ) (xs : List Rectangle) (i : ℕ) → IsFrontier frontier xs i → i < length xs → IsNonDecreasingBy (λ r. r.left) xs → IsFilled (at xs i) → IsBeyond frontier (at xs i) → AllPairs AreApart xs → ⊥
+pub reached_not_apart : (frontier : List ℕ) (xs : List Rectangle) (i : ℕ) → IsFrontier frontier xs i → i < length xs → IsNonDecreasingBy (λ r. r.left) xs → IsNonempty (at xs i) → IsBeyond frontier (at xs i) → AllPairs AreApart xs → ⊥
 reached_not_apart frontier xs i f within sorted full reached apart =
     let y = reached.0 in
     let m = f.behind y (omega (arith, reached.2)) in
@@ -86,8 +86,8 @@ module _ (a k : ℕ) (xs ys : List ℕ) (within : a + k ≤ length xs) (same : l
   pub above : (y : ℕ) → a + k ≤ y → get_or (put_mid a k xs ys) y 0 ≡ get_or xs y 0
   above y high = search (rules, places)
 
-pub Passes-part : (frontier part : List ℕ) (r : Rectangle) → IsFilled r → r.top < length frontier → EachIndex (mid_of r.bottom (r.top + 1 - r.bottom) frontier) (λ k. get_or (mid_of r.bottom (r.top + 1 - r.bottom) frontier) k 0 ≤ r.left) → part ≡ replicate (length (mid_of r.bottom (r.top + 1 - r.bottom) frontier)) (r.right + 1) → Passes frontier (put_mid r.bottom (r.top + 1 - r.bottom) frontier part) r
-Passes-part frontier part r full low free is =
+pub MovesPast-part : (frontier part : List ℕ) (r : Rectangle) → IsNonempty r → r.top < length frontier → EachIndex (mid_of r.bottom (r.top + 1 - r.bottom) frontier) (λ k. get_or (mid_of r.bottom (r.top + 1 - r.bottom) frontier) k 0 ≤ r.left) → part ≡ replicate (length (mid_of r.bottom (r.top + 1 - r.bottom) frontier)) (r.right + 1) → MovesPast frontier (put_mid r.bottom (r.top + 1 - r.bottom) frontier part) r
+MovesPast-part frontier part r full low free is =
     record {
       free = λ y row.
           let e : get_or (mid_of r.bottom rows frontier) (y - r.bottom) 0 ≡ get_or frontier y 0 = let back : r.bottom + (y - r.bottom) ≡ y = omega arith in get_or-take rows (drop r.bottom frontier) (y - r.bottom) 0 (omega arith) ∙ get_or-drop r.bottom frontier (y - r.bottom) 0 ∙ ap (λ (k : ℕ). get_or frontier k 0) back in

@@ -6,7 +6,7 @@ use Rattle.std.specs.List.Sorted.{IsNonDecreasingBy}
 use Rattle.std.proofs.lemmas.Bool.{cases_lt, cases_eq, lt-ltb, le-ltb, ne_eqb}
 use Rattle.std.proofs.lemmas.List.{get_or_default}
 use Rattle.geometry.specs.declared.rectangles.Rectangle.{Rectangle}
-use Rattle.geometry.specs.Rectangles.{IsFilled, AreApart}
+use Rattle.geometry.specs.Rectangles.{IsNonempty, AreApart}
 use Rattle.geometry.specs.Dictionary.{IsSweepDictionary, Clears, IsFree, IsMet}
 
 -- The look-up `after` is `before` with w at the key k.
@@ -102,11 +102,11 @@ inserted {room} {after} {r} u k t e =
     (λ ne. inr (sym (u.others k ne) ∙ e))
     (cases_eq r.bottom k)
 
-IsSweepDictionary-insert : (room after : ℕ → Option Rectangle) (r : Rectangle) → IsSweepDictionary room → IsFilled r → IsFree room r → IsUpdate room after r.bottom (Some r) → IsSweepDictionary after
+IsSweepDictionary-insert : (room after : ℕ → Option Rectangle) (r : Rectangle) → IsSweepDictionary room → IsNonempty r → IsFree room r → IsUpdate room after r.bottom (Some r) → IsSweepDictionary after
 IsSweepDictionary-insert room after r s full free u =
     record {
       keyed = λ k t e. ⊎_elim (λ p. ap (λ (q : Rectangle). q.bottom) p.1 ∙ p.0) (λ h. s.keyed k t h) (inserted u k t e);
-      filled = λ k t e. ⊎_elim (λ p. subst (λ (q : Rectangle). IsFilled q) (sym p.1) full) (λ h. s.filled k t h) (inserted u k t e);
+      filled = λ k t e. ⊎_elim (λ p. subst (λ (q : Rectangle). IsNonempty q) (sym p.1) full) (λ h. s.filled k t h) (inserted u k t e);
       disjoint = λ j k t v lt e f.
           ⊎_elim
           (λ p. let top : t.top ≡ r.top = ap (λ (q : Rectangle). q.top) p.1 in
@@ -128,7 +128,7 @@ IsSweepDictionary-insert room after r s full free u =
         (λ down. absurd (let clear = free k v h down in let keyed = s.keyed k v h in let one = s.filled k v h in omega arith))
         (cases_lt r.top k)
 
-pub IsSwept-more : (held room after : ℕ → Option Rectangle) (xs : List Rectangle) (i : ℕ) → IsSwept held xs i → i < length xs → IsNonDecreasingBy (λ r. r.left) xs → IsFilled (at xs i) → Clears held room (at xs i) → IsFree room (at xs i) → IsUpdate room after (at xs i).bottom (Some (at xs i)) → IsSwept after xs (i + 1)
+pub IsSwept-more : (held room after : ℕ → Option Rectangle) (xs : List Rectangle) (i : ℕ) → IsSwept held xs i → i < length xs → IsNonDecreasingBy (λ r. r.left) xs → IsNonempty (at xs i) → Clears held room (at xs i) → IsFree room (at xs i) → IsUpdate room after (at xs i).bottom (Some (at xs i)) → IsSwept after xs (i + 1)
 IsSwept-more held room after xs i s within sorted full c free u =
     record {
       dictionary = IsSweepDictionary-insert room after (at xs i) kept_dictionary full free u;
@@ -156,19 +156,19 @@ IsSwept-more held room after xs i s within sorted full c free u =
         (cases_eq (at xs i).bottom (at xs m).bottom)
 
 -- Two that share a row, and of which the first reaches the second's left column, have a point in common.
-common_point : (r t : Rectangle) → IsFilled r → IsFilled t → r.left ≤ t.left → t.left ≤ r.right → r.bottom ≤ t.top → t.bottom ≤ r.top → AreApart r t → ⊥
+common_point : (r t : Rectangle) → IsNonempty r → IsNonempty t → r.left ≤ t.left → t.left ≤ r.right → r.bottom ≤ t.top → t.bottom ≤ r.top → AreApart r t → ⊥
 common_point r t one other left right low high apart =
     ⊎_elim
     (λ lt. apart t.left t.bottom (omega arith, omega arith, omega arith, omega arith) (omega arith, omega arith, omega arith, omega arith))
     (λ ge. apart t.left r.bottom (omega arith, omega arith, omega arith, omega arith) (omega arith, omega arith, omega arith, omega arith))
     (cases_lt r.bottom t.bottom)
 
-pub met_not_apart : (held : ℕ → Option Rectangle) (xs : List Rectangle) (i : ℕ) → IsSwept held xs i → i < length xs → IsNonDecreasingBy (λ r. r.left) xs → IsFilled (at xs i) → IsMet held (at xs i) → AllPairs AreApart xs → ⊥
+pub met_not_apart : (held : ℕ → Option Rectangle) (xs : List Rectangle) (i : ℕ) → IsSwept held xs i → i < length xs → IsNonDecreasingBy (λ r. r.left) xs → IsNonempty (at xs i) → IsMet held (at xs i) → AllPairs AreApart xs → ⊥
 met_not_apart held xs i s within sorted full met apart =
     let m = s.among met.0 met.1 met.2 in
     let earlier = sorted m.0 i none_there (omega (arith, m.1)) within in
     let key = s.dictionary.keyed met.0 met.1 met.2 in
-    let some : IsFilled (at xs m.0) = subst (λ (t : Rectangle). IsFilled t) (sym m.2) (s.dictionary.filled met.0 met.1 met.2) in
+    let some : IsNonempty (at xs m.0) = subst (λ (t : Rectangle). IsNonempty t) (sym m.2) (s.dictionary.filled met.0 met.1 met.2) in
     let right = ap (λ (t : Rectangle). t.right) m.2 in
     let bottom = ap (λ (t : Rectangle). t.bottom) m.2 in
     let top = ap (λ (t : Rectangle). t.top) m.2 in

@@ -2,12 +2,12 @@
 -- sweep's private steps speak of them.
 use Rattle.std.specs.Prelude.{◌≡◌, ℕ, ◌<◌, ◌≤◌, Option, Some}
 use Rattle.geometry.specs.declared.rectangles.Rectangle.{Rectangle}
-use Rattle.geometry.specs.Rectangles.{IsFilled}
+use Rattle.geometry.specs.Rectangles.{IsNonempty}
 
 -- each rectangle stands at its bottom row, and the rows of any two are disjoint
 pub record IsSweepDictionary (held : ℕ → Option Rectangle) : Type 0 where
   pub keyed : (k : ℕ) (r : Rectangle) → held k ≡ Some r → r.bottom ≡ k
-  pub filled : (k : ℕ) (r : Rectangle) → held k ≡ Some r → IsFilled r
+  pub filled : (k : ℕ) (r : Rectangle) → held k ≡ Some r → IsNonempty r
   pub disjoint : (j k : ℕ) (r s : Rectangle) → j < k → held j ≡ Some r → held k ≡ Some s → r.top < k
 
 -- what is held afterwards was held before, and what is gone ended left of the new rectangle

@@ -8,7 +8,7 @@ abbrev pub HasRow : Rectangle → ℕ → Type 0
 HasRow r y = (r.bottom ≤ y) × (y ≤ r.top)
 
 -- the frontier was nowhere beyond the rectangle's left column, and has moved past it in its rows alone
-pub record Passes (before after : List ℕ) (new : Rectangle) : Type 0 where
+pub record MovesPast (before after : List ℕ) (new : Rectangle) : Type 0 where
   pub free : (y : ℕ) → HasRow new y → slice_index before y ≤ new.left
   pub taken : (y : ℕ) → HasRow new y → slice_index after y ≡ new.right + 1
   pub others : (y : ℕ) → (HasRow new y → ⊥) → slice_index after y ≡ slice_index before y

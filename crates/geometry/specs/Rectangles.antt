@@ -7,8 +7,8 @@ abbrev pub Covers : Rectangle → ℕ → ℕ → Type 0
 Covers r x y = (r.left ≤ x) × (x ≤ r.right) × (r.bottom ≤ y) × (y ≤ r.top)
 
 -- the rectangle has a point
-abbrev pub IsFilled : Rectangle → Type 0
-IsFilled r = (r.left ≤ r.right) × (r.bottom ≤ r.top)
+abbrev pub IsNonempty : Rectangle → Type 0
+IsNonempty r = (r.left ≤ r.right) × (r.bottom ≤ r.top)
 
 -- the two have no point in common
 abbrev pub AreApart : Rectangle → Rectangle → Type 0

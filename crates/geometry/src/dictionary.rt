@@ -7,7 +7,7 @@ ghost use Rattle.std.specs.Bool.{OnTrue, OnFalse};
 ghost use Rattle.std.specs.Ordering.{nat_cmp};
 ghost use Rattle.std.specs.BTreeMap.{get};
 ghost use Rattle.std.specs.List.Sorted.{IsNonDecreasingBy};
-ghost use Rattle.geometry.specs.Rectangles.{IsFilled, AreApart};
+ghost use Rattle.geometry.specs.Rectangles.{IsNonempty, AreApart};
 ghost use Rattle.geometry.specs.Dictionary.{IsSweepDictionary, Clears, IsFree, IsMet};
 
 use crate::rectangles::Rectangle;
@@ -16,13 +16,13 @@ use std::collections::BTreeMap;
 
 // Whether no two of the rectangles have a point in common. They are sorted by their left columns.
 pub(crate) fn sweep(alloc: Global, rectangles: &[Rectangle]) -> Result<bool, AllocError>
-    requires filled { All IsFilled rectangles.now }
+    requires filled { All IsNonempty rectangles.now }
     requires ordered { IsNonDecreasingBy (λ r. r.left) rectangles.now }
     ensures { IfOk result (λ apart. IsTrue apart ↔ AllPairs AreApart rectangles.now) }
 {
     let mut active = BTreeMap::new(alloc);
     for rectangle in rectangles {
-        if !make_room(&mut active, *rectangle) {
+        if !clear_ended(&mut active, *rectangle) {
             return Ok(false);
         }
         active.insert(rectangle.bottom, *rectangle)?;
@@ -32,7 +32,7 @@ pub(crate) fn sweep(alloc: Global, rectangles: &[Rectangle]) -> Result<bool, All
 
 // Takes out what lies in the way of a new rectangle and ends left of it; false where something that
 // still reaches its left column lies there.
-fn make_room(active: &mut BTreeMap<u32, Rectangle>, new: Rectangle) -> bool
+fn clear_ended(active: &mut BTreeMap<u32, Rectangle>, new: Rectangle) -> bool
     requires { IsSweepDictionary (get nat_cmp active.old) }
     ensures clears { Clears (get nat_cmp active.old) (get nat_cmp active.new) new }
     ensures free { OnTrue result (IsFree (get nat_cmp active.new) new) }

@@ -4,8 +4,8 @@
 ghost use Rattle.std.specs.Prelude.{◌≡◌, ◌<◌, ◌≤◌, ◌↔◌, IsTrue, IfOk, All, AllPairs, length, slice_index, SomeIndex, EachIndex};
 ghost use Rattle.std.specs.Bool.{OnTrue, OnFalse};
 ghost use Rattle.std.specs.List.Sorted.{IsNonDecreasingBy};
-ghost use Rattle.geometry.specs.Rectangles.{IsFilled, AreApart};
-ghost use Rattle.geometry.specs.Frontier.{Passes, IsBeyond};
+ghost use Rattle.geometry.specs.Rectangles.{IsNonempty, AreApart};
+ghost use Rattle.geometry.specs.Frontier.{MovesPast, IsBeyond};
 
 use crate::rectangles::Rectangle;
 use std::alloc::AllocError;
@@ -17,7 +17,7 @@ pub(crate) fn sweep(
     height: usize,
     frontier: &mut Vec<u64>,
 ) -> Result<bool, AllocError>
-    requires filled { All IsFilled rectangles.now }
+    requires filled { All IsNonempty rectangles.now }
     requires ordered { IsNonDecreasingBy (λ r. r.left) rectangles.now }
     requires low { All (λ r. r.top < height) rectangles.now }
     ensures { IfOk result (λ apart. IsTrue apart ↔ AllPairs AreApart rectangles.now) }
@@ -25,7 +25,7 @@ pub(crate) fn sweep(
     frontier.clear();
     frontier.resize(height, 0)?;
     for rectangle in rectangles {
-        if !pass(frontier, *rectangle) {
+        if !move_past(frontier, *rectangle) {
             return Ok(false);
         }
     }
@@ -34,10 +34,10 @@ pub(crate) fn sweep(
 
 // Moves the frontier past a new rectangle; false where it is already beyond the left column in one of the
 // rectangle's rows.
-fn pass(frontier: &mut [u64], new: Rectangle) -> bool
-    requires filled { IsFilled new }
+fn move_past(frontier: &mut [u64], new: Rectangle) -> bool
+    requires filled { IsNonempty new }
     requires low { new.top < length frontier.old }
-    ensures passes { OnTrue result (Passes frontier.old frontier.new new) }
+    ensures passes { OnTrue result (MovesPast frontier.old frontier.new new) }
     ensures reaches { OnFalse result (IsBeyond frontier.old new) }
 {
     let rows = &mut frontier[new.bottom as usize..=new.top as usize];

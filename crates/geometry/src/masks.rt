@@ -5,7 +5,7 @@ ghost use Rattle.std.specs.Prelude.{◌≡◌, ◌≢◌, ◌+◌, ◌-◌, ◌^
 ghost use Rattle.std.specs.Bool.{OnTrue, OnFalse};
 ghost use Rattle.std.specs.Int.Bits.{bit_and, bit_or};
 ghost use Rattle.geometry.specs.declared.masks.TheConstants.{COLUMNS};
-ghost use Rattle.geometry.specs.Rectangles.{IsFilled, AreApart};
+ghost use Rattle.geometry.specs.Rectangles.{IsNonempty, AreApart};
 ghost use Rattle.geometry.specs.Masks.{Flags, IsMet};
 
 use crate::rectangles::Rectangle;
@@ -21,7 +21,7 @@ pub(crate) fn flag_all(
     height: usize,
     table: &mut Vec<u64>,
 ) -> Result<bool, AllocError>
-    requires filled { All IsFilled rectangles.now }
+    requires filled { All IsNonempty rectangles.now }
     requires narrow { All (λ r. r.right < COLUMNS) rectangles.now }
     requires low { All (λ r. r.top < height) rectangles.now }
     ensures { IfOk result (λ apart. IsTrue apart ↔ AllPairs AreApart rectangles.now) }
@@ -41,7 +41,7 @@ pub(crate) fn flag_all(
 
 // Flags the points of a rectangle; false where one of them is flagged already.
 fn flag(table: &mut [u64], new: Rectangle) -> bool
-    requires filled { IsFilled new }
+    requires filled { IsNonempty new }
     requires narrow { new.right < COLUMNS }
     requires low { new.top < length table.old }
     ensures flags { OnTrue result (Flags table.old table.new new) }

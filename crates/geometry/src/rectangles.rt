@@ -8,7 +8,7 @@ ghost use Rattle.std.specs.Prelude.{◌<◌, ◌≤◌, ◌↔◌, IsTrue, IfOk,
 ghost use Rattle.std.specs.Bool.{OnTrue};
 ghost use Rattle.std.specs.List.Sorted.{IsNonDecreasingBy};
 ghost use Rattle.geometry.specs.declared.masks.TheConstants.{COLUMNS};
-ghost use Rattle.geometry.specs.Rectangles.{IsFilled, AreApart};
+ghost use Rattle.geometry.specs.Rectangles.{IsNonempty, AreApart};
 
 use crate::{dictionary, frontier, masks};
 use std::alloc::{AllocError, Global};
@@ -42,7 +42,7 @@ pub fn all_apart_in(
     rectangles: &mut Vec<Rectangle>,
     table: &mut Vec<u64>,
 ) -> Result<bool, AllocError>
-    requires { All IsFilled rectangles.old.items }
+    requires { All IsNonempty rectangles.old.items }
     ensures { IfOk result (λ apart. IsTrue apart ↔ AllPairs AreApart rectangles.old.items) }
 {
     match narrow_height(rectangles) {
@@ -56,7 +56,7 @@ pub fn all_apart_in(
 
 // The same of rectangles that are sorted by their left columns.
 fn sweep(alloc: Global, rectangles: &[Rectangle], table: &mut Vec<u64>) -> Result<bool, AllocError>
-    requires filled { All IsFilled rectangles.now }
+    requires filled { All IsNonempty rectangles.now }
     requires ordered { IsNonDecreasingBy (λ r. r.left) rectangles.now }
     ensures { IfOk result (λ apart. IsTrue apart ↔ AllPairs AreApart rectangles.now) }
 {
@@ -69,7 +69,7 @@ fn sweep(alloc: Global, rectangles: &[Rectangle], table: &mut Vec<u64>) -> Resul
 // The number of rows of a table that has each row of the rectangles; none where the table or all
 // rectangles together would have too many.
 fn table_height(rectangles: &[Rectangle]) -> Option<usize>
-    requires { All IsFilled rectangles.now }
+    requires { All IsNonempty rectangles.now }
     ensures { IfSome result (λ height. All (λ r. r.top < height) rectangles.now) }
 {
     let mut spare = rectangles.len().saturating_mul(ALL_ROWS);

@@ -33,7 +33,7 @@ impl Balance {
     }
 
     /// Whether at each segment wires and weights are in balance.
-    pub(crate) fn is_even(
+    pub(crate) fn is_balanced(
         &mut self,
         segments: usize,
         wires: &[Wire],
@@ -49,7 +49,7 @@ impl Balance {
         self.up.resize(segments, 0)?;
         self.down.clear();
         self.down.resize(segments, 0)?;
-        let even = is_even_in(
+        let even = is_balanced_in(
             wires,
             sights,
             self.up.as_mut_slice(),
@@ -60,7 +60,7 @@ impl Balance {
 }
 
 /// Whether at each segment wires and weights are in balance, by adding them up in two lists of zeros.
-fn is_even_in(wires: &[Wire], sights: &[Sight], up: &mut [u64], down: &mut [u64]) -> bool
+fn is_balanced_in(wires: &[Wire], sights: &[Sight], up: &mut [u64], down: &mut [u64]) -> bool
     requires wires { length wires.now ≤ MAX_WIRES }
     requires sights { length sights.now ≤ MAX_SIGHTS }
     requires sizes { length down.old ≡ length up.old }

@@ -59,7 +59,7 @@ pub(crate) fn certify(
     if weigh(sights) != measure(wires, coordinates) {
         return Ok(false);
     }
-    balance.is_even(segments.len(), wires, sights)
+    balance.is_balanced(segments.len(), wires, sights)
 }
 
 /// Whether both ends of each wire are segments.

@@ -126,7 +126,7 @@ impl Pulling {
         self.reached.push(root)?;
         for _ in 0..self.from.len() {
             if let Some(target) = self.search_pairs()? {
-                self.carry(target);
+                self.augment(target);
                 return Ok(true);
             }
             if !self.move_up() {
@@ -230,7 +230,7 @@ impl Pulling {
     }
 
     /// Carries as many units as can be from where the search began to this segment.
-    fn carry(&mut self, target: u16) {
+    fn augment(&mut self, target: u16) {
         let (root, units) = self.measure(target);
         let mut segment = target;
         for _ in 0..self.from.len() {

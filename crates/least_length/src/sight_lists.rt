@@ -9,7 +9,7 @@ use std::mem;
 
 /// What was met last on a level.
 #[derive(Clone, Copy, Debug)]
-struct LevelMet {
+struct LastSeen {
     /// One more than the place of the segment, or 0.
     segment: u16,
     /// One more than the place of the segment where the wire ends, or 0.
@@ -17,14 +17,14 @@ struct LevelMet {
 }
 
 /// Nothing was met yet.
-const NONE_MET: LevelMet = LevelMet { segment: 0, end: 0 };
+const NONE_SEEN: LastSeen = LastSeen { segment: 0, end: 0 };
 
 /// Pairs of segments that see each other on some level, and where those of each segment are listed.
 #[derive(Drop)]
 pub(crate) struct SightLists {
     pub(crate) sights: Vec<Sight>,
     /// What was met last on each level.
-    frontier: Vec<LevelMet>,
+    frontier: Vec<LastSeen>,
     /// For each segment one more than the place of a wire that begins there, or 0.
     firsts: Vec<u32>,
     /// For each wire one more than the place of another one that begins on the same segment, or 0.
@@ -58,7 +58,7 @@ impl SightLists {
         self.sights.clear();
         self.frontier.clear();
         self.frontier
-            .resize(usize::from(highest(segments)) + 1, NONE_MET)?;
+            .resize(usize::from(highest(segments)) + 1, NONE_SEEN)?;
         for (place, segment) in segments.iter().enumerate() {
             let behind = place.min(usize::from(u16::MAX) - 1) as u16;
             let frontier = self.frontier.as_mut_slice();
@@ -155,7 +155,7 @@ impl SightLists {
 /// Lists the segments that stand on these levels at the frontier before this one, which takes their places.
 fn list_before(
     sights: &mut Vec<Sight>,
-    met: &mut [LevelMet],
+    met: &mut [LastSeen],
     behind: u16,
 ) -> Result<(), AllocError> {
     let mut last = 0;

@@ -64,7 +64,7 @@ fn is_swept(frontier: &mut [u32], segments: &[Segment], coordinates: &[u16]) -> 
             return false;
         }
         last = segment.coordinate;
-        if !pass(frontier, segment, u32::from(coordinates[place])) {
+        if !move_past(frontier, segment, u32::from(coordinates[place])) {
             return false;
         }
     }
@@ -72,7 +72,7 @@ fn is_swept(frontier: &mut [u32], segments: &[Segment], coordinates: &[u16]) -> 
 }
 
 /// Whether no level of a segment has met a coordinate as great as this one; it is met there now.
-fn pass(frontier: &mut [u32], segment: Segment, coordinate: u32) -> bool
+fn move_past(frontier: &mut [u32], segment: Segment, coordinate: u32) -> bool
     requires levels { segment.high < length frontier.old }
     requires coordinate { coordinate < 2 ^ 16 }
     ensures passed { result ≡ true → (level : ℕ) → HasLevel segment level → slice_index frontier.old level ≤ coordinate }

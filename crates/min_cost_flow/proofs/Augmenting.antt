@@ -10,12 +10,12 @@ use Rattle.networks.specs.declared.arc.Cap.{Cap}
 use Rattle.networks.specs.declared.arc.Cap.TheVariants.{AtMost, Any}
 use Rattle.networks.specs.declared.residual.ResidualArc.{ResidualArc}
 use Rattle.networks.specs.Networks.{NetworkModel, node_count, arc_count, arc_at, HasUnitCosts, IsNetwork}
-use Rattle.networks.specs.Flow.{leaves, enters, IsWithinCap, IsUnsaturated, IsResidual, HasPotentials, start_of, end_of, unit_cost, reduced_cost}
+use Rattle.networks.specs.Flow.{outflow, inflow, IsWithinCap, IsUnsaturated, IsResidual, HasPotentials, start_of, end_of, unit_cost, reduced_cost}
 use Rattle.networks.specs.declared.state.Visit.{Visit}
-use Rattle.networks.specs.Search.{enter_at, place_at, no_visit}
+use Rattle.networks.specs.Search.{predecessor_at, place_at, no_visit}
 use Rattle.std.proofs.lemmas.List.{get_or_read}
 use Rattle.std.specs.Prelude.{length, slice_index_or}
-use Rattle.min_cost_flow.specs.Excess.{KeepsCaps, Carries}
+use Rattle.min_cost_flow.specs.Excess.{IsWithinCaps, Carries}
 use Rattle.min_cost_flow.specs.Residual.{IsMoved}
 use Rattle.networks.specs.declared.residual.Residual.{Residual}
 use Rattle.networks.specs.ResidualArcs.{end_at, cost_at, reverse_at, capacity_at, StartsAt, number_of, HasResidualArcs, units_of, IsCosted, AreResidualArcs, carried}
@@ -23,7 +23,7 @@ use Rattle.networks.specs.Residuals.{IsResidualNetwork, IsSetTo, flow_of}
 use Rattle.min_cost_flow.specs.Path.{IsTight, HasTightPath, path_node, IsOnPath}
 use Rattle.min_cost_flow.specs.Round.{IsLess, carrying}
 use Rattle.min_cost_flow.specs.declared.state.Solver.{Solver}
-use Rattle.min_cost_flow.specs.Stand.{potential_at, enters_in, places_in, CanAugment, HasUnitCost, IsPaired, IsPushedAlong}
+use Rattle.min_cost_flow.specs.SolverState.{potential_at, predecessors_in, places_in, CanAugment, HasUnitCost, IsPaired, IsPushedAlong}
 use Rattle.networks.proofs.Ends.{start_in, end_in, unit_cost_most}
 use Rattle.min_cost_flow.proofs.Changes.{SameBut, moved_carries, carried_leaves, potentials_stay}
 use Rattle.min_cost_flow.proofs.Rounds.{IsSent, remaining_falls}
@@ -34,8 +34,8 @@ use Rattle.min_cost_flow.proofs.Reverses.{start_is}
 pub place_read : (visits : List Visit) (v : ℕ) (x : Visit) → v < length visits → x ≡ slice_index_or visits v x → x.place ≡ place_at visits v
 place_read visits v x b e = ap (λ (y : Visit). y.place) (get_or_read visits v x b e no_visit)
 
-pub enter_read : (visits : List Visit) (v : ℕ) (x : Visit) → v < length visits → x ≡ slice_index_or visits v x → x.enter ≡ enter_at visits v
-enter_read visits v x b e = ap (λ (y : Visit). y.enter) (get_or_read visits v x b e no_visit)
+pub enter_read : (visits : List Visit) (v : ℕ) (x : Visit) → v < length visits → x ≡ slice_index_or visits v x → x.predecessor ≡ predecessor_at visits v
+enter_read visits v x b e = ap (λ (y : Visit). y.predecessor) (get_or_read visits v x b e no_visit)
 
 -- ---- one push
 
@@ -67,7 +67,7 @@ reverse_place net first reverse forward k i back l b e = ap reverse (sym e) ∙ 
 -- the reverse of one of a node's residual arcs has a number too
 pub reverse_below : (net : NetworkModel) (first : List ℕ) (reverse : ℕ → ℕ) (forward : List ℕ) (v k : ℕ) → IsNetwork net → HasResidualArcs net first reverse forward → v < node_count net → StartsAt first v k → reverse k < arc_count net + arc_count net
 reverse_below net first reverse forward v k n l b s =
-    let o = l.origins v k b s in
+    let o = l.stem_from_arcs v k b s in
     let e : reverse k ≡ number_of reverse forward o.arc (opposite o.back) = reverse_place net first reverse forward k o.arc o.back l o.inside o.place in
     omega (arith, e, place_below net first reverse forward o.arc (opposite o.back) n l o.inside)
 
@@ -79,7 +79,7 @@ not_other_way false h = cc
 -- no residual arc is its own reverse
 pub not_reverse : (net : NetworkModel) (first : List ℕ) (reverse : ℕ → ℕ) (forward : List ℕ) (v k : ℕ) → HasResidualArcs net first reverse forward → v < node_count net → StartsAt first v k → k ≢ reverse k
 not_reverse net first reverse forward v k l b s h =
-    let o = l.origins v k b s in
+    let o = l.stem_from_arcs v k b s in
     let e : reverse k ≡ number_of reverse forward o.arc (opposite o.back) = reverse_place net first reverse forward k o.arc o.back l o.inside o.place in
     not_other_way o.back (l.alone o.arc o.arc o.back (opposite o.back) o.inside o.inside (o.place ∙ h ∙ e)).1
 
@@ -120,7 +120,7 @@ is_paired net r v k n s b st =
     let first = r.first.items in
     let reverse = reverse_at r.capacities.items in
     let forward = r.forward.items in
-    let o = l.origins v k b st in
+    let o = l.stem_from_arcs v k b st in
     let e : reverse k ≡ number_of reverse forward o.arc (opposite o.back) = reverse_place net first reverse forward k o.arc o.back l o.inside o.place in
     let there : capacity_at r.capacities.items (reverse k) ≡ capacity_at r.capacities.items (number_of reverse forward o.arc (opposite o.back)) = ap (capacity_at r.capacities.items) e in
     let here : capacity_at r.capacities.items (number_of reverse forward o.arc o.back) ≡ capacity_at r.capacities.items k = ap (capacity_at r.capacities.items) o.place in
@@ -199,7 +199,7 @@ pub pushed_network : (net : NetworkModel) (r r' : Residual) (v k amount : ℕ) �
 pushed_network net r r' v k amount s b st p =
     let l = s.arcs_built in
     let f = s.filled in
-    let o = l.origins v k b st in
+    let o = l.stem_from_arcs v k b st in
     let filled : AreResidualArcs net (reverse_at r.capacities.items) r.forward.items (capacity_at r'.capacities.items) r'.arcs.items = record {
       arc_size = p.arc_size ∙ f.arc_size;
       end = λ j c h. p.ends (number_of (reverse_at r.capacities.items) r.forward.items j c) ∙ f.end j c h;
@@ -230,8 +230,8 @@ carries_same : (net : NetworkModel) (x y : ℕ → ℕ) (e : ℕ → ℤ) (v k :
 carries_same net x y e v k same c = record {
   at_node = λ w b.
       let m = arc_count net in
-      let l : leaves net y w ≡ leaves net x w = sum_below-same m (λ i. cond (eqb (arc_at net i).from w) (y i) 0) (λ i. cond (eqb (arc_at net i).from w) (x i) 0) (λ i d. ap (λ (t : ℕ). cond (eqb (arc_at net i).from w) t 0) (same i d)) in
-      let n : enters net y w ≡ enters net x w = sum_below-same m (λ i. cond (eqb (arc_at net i).to w) (y i) 0) (λ i. cond (eqb (arc_at net i).to w) (x i) 0) (λ i d. ap (λ (t : ℕ). cond (eqb (arc_at net i).to w) t 0) (same i d)) in
+      let l : outflow net y w ≡ outflow net x w = sum_below-same m (λ i. cond (eqb (arc_at net i).from w) (y i) 0) (λ i. cond (eqb (arc_at net i).from w) (x i) 0) (λ i d. ap (λ (t : ℕ). cond (eqb (arc_at net i).from w) t 0) (same i d)) in
+      let n : inflow net y w ≡ inflow net x w = sum_below-same m (λ i. cond (eqb (arc_at net i).to w) (y i) 0) (λ i. cond (eqb (arc_at net i).to w) (x i) 0) (λ i d. ap (λ (t : ℕ). cond (eqb (arc_at net i).to w) t 0) (same i d)) in
       rw (l, n) (c.at_node w b);
 }
 
@@ -344,7 +344,7 @@ zero_cost c z a b a' b' h e f g = omega (arith, ints)
 
 pub tight_arc_of : (net : NetworkModel) (first : List ℕ) (reverse : ℕ → ℕ) (forward : List ℕ) (capacity : ℕ → ℕ) (arcs : List ResidualArc) (p : ℕ → ℤ) (u k v : ℕ) → IsNetwork net → HasResidualArcs net first reverse forward → AreResidualArcs net reverse forward capacity arcs → u < node_count net → IsTight first arcs p u k v → IsTightArc net reverse forward capacity p u k v
 tight_arc_of net first reverse forward capacity arcs p u k v n l f b t =
-    let o = l.origins u k b t.leaves in
+    let o = l.stem_from_arcs u k b t.outflow in
     let z = unit_cost net o.arc o.back in
     let cost : cost_at arcs k ≡ coded z (capacity k) = subst (λ (q : ℕ). cost_at arcs q ≡ coded z (capacity q)) o.place (code_is net reverse forward capacity arcs o.arc o.back f o.inside) in
     let some : 0 < capacity k = some_coded z (cost_at arcs k) (capacity k) (unit_cost_least net o.arc o.back n.costs o.inside) cost t.has_capacity in
@@ -481,7 +481,7 @@ within_limit : (c : Cap) (a b : ℕ) → a + b ≡ units_of c → IsWithinCap c 
 within_limit (AtMost k) a b h = omega arith
 within_limit Any a b h = tt
 
-pub filled_caps : (net : NetworkModel) (reverse : ℕ → ℕ) (forward : List ℕ) (capacity : ℕ → ℕ) (arcs : List ResidualArc) → AreResidualArcs net reverse forward capacity arcs → KeepsCaps net (carried reverse forward capacity)
+pub filled_caps : (net : NetworkModel) (reverse : ℕ → ℕ) (forward : List ℕ) (capacity : ℕ → ℕ) (arcs : List ResidualArc) → AreResidualArcs net reverse forward capacity arcs → IsWithinCaps net (carried reverse forward capacity)
 filled_caps net reverse forward capacity arcs f i b = within_limit (arc_at net i).cap (capacity (number_of reverse forward i false)) (capacity (number_of reverse forward i true)) (f.fits i b)
 
 apart : (e : ℕ → ℤ) (u v : ℕ) → pos 0 <ℤ e u → e v ≤ℤ pos 0 → v ≢ u
@@ -503,7 +503,7 @@ remaining_there : (z w : ℤ) (k : ℕ) → w ≡ z -ℤ pos k → pos k ≤ℤ 
 remaining_there z w k e h = omega (arith, ints)
 
 -- an amount went from u to v: from e, by e' where v has it and u still has, to e''
-pub sent_all : (net : NetworkModel) (x y : ℕ → ℕ) (e e' e'' : ℕ → ℤ) (u v k : ℕ) → u < node_count net → pos 0 <ℤ e u → e v <ℤ pos 0 → pos k ≤ℤ e u → (e v +ℤ pos k) ≤ℤ pos 0 → KeepsCaps net y → Carries net y e' u k → e' v ≡ e v +ℤ pos k → ((w : ℕ) → w ≢ v → e' w ≡ e w) → e'' u ≡ e' u -ℤ pos k → ((w : ℕ) → w ≢ u → e'' w ≡ e' w) → ((i : ℕ) → i < arc_count net → y i ≤ x i + k) → IsSent net x y e e'' u k
+pub sent_all : (net : NetworkModel) (x y : ℕ → ℕ) (e e' e'' : ℕ → ℤ) (u v k : ℕ) → u < node_count net → pos 0 <ℤ e u → e v <ℤ pos 0 → pos k ≤ℤ e u → (e v +ℤ pos k) ≤ℤ pos 0 → IsWithinCaps net y → Carries net y e' u k → e' v ≡ e v +ℤ pos k → ((w : ℕ) → w ≢ v → e' w ≡ e w) → e'' u ≡ e' u -ℤ pos k → ((w : ℕ) → w ≢ u → e'' w ≡ e' w) → ((i : ℕ) → i < arc_count net → y i ≤ x i + k) → IsSent net x y e e'' u k
 sent_all net x y e e' e'' u v k node over want remaining short caps carries there others here others' grown =
     let ne : v ≢ u = apart e u v over (under (e v) (pos 0) want) in
     let same : e' u ≡ e u = others u (λ h. ne (sym h)) in
@@ -512,10 +512,10 @@ sent_all net x y e e' e'' u v k node over want remaining short caps carries ther
       node = node;
       root = over;
       caps = caps;
-      leaves = carried_leaves net y e' e'' u k carries here others';
+      outflow = carried_leaves net y e' e'' u k carries here others';
       here = here_all;
       remaining = remaining_there (e u) (e'' u) k here_all remaining;
-      wanting = λ w b h. elim (cases_eq w v) [
+      deficit = λ w b h. elim (cases_eq w v) [
         | inl q ↦ subst (λ (t : ℕ). (e t ≤ℤ e'' t) × (e'' t ≤ℤ pos 0)) (sym q) (raised_both (e v) (e'' v) k (others' v ne ∙ there) short)
         | inr d ↦ same_both (e w) (e'' w) (others' w (apart e u w over h) ∙ others w d) h
       ];
@@ -526,7 +526,7 @@ sent_all net x y e e' e'' u v k node over want remaining short caps carries ther
 pub sent_less : (net : NetworkModel) (x y : ℕ → ℕ) (e e' : ℕ → ℤ) (u k : ℕ) → IsSent net x y e e' u k → 0 < k → IsLess net e e'
 sent_less net x y e e' u k s some = record {
   less = omega (arith, remaining_falls net x y e e' u k s);
-  done = λ v b h. (s.wanting v b h).1;
+  done = λ v b h. (s.deficit v b h).1;
 }
 
 -- ---- the residual arcs of the path
@@ -536,37 +536,37 @@ pub record IsStep (net : NetworkModel) (first : List ℕ) (reverse : ℕ → ℕ
   pub node : end_at arcs (reverse k) < node_count net
   pub member : on (end_at arcs (reverse k)) ≡ true
   pub before : place (end_at arcs (reverse k)) < place v
-  pub leaves : StartsAt first (end_at arcs (reverse k)) k
+  pub outflow : StartsAt first (end_at arcs (reverse k)) k
   pub tight_arc : IsTightArc net reverse forward capacity p (end_at arcs (reverse k)) k v
 
-pub path_step : (net : NetworkModel) (first : List ℕ) (reverse : ℕ → ℕ) (forward : List ℕ) (capacity : ℕ → ℕ) (arcs : List ResidualArc) (p : ℕ → ℤ) (enter place : ℕ → ℕ) (root found : ℕ) → IsNetwork net → HasResidualArcs net first reverse forward → AreResidualArcs net reverse forward capacity arcs → (h : HasTightPath (node_count net) first arcs p enter place root found) → (v : ℕ) → h.on v ≡ true → 0 < place v → IsStep net first reverse forward capacity arcs p h.on place v (enter v)
-path_step net first reverse forward capacity arcs p enter place root found n l f h v on some =
+pub path_step : (net : NetworkModel) (first : List ℕ) (reverse : ℕ → ℕ) (forward : List ℕ) (capacity : ℕ → ℕ) (arcs : List ResidualArc) (p : ℕ → ℤ) (predecessor place : ℕ → ℕ) (root found : ℕ) → IsNetwork net → HasResidualArcs net first reverse forward → AreResidualArcs net reverse forward capacity arcs → (h : HasTightPath (node_count net) first arcs p predecessor place root found) → (v : ℕ) → h.on v ≡ true → 0 < place v → IsStep net first reverse forward capacity arcs p h.on place v (predecessor v)
+path_step net first reverse forward capacity arcs p predecessor place root found n l f h v on some =
     let a = h.after v on some in
     let b : a.start < node_count net = h.node a.start a.member in
-    let s : end_at arcs (reverse (enter v)) ≡ a.start = start_is net first reverse forward capacity arcs a.start (enter v) l f b a.step.leaves in
+    let s : end_at arcs (reverse (predecessor v)) ≡ a.start = start_is net first reverse forward capacity arcs a.start (predecessor v) l f b a.step.outflow in
     record {
       node = subst (λ (t : ℕ). t < node_count net) (sym s) b;
       member = ap h.on s ∙ a.member;
       before = subst (λ (t : ℕ). place t < place v) (sym s) a.before;
-      leaves = subst (λ (t : ℕ). StartsAt first t (enter v)) (sym s) a.step.leaves;
-      tight_arc = subst (λ (t : ℕ). IsTightArc net reverse forward capacity p t (enter v) v) (sym s) (tight_arc_of net first reverse forward capacity arcs p a.start (enter v) v n l f b a.step);
+      outflow = subst (λ (t : ℕ). StartsAt first t (predecessor v)) (sym s) a.step.outflow;
+      tight_arc = subst (λ (t : ℕ). IsTightArc net reverse forward capacity p t (predecessor v) v) (sym s) (tight_arc_of net first reverse forward capacity arcs p a.start (predecessor v) v n l f b a.step);
     }
 
 -- the last residual arc of the path leads off it
 pub record IsLast (net : NetworkModel) (first : List ℕ) (reverse : ℕ → ℕ) (forward : List ℕ) (capacity : ℕ → ℕ) (arcs : List ResidualArc) (p : ℕ → ℤ) (on : ℕ → Bool) (k : ℕ) : Type 0 where
   pub node : end_at arcs (reverse k) < node_count net
   pub member : on (end_at arcs (reverse k)) ≡ true
-  pub leaves : StartsAt first (end_at arcs (reverse k)) k
+  pub outflow : StartsAt first (end_at arcs (reverse k)) k
   pub tight_arc : IsTightArc net reverse forward capacity p (end_at arcs (reverse k)) k (end_at arcs k)
 
-pub path_last : (net : NetworkModel) (first : List ℕ) (reverse : ℕ → ℕ) (forward : List ℕ) (capacity : ℕ → ℕ) (arcs : List ResidualArc) (p : ℕ → ℤ) (enter place : ℕ → ℕ) (root found : ℕ) → IsNetwork net → HasResidualArcs net first reverse forward → AreResidualArcs net reverse forward capacity arcs → (h : HasTightPath (node_count net) first arcs p enter place root found) → IsLast net first reverse forward capacity arcs p h.on found
-path_last net first reverse forward capacity arcs p enter place root found n l f h =
+pub path_last : (net : NetworkModel) (first : List ℕ) (reverse : ℕ → ℕ) (forward : List ℕ) (capacity : ℕ → ℕ) (arcs : List ResidualArc) (p : ℕ → ℤ) (predecessor place : ℕ → ℕ) (root found : ℕ) → IsNetwork net → HasResidualArcs net first reverse forward → AreResidualArcs net reverse forward capacity arcs → (h : HasTightPath (node_count net) first arcs p predecessor place root found) → IsLast net first reverse forward capacity arcs p h.on found
+path_last net first reverse forward capacity arcs p predecessor place root found n l f h =
     let b : h.last < node_count net = h.node h.last h.member in
-    let s : end_at arcs (reverse found) ≡ h.last = start_is net first reverse forward capacity arcs h.last found l f b h.step.leaves in
+    let s : end_at arcs (reverse found) ≡ h.last = start_is net first reverse forward capacity arcs h.last found l f b h.step.outflow in
     record {
       node = subst (λ (t : ℕ). t < node_count net) (sym s) b;
       member = ap h.on s ∙ h.member;
-      leaves = subst (λ (t : ℕ). StartsAt first t found) (sym s) h.step.leaves;
+      outflow = subst (λ (t : ℕ). StartsAt first t found) (sym s) h.step.outflow;
       tight_arc = subst (λ (t : ℕ). IsTightArc net reverse forward capacity p t found (end_at arcs found)) (sym s) (tight_arc_of net first reverse forward capacity arcs p h.last found (end_at arcs found) n l f b h.step);
     }
 
@@ -574,22 +574,22 @@ pub tight_arc_end : (net : NetworkModel) (reverse : ℕ → ℕ) (forward : List
 tight_arc_end net reverse forward capacity p u k v n t = subst (λ (q : ℕ). q < node_count net) t.end (end_in net t.arc t.back n.ends t.inside)
 
 -- the same of the solver's own lists
-pub own_step : (net : NetworkModel) (s : Solver) (root : ℕ) → (h : CanAugment net s root) → (v : ℕ) → h.path.on v ≡ true → 0 < places_in s v → IsStep net s.residual.first.items (reverse_at s.residual.capacities.items) s.residual.forward.items (capacity_at s.residual.capacities.items) s.residual.arcs.items (potential_at s) h.path.on (places_in s) v (enters_in s v)
+pub own_step : (net : NetworkModel) (s : Solver) (root : ℕ) → (h : CanAugment net s root) → (v : ℕ) → h.path.on v ≡ true → 0 < places_in s v → IsStep net s.residual.first.items (reverse_at s.residual.capacities.items) s.residual.forward.items (capacity_at s.residual.capacities.items) s.residual.arcs.items (potential_at s) h.path.on (places_in s) v (predecessors_in s v)
 own_step net s root h v on some =
-    path_step net s.residual.first.items (reverse_at s.residual.capacities.items) s.residual.forward.items (capacity_at s.residual.capacities.items) s.residual.arcs.items (potential_at s) (enters_in s) (places_in s) root s.found h.ready.network h.ready.residual.arcs_built h.ready.residual.filled h.path v on some
+    path_step net s.residual.first.items (reverse_at s.residual.capacities.items) s.residual.forward.items (capacity_at s.residual.capacities.items) s.residual.arcs.items (potential_at s) (predecessors_in s) (places_in s) root s.found h.ready.network h.ready.residual.arcs_built h.ready.residual.filled h.path v on some
 
 pub own_last : (net : NetworkModel) (s : Solver) (root : ℕ) → (h : CanAugment net s root) → IsLast net s.residual.first.items (reverse_at s.residual.capacities.items) s.residual.forward.items (capacity_at s.residual.capacities.items) s.residual.arcs.items (potential_at s) h.path.on s.found
 own_last net s root h =
-    path_last net s.residual.first.items (reverse_at s.residual.capacities.items) s.residual.forward.items (capacity_at s.residual.capacities.items) s.residual.arcs.items (potential_at s) (enters_in s) (places_in s) root s.found h.ready.network h.ready.residual.arcs_built h.ready.residual.filled h.path
+    path_last net s.residual.first.items (reverse_at s.residual.capacities.items) s.residual.forward.items (capacity_at s.residual.capacities.items) s.residual.arcs.items (potential_at s) (predecessors_in s) (places_in s) root s.found h.ready.network h.ready.residual.arcs_built h.ready.residual.filled h.path
 
 pub own_end : (net : NetworkModel) (s : Solver) (root : ℕ) → CanAugment net s root → end_at s.residual.arcs.items s.found < node_count net
 own_end net s root h = tight_arc_end net (reverse_at s.residual.capacities.items) s.residual.forward.items (capacity_at s.residual.capacities.items) (potential_at s) (end_at s.residual.arcs.items (reverse_at s.residual.capacities.items s.found)) s.found (end_at s.residual.arcs.items s.found) h.ready.network (own_last net s root h).tight_arc
 
 pub last_pair : (net : NetworkModel) (s : Solver) (root : ℕ) → CanAugment net s root → IsPaired s.residual s.found
-last_pair net s root h = let l = own_last net s root h in is_paired net s.residual (end_at s.residual.arcs.items (reverse_at s.residual.capacities.items s.found)) s.found h.ready.network h.ready.residual l.node l.leaves
+last_pair net s root h = let l = own_last net s root h in is_paired net s.residual (end_at s.residual.arcs.items (reverse_at s.residual.capacities.items s.found)) s.found h.ready.network h.ready.residual l.node l.outflow
 
-pub step_pair : (net : NetworkModel) (s : Solver) (root v : ℕ) → (h : CanAugment net s root) → h.path.on v ≡ true → 0 < places_in s v → IsPaired s.residual (enters_in s v)
-step_pair net s root v h on some = let l = own_step net s root h v on some in is_paired net s.residual (end_at s.residual.arcs.items (reverse_at s.residual.capacities.items (enters_in s v))) (enters_in s v) h.ready.network h.ready.residual l.node l.leaves
+pub step_pair : (net : NetworkModel) (s : Solver) (root v : ℕ) → (h : CanAugment net s root) → h.path.on v ≡ true → 0 < places_in s v → IsPaired s.residual (predecessors_in s v)
+step_pair net s root v h on some = let l = own_step net s root h v on some in is_paired net s.residual (end_at s.residual.arcs.items (reverse_at s.residual.capacities.items (predecessors_in s v))) (predecessors_in s v) h.ready.network h.ready.residual l.node l.outflow
 
 -- ---- the least of what fits
 

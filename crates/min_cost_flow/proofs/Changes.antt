@@ -6,8 +6,8 @@ use Rattle.std.proofs.lemmas.Int.{ints}
 use Rattle.common.specs.Sums.{sum_below}
 use Rattle.common.proofs.Sums.{sum_below-changed}
 use Rattle.networks.specs.Networks.{NetworkModel, arc_count, arc_at, supply_at}
-use Rattle.networks.specs.Flow.{leaves, enters, balance, IsUnsaturated, IsResidual, HasPotentials, start_of, end_of, reduced_cost}
-use Rattle.min_cost_flow.specs.Excess.{Leaves, Carries}
+use Rattle.networks.specs.Flow.{outflow, inflow, net_outflow, IsUnsaturated, IsResidual, HasPotentials, start_of, end_of, reduced_cost}
+use Rattle.min_cost_flow.specs.Excess.{HasExcess, Carries}
 use Rattle.min_cost_flow.specs.Residual.{IsMoved}
 
 -- y differs from x at most at i
@@ -38,13 +38,13 @@ moved_backward false false l l' n n' x y k e s h a b c = omega (arith, ints)
 pub moved_carries : (net : NetworkModel) (x y : ℕ → ℕ) (e : ℕ → ℤ) (i k : ℕ) (back : Bool) → i < arc_count net → IsMoved back (x i) k (y i) → SameBut i x y → Carries net x e (end_of net i back) k → Carries net y e (start_of net i back) k
 moved_carries net x y e i k false b moved others c = record {
   at_node = λ w d.
-      moved_forward (eqb (arc_at net i).from w) (eqb (arc_at net i).to w) (leaves net x w) (leaves net y w) (enters net x w) (enters net y w) (x i) (y i) k (e w) (supply_at net w) moved
+      moved_forward (eqb (arc_at net i).from w) (eqb (arc_at net i).to w) (outflow net x w) (outflow net y w) (inflow net x w) (inflow net y w) (x i) (y i) k (e w) (supply_at net w) moved
       (side_changed (arc_count net) i w (λ j. (arc_at net j).from) x y b others)
       (side_changed (arc_count net) i w (λ j. (arc_at net j).to) x y b others) (c.at_node w d);
 }
 moved_carries net x y e i k true b moved others c = record {
   at_node = λ w d.
-      moved_backward (eqb (arc_at net i).from w) (eqb (arc_at net i).to w) (leaves net x w) (leaves net y w) (enters net x w) (enters net y w) (x i) (y i) k (e w) (supply_at net w) moved
+      moved_backward (eqb (arc_at net i).from w) (eqb (arc_at net i).to w) (outflow net x w) (outflow net y w) (inflow net x w) (inflow net y w) (x i) (y i) k (e w) (supply_at net w) moved
       (side_changed (arc_count net) i w (λ j. (arc_at net j).from) x y b others)
       (side_changed (arc_count net) i w (λ j. (arc_at net j).to) x y b others) (c.at_node w d);
 }
@@ -56,19 +56,19 @@ plus_none : (z s : ℤ) → z ≡ s → z ≡ s +ℤ pos 0
 plus_none z s h = omega (arith, ints)
 
 -- k units more are left over at v, once k have been sent out of v that did not arrive
-pub taken_carries : (net : NetworkModel) (x : ℕ → ℕ) (e e' : ℕ → ℤ) (v k : ℕ) → Leaves net x e → e' v ≡ e v +ℤ pos k → ((w : ℕ) → w ≢ v → e' w ≡ e w) → Carries net x e' v k
+pub taken_carries : (net : NetworkModel) (x : ℕ → ℕ) (e e' : ℕ → ℤ) (v k : ℕ) → HasExcess net x e → e' v ≡ e v +ℤ pos k → ((w : ℕ) → w ≢ v → e' w ≡ e w) → Carries net x e' v k
 taken_carries net x e e' v k lv here others = record {
   at_node = λ w b. elim (cases_eq v w) [
     | inl q ↦
-        let at : balance net x w +ℤ e w ≡ supply_at net w = lv.at_node w b in
+        let at : net_outflow net x w +ℤ e w ≡ supply_at net w = lv.at_node w b in
         let mine : e' w ≡ e w +ℤ pos k = subst (λ (t : ℕ). e' t ≡ e t +ℤ pos k) q here in
         let one : cond (eqb v w) k 0 ≡ k = cond-true {A = ℕ} (eqb v w) k 0 (eq-eqb v w q) in
-        rw one (taken_here (balance net x w) (e w) (e' w) (supply_at net w) k at mine)
+        rw one (taken_here (net_outflow net x w) (e w) (e' w) (supply_at net w) k at mine)
     | inr ne ↦
-        let at : balance net x w +ℤ e w ≡ supply_at net w = lv.at_node w b in
+        let at : net_outflow net x w +ℤ e w ≡ supply_at net w = lv.at_node w b in
         let same : e' w ≡ e w = others w (λ q. ne (sym q)) in
         let none : cond (eqb v w) k 0 ≡ 0 = cond-false {A = ℕ} (eqb v w) k 0 (ne_eqb v w ne) in
-        rw (none, same) (plus_none (balance net x w +ℤ e w) (supply_at net w) at)
+        rw (none, same) (plus_none (net_outflow net x w +ℤ e w) (supply_at net w) at)
   ];
 }
 
@@ -79,19 +79,19 @@ minus_none : (z s : ℤ) → z ≡ s +ℤ pos 0 → z ≡ s
 minus_none z s h = omega (arith, ints)
 
 -- what was sent out of v is taken from what is left over there
-pub carried_leaves : (net : NetworkModel) (x : ℕ → ℕ) (e e' : ℕ → ℤ) (v k : ℕ) → Carries net x e v k → e' v ≡ e v -ℤ pos k → ((w : ℕ) → w ≢ v → e' w ≡ e w) → Leaves net x e'
+pub carried_leaves : (net : NetworkModel) (x : ℕ → ℕ) (e e' : ℕ → ℤ) (v k : ℕ) → Carries net x e v k → e' v ≡ e v -ℤ pos k → ((w : ℕ) → w ≢ v → e' w ≡ e w) → HasExcess net x e'
 carried_leaves net x e e' v k c here others = record {
   at_node = λ w b. elim (cases_eq v w) [
     | inl q ↦
         let one : cond (eqb v w) k 0 ≡ k = cond-true {A = ℕ} (eqb v w) k 0 (eq-eqb v w q) in
-        let at : balance net x w +ℤ e w ≡ supply_at net w +ℤ pos k = rw one at (c.at_node w b) in
+        let at : net_outflow net x w +ℤ e w ≡ supply_at net w +ℤ pos k = rw one at (c.at_node w b) in
         let mine : e' w ≡ e w -ℤ pos k = subst (λ (t : ℕ). e' t ≡ e t -ℤ pos k) q here in
-        given_here (balance net x w) (e w) (e' w) (supply_at net w) k at mine
+        given_here (net_outflow net x w) (e w) (e' w) (supply_at net w) k at mine
     | inr ne ↦
         let none : cond (eqb v w) k 0 ≡ 0 = cond-false {A = ℕ} (eqb v w) k 0 (ne_eqb v w ne) in
-        let at : balance net x w +ℤ e w ≡ supply_at net w +ℤ pos 0 = rw none at (c.at_node w b) in
+        let at : net_outflow net x w +ℤ e w ≡ supply_at net w +ℤ pos 0 = rw none at (c.at_node w b) in
         let same : e' w ≡ e w = others w (λ q. ne (sym q)) in
-        rw same (minus_none (balance net x w +ℤ e w) (supply_at net w) at)
+        rw same (minus_none (net_outflow net x w +ℤ e w) (supply_at net w) at)
   ];
 }
 

@@ -8,8 +8,8 @@ use Rattle.common.proofs.Sums.{sum_below-le, sum_below-lt, sum_below-add}
 use Rattle.networks.specs.declared.arc.Cap.{Cap}
 use Rattle.networks.specs.declared.arc.Cap.TheVariants.{AtMost, Any}
 use Rattle.networks.specs.Networks.{NetworkModel, node_count, arc_count, arc_at, supply_at, HasEnds}
-use Rattle.networks.specs.Flow.{leaves, enters, IsWithinCap, IsUnsaturated, HasNoFlow}
-use Rattle.min_cost_flow.specs.Excess.{Leaves, IsClosedOut, IsClosedIn}
+use Rattle.networks.specs.Flow.{outflow, inflow, IsWithinCap, IsUnsaturated, HasNoFlow}
+use Rattle.min_cost_flow.specs.Excess.{HasExcess, IsClosedOut, IsClosedIn}
 use Rattle.min_cost_flow.proofs.Duality.{at_starts, at_ends, sides_are}
 
 -- no room: no amount within the capacity is larger
@@ -67,19 +67,19 @@ sides_le net x y w part =
     omega arith
 
 -- a set that no residual arc leaves, with nothing wanting and something left over: there is no flow
-pub no_flow_out : (net : NetworkModel) (x : ℕ → ℕ) (e : ℕ → ℤ) (s : ℕ → Bool) (u : ℕ) → HasEnds net → Leaves net x e → IsClosedOut net x s → ((v : ℕ) → v < node_count net → s v ≡ true → pos 0 ≤ℤ e v) → u < node_count net → s u ≡ true → pos 0 <ℤ e u → HasNoFlow net
+pub no_flow_out : (net : NetworkModel) (x : ℕ → ℕ) (e : ℕ → ℤ) (s : ℕ → Bool) (u : ℕ) → HasEnds net → HasExcess net x e → IsClosedOut net x s → ((v : ℕ) → v < node_count net → s v ≡ true → pos 0 ≤ℤ e v) → u < node_count net → s u ≡ true → pos 0 <ℤ e u → HasNoFlow net
 no_flow_out net x e s u ends lv closed none inside su eu y fy =
     let n = node_count net in
     let m = arc_count net in
     let w : ℕ → ℕ = weight s in
-    let f : ℕ → ℕ = λ v. w v * (leaves net x v + enters net y v) in
-    let g : ℕ → ℕ = λ v. w v * (leaves net y v + enters net x v) in
+    let f : ℕ → ℕ = λ v. w v * (outflow net x v + inflow net y v) in
+    let g : ℕ → ℕ = λ v. w v * (outflow net y v + inflow net x v) in
     let le : (v : ℕ) → v < n → f v ≤ g v = λ v b.
-    weighed_le (s v) (leaves net x v + enters net y v) (leaves net y v + enters net x v)
-    (λ sv. more_out (leaves net x v) (enters net x v) (leaves net y v) (enters net y v) (e v) (supply_at net v) (lv.at_node v b) (fy.meets v b) (none v b sv)) in
+    weighed_le (s v) (outflow net x v + inflow net y v) (outflow net y v + inflow net x v)
+    (λ sv. more_out (outflow net x v) (inflow net x v) (outflow net y v) (inflow net y v) (e v) (supply_at net v) (lv.at_node v b) (fy.meets v b) (none v b sv)) in
     let lt : f u < g u =
-    weighed_lt (s u) (leaves net x u + enters net y u) (leaves net y u + enters net x u) su
-    (most_out (leaves net x u) (enters net x u) (leaves net y u) (enters net y u) (e u) (supply_at net u) (lv.at_node u inside) (fy.meets u inside) eu) in
+    weighed_lt (s u) (outflow net x u + inflow net y u) (outflow net y u + inflow net x u) su
+    (most_out (outflow net x u) (inflow net x u) (outflow net y u) (inflow net y u) (e u) (supply_at net u) (lv.at_node u inside) (fy.meets u inside) eu) in
     let less : sum_below n f < sum_below n g = sum_below-lt n u f g inside le lt in
     let by_f : sum_below n f ≡ at_starts net w x + at_ends net w y = sides_are net x y w ends in
     let by_g : sum_below n g ≡ at_starts net w y + at_ends net w x = sides_are net y x w ends in
@@ -90,19 +90,19 @@ no_flow_out net x e s u ends lv closed none inside su eu y fy =
     omega arith
 
 -- a set that no residual arc enters, with nothing left over and something wanting: there is no flow
-pub no_flow_into : (net : NetworkModel) (x : ℕ → ℕ) (e : ℕ → ℤ) (s : ℕ → Bool) (u : ℕ) → HasEnds net → Leaves net x e → IsClosedIn net x s → ((v : ℕ) → v < node_count net → s v ≡ true → e v ≤ℤ pos 0) → u < node_count net → s u ≡ true → e u <ℤ pos 0 → HasNoFlow net
+pub no_flow_into : (net : NetworkModel) (x : ℕ → ℕ) (e : ℕ → ℤ) (s : ℕ → Bool) (u : ℕ) → HasEnds net → HasExcess net x e → IsClosedIn net x s → ((v : ℕ) → v < node_count net → s v ≡ true → e v ≤ℤ pos 0) → u < node_count net → s u ≡ true → e u <ℤ pos 0 → HasNoFlow net
 no_flow_into net x e s u ends lv closed none inside su eu y fy =
     let n = node_count net in
     let m = arc_count net in
     let w : ℕ → ℕ = weight s in
-    let f : ℕ → ℕ = λ v. w v * (leaves net y v + enters net x v) in
-    let g : ℕ → ℕ = λ v. w v * (leaves net x v + enters net y v) in
+    let f : ℕ → ℕ = λ v. w v * (outflow net y v + inflow net x v) in
+    let g : ℕ → ℕ = λ v. w v * (outflow net x v + inflow net y v) in
     let le : (v : ℕ) → v < n → f v ≤ g v = λ v b.
-    weighed_le (s v) (leaves net y v + enters net x v) (leaves net x v + enters net y v)
-    (λ sv. more_in (leaves net x v) (enters net x v) (leaves net y v) (enters net y v) (e v) (supply_at net v) (lv.at_node v b) (fy.meets v b) (none v b sv)) in
+    weighed_le (s v) (outflow net y v + inflow net x v) (outflow net x v + inflow net y v)
+    (λ sv. more_in (outflow net x v) (inflow net x v) (outflow net y v) (inflow net y v) (e v) (supply_at net v) (lv.at_node v b) (fy.meets v b) (none v b sv)) in
     let lt : f u < g u =
-    weighed_lt (s u) (leaves net y u + enters net x u) (leaves net x u + enters net y u) su
-    (most_in (leaves net x u) (enters net x u) (leaves net y u) (enters net y u) (e u) (supply_at net u) (lv.at_node u inside) (fy.meets u inside) eu) in
+    weighed_lt (s u) (outflow net y u + inflow net x u) (outflow net x u + inflow net y u) su
+    (most_in (outflow net x u) (inflow net x u) (outflow net y u) (inflow net y u) (e u) (supply_at net u) (lv.at_node u inside) (fy.meets u inside) eu) in
     let less : sum_below n f < sum_below n g = sum_below-lt n u f g inside le lt in
     let by_f : sum_below n f ≡ at_starts net w y + at_ends net w x = sides_are net y x w ends in
     let by_g : sum_below n g ≡ at_starts net w x + at_ends net w y = sides_are net x y w ends in

@@ -10,7 +10,7 @@ use Rattle.common.proofs.Sums.{sum_below-same, sum_below-le, sum_below-add, exch
 use Rattle.networks.specs.declared.arc.Cap.{Cap}
 use Rattle.networks.specs.declared.arc.Cap.TheVariants.{AtMost, Any}
 use Rattle.networks.specs.Networks.{NetworkModel, node_count, arc_count, arc_at, supply_at, HasEnds}
-use Rattle.networks.specs.Flow.{leaves, enters, balance, cost_of, IsWithinCap, IsUnsaturated, Flow, IsLeastCost, HasPotentials}
+use Rattle.networks.specs.Flow.{outflow, inflow, net_outflow, cost_of, IsWithinCap, IsUnsaturated, Flow, IsLeastCost, HasPotentials}
 
 -- amounts weighed by the numbers of the arcs' starts, and of their ends
 abbrev pub at_starts : NetworkModel → (ℕ → ℕ) → (ℕ → ℕ) → ℕ
@@ -20,16 +20,16 @@ abbrev pub at_ends : NetworkModel → (ℕ → ℕ) → (ℕ → ℕ) → ℕ
 at_ends net w x = sum_below (arc_count net) (λ i. w (arc_at net i).to * x i)
 
 -- what leaves by x and what enters by y, weighed by node
-pub sides_are : (net : NetworkModel) (x y w : ℕ → ℕ) → HasEnds net → sum_below (node_count net) (λ v. w v * (leaves net x v + enters net y v)) ≡ at_starts net w x + at_ends net w y
+pub sides_are : (net : NetworkModel) (x y w : ℕ → ℕ) → HasEnds net → sum_below (node_count net) (λ v. w v * (outflow net x v + inflow net y v)) ≡ at_starts net w x + at_ends net w y
 sides_are net x y w ends =
     let n = node_count net in
     let m = arc_count net in
-    let out : sum_below n (λ v. w v * leaves net x v) ≡ at_starts net w x = exchanged m n (λ i. (arc_at net i).from) x w (λ i b. (ends i b).0) in
-    let into : sum_below n (λ v. w v * enters net y v) ≡ at_ends net w y = exchanged m n (λ i. (arc_at net i).to) y w (λ i b. (ends i b).1) in
-    let parted : sum_below n (λ v. w v * (leaves net x v + enters net y v)) ≡ sum_below n (λ v. w v * leaves net x v + w v * enters net y v) =
-    sum_below-same n (λ v. w v * (leaves net x v + enters net y v)) (λ v. w v * leaves net x v + w v * enters net y v) (λ v b. mul-add (w v) (leaves net x v) (enters net y v)) in
-    let both : sum_below n (λ v. w v * leaves net x v + w v * enters net y v) ≡ sum_below n (λ v. w v * leaves net x v) + sum_below n (λ v. w v * enters net y v) =
-    sum_below-add n (λ v. w v * leaves net x v) (λ v. w v * enters net y v) in
+    let out : sum_below n (λ v. w v * outflow net x v) ≡ at_starts net w x = exchanged m n (λ i. (arc_at net i).from) x w (λ i b. (ends i b).0) in
+    let into : sum_below n (λ v. w v * inflow net y v) ≡ at_ends net w y = exchanged m n (λ i. (arc_at net i).to) y w (λ i b. (ends i b).1) in
+    let parted : sum_below n (λ v. w v * (outflow net x v + inflow net y v)) ≡ sum_below n (λ v. w v * outflow net x v + w v * inflow net y v) =
+    sum_below-same n (λ v. w v * (outflow net x v + inflow net y v)) (λ v. w v * outflow net x v + w v * inflow net y v) (λ v b. mul-add (w v) (outflow net x v) (inflow net y v)) in
+    let both : sum_below n (λ v. w v * outflow net x v + w v * inflow net y v) ≡ sum_below n (λ v. w v * outflow net x v) + sum_below n (λ v. w v * inflow net y v) =
+    sum_below-add n (λ v. w v * outflow net x v) (λ v. w v * inflow net y v) in
     omega arith
 
 balances : (a b c d : ℕ) → pos a -ℤ pos b ≡ pos c -ℤ pos d → a + d ≡ c + b
@@ -39,12 +39,12 @@ balances a b c d h = omega (arith, ints)
 pub same_weight : (net : NetworkModel) (x y w : ℕ → ℕ) → HasEnds net → Flow net x → Flow net y → at_starts net w x + at_ends net w y ≡ at_starts net w y + at_ends net w x
 same_weight net x y w ends fx fy =
     let n = node_count net in
-    let node : (v : ℕ) → v < n → leaves net x v + enters net y v ≡ leaves net y v + enters net x v = λ v b.
-    let hx : balance net x v ≡ supply_at net v = fx.meets v b in
-    let hy : balance net y v ≡ supply_at net v = fy.meets v b in
-    balances (leaves net x v) (enters net x v) (leaves net y v) (enters net y v) (hx ∙ sym hy) in
-    let same : sum_below n (λ v. w v * (leaves net x v + enters net y v)) ≡ sum_below n (λ v. w v * (leaves net y v + enters net x v)) =
-    sum_below-same n (λ v. w v * (leaves net x v + enters net y v)) (λ v. w v * (leaves net y v + enters net x v)) (λ v b. ap (λ (t : ℕ). w v * t) (node v b)) in
+    let node : (v : ℕ) → v < n → outflow net x v + inflow net y v ≡ outflow net y v + inflow net x v = λ v b.
+    let hx : net_outflow net x v ≡ supply_at net v = fx.meets v b in
+    let hy : net_outflow net y v ≡ supply_at net v = fy.meets v b in
+    balances (outflow net x v) (inflow net x v) (outflow net y v) (inflow net y v) (hx ∙ sym hy) in
+    let same : sum_below n (λ v. w v * (outflow net x v + inflow net y v)) ≡ sum_below n (λ v. w v * (outflow net y v + inflow net x v)) =
+    sum_below-same n (λ v. w v * (outflow net x v + inflow net y v)) (λ v. w v * (outflow net y v + inflow net x v)) (λ v b. ap (λ (t : ℕ). w v * t) (node v b)) in
     sym (sides_are net x y w ends) ∙ same ∙ sides_are net y x w ends
 
 rest : (x y : ℕ) → x < y → (d : ℕ) × (y ≡ x + d)

@@ -9,8 +9,8 @@ use Rattle.common.proofs.Sums.{sum_below-same, sum_below-changed, sum_below-some
 use Rattle.networks.specs.declared.arc.Cap.{Cap}
 use Rattle.networks.specs.declared.arc.Cap.TheVariants.{AtMost, Any}
 use Rattle.networks.specs.Networks.{NetworkModel, node_count, arc_count, arc_at, supply_at, HasEnds}
-use Rattle.networks.specs.Flow.{leaves, enters, balance, IsWithinCap, Flow}
-use Rattle.min_cost_flow.specs.Excess.{KeepsCaps, Leaves, Carries}
+use Rattle.networks.specs.Flow.{outflow, inflow, net_outflow, IsWithinCap, Flow}
+use Rattle.min_cost_flow.specs.Excess.{IsWithinCaps, HasExcess, Carries}
 use Rattle.min_cost_flow.specs.Existence.{IsClosedAny, HasUnlimitedPaths, SuppliesSumToZero}
 use Rattle.min_cost_flow.proofs.Changes.{SameBut, moved_carries, carried_leaves, taken_carries}
 use Rattle.min_cost_flow.proofs.Rounds.{flow_at}
@@ -21,7 +21,7 @@ use Rattle.min_cost_flow.proofs.Spreading.{Steps, IsClosedUnder, Passes, spread_
 -- whatever the amounts, one unit more can be sent from u to v
 record Reaches (net : NetworkModel) (u v : ℕ) : Type 0 where
   sent : (ℕ → ℕ) → ℕ → ℕ
-  caps : (x : ℕ → ℕ) → KeepsCaps net x → KeepsCaps net (sent x)
+  caps : (x : ℕ → ℕ) → IsWithinCaps net x → IsWithinCaps net (sent x)
   carries : (x : ℕ → ℕ) (e : ℕ → ℤ) → Carries net x e v 1 → Carries net (sent x) e u 1
 
 reaches_itself : (net : NetworkModel) (u : ℕ) → Reaches net u u
@@ -46,7 +46,7 @@ one_more_same i x j ne = cond-false {A = ℕ} (eqb j i) (x j + 1) (x j) (ne_eqb 
 any_within : (c : Cap) (k : ℕ) → c ≡ Any → IsWithinCap c k
 any_within c k e = let P : Cap → Type 0 = λ t. IsWithinCap t k in subst P (sym e) tt
 
-one_more_within : (net : NetworkModel) (i : ℕ) (x : ℕ → ℕ) → (arc_at net i).cap ≡ Any → KeepsCaps net x → KeepsCaps net (one_more i x)
+one_more_within : (net : NetworkModel) (i : ℕ) (x : ℕ → ℕ) → (arc_at net i).cap ≡ Any → IsWithinCaps net x → IsWithinCaps net (one_more i x)
 one_more_within net i x any caps j b =
     elim (cases_eq j i) [
       | inl e ↦ let P : ℕ → Type 0 = λ t. IsWithinCap (arc_at net t).cap (one_more i x j) in subst P (sym e) (any_within (arc_at net i).cap (one_more i x j) any)
@@ -251,7 +251,7 @@ flat_down (negsuc n) h = absurd (omega arith)
 nothing_under : (n : ℕ) (e : ℕ → ℤ) → sum_below n (λ w. down (e w)) ≡ 0 → (v : ℕ) → v < n → pos 0 ≤ℤ e v
 nothing_under n e h v b = flat_down (e v) (omega (arith, sum_below-member n v (λ w. down (e w)) b))
 
-flow_of_units : (net : NetworkModel) (k : ℕ) (x : ℕ → ℕ) (e : ℕ → ℤ) → HasEnds net → KeepsCaps net x → Leaves net x e → HasUnlimitedPaths net e → sum_below (node_count net) (λ w. up (e w)) ≡ k → sum_below (node_count net) (λ w. down (e w)) ≡ k → (y : ℕ → ℕ) × Flow net y
+flow_of_units : (net : NetworkModel) (k : ℕ) (x : ℕ → ℕ) (e : ℕ → ℤ) → HasEnds net → IsWithinCaps net x → HasExcess net x e → HasUnlimitedPaths net e → sum_below (node_count net) (λ w. up (e w)) ≡ k → sum_below (node_count net) (λ w. down (e w)) ≡ k → (y : ℕ → ℕ) × Flow net y
 flow_of_units net zero x e ends caps lv joined ups downs =
     (x, flow_at net x e caps lv (nothing_over (node_count net) e ups) (nothing_under (node_count net) e downs))
 flow_of_units net (suc k) x e ends caps lv joined ups downs =
@@ -274,7 +274,7 @@ flow_of_units net (suc k) x e ends caps lv joined ups downs =
       rest = given_other d u;
     } in
     let sent : Carries net (r.sent x) d u 1 = r.carries x d (taken_carries net x e d v 1 lv (brought_here e v) (brought_other e v)) in
-    let now : Leaves net (r.sent x) f = carried_leaves net (r.sent x) d f u 1 sent (given_at d u) (given_other d u) in
+    let now : HasExcess net (r.sent x) f = carried_leaves net (r.sent x) d f u 1 sent (given_at d u) (given_other d u) in
     let still : HasUnlimitedPaths net f = record {
       meets = λ s closed a b ab bb sa oa wb. joined.meets s closed a b ab bb sa (unit_over net e d f u v a unit oa) (unit_under net e d f u v b unit wb);
     } in
@@ -297,22 +297,22 @@ none_total : (a b : ℕ) → pos a -ℤ pos b ≡ pos 0 → a ≡ b
 none_total a b h = omega (arith, ints)
 
 -- what leaves all nodes enters all nodes
-all_leave : (net : NetworkModel) (x : ℕ → ℕ) → HasEnds net → sum_below (node_count net) (λ v. leaves net x v) ≡ sum_below (node_count net) (λ v. enters net x v)
+all_leave : (net : NetworkModel) (x : ℕ → ℕ) → HasEnds net → sum_below (node_count net) (λ v. outflow net x v) ≡ sum_below (node_count net) (λ v. inflow net x v)
 all_leave net x ends =
     let n = node_count net in
     let m = arc_count net in
-    let out : sum_below n (λ v. 1 * leaves net x v) ≡ sum_below m (λ i. 1 * x i) = exchanged m n (λ i. (arc_at net i).from) x (λ _. 1) (λ i b. (ends i b).0) in
-    let into : sum_below n (λ v. 1 * enters net x v) ≡ sum_below m (λ i. 1 * x i) = exchanged m n (λ i. (arc_at net i).to) x (λ _. 1) (λ i b. (ends i b).1) in
-    let l : sum_below n (λ v. 1 * leaves net x v) ≡ sum_below n (λ v. leaves net x v) = sum_below-same n (λ v. 1 * leaves net x v) (λ v. leaves net x v) (λ v b. omega arith) in
-    let r : sum_below n (λ v. 1 * enters net x v) ≡ sum_below n (λ v. enters net x v) = sum_below-same n (λ v. 1 * enters net x v) (λ v. enters net x v) (λ v b. omega arith) in
+    let out : sum_below n (λ v. 1 * outflow net x v) ≡ sum_below m (λ i. 1 * x i) = exchanged m n (λ i. (arc_at net i).from) x (λ _. 1) (λ i b. (ends i b).0) in
+    let into : sum_below n (λ v. 1 * inflow net x v) ≡ sum_below m (λ i. 1 * x i) = exchanged m n (λ i. (arc_at net i).to) x (λ _. 1) (λ i b. (ends i b).1) in
+    let l : sum_below n (λ v. 1 * outflow net x v) ≡ sum_below n (λ v. outflow net x v) = sum_below-same n (λ v. 1 * outflow net x v) (λ v. outflow net x v) (λ v b. omega arith) in
+    let r : sum_below n (λ v. 1 * inflow net x v) ≡ sum_below n (λ v. inflow net x v) = sum_below-same n (λ v. 1 * inflow net x v) (λ v. inflow net x v) (λ v b. omega arith) in
     omega arith
 
-as_much : (net : NetworkModel) (x : ℕ → ℕ) (e : ℕ → ℤ) → HasEnds net → SuppliesSumToZero net → Leaves net x e → sum_below (node_count net) (λ v. up (e v)) ≡ sum_below (node_count net) (λ v. down (e v))
+as_much : (net : NetworkModel) (x : ℕ → ℕ) (e : ℕ → ℤ) → HasEnds net → SuppliesSumToZero net → HasExcess net x e → sum_below (node_count net) (λ v. up (e v)) ≡ sum_below (node_count net) (λ v. down (e v))
 as_much net x e ends flat lv =
     let n = node_count net in
     let s : ℕ → ℤ = λ v. supply_at net v in
-    let ls : ℕ → ℕ = λ v. leaves net x v in
-    let ns : ℕ → ℕ = λ v. enters net x v in
+    let ls : ℕ → ℕ = λ v. outflow net x v in
+    let ns : ℕ → ℕ = λ v. inflow net x v in
     let total : total_below n s ≡ pos (sum_below n (λ v. up (s v))) -ℤ pos (sum_below n (λ v. down (s v))) =
     total_below-parts n s (λ v. up (s v)) (λ v. down (s v)) (λ v b. parts_of (s v)) in
     let even : sum_below n (λ v. up (s v)) ≡ sum_below n (λ v. down (s v)) = none_total (sum_below n (λ v. up (s v))) (sum_below n (λ v. down (s v))) (sym total ∙ flat) in
@@ -325,7 +325,7 @@ as_much net x e ends flat lv =
 
 -- amounts x within the capacities leave the excess e; supplies sum to 0, and no set that no arc of no
 -- limit leaves has something left over and not all that is wanting: then there is a flow
-pub flow_where_joined : (net : NetworkModel) (x : ℕ → ℕ) (e : ℕ → ℤ) → HasEnds net → SuppliesSumToZero net → KeepsCaps net x → Leaves net x e → HasUnlimitedPaths net e → (y : ℕ → ℕ) × Flow net y
+pub flow_where_joined : (net : NetworkModel) (x : ℕ → ℕ) (e : ℕ → ℤ) → HasEnds net → SuppliesSumToZero net → IsWithinCaps net x → HasExcess net x e → HasUnlimitedPaths net e → (y : ℕ → ℕ) × Flow net y
 flow_where_joined net x e ends flat caps lv joined =
     flow_of_units net (sum_below (node_count net) (λ w. down (e w))) x e ends caps lv joined (as_much net x e ends flat lv) refl
 
@@ -333,5 +333,5 @@ excess_sum : (b s : ℤ) → b +ℤ (s -ℤ b) ≡ s
 excess_sum b s = omega (arith, ints)
 
 -- any amounts leave the supplies less their balances
-pub excess_leaves : (net : NetworkModel) (x : ℕ → ℕ) → Leaves net x (λ v. supply_at net v -ℤ balance net x v)
-excess_leaves net x = record { at_node = λ v b. excess_sum (balance net x v) (supply_at net v) }
+pub excess_leaves : (net : NetworkModel) (x : ℕ → ℕ) → HasExcess net x (λ v. supply_at net v -ℤ net_outflow net x v)
+excess_leaves net x = record { at_node = λ v b. excess_sum (net_outflow net x v) (supply_at net v) }

@@ -8,14 +8,14 @@ use Rattle.common.specs.Sums.{sum_below}
 use Rattle.common.proofs.Sums.{sum_below-changed, sum_below-none}
 use Rattle.networks.specs.Networks.{NetworkModel, node_count, arc_count, arc_at, supply_at, moved, shifted, IsNetwork}
 use Rattle.networks.proofs.Moving.{delta, moved_at, length-moved}
-use Rattle.networks.specs.Flow.{SolvedModel, Flow, Solves, amounts, at_nodes, cost_of, balance, start_of, end_of, unit_cost, HasPotentials}
+use Rattle.networks.specs.Flow.{SolvedModel, Flow, Solves, amounts, at_nodes, cost_of, net_outflow, start_of, end_of, unit_cost, HasPotentials}
 use Rattle.networks.specs.ResidualArcs.{numbers, HasResidualArcs}
 use Rattle.min_cost_flow.specs.Round.{remaining_units, IsRound}
-use Rattle.networks.specs.Networks.{HasFairSupplies}
+use Rattle.networks.specs.Networks.{HasSuppliesInRange}
 use Rattle.networks.specs.Residuals.{IsResidualNetwork, flow_of}
 use Rattle.networks.proofs.Moving.{still_network}
 use Rattle.min_cost_flow.specs.declared.state.Solver.{Solver}
-use Rattle.min_cost_flow.specs.Stand.{IsShown, IsSized, IsReady, IsAllSent, CanRead, IsReadyIn}
+use Rattle.min_cost_flow.specs.SolverState.{IsShown, IsSized, IsReady, IsAllSent, CanRead, IsReadyIn}
 use Rattle.networks.proofs.Ends.{start_in, end_in}
 use Rattle.min_cost_flow.proofs.Duality.{least_by_potentials}
 use Rattle.min_cost_flow.proofs.Rounds.{flow_at, flow_same, potentials_same}
@@ -96,7 +96,7 @@ moved_round net x p p' es f t k nw r size none fb tb few base low capacity =
       leaves = record {
         at_node = λ v b.
             let vb : v < n = omega arith in
-            still_leaves (balance net x v) (at_nodes es v) (e' v) (supply_at net v) (supply_at (shifted net f t k) v) (delta f t k v)
+            still_leaves (net_outflow net x v) (at_nodes es v) (e' v) (supply_at net v) (supply_at (shifted net f t k) v) (delta f t k v)
             (r.leaves.at_node v vb) (at v) (moved_at net.supplies f t k v fb tb);
       };
       caps = r.caps;
@@ -110,7 +110,7 @@ moved_round net x p p' es f t k nw r size none fb tb few base low capacity =
           let some : 0 < cond {A = ℕ} (eqb v t) k 0 = some_less (at_nodes es v) (e' v) (cond {A = ℕ} (eqb v f) k 0) (cond {A = ℕ} (eqb v t) k 0) (none v vb) (at v) w in
           let same : v ≡ t = eqb-true v t (wanting_is (eqb v t) k some) in
           subst (λ (u : ℕ). p' u ≡ pos 0) (sym same) (own_base (p' t) (p t) (base t tb));
-      fair = λ v b.
+      in_range = λ v b.
           let vb : v < n = omega arith in
           fair_delta (at_nodes es v) (e' v) (cond {A = ℕ} (eqb v f) k 0) (cond {A = ℕ} (eqb v t) k 0) (none v vb) (at v)
           (omega (arith, chosen_few (eqb v f) k)) (omega (arith, chosen_few (eqb v t) k));
@@ -130,7 +130,7 @@ laid_still net first reverse forward f t k l =
       rising = λ v b. l.rising v (omega arith);
       inside = λ v b. l.inside v (omega arith);
       block = λ i back b. l.block i back b;
-      origins = λ v j b st. let o = l.origins v j (omega arith) st in record { arc = o.arc; back = o.back; inside = o.inside; place = o.place; start = o.start };
+      stem_from_arcs = λ v j b st. let o = l.stem_from_arcs v j (omega arith) st in record { arc = o.arc; back = o.back; inside = o.inside; place = o.place; start = o.start };
       alone = λ i j b c ib jb e. l.alone i j b c ib jb e;
       undone = λ i b. l.undone i b;
     }
@@ -200,12 +200,12 @@ shown_at net x ps e cost n r sent size is =
     }
 
 -- the lists of a flow have the sizes that its network needs after supplies have moved
-pub sized_moved : (net : NetworkModel) (l l' : Solver) (f t k : ℕ) → IsReady net l → HasFairSupplies (shifted net f t k) → l'.residual ≡ l.residual → length l'.nodes.potential.items ≡ length l.nodes.potential.items → l'.nodes.excess ≡ l.nodes.excess → l'.visits ≡ l.visits → IsSized (shifted net f t k) l'
-sized_moved net l l' f t k r fair re pe ee he =
+pub sized_moved : (net : NetworkModel) (l l' : Solver) (f t k : ℕ) → IsReady net l → HasSuppliesInRange (shifted net f t k) → l'.residual ≡ l.residual → length l'.nodes.potential.items ≡ length l.nodes.potential.items → l'.nodes.excess ≡ l.nodes.excess → l'.visits ≡ l.visits → IsSized (shifted net f t k) l'
+sized_moved net l l' f t k r in_range re pe ee he =
     let long : length (moved net.supplies f t k) ≡ node_count net = length-moved net.supplies f t k in
     let w = r.residual.arcs_built in
     record {
-      network = still_network net f t k r.network fair;
+      network = still_network net f t k r.network in_range;
       capacity = record {
         starts = rw re (omega (arith, w.starts));
         forwards = rw re w.forwards;
@@ -215,7 +215,7 @@ sized_moved net l l' f t k r fair re pe ee he =
       potentials = omega (arith, r.potentials);
       excesses = rw ee (omega (arith, r.excesses));
       labels = rw he (omega (arith, r.labels));
-      blank = λ v b. rw he (r.blank v (omega (arith, long, b)));
+      unlabelled = λ v b. rw he (r.unlabelled v (omega (arith, long, b)));
     }
 
 -- confined potentials can be lowered by one of them
@@ -223,13 +223,13 @@ pub low_bounds : (n : ℕ) (z : ℤ) → n ≤ 1024 → (pos 0 ≤ℤ (z +ℤ po
 low_bounds n z s (a, b) = (grind (arith, ints), grind (arith, ints))
 
 -- a flow that stands, after supplies have moved and potentials were lowered by one of them
-pub ready_moved : (net : NetworkModel) (l : Solver) (potential excess : List ℤ) (f t k : ℕ) → IsAllSent net l → HasFairSupplies (shifted net f t k) → f < node_count net → t < node_count net → k ≤ 2048
+pub ready_moved : (net : NetworkModel) (l : Solver) (potential excess : List ℤ) (f t k : ℕ) → IsAllSent net l → HasSuppliesInRange (shifted net f t k) → f < node_count net → t < node_count net → k ≤ 2048
     → ((v : ℕ) → v < node_count net → at_nodes potential v ≡ at_nodes l.nodes.potential.items v -ℤ at_nodes l.nodes.potential.items t)
     → ((v : ℕ) → v < node_count net → (pos 0 ≤ℤ (at_nodes potential v +ℤ pos (2 * node_count net))) × (at_nodes potential v ≤ℤ pos (2 * node_count net)))
     → ((i : ℕ) → i < arc_count net → flow_of l.residual i + k ≤ 2097152)
     → length potential ≡ length l.nodes.potential.items → excess ≡ moved l.nodes.excess.items f t k
     → IsReadyIn (shifted net f t k) l.residual potential excess l.visits.items
-ready_moved net l potential excess f t k st fair fb tb few base low capacity pe ee =
+ready_moved net l potential excess f t k st in_range fb tb few base low capacity pe ee =
     let r = st.ready in
     let w = r.residual.filled in
     let long : length (moved net.supplies f t k) ≡ node_count net = length-moved net.supplies f t k in
@@ -242,11 +242,11 @@ ready_moved net l potential excess f t k st fair fb tb few base low capacity pe 
       limits = λ i b. r.residual.limits i b;
     } in
     record {
-      network = still_network net f t k r.network fair;
+      network = still_network net f t k r.network in_range;
       residual = here;
       potentials = omega (arith, r.potentials);
       excesses = rw ee (omega (arith, r.excesses));
       labels = omega (arith, r.labels);
       round = rw ee (moved_round net (flow_of l.residual) (at_nodes l.nodes.potential.items) (at_nodes potential) l.nodes.excess.items f t k r.network r.round r.excesses st.sent fb tb few base low capacity);
-      blank = λ v b. r.blank v (omega arith);
+      unlabelled = λ v b. r.unlabelled v (omega arith);
     }

@@ -8,7 +8,7 @@ use Rattle.networks.specs.declared.arc.Cap.{Cap}
 use Rattle.networks.specs.declared.arc.Cap.TheVariants.{AtMost, Any}
 use Rattle.networks.specs.Networks.{NetworkModel, node_count, arc_count, arc_at, HasEnds}
 use Rattle.networks.specs.Flow.{IsUnsaturated, IsResidual, start_of, end_of, HasNoFlow}
-use Rattle.min_cost_flow.specs.Excess.{Leaves, IsClosedOut, IsResidualPath, HasNoAugmentingPath}
+use Rattle.min_cost_flow.specs.Excess.{HasExcess, IsClosedOut, IsResidualPath, HasNoAugmentingPath}
 use Rattle.min_cost_flow.proofs.Cut.{no_flow_out}
 use Rattle.networks.proofs.Ends.{end_in}
 use Rattle.min_cost_flow.proofs.Rounds.{sign_of, over_or_not, no_flow_wanting}
@@ -84,7 +84,7 @@ not_wanting net x e u v bound ub vb over p =
       | inr o ↦ o
     ]
 
-no_flow_over : (net : NetworkModel) (x : ℕ → ℕ) (e : ℕ → ℤ) (u : ℕ) → HasEnds net → Leaves net x e → HasNoAugmentingPath net x e → u < node_count net → pos 0 <ℤ e u → HasNoFlow net
+no_flow_over : (net : NetworkModel) (x : ℕ → ℕ) (e : ℕ → ℤ) (u : ℕ) → HasEnds net → HasExcess net x e → HasNoAugmentingPath net x e → u < node_count net → pos 0 <ℤ e u → HasNoFlow net
 no_flow_over net x e u ends lv bound ub over =
     let (t, r, closed) = spread_from (IsReachable net x u) (node_count net) (residual_steps net x) u (paths_pass net x u ends) (path_itself net x u) in
     no_flow_out net x e t u ends lv (closed_out net x t closed) (λ v b h. not_wanting net x e u v bound ub b over (r.each v h)) ub r.inside over
@@ -111,7 +111,7 @@ below_then (negsuc n) l ne = omega (arith, ints)
 
 -- where something is left over or wanting, and no residual path leads from the one to the other,
 -- there is no flow
-pub no_flow_without_path : (net : NetworkModel) (x : ℕ → ℕ) (e : ℕ → ℤ) (u : ℕ) → HasEnds net → Leaves net x e → HasNoAugmentingPath net x e → u < node_count net → e u ≢ pos 0 → HasNoFlow net
+pub no_flow_without_path : (net : NetworkModel) (x : ℕ → ℕ) (e : ℕ → ℤ) (u : ℕ) → HasEnds net → HasExcess net x e → HasNoAugmentingPath net x e → u < node_count net → e u ≢ pos 0 → HasNoFlow net
 no_flow_without_path net x e u ends lv bound ub ne =
     elim (over_or_not (e u)) [
       | inl over ↦ no_flow_over net x e u ends lv bound ub over

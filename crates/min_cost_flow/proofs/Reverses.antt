@@ -22,6 +22,6 @@ other_way_end net i true = refl
 
 pub start_is : (net : NetworkModel) (first : List ℕ) (reverse : ℕ → ℕ) (forward : List ℕ) (capacity : ℕ → ℕ) (arcs : List ResidualArc) (v k : ℕ) → HasResidualArcs net first reverse forward → AreResidualArcs net reverse forward capacity arcs → v < node_count net → StartsAt first v k → end_at arcs (reverse k) ≡ v
 start_is net first reverse forward capacity arcs v k l f b st =
-    let o = l.origins v k b st in
+    let o = l.stem_from_arcs v k b st in
     let r : reverse k ≡ number_of reverse forward o.arc (other_way o.back) = ap reverse (sym o.place) ∙ reverse_is net first reverse forward o.arc o.back l o.inside in
     ap (end_at arcs) r ∙ f.end o.arc (other_way o.back) o.inside ∙ other_way_end net o.arc o.back ∙ o.start

@@ -10,8 +10,8 @@ use Rattle.common.proofs.Sums.{sum_below-same, sum_below-le, sum_below-changed, 
 use Rattle.networks.specs.declared.arc.Cap.{Cap}
 use Rattle.networks.specs.declared.arc.Cap.TheVariants.{AtMost, Any}
 use Rattle.networks.specs.Networks.{NetworkModel, node_count, arc_count, arc_at, supply_at, HasEnds, IsNetwork}
-use Rattle.networks.specs.Flow.{leaves, enters, balance, IsWithinCap, IsUnsaturated, Flow, HasNoFlow, IsResidual, HasPotentials, reduced_cost}
-use Rattle.min_cost_flow.specs.Excess.{KeepsCaps, Leaves}
+use Rattle.networks.specs.Flow.{outflow, inflow, net_outflow, IsWithinCap, IsUnsaturated, Flow, HasNoFlow, IsResidual, HasPotentials, reduced_cost}
+use Rattle.min_cost_flow.specs.Excess.{IsWithinCaps, HasExcess}
 use Rattle.min_cost_flow.specs.Round.{remaining_units, supply_sum, carrying, IsRound, IsLess, IsWork, IsRoundDone}
 use Rattle.std.proofs.Math.Nat.{add-mul, one-mul}
 use Rattle.std.proofs.lemmas.Nat.{mul-le}
@@ -30,7 +30,7 @@ clash : (z : ℤ) → pos 0 <ℤ z → z ≤ℤ pos 0 → ⊥
 clash z a b = omega (arith, ints)
 
 -- where nothing is left over, and something is wanting, there is no flow
-pub no_flow_wanting : (net : NetworkModel) (x : ℕ → ℕ) (e : ℕ → ℤ) (u : ℕ) → HasEnds net → Leaves net x e → ((v : ℕ) → v < node_count net → e v ≤ℤ pos 0) → u < node_count net → e u <ℤ pos 0 → HasNoFlow net
+pub no_flow_wanting : (net : NetworkModel) (x : ℕ → ℕ) (e : ℕ → ℤ) (u : ℕ) → HasEnds net → HasExcess net x e → ((v : ℕ) → v < node_count net → e v ≤ℤ pos 0) → u < node_count net → e u <ℤ pos 0 → HasNoFlow net
 no_flow_wanting net x e u ends lv none ub w =
     no_flow_into net x e (λ _. true) u ends lv (record { stays = λ i back b r s. refl }) (λ v b _. none v b) ub refl w
 
@@ -38,10 +38,10 @@ balanced : (b e s : ℤ) → b +ℤ e ≡ s → e ≤ℤ pos 0 → pos 0 ≤ℤ 
 balanced b e s h l g = omega (arith, ints)
 
 -- where nothing is left over and nothing wanting, it is a flow
-pub flow_at : (net : NetworkModel) (x : ℕ → ℕ) (e : ℕ → ℤ) → KeepsCaps net x → Leaves net x e → ((v : ℕ) → v < node_count net → e v ≤ℤ pos 0) → ((v : ℕ) → v < node_count net → pos 0 ≤ℤ e v) → Flow net x
+pub flow_at : (net : NetworkModel) (x : ℕ → ℕ) (e : ℕ → ℤ) → IsWithinCaps net x → HasExcess net x e → ((v : ℕ) → v < node_count net → e v ≤ℤ pos 0) → ((v : ℕ) → v < node_count net → pos 0 ≤ℤ e v) → Flow net x
 flow_at net x e caps lv none full = record {
   within = caps;
-  meets = λ v b. let at : balance net x v +ℤ e v ≡ supply_at net v = lv.at_node v b in balanced (balance net x v) (e v) (supply_at net v) at (none v b) (full v b);
+  meets = λ v b. let at : net_outflow net x v +ℤ e v ≡ supply_at net v = lv.at_node v b in balanced (net_outflow net x v) (e v) (supply_at net v) at (none v b) (full v b);
 }
 
 -- ---- sending
@@ -50,11 +50,11 @@ flow_at net x e caps lv none full = record {
 pub record IsSent (net : NetworkModel) (x y : ℕ → ℕ) (e e' : ℕ → ℤ) (u k : ℕ) : Type 0 where
   pub node : u < node_count net
   pub root : pos 0 <ℤ e u
-  pub caps : KeepsCaps net y
-  pub leaves : Leaves net y e'
+  pub caps : IsWithinCaps net y
+  pub outflow : HasExcess net y e'
   pub here : e' u ≡ e u -ℤ pos k
   pub remaining : pos 0 ≤ℤ e' u
-  pub wanting : (v : ℕ) → v < node_count net → e v ≤ℤ pos 0 → (e v ≤ℤ e' v) × (e' v ≤ℤ pos 0)
+  pub deficit : (v : ℕ) → v < node_count net → e v ≤ℤ pos 0 → (e v ≤ℤ e' v) × (e' v ≤ℤ pos 0)
   pub others : (v : ℕ) → v < node_count net → v ≢ u → pos 0 <ℤ e v → e' v ≡ e v
   pub grown : (i : ℕ) → i < arc_count net → y i ≤ x i + k
 
@@ -83,7 +83,7 @@ remaining_falls net x y e e' u k s =
     sum_below-changed (node_count net) u (λ v. up (e' v)) (λ v. up (e v)) s.node
     (λ v b ne. elim (over_or_not (e v)) [
       | inl o ↦ ap up (s.others v b ne o)
-      | inr o ↦ let (l, h) = s.wanting v b o in no_up (e v) (e' v) o h
+      | inr o ↦ let (l, h) = s.deficit v b o in no_up (e v) (e' v) o h
     ]) in
     omega (arith, up_falls (e u) (e' u) k s.here s.remaining)
 
@@ -100,7 +100,7 @@ was_wanting net x y e e' u k v s b w =
         | inl q ↦ absurd (not_both (e' v) w (subst (λ (t : ℕ). pos 0 ≤ℤ e' t) (sym q) s.remaining))
         | inr ne ↦ let same : e' v ≡ e v = s.others v b ne o in subst (λ (z : ℤ). z <ℤ pos 0) same w
       ]
-      | inr o ↦ let (l, h) = s.wanting v b o in still_wanting (e v) (e' v) l w
+      | inr o ↦ let (l, h) = s.deficit v b o in still_wanting (e v) (e' v) l w
     ]
 
 fair_less : (e e' : ℤ) (k : ℕ) → e' ≡ e -ℤ pos k → pos 0 ≤ℤ e' → e ≤ℤ pos 2048 → (negsuc 2047 ≤ℤ e') × (e' ≤ℤ pos 2048)
@@ -119,7 +119,7 @@ still_fair net x y e e' u k v s b f =
             subst P (sym q) (fair_less (e u) (e' u) k s.here s.remaining (subst Q q f.1))
         | inr ne ↦ let P : ℤ → Type 0 = λ z. (negsuc 2047 ≤ℤ z) × (z ≤ℤ pos 2048) in subst P (sym (s.others v b ne o)) f
       ]
-      | inr o ↦ let (l, h) = s.wanting v b o in fair_more (e v) (e' v) l h f.0
+      | inr o ↦ let (l, h) = s.deficit v b o in fair_more (e v) (e' v) l h f.0
     ]
 
 -- sending along steps that cost nothing keeps all that holds between searches
@@ -127,12 +127,12 @@ pub sent_round : (net : NetworkModel) (x y : ℕ → ℕ) (p e e' : ℕ → ℤ)
 sent_round net x y p e e' u k s priced r =
     let fall : remaining_units net e' + k ≡ remaining_units net e = remaining_falls net x y e e' u k s in
     record {
-      leaves = s.leaves;
+      outflow = s.outflow;
       caps = s.caps;
       priced = priced;
       low = r.low;
       zero = λ v b w. r.zero v b (was_wanting net x y e e' u k v s b w);
-      fair = λ v b. still_fair net x y e e' u k v s b (r.fair v b);
+      in_range = λ v b. still_fair net x y e e' u k v s b (r.in_range v b);
       capacity = λ i b. omega (arith, s.grown i b, r.capacity i b);
     }
 
@@ -156,9 +156,9 @@ up_most (pos n) h = omega (arith, ints)
 up_most (negsuc n) h = omega (arith, ints)
 
 first_remaining : (net : NetworkModel) (e : ℕ → ℤ) → node_count net ≤ MAX_NODES → ((v : ℕ) → v < node_count net → e v ≤ℤ pos 2048) → remaining_units net e ≤ 2097152
-first_remaining net e small fair =
+first_remaining net e small in_range =
     let n = node_count net in
-    let le : remaining_units net e ≤ sum_below n (λ _. 2048) = sum_below-le n (λ v. up (e v)) (λ _. 2048) (λ v b. up_most (e v) (fair v b)) in
+    let le : remaining_units net e ≤ sum_below n (λ _. 2048) = sum_below-le n (λ v. up (e v)) (λ _. 2048) (λ v b. up_most (e v) (in_range v b)) in
     omega (arith, sum_below-constant n 2048)
 
 first_priced : (net : NetworkModel) (x : ℕ → ℕ) (p : ℕ → ℤ) (i : ℕ) (back : Bool) → x i ≡ 0 → ((v : ℕ) → p v ≡ pos 0) → IsResidual net x i back → pos 0 ≤ℤ reduced_cost net p i back
@@ -169,11 +169,11 @@ first_priced net x p i true none flat r = absurd (omega arith)
 pub first_round : (net : NetworkModel) (x : ℕ → ℕ) (p e : ℕ → ℤ) → IsNetwork net → ((i : ℕ) → i < arc_count net → x i ≡ 0) → ((v : ℕ) → p v ≡ pos 0) → ((v : ℕ) → e v ≡ supply_at net v) → IsRound net x p e
 first_round net x p e k none flat full =
     let m = arc_count net in
-    let fair : (v : ℕ) → v < node_count net → (negsuc 2047 ≤ℤ e v) × (e v ≤ℤ pos 2048) = λ v b. let P : ℤ → Type 0 = λ z. (negsuc 2047 ≤ℤ z) × (z ≤ℤ pos 2048) in subst P (sym (full v)) (k.supplies v b) in
-    let few : remaining_units net e ≤ 2097152 = first_remaining net e k.small.0 (λ v b. (fair v b).1) in
+    let in_range : (v : ℕ) → v < node_count net → (negsuc 2047 ≤ℤ e v) × (e v ≤ℤ pos 2048) = λ v b. let P : ℤ → Type 0 = λ z. (negsuc 2047 ≤ℤ z) × (z ≤ℤ pos 2048) in subst P (sym (full v)) (k.supplies v b) in
+    let few : remaining_units net e ≤ 2097152 = first_remaining net e k.small.0 (λ v b. (in_range v b).1) in
     record {
-      leaves = record {
-        at_node = λ v b. at_start (leaves net x v) (enters net x v) (e v) (supply_at net v)
+      outflow = record {
+        at_node = λ v b. at_start (outflow net x v) (inflow net x v) (e v) (supply_at net v)
             (sum_below-none m (λ i. cond (eqb (arc_at net i).from v) (x i) 0) (λ i c. nothing (eqb (arc_at net i).from v) (x i) (none i c)))
             (sum_below-none m (λ i. cond (eqb (arc_at net i).to v) (x i) 0) (λ i c. nothing (eqb (arc_at net i).to v) (x i) (none i c)))
             (full v);
@@ -182,7 +182,7 @@ first_round net x p e k none flat full =
       priced = record { residual = λ i back b r. first_priced net x p i back (none i b) flat r };
       low = λ v b. first_low (node_count net) (p v) (flat v);
       zero = λ v b w. flat v;
-      fair = fair;
+      in_range = in_range;
       capacity = λ i b. omega (arith, none i b);
     }
 
@@ -230,9 +230,9 @@ nothing_remaining e a b = omega (arith, ints)
 -- where nothing is left over and nothing wanting, all is done
 pub done_at : (net : NetworkModel) (x : ℕ → ℕ) (p e : ℕ → ℤ) (s l : ℕ) → IsRound net x p e → IsWork net x e s l → ((v : ℕ) → v < node_count net → e v ≤ℤ pos 0) → ((v : ℕ) → v < node_count net → pos 0 ≤ℤ e v) → IsRoundDone net x p s l
 done_at net x p e s l r w none full = record {
-  flow = flow_at net x e r.caps r.leaves none full;
+  flow = flow_at net x e r.caps r.outflow none full;
   potentials = r.priced;
-  confined = r.low;
+  in_bounds = r.low;
   few = omega (arith, w.few);
   bounded = w.bounded;
   carried = w.carried;
@@ -257,7 +257,7 @@ still_residual net x y i true e h = omega arith
 pub flow_same : (net : NetworkModel) (x y : ℕ → ℕ) → ((i : ℕ) → i < arc_count net → y i ≡ x i) → Flow net x → Flow net y
 flow_same net x y same f = record {
   within = λ i b. subst (λ (t : ℕ). IsWithinCap (arc_at net i).cap t) (sym (same i b)) (f.within i b);
-  meets = λ v b. same_balance (leaves net x v) (leaves net y v) (enters net x v) (enters net y v) (supply_at net v) (same_side net x y (λ i. (arc_at net i).from) v same) (same_side net x y (λ i. (arc_at net i).to) v same) (f.meets v b);
+  meets = λ v b. same_balance (outflow net x v) (outflow net y v) (inflow net x v) (inflow net y v) (supply_at net v) (same_side net x y (λ i. (arc_at net i).from) v same) (same_side net x y (λ i. (arc_at net i).to) v same) (f.meets v b);
 }
 
 pub potentials_same : (net : NetworkModel) (x y : ℕ → ℕ) (p : ℕ → ℤ) → ((i : ℕ) → i < arc_count net → y i ≡ x i) → HasPotentials net x p → HasPotentials net y p
@@ -267,7 +267,7 @@ pub done_same : (net : NetworkModel) (x y : ℕ → ℕ) (p : ℕ → ℤ) (s l 
 done_same net x y p s l same d = record {
   flow = flow_same net x y same d.flow;
   potentials = potentials_same net x y p same d.potentials;
-  confined = d.confined;
+  in_bounds = d.in_bounds;
   few = d.few;
   bounded = d.bounded;
   carried = omega (arith, d.carried, sum_below-same (arc_count net) (λ i. cond {A = ℕ} (eqb (y i) 0) 0 1) (λ i. cond {A = ℕ} (eqb (x i) 0) 0 1) (λ i b. ap (λ (t : ℕ). cond {A = ℕ} (eqb t 0) 0 1) (same i b)));

@@ -21,9 +21,9 @@ use Rattle.networks.specs.declared.residual.Residual.{Residual}
 use Rattle.networks.specs.Flow.{at_nodes}
 use Rattle.networks.specs.declared.state.Search.{Search}
 use Rattle.networks.specs.declared.state.Visit.{Visit}
-use Rattle.min_cost_flow.specs.Stand.{IsReadyIn, CanAugmentIn, IsCleared}
+use Rattle.min_cost_flow.specs.SolverState.{IsReadyIn, CanAugmentIn, IsCleared}
 use Rattle.networks.specs.ResidualArcs.{end_at, cost_at, reverse_at, capacity_at, StartsAt, number_of, units_of, HasResidualArcs, AreResidualArcs, carried}
-use Rattle.networks.specs.Search.{far, IsArcCost, HasResidualCapacity, IsGraph, AreFeasiblePotentials, IsNear, IsReached, IsHit, IsNearest, IsServed, IsRemaining, IsPut, IsWithinFar, degree, looked, place_at, labels, enters, orders, places}
+use Rattle.networks.specs.Search.{far, IsArcCost, HasResidualCapacity, IsGraph, AreFeasiblePotentials, IsNear, IsReached, IsHit, IsNearest, AreFeasible, IsRemaining, IsPut, IsWithinFar, degree, looked, place_at, labels, predecessors, orders, places}
 use Rattle.min_cost_flow.specs.Path.{HasTightPath}
 use Rattle.min_cost_flow.proofs.Cut.{no_flow_out}
 use Rattle.networks.proofs.Ends.{start_in, end_in}
@@ -93,9 +93,9 @@ is_graph net first reverse forward capacity arcs k l f =
       starts = l.starts;
       rising = l.rising;
       inside = λ v b. omega (arith, l.inside v b);
-      end = λ v j b st. let o = l.origins v j b st in subst (λ (t : ℕ). end_at arcs t < node_count net) o.place (subst (λ (t : ℕ). t < node_count net) (sym (f.end o.arc o.back o.inside)) (end_in net o.arc o.back k.ends o.inside));
+      end = λ v j b st. let o = l.stem_from_arcs v j b st in subst (λ (t : ℕ). end_at arcs t < node_count net) o.place (subst (λ (t : ℕ). t < node_count net) (sym (f.end o.arc o.back o.inside)) (end_in net o.arc o.back k.ends o.inside));
       cost = λ v j b st.
-          let o = l.origins v j b st in
+          let o = l.stem_from_arcs v j b st in
           subst (λ (t : ℕ). IsArcCost (cost_at arcs t)) o.place (elim (code_cases net reverse forward capacity arcs o.arc o.back k f o.inside) [
             | inl h ↦ inr (saturated_cost (unit_cost net o.arc o.back) (cost_at arcs (number_of reverse forward o.arc o.back)) h.1 (unit_cost_low net o.arc o.back k.costs o.inside))
             | inr h ↦ inl (subst (λ (z : ℤ). (negsuc 0 ≤ℤ z) × (z ≤ℤ pos 1)) (sym h.1) (unit_cost_low net o.arc o.back k.costs o.inside))
@@ -105,7 +105,7 @@ is_graph net first reverse forward capacity arcs k l f =
 -- reduced costs by number, and by arc
 pub reduced_by_number : (net : NetworkModel) (first : List ℕ) (reverse : ℕ → ℕ) (forward : List ℕ) (capacity : ℕ → ℕ) (arcs : List ResidualArc) (p : ℕ → ℤ) → IsNetwork net → HasResidualArcs net first reverse forward → AreResidualArcs net reverse forward capacity arcs → HasPotentials net (carried reverse forward capacity) p → (v k : ℕ) → v < node_count net → StartsAt first v k → HasResidualCapacity arcs k → pos 0 ≤ℤ (cost_at arcs k +ℤ p v -ℤ p (end_at arcs k))
 reduced_by_number net first reverse forward capacity arcs p n l f h v k b st op =
-    let o = l.origins v k b st in
+    let o = l.stem_from_arcs v k b st in
     let i = o.arc in
     let back = o.back in
     let here : HasResidualCapacity arcs (number_of reverse forward i back) = subst (λ (t : ℕ). HasResidualCapacity arcs t) (sym o.place) op in
@@ -139,8 +139,8 @@ pub record IsMovedTo (n : ℕ) (p p' q : ℕ → ℤ) (place : ℕ → ℕ) (sca
   pub unlabelled : (v : ℕ) → v < n → far ≤ℤ q v → p' v ≡ p v
   pub behind : (v : ℕ) → v < n → q v <ℤ far → scanned ≤ place v → p' v ≡ p v
 
-pub moved_to : (n : ℕ) (first : List ℕ) (arcs : List ResidualArc) (p p' e : ℕ → ℤ) (s : ℕ) (q : ℕ → ℤ) (enter order place : ℕ → ℕ) (scanned ordered reached : ℕ) (radius bound : ℤ) → IsReached n first arcs p e s q enter order place scanned ordered reached radius → ((j : ℕ) → j < scanned → p' (order j) ≡ q (order j) -ℤ bound) → ((v : ℕ) → ((j : ℕ) → j < scanned → order j ≢ v) → p' v ≡ p v) → IsMovedTo n p p' q place scanned bound
-moved_to n first arcs p p' e s q enter order place scanned ordered reached radius bound r moved others =
+pub moved_to : (n : ℕ) (first : List ℕ) (arcs : List ResidualArc) (p p' e : ℕ → ℤ) (s : ℕ) (q : ℕ → ℤ) (predecessor order place : ℕ → ℕ) (scanned ordered reached : ℕ) (radius bound : ℤ) → IsReached n first arcs p e s q predecessor order place scanned ordered reached radius → ((j : ℕ) → j < scanned → p' (order j) ≡ q (order j) -ℤ bound) → ((v : ℕ) → ((j : ℕ) → j < scanned → order j ≢ v) → p' v ≡ p v) → IsMovedTo n p p' q place scanned bound
+moved_to n first arcs p p' e s q predecessor order place scanned ordered reached radius bound r moved others =
     let le : scanned ≤ reached = omega (arith, r.counts) in
     record {
       are_scanned = λ v b l h. let back : order (place v) ≡ v = (r.listed v b l).1 in subst (λ (t : ℕ). p' t ≡ q t -ℤ bound) back (moved (place v) h);
@@ -157,8 +157,8 @@ remaining_label p' p q bound h a = omega (arith, ints)
 same_below : (a b : ℤ) → a ≡ b → a ≤ℤ b
 same_below a b h = omega (arith, ints)
 
-pub potentials_fall : (n : ℕ) (first : List ℕ) (arcs : List ResidualArc) (p p' e : ℕ → ℤ) (s : ℕ) (q : ℕ → ℤ) (enter order place : ℕ → ℕ) (scanned ordered reached : ℕ) (radius bound : ℤ) (k : ℕ) → IsReached n first arcs p e s q enter order place scanned ordered reached radius → IsNearest n first arcs p e s q place scanned radius bound k → IsMovedTo n p p' q place scanned bound → (v : ℕ) → v < n → p' v ≤ℤ p v
-potentials_fall n first arcs p p' e s q enter order place scanned ordered reached radius bound k r near m v b =
+pub potentials_fall : (n : ℕ) (first : List ℕ) (arcs : List ResidualArc) (p p' e : ℕ → ℤ) (s : ℕ) (q : ℕ → ℤ) (predecessor order place : ℕ → ℕ) (scanned ordered reached : ℕ) (radius bound : ℤ) (k : ℕ) → IsReached n first arcs p e s q predecessor order place scanned ordered reached radius → IsNearest n first arcs p e s q place scanned radius bound k → IsMovedTo n p p' q place scanned bound → (v : ℕ) → v < n → p' v ≤ℤ p v
+potentials_fall n first arcs p p' e s q predecessor order place scanned ordered reached radius bound k r near m v b =
     elim (below_or_not (q v) far) [
       | inl l ↦ elim (cases_lt (place v) scanned) [
         | inl h ↦ below_label (p' v) (p v) (q v) radius bound (m.are_scanned v b l h) (r.under v b l (omega (arith, r.counts))) near.above
@@ -186,10 +186,10 @@ near_end c a q qe b' bound h k l = omega (arith, ints)
 label_step : (ps q c qe : ℤ) (n h : ℕ) → n ≤ MAX_NODES → h ≤ n → ps ≤ℤ pos (2 * n) → IsNear ps h q → c ≤ℤ pos 1 → qe ≤ℤ (q +ℤ c) → qe <ℤ far
 label_step ps q c qe n h small le low (a, b) o k = omega (arith, ints)
 
-pub moved_priced : (n : ℕ) (first : List ℕ) (arcs : List ResidualArc) (p p' e : ℕ → ℤ) (s : ℕ) (q : ℕ → ℤ) (enter order place : ℕ → ℕ) (scanned ordered reached : ℕ) (radius bound : ℤ) (f : ℕ) → IsGraph n first arcs → AreFeasiblePotentials n first arcs p e → IsReached n first arcs p e s q enter order place scanned ordered reached radius → IsNearest n first arcs p e s q place scanned radius bound f → IsServed n first arcs p q place bound scanned → IsRemaining n p q place scanned bound → IsMovedTo n p p' q place scanned bound → (v k : ℕ) → v < n → StartsAt first v k → HasResidualCapacity arcs k → pos 0 ≤ℤ (cost_at arcs k +ℤ p' v -ℤ p' (end_at arcs k))
-moved_priced n first arcs p p' e s q enter order place scanned ordered reached radius bound f g pr r near sv remaining m v k b st op =
+pub moved_priced : (n : ℕ) (first : List ℕ) (arcs : List ResidualArc) (p p' e : ℕ → ℤ) (s : ℕ) (q : ℕ → ℤ) (predecessor order place : ℕ → ℕ) (scanned ordered reached : ℕ) (radius bound : ℤ) (f : ℕ) → IsGraph n first arcs → AreFeasiblePotentials n first arcs p e → IsReached n first arcs p e s q predecessor order place scanned ordered reached radius → IsNearest n first arcs p e s q place scanned radius bound f → AreFeasible n first arcs p q place bound scanned → IsRemaining n p q place scanned bound → IsMovedTo n p p' q place scanned bound → (v k : ℕ) → v < n → StartsAt first v k → HasResidualCapacity arcs k → pos 0 ≤ℤ (cost_at arcs k +ℤ p' v -ℤ p' (end_at arcs k))
+moved_priced n first arcs p p' e s q predecessor order place scanned ordered reached radius bound f g pr r near sv remaining m v k b st op =
     let eb : end_at arcs k < n = g.end v k b st in
-    let fall : p' (end_at arcs k) ≤ℤ p (end_at arcs k) = potentials_fall n first arcs p p' e s q enter order place scanned ordered reached radius bound f r near m (end_at arcs k) eb in
+    let fall : p' (end_at arcs k) ≤ℤ p (end_at arcs k) = potentials_fall n first arcs p p' e s q predecessor order place scanned ordered reached radius bound f r near m (end_at arcs k) eb in
     let old : p' v ≡ p v → pos 0 ≤ℤ (cost_at arcs k +ℤ p' v -ℤ p' (end_at arcs k)) = λ t. subst (λ (z : ℤ). pos 0 ≤ℤ (cost_at arcs k +ℤ z -ℤ p' (end_at arcs k))) (sym t) (both_lower (cost_at arcs k) (p v) (p (end_at arcs k)) (p' (end_at arcs k)) (pr.reduced v k b st op) fall) in
     elim (below_or_not (q v) far) [
       | inl l ↦ elim (cases_lt (place v) scanned) [
@@ -212,9 +212,9 @@ deep_enough ps q bound p' n h le (a, b) (c, d) k = omega (arith, ints)
 low_too : (a b c : ℤ) → a ≤ℤ b → b ≤ℤ c → a ≤ℤ c
 low_too a b c h k = omega (arith, ints)
 
-pub moved_low : (n : ℕ) (first : List ℕ) (arcs : List ResidualArc) (p p' e : ℕ → ℤ) (s : ℕ) (q : ℕ → ℤ) (enter order place : ℕ → ℕ) (scanned ordered reached : ℕ) (radius bound : ℤ) (f : ℕ) → AreFeasiblePotentials n first arcs p e → IsReached n first arcs p e s q enter order place scanned ordered reached radius → IsNearest n first arcs p e s q place scanned radius bound f → bound <ℤ far → IsMovedTo n p p' q place scanned bound → (v : ℕ) → v < n → (pos 0 ≤ℤ (p' v +ℤ pos (2 * n))) × (p' v ≤ℤ pos (2 * n))
-moved_low n first arcs p p' e s q enter order place scanned ordered reached radius bound f pr r near hit m v b =
-    let low : p' v ≤ℤ pos (2 * n) = low_too (p' v) (p v) (pos (2 * n)) (potentials_fall n first arcs p p' e s q enter order place scanned ordered reached radius bound f r near m v b) (pr.low v b).1 in
+pub moved_low : (n : ℕ) (first : List ℕ) (arcs : List ResidualArc) (p p' e : ℕ → ℤ) (s : ℕ) (q : ℕ → ℤ) (predecessor order place : ℕ → ℕ) (scanned ordered reached : ℕ) (radius bound : ℤ) (f : ℕ) → AreFeasiblePotentials n first arcs p e → IsReached n first arcs p e s q predecessor order place scanned ordered reached radius → IsNearest n first arcs p e s q place scanned radius bound f → bound <ℤ far → IsMovedTo n p p' q place scanned bound → (v : ℕ) → v < n → (pos 0 ≤ℤ (p' v +ℤ pos (2 * n))) × (p' v ≤ℤ pos (2 * n))
+moved_low n first arcs p p' e s q predecessor order place scanned ordered reached radius bound f pr r near hit m v b =
+    let low : p' v ≤ℤ pos (2 * n) = low_too (p' v) (p v) (pos (2 * n)) (potentials_fall n first arcs p p' e s q predecessor order place scanned ordered reached radius bound f r near m v b) (pr.low v b).1 in
     let le : scanned ≤ n = omega (arith, r.counts) in
     let old : p' v ≡ p v → pos 0 ≤ℤ (p' v +ℤ pos (2 * n)) = λ t. subst (λ (z : ℤ). pos 0 ≤ℤ (z +ℤ pos (2 * n))) (sym t) (pr.low v b).0 in (
       elim (below_or_not (q v) far) [
@@ -228,8 +228,8 @@ moved_low n first arcs p p' e s q enter order place scanned ordered reached radi
     )
 
 -- a node where units are wanting has no label
-pub wanting_far : (n : ℕ) (first : List ℕ) (arcs : List ResidualArc) (p e : ℕ → ℤ) (s : ℕ) (q : ℕ → ℤ) (enter order place : ℕ → ℕ) (scanned ordered reached : ℕ) (radius : ℤ) (v : ℕ) → IsReached n first arcs p e s q enter order place scanned ordered reached radius → v < n → e v <ℤ pos 0 → far ≤ℤ q v
-wanting_far n first arcs p e s q enter order place scanned ordered reached radius v r b w =
+pub wanting_far : (n : ℕ) (first : List ℕ) (arcs : List ResidualArc) (p e : ℕ → ℤ) (s : ℕ) (q : ℕ → ℤ) (predecessor order place : ℕ → ℕ) (scanned ordered reached : ℕ) (radius : ℤ) (v : ℕ) → IsReached n first arcs p e s q predecessor order place scanned ordered reached radius → v < n → e v <ℤ pos 0 → far ≤ℤ q v
+wanting_far n first arcs p e s q predecessor order place scanned ordered reached radius v r b w =
     elim (below_or_not (q v) far) [
       | inl l ↦ absurd (not_less (e v) (pos 0) w (r.nonnegative v b l))
       | inr f ↦ f
@@ -237,18 +237,18 @@ wanting_far n first arcs p e s q enter order place scanned ordered reached radiu
 
 -- ---- the round after the potentials have moved
 
-pub moved_round : (net : NetworkModel) (first : List ℕ) (reverse : ℕ → ℕ) (forward : List ℕ) (capacity : ℕ → ℕ) (arcs : List ResidualArc) (p p' e : ℕ → ℤ) (s : ℕ) (q : ℕ → ℤ) (enter order place : ℕ → ℕ) (scanned ordered reached : ℕ) (radius bound : ℤ) (f : ℕ) → IsNetwork net → HasResidualArcs net first reverse forward → AreResidualArcs net reverse forward capacity arcs → IsRound net (carried reverse forward capacity) p e → IsReached (node_count net) first arcs p e s q enter order place scanned ordered reached radius → IsNearest (node_count net) first arcs p e s q place scanned radius bound f → IsServed (node_count net) first arcs p q place bound scanned → IsRemaining (node_count net) p q place scanned bound → bound <ℤ far → IsMovedTo (node_count net) p p' q place scanned bound → IsRound net (carried reverse forward capacity) p' e
-moved_round net first reverse forward capacity arcs p p' e s q enter order place scanned ordered reached radius bound f k l fl rd r near sv remaining hit m =
+pub moved_round : (net : NetworkModel) (first : List ℕ) (reverse : ℕ → ℕ) (forward : List ℕ) (capacity : ℕ → ℕ) (arcs : List ResidualArc) (p p' e : ℕ → ℤ) (s : ℕ) (q : ℕ → ℤ) (predecessor order place : ℕ → ℕ) (scanned ordered reached : ℕ) (radius bound : ℤ) (f : ℕ) → IsNetwork net → HasResidualArcs net first reverse forward → AreResidualArcs net reverse forward capacity arcs → IsRound net (carried reverse forward capacity) p e → IsReached (node_count net) first arcs p e s q predecessor order place scanned ordered reached radius → IsNearest (node_count net) first arcs p e s q place scanned radius bound f → AreFeasible (node_count net) first arcs p q place bound scanned → IsRemaining (node_count net) p q place scanned bound → bound <ℤ far → IsMovedTo (node_count net) p p' q place scanned bound → IsRound net (carried reverse forward capacity) p' e
+moved_round net first reverse forward capacity arcs p p' e s q predecessor order place scanned ordered reached radius bound f k l fl rd r near sv remaining hit m =
     let n = node_count net in
     let g : IsGraph n first arcs = is_graph net first reverse forward capacity arcs k l fl in
     let pr : AreFeasiblePotentials n first arcs p e = is_priced net first reverse forward capacity arcs p e k l fl rd in
     record {
       leaves = rd.leaves;
       caps = rd.caps;
-      priced = potentials_by_arc net first reverse forward capacity arcs p' k l fl (λ i b. omega (arith, rd.capacity i b)) (moved_priced n first arcs p p' e s q enter order place scanned ordered reached radius bound f g pr r near sv remaining m);
-      low = moved_low n first arcs p p' e s q enter order place scanned ordered reached radius bound f pr r near hit m;
-      zero = λ v b w. m.unlabelled v b (wanting_far n first arcs p e s q enter order place scanned ordered reached radius v r b w) ∙ rd.zero v b w;
-      fair = rd.fair;
+      priced = potentials_by_arc net first reverse forward capacity arcs p' k l fl (λ i b. omega (arith, rd.capacity i b)) (moved_priced n first arcs p p' e s q predecessor order place scanned ordered reached radius bound f g pr r near sv remaining m);
+      low = moved_low n first arcs p p' e s q predecessor order place scanned ordered reached radius bound f pr r near hit m;
+      zero = λ v b w. m.unlabelled v b (wanting_far n first arcs p e s q predecessor order place scanned ordered reached radius v r b w) ∙ rd.zero v b w;
+      in_range = rd.in_range;
       capacity = rd.capacity;
     }
 
@@ -269,12 +269,12 @@ is_on order place scanned v h back = and_from (ltb (place v) scanned) (eqb (orde
 on_is : (order place : ℕ → ℕ) (scanned v : ℕ) → on_path order place scanned v ≡ true → (place v < scanned) × (order (place v) ≡ v)
 on_is order place scanned v h = let (a, b) = and_parts (ltb (place v) scanned) (eqb (order (place v)) v) h in (ltb-true (place v) scanned a, eqb-true (order (place v)) v b)
 
-pub has_path : (n : ℕ) (first : List ℕ) (arcs : List ResidualArc) (p p' e : ℕ → ℤ) (s : ℕ) (q : ℕ → ℤ) (enter order place : ℕ → ℕ) (scanned ordered reached : ℕ) (radius bound : ℤ) (f : ℕ) → IsGraph n first arcs → IsReached n first arcs p e s q enter order place scanned ordered reached radius → IsNearest n first arcs p e s q place scanned radius bound f → bound <ℤ far → IsMovedTo n p p' q place scanned bound → HasTightPath n first arcs p' enter place s f
-has_path n first arcs p p' e s q enter order place scanned ordered reached radius bound f g r near hit m =
+pub has_path : (n : ℕ) (first : List ℕ) (arcs : List ResidualArc) (p p' e : ℕ → ℤ) (s : ℕ) (q : ℕ → ℤ) (predecessor order place : ℕ → ℕ) (scanned ordered reached : ℕ) (radius bound : ℤ) (f : ℕ) → IsGraph n first arcs → IsReached n first arcs p e s q predecessor order place scanned ordered reached radius → IsNearest n first arcs p e s q place scanned radius bound f → bound <ℤ far → IsMovedTo n p p' q place scanned bound → HasTightPath n first arcs p' predecessor place s f
+has_path n first arcs p p' e s q predecessor order place scanned ordered reached radius bound f g r near hit m =
     let le : scanned ≤ reached = omega (arith, r.counts) in
     let h = near.hit hit in
     let eb : end_at arcs f < n = g.end h.start f h.node h.leaves in
-    let off : far ≤ℤ q (end_at arcs f) = wanting_far n first arcs p e s q enter order place scanned ordered reached radius (end_at arcs f) r eb h.wanting in
+    let off : far ≤ℤ q (end_at arcs f) = wanting_far n first arcs p e s q predecessor order place scanned ordered reached radius (end_at arcs f) r eb h.deficit in
     let labelled : (v : ℕ) → on_path order place scanned v ≡ true → (v < n) × (q v <ℤ far) = λ v o. let (a, back) = on_is order place scanned v o in (subst (λ (t : ℕ). t < n) back (r.node (place v) (omega arith)), subst (λ (t : ℕ). q t <ℤ far) back (r.has_label (place v) (omega arith))) in
     let order_s : order 0 ≡ s = ap order (sym r.root.2) ∙ (r.listed s r.root.0 r.root.1).1 in
     record {
@@ -294,7 +294,7 @@ has_path n first arcs p p' e s q enter order place scanned ordered reached radiu
               leaves = x.leaves;
               has_capacity = x.has_capacity;
               arrives = x.arrives;
-              at_zero = tight_step (cost_at arcs (enter v)) (p' x.start) (p' v) (q x.start) (q v) bound (m.are_scanned x.start x.node x.labelled xh) (m.are_scanned v vb vl vh) x.label;
+              at_zero = tight_step (cost_at arcs (predecessor v)) (p' x.start) (p' v) (q x.start) (q v) bound (m.are_scanned x.start x.node x.labelled xh) (m.are_scanned v vb vl vh) x.label;
             };
           };
       last = h.start;
@@ -319,8 +319,8 @@ in_reach ps q pv n h small le low (a, b) d = omega (arith, ints)
 in_reach_step : (ps q pe c : ℤ) (n h : ℕ) → n ≤ MAX_NODES → h ≤ n → ps ≤ℤ pos (2 * n) → IsNear ps h q → pos 0 ≤ℤ (pe +ℤ pos (2 * n)) → c ≤ℤ pos 1 → (q +ℤ c -ℤ pe) <ℤ far
 in_reach_step ps q pe c n h small le low (a, b) d o = omega (arith, ints)
 
-pub nothing_found : (net : NetworkModel) (first : List ℕ) (reverse : ℕ → ℕ) (forward : List ℕ) (capacity : ℕ → ℕ) (arcs : List ResidualArc) (p e : ℕ → ℤ) (s : ℕ) (q : ℕ → ℤ) (enter order place : ℕ → ℕ) (scanned ordered reached : ℕ) (radius bound : ℤ) → IsNetwork net → HasResidualArcs net first reverse forward → AreResidualArcs net reverse forward capacity arcs → IsRound net (carried reverse forward capacity) p e → IsReached (node_count net) first arcs p e s q enter order place scanned ordered reached radius → IsServed (node_count net) first arcs p q place bound scanned → IsRemaining (node_count net) p q place scanned bound → bound ≡ far → pos 0 <ℤ e s → HasNoFlow net
-nothing_found net first reverse forward capacity arcs p e s q enter order place scanned ordered reached radius bound k l fl rd r sv remaining none over =
+pub nothing_found : (net : NetworkModel) (first : List ℕ) (reverse : ℕ → ℕ) (forward : List ℕ) (capacity : ℕ → ℕ) (arcs : List ResidualArc) (p e : ℕ → ℤ) (s : ℕ) (q : ℕ → ℤ) (predecessor order place : ℕ → ℕ) (scanned ordered reached : ℕ) (radius bound : ℤ) → IsNetwork net → HasResidualArcs net first reverse forward → AreResidualArcs net reverse forward capacity arcs → IsRound net (carried reverse forward capacity) p e → IsReached (node_count net) first arcs p e s q predecessor order place scanned ordered reached radius → AreFeasible (node_count net) first arcs p q place bound scanned → IsRemaining (node_count net) p q place scanned bound → bound ≡ far → pos 0 <ℤ e s → HasNoFlow net
+nothing_found net first reverse forward capacity arcs p e s q predecessor order place scanned ordered reached radius bound k l fl rd r sv remaining none over =
     let n = node_count net in
     let le : scanned ≤ n = omega (arith, r.counts) in
     let low : p s ≤ℤ pos (2 * n) = (rd.low s r.root.0).1 in
@@ -358,7 +358,7 @@ other_way_start net i true = refl
 -- the end of a residual arc has one of its own
 has_own : (net : NetworkModel) (first : List ℕ) (reverse : ℕ → ℕ) (forward : List ℕ) (capacity : ℕ → ℕ) (arcs : List ResidualArc) (u k : ℕ) → HasResidualArcs net first reverse forward → AreResidualArcs net reverse forward capacity arcs → u < node_count net → StartsAt first u k → 0 < degree first (end_at arcs k)
 has_own net first reverse forward capacity arcs u k l f b st =
-    let o = l.origins u k b st in
+    let o = l.stem_from_arcs u k b st in
     let ends : end_at arcs k ≡ end_of net o.arc o.back = ap (end_at arcs) (sym o.place) ∙ f.end o.arc o.back o.inside in
     let own : StartsAt first (start_of net o.arc (other_way o.back)) (number_of reverse forward o.arc (other_way o.back)) = l.block o.arc (other_way o.back) o.inside in
     let here : StartsAt first (end_at arcs k) (number_of reverse forward o.arc (other_way o.back)) = subst (λ (t : ℕ). StartsAt first t (number_of reverse forward o.arc (other_way o.back))) (other_way_start net o.arc o.back ∙ sym ends) own in
@@ -367,41 +367,41 @@ has_own net first reverse forward capacity arcs u k l f b st =
 own_degree : (first : List ℕ) (v k : ℕ) → StartsAt first v k → 0 < degree first v
 own_degree first v k st = omega (arith, st.from, st.below)
 
-root_degree : (n : ℕ) (first : List ℕ) (arcs : List ResidualArc) (p e : ℕ → ℤ) (s : ℕ) (q : ℕ → ℤ) (enter order place : ℕ → ℕ) (scanned ordered reached : ℕ) (radius : ℤ) (b v : ℕ) → IsReached n first arcs p e s q enter order place scanned ordered reached radius → place v < b → v < n → q v <ℤ far → v ≢ s → 0 < degree first s
-root_degree n first arcs p e s q enter order place scanned ordered reached radius zero v r less vb l ne = absurd (omega arith)
-root_degree n first arcs p e s q enter order place scanned ordered reached radius (suc b) v r less vb l ne =
+root_degree : (n : ℕ) (first : List ℕ) (arcs : List ResidualArc) (p e : ℕ → ℤ) (s : ℕ) (q : ℕ → ℤ) (predecessor order place : ℕ → ℕ) (scanned ordered reached : ℕ) (radius : ℤ) (b v : ℕ) → IsReached n first arcs p e s q predecessor order place scanned ordered reached radius → place v < b → v < n → q v <ℤ far → v ≢ s → 0 < degree first s
+root_degree n first arcs p e s q predecessor order place scanned ordered reached radius zero v r less vb l ne = absurd (omega arith)
+root_degree n first arcs p e s q predecessor order place scanned ordered reached radius (suc b) v r less vb l ne =
     let x = r.entered v vb l ne in
     let before : place x.start < place v = x.before in
     elim (cases_eq x.start s) [
-      | inl t ↦ own_degree first s (enter v) (subst (λ (i : ℕ). StartsAt first i (enter v)) t x.leaves)
-      | inr d ↦ root_degree n first arcs p e s q enter order place scanned ordered reached radius b x.start r (omega arith) x.node x.labelled d
+      | inl t ↦ own_degree first s (predecessor v) (subst (λ (i : ℕ). StartsAt first i (predecessor v)) t x.leaves)
+      | inr d ↦ root_degree n first arcs p e s q predecessor order place scanned ordered reached radius b x.start r (omega arith) x.node x.labelled d
     ]
 
-one_each : (net : NetworkModel) (first : List ℕ) (reverse : ℕ → ℕ) (forward : List ℕ) (capacity : ℕ → ℕ) (arcs : List ResidualArc) (p e : ℕ → ℤ) (s : ℕ) (q : ℕ → ℤ) (enter order place : ℕ → ℕ) (scanned ordered reached : ℕ) (radius bound : ℤ) (f : ℕ) → HasResidualArcs net first reverse forward → AreResidualArcs net reverse forward capacity arcs → IsReached (node_count net) first arcs p e s q enter order place scanned ordered reached radius → IsHit (node_count net) first arcs p e s q place scanned bound f → (v : ℕ) → v < node_count net → q v <ℤ far → 0 < degree first v
-one_each net first reverse forward capacity arcs p e s q enter order place scanned ordered reached radius bound f l fl r h v b m =
+one_each : (net : NetworkModel) (first : List ℕ) (reverse : ℕ → ℕ) (forward : List ℕ) (capacity : ℕ → ℕ) (arcs : List ResidualArc) (p e : ℕ → ℤ) (s : ℕ) (q : ℕ → ℤ) (predecessor order place : ℕ → ℕ) (scanned ordered reached : ℕ) (radius bound : ℤ) (f : ℕ) → HasResidualArcs net first reverse forward → AreResidualArcs net reverse forward capacity arcs → IsReached (node_count net) first arcs p e s q predecessor order place scanned ordered reached radius → IsHit (node_count net) first arcs p e s q place scanned bound f → (v : ℕ) → v < node_count net → q v <ℤ far → 0 < degree first v
+one_each net first reverse forward capacity arcs p e s q predecessor order place scanned ordered reached radius bound f l fl r h v b m =
     elim (cases_eq v s) [
       | inl t ↦ subst (λ (i : ℕ). 0 < degree first i) (sym t) (elim (cases_eq h.start s) [
         | inl d ↦ own_degree first s f (subst (λ (i : ℕ). StartsAt first i f) d h.leaves)
-        | inr d ↦ root_degree (node_count net) first arcs p e s q enter order place scanned ordered reached radius (place h.start + 1) h.start r (omega arith) h.node h.labelled d
+        | inr d ↦ root_degree (node_count net) first arcs p e s q predecessor order place scanned ordered reached radius (place h.start + 1) h.start r (omega arith) h.node h.labelled d
       ])
       | inr ne ↦
           let x = r.entered v b m ne in
-          subst (λ (i : ℕ). 0 < degree first i) x.arrives (has_own net first reverse forward capacity arcs x.start (enter v) l fl x.node x.leaves)
+          subst (λ (i : ℕ). 0 < degree first i) x.arrives (has_own net first reverse forward capacity arcs x.start (predecessor v) l fl x.node x.leaves)
     ]
 
 -- so a search that finds something looks at no fewer residual arcs than it scans nodes
-pub many_looks : (net : NetworkModel) (first : List ℕ) (reverse : ℕ → ℕ) (forward : List ℕ) (capacity : ℕ → ℕ) (arcs : List ResidualArc) (p e : ℕ → ℤ) (s : ℕ) (q : ℕ → ℤ) (enter order place : ℕ → ℕ) (scanned ordered reached : ℕ) (radius bound : ℤ) (f : ℕ) → HasResidualArcs net first reverse forward → AreResidualArcs net reverse forward capacity arcs → IsReached (node_count net) first arcs p e s q enter order place scanned ordered reached radius → IsHit (node_count net) first arcs p e s q place scanned bound f → scanned ≤ looked first order scanned
-many_looks net first reverse forward capacity arcs p e s q enter order place scanned ordered reached radius bound f l fl r h =
+pub many_looks : (net : NetworkModel) (first : List ℕ) (reverse : ℕ → ℕ) (forward : List ℕ) (capacity : ℕ → ℕ) (arcs : List ResidualArc) (p e : ℕ → ℤ) (s : ℕ) (q : ℕ → ℤ) (predecessor order place : ℕ → ℕ) (scanned ordered reached : ℕ) (radius bound : ℤ) (f : ℕ) → HasResidualArcs net first reverse forward → AreResidualArcs net reverse forward capacity arcs → IsReached (node_count net) first arcs p e s q predecessor order place scanned ordered reached radius → IsHit (node_count net) first arcs p e s q place scanned bound f → scanned ≤ looked first order scanned
+many_looks net first reverse forward capacity arcs p e s q predecessor order place scanned ordered reached radius bound f l fl r h =
     let le : scanned ≤ reached = omega (arith, r.counts) in
-    let more : sum_below scanned (λ _. 1) ≤ looked first order scanned = sum_below-le scanned (λ _. 1) (λ j. degree first (order j)) (λ j b. one_each net first reverse forward capacity arcs p e s q enter order place scanned ordered reached radius bound f l fl r h (order j) (r.node j (omega arith)) (r.has_label j (omega arith))) in
+    let more : sum_below scanned (λ _. 1) ≤ looked first order scanned = sum_below-le scanned (λ _. 1) (λ j. degree first (order j)) (λ j b. one_each net first reverse forward capacity arcs p e s q predecessor order place scanned ordered reached radius bound f l fl r h (order j) (r.node j (omega arith)) (r.has_label j (omega arith))) in
     omega (arith, sum_below-constant scanned 1)
 
 -- the path has no more residual arcs than that
-pub path_looks : (net : NetworkModel) (first : List ℕ) (reverse : ℕ → ℕ) (forward : List ℕ) (capacity : ℕ → ℕ) (arcs : List ResidualArc) (p e : ℕ → ℤ) (s : ℕ) (q : ℕ → ℤ) (enter order place : ℕ → ℕ) (scanned ordered reached : ℕ) (radius bound : ℤ) (f : ℕ) → HasResidualArcs net first reverse forward → AreResidualArcs net reverse forward capacity arcs → IsReached (node_count net) first arcs p e s q enter order place scanned ordered reached radius → IsHit (node_count net) first arcs p e s q place scanned bound f → place (end_at arcs (reverse f)) + 1 ≤ looked first order scanned
-path_looks net first reverse forward capacity arcs p e s q enter order place scanned ordered reached radius bound f l fl r h =
+pub path_looks : (net : NetworkModel) (first : List ℕ) (reverse : ℕ → ℕ) (forward : List ℕ) (capacity : ℕ → ℕ) (arcs : List ResidualArc) (p e : ℕ → ℤ) (s : ℕ) (q : ℕ → ℤ) (predecessor order place : ℕ → ℕ) (scanned ordered reached : ℕ) (radius bound : ℤ) (f : ℕ) → HasResidualArcs net first reverse forward → AreResidualArcs net reverse forward capacity arcs → IsReached (node_count net) first arcs p e s q predecessor order place scanned ordered reached radius → IsHit (node_count net) first arcs p e s q place scanned bound f → place (end_at arcs (reverse f)) + 1 ≤ looked first order scanned
+path_looks net first reverse forward capacity arcs p e s q predecessor order place scanned ordered reached radius bound f l fl r h =
     let last : place (end_at arcs (reverse f)) ≡ place h.start = ap place (start_is net first reverse forward capacity arcs h.start f l fl h.node h.leaves) in
     let scan : place h.start < scanned = h.are_scanned in
-    omega (arith, many_looks net first reverse forward capacity arcs p e s q enter order place scanned ordered reached radius bound f l fl r h)
+    omega (arith, many_looks net first reverse forward capacity arcs p e s q predecessor order place scanned ordered reached radius bound f l fl r h)
 
 -- labels and the bound fit
 pub label_bounds : (n h : ℕ) (ps z : ℤ) → n ≤ MAX_NODES → h ≤ n → IsNear ps h z → (pos 0 ≤ℤ (ps +ℤ pos (2 * n))) × (ps ≤ℤ pos (2 * n)) → IsWithinFar z
@@ -436,8 +436,8 @@ cleared_stays p p' u v put h =
 both_far : (a : ℤ) → a ≤ℤ far → far ≤ℤ a → a ≡ far
 both_far a h k = omega (arith, ints)
 
-pub all_cleared : (n : ℕ) (first : List ℕ) (arcs : List ResidualArc) (p e : ℕ → ℤ) (s : ℕ) (q q' : ℕ → ℤ) (enter order place : ℕ → ℕ) (scanned ordered reached : ℕ) (radius : ℤ) → IsReached n first arcs p e s q enter order place scanned ordered reached radius → ((j : ℕ) → j < reached → q' (order j) ≡ far) → ((v : ℕ) → q v ≡ far → q' v ≡ far) → (v : ℕ) → v < n → q' v ≡ far
-all_cleared n first arcs p e s q q' enter order place scanned ordered reached radius r cleared others v b =
+pub all_cleared : (n : ℕ) (first : List ℕ) (arcs : List ResidualArc) (p e : ℕ → ℤ) (s : ℕ) (q q' : ℕ → ℤ) (predecessor order place : ℕ → ℕ) (scanned ordered reached : ℕ) (radius : ℤ) → IsReached n first arcs p e s q predecessor order place scanned ordered reached radius → ((j : ℕ) → j < reached → q' (order j) ≡ far) → ((v : ℕ) → q v ≡ far → q' v ≡ far) → (v : ℕ) → v < n → q' v ≡ far
+all_cleared n first arcs p e s q q' predecessor order place scanned ordered reached radius r cleared others v b =
     elim (below_or_not (q v) far) [
       | inl l ↦ let (a, back) = r.listed v b l in subst (λ (t : ℕ). q' t ≡ far) back (cleared (place v) a)
       | inr f ↦ others v (both_far (q v) (r.most v b) f)
@@ -447,9 +447,9 @@ all_cleared n first arcs p e s q q' enter order place scanned ordered reached ra
 pub can_augment : (net : NetworkModel) (r : Residual) (potential excess potential' : List ℤ) (visits visits' : List Visit) (root : ℕ) (t t' : Search) → IsReadyIn net r potential excess visits → root < node_count net → pos 0 <ℤ at_nodes excess root
     → length t.visits.now ≡ length potential
     → IsGraph (length potential) r.first.items r.arcs.items
-    → IsReached (length potential) r.first.items r.arcs.items (at_nodes potential) (at_nodes excess) root (labels t) (enters t) (orders t) (places t) t.scanned t.ordered t.reached t.radius
+    → IsReached (length potential) r.first.items r.arcs.items (at_nodes potential) (at_nodes excess) root (labels t) (predecessors t) (orders t) (places t) t.scanned t.ordered t.reached t.radius
     → IsNearest (length potential) r.first.items r.arcs.items (at_nodes potential) (at_nodes excess) root (labels t) (places t) t.scanned t.radius t.bound t.found
-    → IsServed (length potential) r.first.items r.arcs.items (at_nodes potential) (labels t) (places t) t.bound t.scanned
+    → AreFeasible (length potential) r.first.items r.arcs.items (at_nodes potential) (labels t) (places t) t.bound t.scanned
     → IsRemaining (length potential) (at_nodes potential) (labels t) (places t) t.scanned t.bound
     → t.bound <ℤ far
     → ((j : ℕ) → j < t.scanned → at_nodes potential' (orders t j) ≡ labels t (orders t j) -ℤ t.bound)
@@ -466,14 +466,14 @@ can_augment net res potential excess potential' visits visits' root t t' r b ove
     let p' = at_nodes potential' in
     let x = at_nodes excess in
     let m = moved_to _ _ _ _ p' _ _ _ _ _ _ _ _ _ _ t.bound h moved others in
-    let re = subst (λ (k : ℕ). IsReached k first arcs p x root (labels t) (enters t) (orders t) (places t) t.scanned t.ordered t.reached t.radius) n h in
+    let re = subst (λ (k : ℕ). IsReached k first arcs p x root (labels t) (predecessors t) (orders t) (places t) t.scanned t.ordered t.reached t.radius) n h in
     let nt = subst (λ (k : ℕ). IsNearest k first arcs p x root (labels t) (places t) t.scanned t.radius t.bound t.found) n near in
-    let sn = subst (λ (k : ℕ). IsServed k first arcs p (labels t) (places t) t.bound t.scanned) n sv in
+    let sn = subst (λ (k : ℕ). AreFeasible k first arcs p (labels t) (places t) t.bound t.scanned) n sv in
     let ln = subst (λ (k : ℕ). IsRemaining k p (labels t) (places t) t.scanned t.bound) n remaining in
     let mn = subst (λ (k : ℕ). IsMovedTo k p p' (labels t) (places t) t.scanned t.bound) n m in
     let path = has_path _ _ _ _ p' _ _ _ _ _ _ _ _ _ _ _ t.found g h near hit m in
-    let way = subst (λ (k : ℕ). HasTightPath k first arcs p' (enters t) (places t) root t.found) n path in
-    let round = moved_round net first (reverse_at capacities) res.forward.items (capacity_at capacities) arcs p p' x root (labels t) (enters t) (orders t) (places t) t.scanned t.ordered t.reached t.radius t.bound t.found r.network r.residual.arcs_built r.residual.filled r.round re nt sn ln hit mn in
+    let way = subst (λ (k : ℕ). HasTightPath k first arcs p' (predecessors t) (places t) root t.found) n path in
+    let round = moved_round net first (reverse_at capacities) res.forward.items (capacity_at capacities) arcs p p' x root (labels t) (predecessors t) (orders t) (places t) t.scanned t.ordered t.reached t.radius t.bound t.found r.network r.residual.arcs_built r.residual.filled r.round re nt sn ln hit mn in
     record {
       ready = record {
         network = r.network;
@@ -482,12 +482,12 @@ can_augment net res potential excess potential' visits visits' root t t' r b ove
         excesses = r.excesses;
         labels = ap length list ∙ q.size ∙ size ∙ n;
         round = round;
-        blank = λ v c. rw list (all_cleared _ _ _ _ _ _ _ (labels t') _ _ _ _ _ _ _ h q.cleared q.others v (omega arith));
+        unlabelled = λ v c. rw list (all_cleared _ _ _ _ _ _ _ (labels t') _ _ _ _ _ _ _ h q.cleared q.others v (omega arith));
       };
-      path = rw (list, fun_ext q.enter, fun_ext q.place, q.found) way;
+      path = rw (list, fun_ext q.predecessor, fun_ext q.place, q.found) way;
       root = b;
       remaining = over;
-      wanting = rw q.found (near.hit hit).wanting;
+      deficit = rw q.found (near.hit hit).deficit;
     }
 
 -- the path that was found has no more residual arcs than the search looked at

@@ -1,18 +1,18 @@
 -- Amounts on the way to a flow: what each node still has to send out, or still wants.
 use Rattle.std.specs.Prelude.{ℕ, zero, suc, ◌<◌, ◌==◌, ◌≡◌, ℤ, pos, ◌+ℤ◌, ◌<ℤ◌, Bool, true, if◌then◌else◌}
 use Rattle.networks.specs.Networks.{NetworkModel, node_count, arc_count, arc_at, supply_at}
-use Rattle.networks.specs.Flow.{balance, IsWithinCap, IsResidual, start_of, end_of}
+use Rattle.networks.specs.Flow.{net_outflow, IsWithinCap, IsResidual, start_of, end_of}
 
-abbrev pub KeepsCaps : NetworkModel → (ℕ → ℕ) → Type 0
-KeepsCaps net x = (i : ℕ) → i < arc_count net → IsWithinCap (arc_at net i).cap (x i)
+abbrev pub IsWithinCaps : NetworkModel → (ℕ → ℕ) → Type 0
+IsWithinCaps net x = (i : ℕ) → i < arc_count net → IsWithinCap (arc_at net i).cap (x i)
 
 -- x leaves each node v the excess e v: above 0 it is left over there, below 0 it is wanting
-pub record Leaves (net : NetworkModel) (x : ℕ → ℕ) (e : ℕ → ℤ) : Type 0 where
-  pub at_node : (v : ℕ) → v < node_count net → balance net x v +ℤ e v ≡ supply_at net v
+pub record HasExcess (net : NetworkModel) (x : ℕ → ℕ) (e : ℕ → ℤ) : Type 0 where
+  pub at_node : (v : ℕ) → v < node_count net → net_outflow net x v +ℤ e v ≡ supply_at net v
 
 -- the same, but v has sent out k units that have not come to it yet
 pub record Carries (net : NetworkModel) (x : ℕ → ℕ) (e : ℕ → ℤ) (v k : ℕ) : Type 0 where
-  pub at_node : (w : ℕ) → w < node_count net → balance net x w +ℤ e w ≡ supply_at net w +ℤ pos (if v == w then k else 0)
+  pub at_node : (w : ℕ) → w < node_count net → net_outflow net x w +ℤ e w ≡ supply_at net w +ℤ pos (if v == w then k else 0)
 
 -- no unsaturated residual arc leads out of the set
 pub record IsClosedOut (net : NetworkModel) (x : ℕ → ℕ) (s : ℕ → Bool) : Type 0 where

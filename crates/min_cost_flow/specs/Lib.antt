@@ -3,4 +3,4 @@ pub mod Residual
 pub mod Path
 pub mod Round
 pub mod Existence
-pub mod Stand
+pub mod SolverState

@@ -21,12 +21,12 @@ pub record IsAfter (first : List ℕ) (arcs : List ResidualArc) (p : ℕ → ℤ
   pub step : IsTight first arcs p start k v
 
 -- residual arc `found` leads from node `last` to a node off the path, and each node of the path was
--- entered along `enter`, back to the root at place 0
-pub record HasTightPath (n : ℕ) (first : List ℕ) (arcs : List ResidualArc) (p : ℕ → ℤ) (enter place : ℕ → ℕ) (root found : ℕ) : Type 0 where
+-- entered along `predecessor`, back to the root at place 0
+pub record HasTightPath (n : ℕ) (first : List ℕ) (arcs : List ResidualArc) (p : ℕ → ℤ) (predecessor place : ℕ → ℕ) (root found : ℕ) : Type 0 where
   pub on : ℕ → Bool
   pub node : (v : ℕ) → on v ≡ true → v < n
   pub root_is : (v : ℕ) → on v ≡ true → place v ≡ 0 → v ≡ root
-  pub after : (v : ℕ) → on v ≡ true → 0 < place v → IsAfter first arcs p on place v (enter v)
+  pub after : (v : ℕ) → on v ≡ true → 0 < place v → IsAfter first arcs p on place v (predecessor v)
   pub last : ℕ
   pub member : on last ≡ true
   pub off : on (end_at arcs found) ≡ false
@@ -47,7 +47,7 @@ pub record IsOnPath (next place : ℕ → ℕ) (v w : ℕ) : Type 0 where
 
 -- the start of the residual arc by which a node was entered, and what fits along it
 abbrev pub previous_of : List ResidualArc → List ResidualCapacity → (ℕ → ℕ) → ℕ → ℕ
-previous_of arcs capacities enter w = end_at arcs (reverse_at capacities (enter w))
+previous_of arcs capacities predecessor w = end_at arcs (reverse_at capacities (predecessor w))
 
 abbrev pub capacity_into : List ResidualCapacity → (ℕ → ℕ) → ℕ → ℕ
-capacity_into capacities enter w = capacity_at capacities (enter w)
+capacity_into capacities predecessor w = capacity_at capacities (predecessor w)

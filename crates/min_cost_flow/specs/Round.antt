@@ -2,10 +2,10 @@
 use Rattle.std.specs.Prelude.{ℕ, ◌+◌, ◌*◌, ◌<◌, ◌≤◌, ◌≡◌, ◌≢◌, ◌⊎◌, ◌==◌, if◌then◌else◌, ℤ, pos, ◌+ℤ◌, ◌≤ℤ◌, ◌<ℤ◌}
 use borrow.Author.Differences.{up}
 use Rattle.common.specs.Sums.{sum_below}
-use Rattle.networks.specs.Networks.{NetworkModel, node_count, arc_count, supply_at, IsFair}
+use Rattle.networks.specs.Networks.{NetworkModel, node_count, arc_count, supply_at, IsInSupplyRange}
 use Rattle.min_cost_flow.specs.declared.resume.TheConstants.{MAX_CARRIED}
 use Rattle.networks.specs.Flow.{Flow, HasPotentials}
-use Rattle.min_cost_flow.specs.Excess.{KeepsCaps, Leaves}
+use Rattle.min_cost_flow.specs.Excess.{IsWithinCaps, HasExcess}
 
 -- what is left to send
 abbrev pub remaining_units : NetworkModel → (ℕ → ℤ) → ℕ
@@ -14,12 +14,12 @@ remaining_units net e = sum_below (node_count net) (λ v. up (e v))
 -- amounts x within the capacities leave the excess e, the potentials p show that they cost least, and all numbers
 -- keep their bounds
 pub record IsRound (net : NetworkModel) (x : ℕ → ℕ) (p e : ℕ → ℤ) : Type 0 where
-  pub leaves : Leaves net x e
-  pub caps : KeepsCaps net x
+  pub leaves : HasExcess net x e
+  pub caps : IsWithinCaps net x
   pub priced : HasPotentials net x p
   pub low : (v : ℕ) → v < node_count net → (pos 0 ≤ℤ (p v +ℤ pos (2 * node_count net))) × (p v ≤ℤ pos (2 * node_count net))
   pub zero : (v : ℕ) → v < node_count net → e v <ℤ pos 0 → p v ≡ pos 0
-  pub fair : (v : ℕ) → v < node_count net → IsFair (e v)
+  pub in_range : (v : ℕ) → v < node_count net → IsInSupplyRange (e v)
   pub capacity : (i : ℕ) → i < arc_count net → x i + remaining_units net e ≤ MAX_CARRIED
 
 -- how many arcs carry units
@@ -40,8 +40,8 @@ abbrev pub HasSupply : NetworkModel → Type 0
 HasSupply net = (v : ℕ) × (v < node_count net) × (supply_at net v ≢ pos 0)
 
 -- the potentials are at most twice the number of nodes in absolute value
-abbrev pub IsConfined : NetworkModel → (ℕ → ℤ) → Type 0
-IsConfined net p = (v : ℕ) → v < node_count net → (pos 0 ≤ℤ (p v +ℤ pos (2 * node_count net))) × (p v ≤ℤ pos (2 * node_count net))
+abbrev pub AreInBounds : NetworkModel → (ℕ → ℤ) → Type 0
+AreInBounds net p = (v : ℕ) → v < node_count net → (pos 0 ≤ℤ (p v +ℤ pos (2 * node_count net))) × (p v ≤ℤ pos (2 * node_count net))
 
 -- how much work has been done by the time that amounts x leave the excess e
 pub record IsWork (net : NetworkModel) (x : ℕ → ℕ) (e : ℕ → ℤ) (searches looks : ℕ) : Type 0 where
@@ -54,7 +54,7 @@ pub record IsWork (net : NetworkModel) (x : ℕ → ℕ) (e : ℕ → ℤ) (sear
 pub record IsRoundDone (net : NetworkModel) (x : ℕ → ℕ) (p : ℕ → ℤ) (searches looks : ℕ) : Type 0 where
   pub flow : Flow net x
   pub potentials : HasPotentials net x p
-  pub confined : IsConfined net p
+  pub in_bounds : AreInBounds net p
   pub few : searches ≤ supply_sum net
   pub bounded : looks ≤ searches * (2 * arc_count net)
   pub carried : carrying net x ≤ looks

@@ -8,7 +8,7 @@ ghost use Rattle.std.specs.Prelude.{◌≡◌, ◌<◌, ◌≤◌, ℕ, length, 
 ghost use Rattle.networks.specs.Networks.{NetworkModel};
 ghost use Rattle.networks.specs.Flow.{at_nodes};
 ghost use Rattle.networks.specs.ResidualArcs.{capacity_at};
-ghost use Rattle.min_cost_flow.specs.Stand.{CanAugment, IsSentAlong, IsBottleneck, IsPaired, IsPushedAlong};
+ghost use Rattle.min_cost_flow.specs.SolverState.{CanAugment, IsSentAlong, IsBottleneck, IsPaired, IsPushedAlong};
 
 use crate::state::Solver;
 use networks::{Residual, move_units};
@@ -27,7 +27,7 @@ impl Solver {
         move_units(&mut self.nodes.excess, target, root as u32, amount);
         push(&mut self.residual, found, amount);
         'along: while self.visits[node].place > 0 {
-            let number = self.visits[node].enter as usize;
+            let number = self.visits[node].predecessor as usize;
             push(&mut self.residual, number, amount);
             node = self.residual.start(number);
         }
@@ -44,7 +44,7 @@ impl Solver {
         let mut amount = most.min(self.residual.capacities[found].capacity);
         let mut node = self.residual.start(found);
         'narrow: while self.visits[node].place > 0 {
-            let number = self.visits[node].enter as usize;
+            let number = self.visits[node].predecessor as usize;
             amount = amount.min(self.residual.capacities[number].capacity);
             node = self.residual.start(number);
         }
@@ -57,10 +57,10 @@ fn most_between(excess: &[i32], root: usize, target: usize) -> u32
     requires root { root < length excess.now }
     requires target { target < length excess.now }
     requires remaining { pos 0 <ℤ at_nodes excess.now root }
-    requires wanting { at_nodes excess.now target <ℤ pos 0 }
+    requires deficit { at_nodes excess.now target <ℤ pos 0 }
     ensures some { 0 < result }
     ensures remaining { pos result ≤ℤ at_nodes excess.now root }
-    ensures wanting { (at_nodes excess.now target +ℤ pos result) ≤ℤ pos 0 }
+    ensures deficit { (at_nodes excess.now target +ℤ pos result) ≤ℤ pos 0 }
     ensures most { (k : ℕ) → pos k ≤ℤ at_nodes excess.now root → (at_nodes excess.now target +ℤ pos k) ≤ℤ pos 0 → k ≤ result }
 {
     excess[root]
@@ -77,5 +77,5 @@ fn push(residual: &mut Residual, number: usize, amount: u32)
 {
     let back = residual.capacities[number].reverse as usize;
     residual.take_capacity(number, amount);
-    residual.give_capacity(back, amount);
+    residual.add_capacity(back, amount);
 }

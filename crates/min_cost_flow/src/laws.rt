@@ -1,7 +1,7 @@
 //! Laws of flows, each as the contract of a function that does nothing.
 
 ghost use Rattle.std.specs.Prelude.{◌≡◌, ◌≢◌, ◌<◌, ℕ, ℤ, pos};
-ghost use Rattle.min_cost_flow.specs.Excess.{KeepsCaps, Leaves, HasNoAugmentingPath};
+ghost use Rattle.min_cost_flow.specs.Excess.{IsWithinCaps, HasExcess, HasNoAugmentingPath};
 ghost use Rattle.min_cost_flow.specs.Existence.{SuppliesSumToZero, HasUnlimitedPaths};
 ghost use Rattle.networks.specs.Flow.{Flow, HasNoFlow, HasPotentials, IsLeastCost};
 ghost use Rattle.networks.specs.Networks.{HasEnds, NetworkModel, node_count};
@@ -15,11 +15,11 @@ pub fn potentials_show_least_cost()
 /// Where amounts leave some excess, and no residual path leads from what is left over to what is
 /// wanting, there is no flow.
 pub fn no_path_shows_no_flow()
-    ensures { (net : NetworkModel) (x : ℕ → ℕ) (e : ℕ → ℤ) (u : ℕ) → HasEnds net → Leaves net x e → HasNoAugmentingPath net x e → u < node_count net → e u ≢ pos 0 → HasNoFlow net }
+    ensures { (net : NetworkModel) (x : ℕ → ℕ) (e : ℕ → ℤ) (u : ℕ) → HasEnds net → HasExcess net x e → HasNoAugmentingPath net x e → u < node_count net → e u ≢ pos 0 → HasNoFlow net }
 {}
 
 /// Where supplies sum to 0, amounts within the capacities leave some excess, and paths of unlimited arcs
 /// lead from all that is left over to all that is wanting, there is a flow.
 pub fn unlimited_arcs_give_a_flow()
-    ensures { (net : NetworkModel) (x : ℕ → ℕ) (e : ℕ → ℤ) → HasEnds net → SuppliesSumToZero net → KeepsCaps net x → Leaves net x e → HasUnlimitedPaths net e → (y : ℕ → ℕ) × Flow net y }
+    ensures { (net : NetworkModel) (x : ℕ → ℕ) (e : ℕ → ℤ) → HasEnds net → SuppliesSumToZero net → IsWithinCaps net x → HasExcess net x e → HasUnlimitedPaths net e → (y : ℕ → ℕ) × Flow net y }
 {}

@@ -11,12 +11,12 @@ mod resume;
 mod scratch;
 mod solved;
 mod solver;
-mod standing;
 mod state;
+mod warm_start;
 
 pub use laws::{no_path_shows_no_flow, potentials_show_least_cost, unlimited_arcs_give_a_flow};
 pub use networks::{Arc, Cap, NetFault, Network};
 pub use scratch::Scratch;
 pub use solved::Solved;
 pub use solver::{SolveFault, solve, solve_in};
-pub use standing::Standing;
+pub use warm_start::WarmStart;

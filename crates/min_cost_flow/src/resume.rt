@@ -7,10 +7,10 @@ ghost use Rattle.std.specs.Prelude.{◌≡◌, ◌≢◌, ◌<◌, ◌≤◌, �
 ghost use Rattle.networks.specs.declared.fault.TheConstants.{MAX_SUPPLY};
 ghost use Rattle.networks.specs.declared.network.TheConstants.{MAX_NODES};
 ghost use Rattle.min_cost_flow.specs.declared.resume.TheConstants.{MAX_CARRIED};
-ghost use Rattle.networks.specs.Networks.{NetworkModel, node_count, HasFairSupplies, shifted};
+ghost use Rattle.networks.specs.Networks.{NetworkModel, node_count, HasSuppliesInRange, shifted};
 ghost use Rattle.networks.specs.Flow.{at_nodes};
 ghost use Rattle.networks.specs.ResidualArcs.{reverse_at, capacity_at, carried};
-ghost use Rattle.min_cost_flow.specs.Stand.{excess_at, IsReady, IsAllSent, IsVerdict, CanRead};
+ghost use Rattle.min_cost_flow.specs.SolverState.{excess_at, IsReady, IsAllSent, IsVerdict, CanRead};
 
 use crate::solver::{carried_along, has_deficit};
 use crate::state::Solver;
@@ -28,7 +28,7 @@ impl Solver {
         requires from { from < node_count network.old }
         requires to { to < node_count network.old }
         requires few { amount ≤ MAX_SUPPLY }
-        requires fair { HasFairSupplies (shifted network.old from to amount) }
+        requires in_range { HasSuppliesInRange (shifted network.old from to amount) }
         ensures network { network.new ≡ shifted network.old from to amount }
         ensures answer { IsVerdict network.new self.new result }
     {
@@ -86,7 +86,7 @@ fn rebase(potential: &mut [i32], node: usize) -> bool
 {
     let base = potential[node];
     lower_all(potential, base);
-    is_confined(potential)
+    are_in_bounds(potential)
 }
 
 /// Lowers each potential by as much.
@@ -101,7 +101,7 @@ fn lower_all(potential: &mut [i32], base: i32)
 }
 
 /// Whether all potentials are at most twice the number of nodes in absolute value.
-fn is_confined(potential: &[i32]) -> bool
+fn are_in_bounds(potential: &[i32]) -> bool
     requires small { length potential.now ≤ MAX_NODES }
     ensures { result ≡ true → (v : ℕ) → v < length potential.now → (pos 0 ≤ℤ (at_nodes potential.now v +ℤ pos (2 * length potential.now))) × (at_nodes potential.now v ≤ℤ pos (2 * length potential.now)) }
 {

@@ -12,8 +12,8 @@ ghost use Rattle.networks.specs.Networks.{NetworkModel, arc_count, node_count, I
 ghost use Rattle.networks.specs.Flow.{amounts, at_nodes, HasNoFlow, Solves};
 ghost use Rattle.networks.specs.ResidualArcs.{reverse_at, capacity_at, carried, end_at};
 ghost use Rattle.networks.specs.Search.{far, labels, orders, label_at, IsPut, IsWithinFar, place_at};
-ghost use Rattle.min_cost_flow.specs.Round.{carrying, supply_sum, IsRoundDone, HasSupply, IsConfined};
-ghost use Rattle.min_cost_flow.specs.Stand.{excess_at, potential_at, flow_in, IsSized, IsReady, IsBetweenSearches, IsVerdict, HasSentFrom, IsAugmented, CanUpdate, HasReachedOrder, CanRead, IsCleared, IsReadyIn, CanAugmentIn};
+ghost use Rattle.min_cost_flow.specs.Round.{carrying, supply_sum, IsRoundDone, HasSupply, AreInBounds};
+ghost use Rattle.min_cost_flow.specs.SolverState.{excess_at, potential_at, flow_in, IsSized, IsReady, IsBetweenSearches, IsVerdict, HasSentFrom, IsAugmented, CanUpdate, HasReachedOrder, CanRead, IsCleared, IsReadyIn, CanAugmentIn};
 
 use crate::scratch::Scratch;
 use crate::solved::Solved;
@@ -58,7 +58,7 @@ pub fn solve(alloc: Global, network: &Network) -> Result<Solved, SolveFault>
     ensures looks { IfOk result (λ solved. solved.looks ≤ solved.searches * (2 * arc_count network.now)) }
     ensures begun { IfOk result (λ solved. HasSupply network.now → 1 ≤ solved.searches) }
     ensures carrying { IfOk result (λ solved. carrying network.now (amounts solved.flow) ≤ solved.looks) }
-    ensures confined { IfOk result (λ solved. IsConfined network.now (at_nodes solved.potential)) }
+    ensures in_bounds { IfOk result (λ solved. AreInBounds network.now (at_nodes solved.potential)) }
 {
     let mut scratch = Scratch::empty(alloc);
     solve_in(alloc, &mut scratch, network)
@@ -78,7 +78,7 @@ pub fn solve_in(
     ensures looks { IfOk result (λ solved. solved.looks ≤ solved.searches * (2 * arc_count network.now)) }
     ensures begun { IfOk result (λ solved. HasSupply network.now → 1 ≤ solved.searches) }
     ensures carrying { IfOk result (λ solved. carrying network.now (amounts solved.flow) ≤ solved.looks) }
-    ensures confined { IfOk result (λ solved. IsConfined network.now (at_nodes solved.potential)) }
+    ensures in_bounds { IfOk result (λ solved. AreInBounds network.now (at_nodes solved.potential)) }
 {
     let solver = &mut scratch.solver;
     solver.prepare(network)?;

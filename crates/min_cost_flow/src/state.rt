@@ -1,6 +1,6 @@
 //! What the solver keeps of a network.
 ghost use Rattle.std.specs.Prelude.{OnOk};
-ghost use Rattle.min_cost_flow.specs.Stand.{IsSized};
+ghost use Rattle.min_cost_flow.specs.SolverState.{IsSized};
 
 use networks::{FAR, Network, Residual, ResidualArc, ResidualCapacity, Visit};
 use std::alloc::{AllocError, Global};
@@ -60,7 +60,7 @@ impl Solver {
         let arcs = network.arc_count();
         let unvisited = Visit {
             label: FAR,
-            enter: 0,
+            predecessor: 0,
             place: 0,
             at_place: 0,
         };

@@ -7,7 +7,7 @@ use Rattle.std.proofs.lemmas.Bool.{cases_eq, eq-eqb, ne_eqb, cond-true, cond-fal
 use Rattle.std.proofs.lemmas.Int.{ints}
 use Rattle.std.proofs.lemmas.List.{get_or-set_same, get_or-set_other, length-set}
 use Rattle.networks.specs.declared.network.TheConstants.{MAX_NODES}
-use Rattle.networks.specs.Networks.{NetworkModel, arc_at, raised, lowered, moved, shifted, HasFairSupplies, IsNetwork}
+use Rattle.networks.specs.Networks.{NetworkModel, arc_at, raised, lowered, moved, shifted, HasSuppliesInRange, IsNetwork}
 
 abbrev pub at : List ℤ → ℕ → ℤ
 at units v = get_or units v (pos 0)
@@ -86,12 +86,12 @@ pub difference_is : (x : ℤ) (k : ℕ) → negsuc 2047 ≤ℤ x → x ≤ℤ po
 difference_is x k l h m = omega (arith, ints)
 
 -- a network keeps being one while its supplies are fair
-pub still_network : (net : NetworkModel) (f t k : ℕ) → IsNetwork net → HasFairSupplies (shifted net f t k) → IsNetwork (shifted net f t k)
-still_network net f t k n fair =
+pub still_network : (net : NetworkModel) (f t k : ℕ) → IsNetwork net → HasSuppliesInRange (shifted net f t k) → IsNetwork (shifted net f t k)
+still_network net f t k n in_range =
     let same : length (moved net.supplies f t k) ≡ length net.supplies = length-moved net.supplies f t k in
     record {
       small = (subst (λ (c : ℕ). c ≤ MAX_NODES) (sym same) n.small.0, n.small.1);
       ends = λ i b. (subst (λ (c : ℕ). (arc_at net i).from < c) (sym same) (n.ends i b).0, subst (λ (c : ℕ). (arc_at net i).to < c) (sym same) (n.ends i b).1);
-      supplies = fair;
+      supplies = in_range;
       costs = n.costs;
     }

@@ -7,7 +7,7 @@ use Rattle.networks.specs.declared.network.TheConstants.{MAX_NODES}
 use Rattle.networks.specs.declared.residual.ResidualArc.{ResidualArc}
 use Rattle.networks.proofs.Distinct.{AreDistinct, distinct_sum, room_for}
 use Rattle.networks.specs.ResidualArcs.{numbers, end_at, cost_at, StartsAt}
-use Rattle.networks.specs.Search.{far, IsGraph, AreFeasiblePotentials, IsNear, IsEntered, IsReached, IsNearest, Serves, IsServed, IsRemaining, AreLowered, IsOffer, IsPut, IsSwapped, IsWithinFar, degree, looked}
+use Rattle.networks.specs.Search.{far, IsGraph, AreFeasiblePotentials, IsNear, HasPredecessor, IsReached, IsNearest, IsFeasibleAt, AreFeasible, IsRemaining, AreLowered, IsCandidate, IsPut, IsSwapped, IsWithinFar, degree, looked}
 use Rattle.common.specs.Sums.{sum_below}
 use Rattle.common.proofs.Sums.{sum_below-same, sum_below-more}
 
@@ -31,8 +31,8 @@ not_ordered x qv pv radius a b c = omega (arith, ints)
 near_more : (z : ℤ) (k : ℕ) (a : ℤ) → IsNear z k a → IsNear z (k + 1) a
 near_more z k a (b, c) = (omega (arith, ints), omega (arith, ints))
 
-pub behind : (n : ℕ) (first : List ℕ) (arcs : List ResidualArc) (p e : ℕ → ℤ) (s : ℕ) (q : ℕ → ℤ) (enter order place : ℕ → ℕ) (scanned ordered reached : ℕ) (radius : ℤ) (v : ℕ) (x : ℤ) → IsReached n first arcs p e s q enter order place scanned ordered reached radius → v < n → radius ≤ℤ (x -ℤ p v) → x <ℤ q v → q v <ℤ far → ordered ≤ place v
-behind n first arcs p e s q enter order place scanned ordered reached radius v x r b beyond less l =
+pub behind : (n : ℕ) (first : List ℕ) (arcs : List ResidualArc) (p e : ℕ → ℤ) (s : ℕ) (q : ℕ → ℤ) (predecessor order place : ℕ → ℕ) (scanned ordered reached : ℕ) (radius : ℤ) (v : ℕ) (x : ℤ) → IsReached n first arcs p e s q predecessor order place scanned ordered reached radius → v < n → radius ≤ℤ (x -ℤ p v) → x <ℤ q v → q v <ℤ far → ordered ≤ place v
+behind n first arcs p e s q predecessor order place scanned ordered reached radius v x r b beyond less l =
     elim (cases_lt (place v) ordered) [
       | inl h ↦ absurd (not_ordered x (q v) (p v) radius beyond less (r.under v b l h))
       | inr h ↦ h
@@ -63,7 +63,7 @@ put_lower q q' v w x put less =
     ]
 
 -- a residual arc from a scanned node serves a node, whose place is behind
-pub offered_entered : (n : ℕ) (first : List ℕ) (arcs : List ResidualArc) (p : ℕ → ℤ) (s : ℕ) (q q' : ℕ → ℤ) (place place' : ℕ → ℕ) (scanned : ℕ) (radius : ℤ) (k v : ℕ) (x : ℤ) → IsOffer n first arcs p s q place scanned radius k v x → q' v ≡ x → AreLowered n scanned q place q' place' → scanned ≤ place' v → IsEntered n first arcs q' place' scanned v k
+pub offered_entered : (n : ℕ) (first : List ℕ) (arcs : List ResidualArc) (p : ℕ → ℤ) (s : ℕ) (q q' : ℕ → ℤ) (place place' : ℕ → ℕ) (scanned : ℕ) (radius : ℤ) (k v : ℕ) (x : ℤ) → IsCandidate n first arcs p s q place scanned radius k v x → q' v ≡ x → AreLowered n scanned q place q' place' → scanned ≤ place' v → HasPredecessor n first arcs q' place' scanned v k
 offered_entered n first arcs p s q q' place place' scanned radius k v x o here kept behind =
     let same : (q' o.start ≡ q o.start) × (place' o.start ≡ place o.start) = kept.same o.start o.node o.labelled o.are_scanned in
     record {
@@ -79,7 +79,7 @@ offered_entered n first arcs p s q q' place place' scanned radius k v x o here k
     }
 
 -- a node that was entered before still is
-pub kept_entered : (n : ℕ) (first : List ℕ) (arcs : List ResidualArc) (q q' : ℕ → ℤ) (place place' : ℕ → ℕ) (scanned v k : ℕ) → IsEntered n first arcs q place scanned v k → q' v ≡ q v → AreLowered n scanned q place q' place' → (scanned ≤ place' v) ⊎ (place' v ≡ place v) → IsEntered n first arcs q' place' scanned v k
+pub kept_entered : (n : ℕ) (first : List ℕ) (arcs : List ResidualArc) (q q' : ℕ → ℤ) (place place' : ℕ → ℕ) (scanned v k : ℕ) → HasPredecessor n first arcs q place scanned v k → q' v ≡ q v → AreLowered n scanned q place q' place' → (scanned ≤ place' v) ⊎ (place' v ≡ place v) → HasPredecessor n first arcs q' place' scanned v k
 kept_entered n first arcs q q' place place' scanned v k o here kept behind =
     let same : (q' o.start ≡ q o.start) × (place' o.start ≡ place o.start) = kept.same o.start o.node o.labelled o.are_scanned in
     let scan : place o.start < scanned = o.are_scanned in
@@ -98,8 +98,8 @@ kept_entered n first arcs q q' place place' scanned v k o here kept behind =
     }
 
 -- a scan's own node alone changes no label
-relabelled_kept : (n : ℕ) (first : List ℕ) (arcs : List ResidualArc) (p e : ℕ → ℤ) (s : ℕ) (q q' : ℕ → ℤ) (enter order place : ℕ → ℕ) (scanned ordered reached : ℕ) (radius : ℤ) (v : ℕ) (x : ℤ) → IsReached n first arcs p e s q enter order place scanned ordered reached radius → ordered ≤ place v → x <ℤ q v → IsPut q q' v x → AreLowered n scanned q place q' place
-relabelled_kept n first arcs p e s q q' enter order place scanned ordered reached radius v x r behind less put =
+relabelled_kept : (n : ℕ) (first : List ℕ) (arcs : List ResidualArc) (p e : ℕ → ℤ) (s : ℕ) (q q' : ℕ → ℤ) (predecessor order place : ℕ → ℕ) (scanned ordered reached : ℕ) (radius : ℤ) (v : ℕ) (x : ℤ) → IsReached n first arcs p e s q predecessor order place scanned ordered reached radius → ordered ≤ place v → x <ℤ q v → IsPut q q' v x → AreLowered n scanned q place q' place
+relabelled_kept n first arcs p e s q q' predecessor order place scanned ordered reached radius v x r behind less put =
     let few : scanned ≤ ordered = r.counts.0 in
     record {
       lower = λ w b. put_lower q q' v w x put less;
@@ -107,11 +107,11 @@ relabelled_kept n first arcs p e s q q' enter order place scanned ordered reache
       old = λ w b l h. (let e : q' w ≡ q w = put.others w (λ t. let e : place w ≡ place v = ap place t in absurd (omega arith)) in rw (sym e) l, h);
     }
 
-pub relabelled : (n : ℕ) (first : List ℕ) (arcs : List ResidualArc) (p e : ℕ → ℤ) (s : ℕ) (q q' : ℕ → ℤ) (enter enter' order place : ℕ → ℕ) (scanned ordered reached : ℕ) (radius : ℤ) (k v : ℕ) (x : ℤ) → IsReached n first arcs p e s q enter order place scanned ordered reached radius → IsOffer n first arcs p s q place scanned radius k v x → v < n → q v <ℤ far → pos 0 ≤ℤ e v → IsPut q q' v x → IsPut enter enter' v k → IsReached n first arcs p e s q' enter' order place scanned ordered reached radius × AreLowered n scanned q place q' place
-relabelled n first arcs p e s q q' enter enter' order place scanned ordered reached radius k v x r o b l fair put entered =
-    let far_place : ordered ≤ place v = behind n first arcs p e s q enter order place scanned ordered reached radius v x r b o.beyond o.less l in
+pub relabelled : (n : ℕ) (first : List ℕ) (arcs : List ResidualArc) (p e : ℕ → ℤ) (s : ℕ) (q q' : ℕ → ℤ) (predecessor predecessor' order place : ℕ → ℕ) (scanned ordered reached : ℕ) (radius : ℤ) (k v : ℕ) (x : ℤ) → IsReached n first arcs p e s q predecessor order place scanned ordered reached radius → IsCandidate n first arcs p s q place scanned radius k v x → v < n → q v <ℤ far → pos 0 ≤ℤ e v → IsPut q q' v x → IsPut predecessor predecessor' v k → IsReached n first arcs p e s q' predecessor' order place scanned ordered reached radius × AreLowered n scanned q place q' place
+relabelled n first arcs p e s q q' predecessor predecessor' order place scanned ordered reached radius k v x r o b l in_range put entered =
+    let far_place : ordered ≤ place v = behind n first arcs p e s q predecessor order place scanned ordered reached radius v x r b o.beyond o.less l in
     let few : scanned ≤ ordered = r.counts.0 in
-    let kept : AreLowered n scanned q place q' place = relabelled_kept n first arcs p e s q q' enter order place scanned ordered reached radius v x r far_place o.less put in
+    let kept : AreLowered n scanned q place q' place = relabelled_kept n first arcs p e s q q' predecessor order place scanned ordered reached radius v x r far_place o.less put in
     let was : (w : ℕ) → w < n → q' w <ℤ far → q w <ℤ far = λ w c m. elim (cases_eq w v) [
       | inl h ↦ subst (λ (t : ℕ). q t <ℤ far) (sym h) l
       | inr ne ↦ let e : q' w ≡ q w = put.others w ne in rw (sym e) m
@@ -136,12 +136,12 @@ relabelled n first arcs p e s q q' enter enter' order place scanned ordered reac
         ];
         root = (r.root.0, now s r.root.0 r.root.1, r.root.2);
         nonnegative = λ w c m. elim (cases_eq w v) [
-          | inl t ↦ subst (λ (t : ℕ). pos 0 ≤ℤ e t) (sym t) fair
+          | inl t ↦ subst (λ (t : ℕ). pos 0 ≤ℤ e t) (sym t) in_range
           | inr ne ↦ r.nonnegative w c (was w c m)
         ];
         entered = λ w c m ne. elim (cases_eq w v) [
-          | inl t ↦ subst (λ (t : ℕ). IsEntered n first arcs q' place scanned t (enter' t)) (sym t) (subst (λ (i : ℕ). IsEntered n first arcs q' place scanned v i) (sym entered.here) (offered_entered n first arcs p s q q' place place scanned radius k v x o put.here kept (omega arith)))
-          | inr d ↦ subst (λ (i : ℕ). IsEntered n first arcs q' place scanned w i) (sym (entered.others w d)) (kept_entered n first arcs q q' place place scanned w (enter w) (r.entered w c (was w c m) ne) (put.others w d) kept (inr refl))
+          | inl t ↦ subst (λ (t : ℕ). HasPredecessor n first arcs q' place scanned t (predecessor' t)) (sym t) (subst (λ (i : ℕ). HasPredecessor n first arcs q' place scanned v i) (sym entered.here) (offered_entered n first arcs p s q q' place place scanned radius k v x o put.here kept (omega arith)))
+          | inr d ↦ subst (λ (i : ℕ). HasPredecessor n first arcs q' place scanned w i) (sym (entered.others w d)) (kept_entered n first arcs q q' place place scanned w (predecessor w) (r.entered w c (was w c m) ne) (put.others w d) kept (inr refl))
         ];
       },
       kept,
@@ -149,8 +149,8 @@ relabelled n first arcs p e s q q' enter enter' order place scanned ordered reac
 
 -- ---- a label for a node that was not reached before
 
-pub enlisted : (n : ℕ) (first : List ℕ) (arcs : List ResidualArc) (p e : ℕ → ℤ) (s : ℕ) (q q' : ℕ → ℤ) (enter enter' order order' place place' : ℕ → ℕ) (scanned ordered reached : ℕ) (radius : ℤ) (k v : ℕ) (x : ℤ) → IsReached n first arcs p e s q enter order place scanned ordered reached radius → IsOffer n first arcs p s q place scanned radius k v x → v < n → far ≤ℤ q v → pos 0 ≤ℤ e v → reached < n → IsPut q q' v x → IsPut enter enter' v k → IsPut order order' reached v → IsPut place place' v reached → IsReached n first arcs p e s q' enter' order' place' scanned ordered (reached + 1) radius × AreLowered n scanned q place q' place'
-enlisted n first arcs p e s q q' enter enter' order order' place place' scanned ordered reached radius k v x r o b l fair few put entered listed placed =
+pub enlisted : (n : ℕ) (first : List ℕ) (arcs : List ResidualArc) (p e : ℕ → ℤ) (s : ℕ) (q q' : ℕ → ℤ) (predecessor predecessor' order order' place place' : ℕ → ℕ) (scanned ordered reached : ℕ) (radius : ℤ) (k v : ℕ) (x : ℤ) → IsReached n first arcs p e s q predecessor order place scanned ordered reached radius → IsCandidate n first arcs p s q place scanned radius k v x → v < n → far ≤ℤ q v → pos 0 ≤ℤ e v → reached < n → IsPut q q' v x → IsPut predecessor predecessor' v k → IsPut order order' reached v → IsPut place place' v reached → IsReached n first arcs p e s q' predecessor' order' place' scanned ordered (reached + 1) radius × AreLowered n scanned q place q' place'
+enlisted n first arcs p e s q q' predecessor predecessor' order order' place place' scanned ordered reached radius k v x r o b l in_range few put entered listed placed =
     let ho : scanned ≤ ordered = r.counts.0 in
     let or : ordered ≤ reached = r.counts.1 in
     let here : place' v ≡ reached = placed.here in
@@ -201,12 +201,12 @@ enlisted n first arcs p e s q q' enter enter' order order' place place' scanned 
         ];
         root = (r.root.0, rw (put.others s (fresh s r.root.1)) r.root.1, placed.others s (fresh s r.root.1) ∙ r.root.2);
         nonnegative = λ w c m. elim (cases_eq w v) [
-          | inl t ↦ subst (λ (t : ℕ). pos 0 ≤ℤ e t) (sym t) fair
+          | inl t ↦ subst (λ (t : ℕ). pos 0 ≤ℤ e t) (sym t) in_range
           | inr ne ↦ r.nonnegative w c (was w ne m)
         ];
         entered = λ w c m ne. elim (cases_eq w v) [
-          | inl t ↦ subst (λ (t : ℕ). IsEntered n first arcs q' place' scanned t (enter' t)) (sym t) (subst (λ (i : ℕ). IsEntered n first arcs q' place' scanned v i) (sym entered.here) (offered_entered n first arcs p s q q' place place' scanned radius k v x o put.here kept (omega arith)))
-          | inr d ↦ subst (λ (i : ℕ). IsEntered n first arcs q' place' scanned w i) (sym (entered.others w d)) (kept_entered n first arcs q q' place place' scanned w (enter w) (r.entered w c (was w d m) ne) (put.others w d) kept (inr (placed.others w d)))
+          | inl t ↦ subst (λ (t : ℕ). HasPredecessor n first arcs q' place' scanned t (predecessor' t)) (sym t) (subst (λ (i : ℕ). HasPredecessor n first arcs q' place' scanned v i) (sym entered.here) (offered_entered n first arcs p s q q' place place' scanned radius k v x o put.here kept (omega arith)))
+          | inr d ↦ subst (λ (i : ℕ). HasPredecessor n first arcs q' place' scanned w i) (sym (entered.others w d)) (kept_entered n first arcs q q' place place' scanned w (predecessor w) (r.entered w c (was w d m) ne) (put.others w d) kept (inr (placed.others w d)))
         ];
       },
       kept,
@@ -217,8 +217,8 @@ enlisted n first arcs p e s q q' enter enter' order order' place place' scanned 
 pub same_z : (a : ℤ) → a ≤ℤ a
 same_z a = omega (arith, ints)
 
-pub swapped : (n : ℕ) (first : List ℕ) (arcs : List ResidualArc) (p e : ℕ → ℤ) (s : ℕ) (q : ℕ → ℤ) (enter order order' place place' : ℕ → ℕ) (scanned ordered reached : ℕ) (radius : ℤ) (v from : ℕ) → IsReached n first arcs p e s q enter order place scanned ordered reached radius → v < n → q v <ℤ far → place v ≡ from → ordered ≤ from → (q v -ℤ p v) ≤ℤ radius → IsSwapped order place order' place' v from ordered → IsReached n first arcs p e s q enter order' place' scanned (ordered + 1) reached radius × AreLowered n scanned q place q place'
-swapped n first arcs p e s q enter order order' place place' scanned ordered reached radius v from r b l at behind near sw =
+pub swapped : (n : ℕ) (first : List ℕ) (arcs : List ResidualArc) (p e : ℕ → ℤ) (s : ℕ) (q : ℕ → ℤ) (predecessor order order' place place' : ℕ → ℕ) (scanned ordered reached : ℕ) (radius : ℤ) (v from : ℕ) → IsReached n first arcs p e s q predecessor order place scanned ordered reached radius → v < n → q v <ℤ far → place v ≡ from → ordered ≤ from → (q v -ℤ p v) ≤ℤ radius → IsSwapped order place order' place' v from ordered → IsReached n first arcs p e s q predecessor order' place' scanned (ordered + 1) reached radius × AreLowered n scanned q place q place'
+swapped n first arcs p e s q predecessor order order' place place' scanned ordered reached radius v from r b l at behind near sw =
     let ho : scanned ≤ ordered = r.counts.0 in
     let rn : reached ≤ n = r.counts.2 in
     let (in_list, mine) = r.listed v b l in
@@ -307,7 +307,7 @@ swapped n first arcs p e s q enter order order' place place' scanned ordered rea
         near = r.near;
         root = (r.root.0, r.root.1, sw.stay s s_v s_o ∙ s_at);
         nonnegative = r.nonnegative;
-        entered = λ w c m ne. kept_entered n first arcs q q place place' scanned w (enter w) (r.entered w c m ne) refl kept (
+        entered = λ w c m ne. kept_entered n first arcs q q place place' scanned w (predecessor w) (r.entered w c m ne) refl kept (
             elim (cases_eq w v) [
               | inl t ↦ let e : place' w ≡ ordered = ap place' t ∙ sw.stands in inl (omega arith)
               | inr nv ↦ elim (cases_eq w o) [
@@ -321,7 +321,7 @@ swapped n first arcs p e s q enter order order' place place' scanned ordered rea
 
 -- ---- the next node is scanned
 
-entered_more : (n : ℕ) (first : List ℕ) (arcs : List ResidualArc) (q : ℕ → ℤ) (place : ℕ → ℕ) (scanned v k : ℕ) → IsEntered n first arcs q place scanned v k → IsEntered n first arcs q place (scanned + 1) v k
+entered_more : (n : ℕ) (first : List ℕ) (arcs : List ResidualArc) (q : ℕ → ℤ) (place : ℕ → ℕ) (scanned v k : ℕ) → HasPredecessor n first arcs q place scanned v k → HasPredecessor n first arcs q place (scanned + 1) v k
 entered_more n first arcs q place scanned v k o = record {
   start = o.start;
   node = o.node;
@@ -334,8 +334,8 @@ entered_more n first arcs q place scanned v k o = record {
   label = o.label;
 }
 
-pub headed : (n : ℕ) (first : List ℕ) (arcs : List ResidualArc) (p e : ℕ → ℤ) (s : ℕ) (q : ℕ → ℤ) (enter order place : ℕ → ℕ) (scanned ordered reached : ℕ) (radius : ℤ) → IsReached n first arcs p e s q enter order place scanned ordered reached radius → scanned < ordered → IsReached n first arcs p e s q enter order place (scanned + 1) ordered reached radius
-headed n first arcs p e s q enter order place scanned ordered reached radius r more = record {
+pub headed : (n : ℕ) (first : List ℕ) (arcs : List ResidualArc) (p e : ℕ → ℤ) (s : ℕ) (q : ℕ → ℤ) (predecessor order place : ℕ → ℕ) (scanned ordered reached : ℕ) (radius : ℤ) → IsReached n first arcs p e s q predecessor order place scanned ordered reached radius → scanned < ordered → IsReached n first arcs p e s q predecessor order place (scanned + 1) ordered reached radius
+headed n first arcs p e s q predecessor order place scanned ordered reached radius r more = record {
   counts = (omega arith, r.counts.1, r.counts.2);
   begun = r.begun;
   node = r.node;
@@ -348,7 +348,7 @@ headed n first arcs p e s q enter order place scanned ordered reached radius r m
   near = λ w c m. near_more (p s) scanned (q w) (r.near w c m);
   root = r.root;
   nonnegative = r.nonnegative;
-  entered = λ w c m ne. entered_more n first arcs q place scanned w (enter w) (r.entered w c m ne);
+  entered = λ w c m ne. entered_more n first arcs q place scanned w (predecessor w) (r.entered w c m ne);
 }
 
 pub headed_nearest : (n : ℕ) (first : List ℕ) (arcs : List ResidualArc) (p e : ℕ → ℤ) (s : ℕ) (q : ℕ → ℤ) (place : ℕ → ℕ) (scanned : ℕ) (radius bound : ℤ) (k : ℕ) → IsNearest n first arcs p e s q place scanned radius bound k → IsNearest n first arcs p e s q place (scanned + 1) radius bound k
@@ -362,7 +362,7 @@ headed_nearest n first arcs p e s q place scanned radius bound k r = record {
     are_scanned = omega (arith, h.are_scanned);
     leaves = h.leaves;
     has_capacity = h.has_capacity;
-    wanting = h.wanting;
+    deficit = h.deficit;
     distance = h.distance;
     near = near_more (p s) scanned bound h.near;
   };
@@ -373,8 +373,8 @@ headed_nearest n first arcs p e s q place scanned radius bound k r = record {
 pub under_radius : (d a b : ℤ) → d ≤ℤ a → a ≤ℤ b → d ≤ℤ b
 under_radius d a b h k = omega (arith, ints)
 
-pub climbed : (n : ℕ) (first : List ℕ) (arcs : List ResidualArc) (p e : ℕ → ℤ) (s : ℕ) (q : ℕ → ℤ) (enter order place : ℕ → ℕ) (scanned ordered reached : ℕ) (radius to : ℤ) → IsReached n first arcs p e s q enter order place scanned ordered reached radius → scanned ≡ ordered → radius ≤ℤ to → ((j : ℕ) → ordered ≤ j → j < reached → to ≤ℤ (q (order j) -ℤ p (order j))) → IsReached n first arcs p e s q enter order place scanned ordered reached to
-climbed n first arcs p e s q enter order place scanned ordered reached radius to r done rises least = record {
+pub climbed : (n : ℕ) (first : List ℕ) (arcs : List ResidualArc) (p e : ℕ → ℤ) (s : ℕ) (q : ℕ → ℤ) (predecessor order place : ℕ → ℕ) (scanned ordered reached : ℕ) (radius to : ℤ) → IsReached n first arcs p e s q predecessor order place scanned ordered reached radius → scanned ≡ ordered → radius ≤ℤ to → ((j : ℕ) → ordered ≤ j → j < reached → to ≤ℤ (q (order j) -ℤ p (order j))) → IsReached n first arcs p e s q predecessor order place scanned ordered reached to
+climbed n first arcs p e s q predecessor order place scanned ordered reached radius to r done rises least = record {
   counts = r.counts;
   begun = r.begun;
   node = r.node;
@@ -437,7 +437,7 @@ nearest_kept n first arcs p e s q q' place place' scanned radius radius' bound k
         are_scanned = subst (λ (i : ℕ). i < scanned) (sym f) h.are_scanned;
         leaves = h.leaves;
         has_capacity = h.has_capacity;
-        wanting = h.wanting;
+        deficit = h.deficit;
         distance = rw e h.distance;
         near = h.near;
       };
@@ -449,7 +449,7 @@ lowered_far x pv h z = omega (arith, ints)
 near_lowered : (a : ℤ) (k : ℕ) (x pv : ℤ) → IsNear a k x → pv ≡ pos 0 → IsNear a k (x -ℤ pv)
 near_lowered a k x pv (b, c) z = (omega (arith, ints), omega (arith, ints))
 
-pub nearest_offered : (n : ℕ) (first : List ℕ) (arcs : List ResidualArc) (p e : ℕ → ℤ) (s : ℕ) (q : ℕ → ℤ) (place : ℕ → ℕ) (scanned : ℕ) (radius bound bound' : ℤ) (k k' j v : ℕ) (x : ℤ) → IsNearest n first arcs p e s q place scanned radius bound k → IsOffer n first arcs p s q place scanned radius j v x → q v ≤ℤ far → e v <ℤ pos 0 → p v ≡ pos 0 → ((bound' ≡ bound) × (k' ≡ k)) ⊎ ((bound' ≡ x -ℤ p v) × (k' ≡ j)) → IsNearest n first arcs p e s q place scanned radius bound' k'
+pub nearest_offered : (n : ℕ) (first : List ℕ) (arcs : List ResidualArc) (p e : ℕ → ℤ) (s : ℕ) (q : ℕ → ℤ) (place : ℕ → ℕ) (scanned : ℕ) (radius bound bound' : ℤ) (k k' j v : ℕ) (x : ℤ) → IsNearest n first arcs p e s q place scanned radius bound k → IsCandidate n first arcs p s q place scanned radius j v x → q v ≤ℤ far → e v <ℤ pos 0 → p v ≡ pos 0 → ((bound' ≡ bound) × (k' ≡ k)) ⊎ ((bound' ≡ x -ℤ p v) × (k' ≡ j)) → IsNearest n first arcs p e s q place scanned radius bound' k'
 nearest_offered n first arcs p e s q place scanned radius bound bound' k k' j v x r o most wants none (inl (a, b)) =
     subst (λ (z : ℤ). IsNearest n first arcs p e s q place scanned radius z k') (sym a) (subst (λ (i : ℕ). IsNearest n first arcs p e s q place scanned radius bound i) (sym b) r)
 nearest_offered n first arcs p e s q place scanned radius bound bound' k k' j v x r o most wants none (inr (a, b)) =
@@ -464,7 +464,7 @@ nearest_offered n first arcs p e s q place scanned radius bound bound' k k' j v 
         are_scanned = o.are_scanned;
         leaves = o.leaves;
         has_capacity = o.has_capacity;
-        wanting = subst (λ (i : ℕ). e i <ℤ pos 0) (sym o.arrives) wants;
+        deficit = subst (λ (i : ℕ). e i <ℤ pos 0) (sym o.arrives) wants;
         distance = rw (o.arrives, o.label) refl;
         near = near_lowered (p s) scanned x (p v) o.near none;
       };
@@ -479,12 +479,12 @@ nearer a a' c e bound bound' h k l = omega (arith, ints)
 no_more : (a a' c b b' : ℤ) → a' ≡ a → b' ≤ℤ b → b ≤ℤ (a +ℤ c) → b' ≤ℤ (a' +ℤ c)
 no_more a a' c b b' h k l = omega (arith, ints)
 
-pub serves_kept : (arcs : List ResidualArc) (p q q' : ℕ → ℤ) (bound bound' : ℤ) (u k : ℕ) → q' u ≡ q u → q' (end_at arcs k) ≤ℤ q (end_at arcs k) → bound' ≤ℤ bound → Serves arcs p q bound u k → Serves arcs p q' bound' u k
+pub serves_kept : (arcs : List ResidualArc) (p q q' : ℕ → ℤ) (bound bound' : ℤ) (u k : ℕ) → q' u ≡ q u → q' (end_at arcs k) ≤ℤ q (end_at arcs k) → bound' ≤ℤ bound → IsFeasibleAt arcs p q bound u k → IsFeasibleAt arcs p q' bound' u k
 serves_kept arcs p q q' bound bound' u k same lower less sv has_capacity near =
     let was : (q u +ℤ cost_at arcs k -ℤ p (end_at arcs k)) <ℤ bound = nearer (q u) (q' u) (cost_at arcs k) (p (end_at arcs k)) bound bound' same near less in
     no_more (q u) (q' u) (cost_at arcs k) (q (end_at arcs k)) (q' (end_at arcs k)) same lower (sv has_capacity was)
 
-pub served_kept : (n : ℕ) (first : List ℕ) (arcs : List ResidualArc) (p q q' : ℕ → ℤ) (place place' : ℕ → ℕ) (bound bound' : ℤ) (h : ℕ) → IsGraph n first arcs → IsServed n first arcs p q place bound h → AreLowered n h q place q' place' → bound' ≤ℤ bound → IsServed n first arcs p q' place' bound' h
+pub served_kept : (n : ℕ) (first : List ℕ) (arcs : List ResidualArc) (p q q' : ℕ → ℤ) (place place' : ℕ → ℕ) (bound bound' : ℤ) (h : ℕ) → IsGraph n first arcs → AreFeasible n first arcs p q place bound h → AreLowered n h q place q' place' → bound' ≤ℤ bound → AreFeasible n first arcs p q' place' bound' h
 served_kept n first arcs p q q' place place' bound bound' h g sv kept less = record {
   served = λ u k b l c st.
       let (l', c') = kept.old u b l c in
@@ -492,24 +492,24 @@ served_kept n first arcs p q q' place place' bound bound' h g sv kept less = rec
 }
 
 -- one node more is served
-pub served_more : (n : ℕ) (first : List ℕ) (arcs : List ResidualArc) (p q : ℕ → ℤ) (place : ℕ → ℕ) (bound : ℤ) (h u : ℕ) → IsServed n first arcs p q place bound h → ((v : ℕ) → v < n → q v <ℤ far → place v ≡ h → v ≡ u) → ((k : ℕ) → StartsAt first u k → Serves arcs p q bound u k) → IsServed n first arcs p q place bound (h + 1)
+pub served_more : (n : ℕ) (first : List ℕ) (arcs : List ResidualArc) (p q : ℕ → ℤ) (place : ℕ → ℕ) (bound : ℤ) (h u : ℕ) → AreFeasible n first arcs p q place bound h → ((v : ℕ) → v < n → q v <ℤ far → place v ≡ h → v ≡ u) → ((k : ℕ) → StartsAt first u k → IsFeasibleAt arcs p q bound u k) → AreFeasible n first arcs p q place bound (h + 1)
 served_more n first arcs p q place bound h u sv only mine = record {
   served = λ v k b l c st. elim (cases_lt (place v) h) [
     | inl d ↦ sv.served v k b l d st
     | inr d ↦
         let e : v ≡ u = only v b l (omega arith) in
-        subst (λ (i : ℕ). Serves arcs p q bound i k) (sym e) (mine k (subst (λ (i : ℕ). StartsAt first i k) e st))
+        subst (λ (i : ℕ). IsFeasibleAt arcs p q bound i k) (sym e) (mine k (subst (λ (i : ℕ). StartsAt first i k) e st))
   ];
 }
 
 -- ---- the order has room
 
-pub order_distinct : (n : ℕ) (first : List ℕ) (arcs : List ResidualArc) (p e : ℕ → ℤ) (s : ℕ) (q : ℕ → ℤ) (enter order place : ℕ → ℕ) (scanned ordered reached : ℕ) (radius : ℤ) → IsReached n first arcs p e s q enter order place scanned ordered reached radius → AreDistinct reached order
-order_distinct n first arcs p e s q enter order place scanned ordered reached radius r i j a b h = sym (r.at i a) ∙ ap place h ∙ r.at j b
+pub order_distinct : (n : ℕ) (first : List ℕ) (arcs : List ResidualArc) (p e : ℕ → ℤ) (s : ℕ) (q : ℕ → ℤ) (predecessor order place : ℕ → ℕ) (scanned ordered reached : ℕ) (radius : ℤ) → IsReached n first arcs p e s q predecessor order place scanned ordered reached radius → AreDistinct reached order
+order_distinct n first arcs p e s q predecessor order place scanned ordered reached radius r i j a b h = sym (r.at i a) ∙ ap place h ∙ r.at j b
 
-pub order_room : (n : ℕ) (first : List ℕ) (arcs : List ResidualArc) (p e : ℕ → ℤ) (s : ℕ) (q : ℕ → ℤ) (enter order place : ℕ → ℕ) (scanned ordered reached : ℕ) (radius : ℤ) (v : ℕ) → IsReached n first arcs p e s q enter order place scanned ordered reached radius → v < n → far ≤ℤ q v → reached < n
-order_room n first arcs p e s q enter order place scanned ordered reached radius v r b l =
-    room_for reached n order v r.node (order_distinct n first arcs p e s q enter order place scanned ordered reached radius r) b
+pub order_room : (n : ℕ) (first : List ℕ) (arcs : List ResidualArc) (p e : ℕ → ℤ) (s : ℕ) (q : ℕ → ℤ) (predecessor order place : ℕ → ℕ) (scanned ordered reached : ℕ) (radius : ℤ) (v : ℕ) → IsReached n first arcs p e s q predecessor order place scanned ordered reached radius → v < n → far ≤ℤ q v → reached < n
+order_room n first arcs p e s q predecessor order place scanned ordered reached radius v r b l =
+    room_for reached n order v r.node (order_distinct n first arcs p e s q predecessor order place scanned ordered reached radius r) b
     (λ j c t. not_less (q v) far (subst (λ (i : ℕ). q i <ℤ far) t (r.has_label j c)) l)
 
 -- ---- bounds
@@ -520,31 +520,31 @@ label_fits n scanned ps x small le (a, b) (c, d) = (omega (arith, ints), omega (
 potential_fits : (n : ℕ) (pv : ℤ) → n ≤ MAX_NODES → (pos 0 ≤ℤ (pv +ℤ pos (2 * n))) × (pv ≤ℤ pos (2 * n)) → IsWithinFar pv
 potential_fits n pv small (c, d) = (omega (arith, ints), omega (arith, ints))
 
-pub offer_fits : (n : ℕ) (first : List ℕ) (arcs : List ResidualArc) (p e : ℕ → ℤ) (s : ℕ) (q : ℕ → ℤ) (enter order place : ℕ → ℕ) (scanned ordered reached : ℕ) (radius : ℤ) (k v : ℕ) (x : ℤ) → IsGraph n first arcs → AreFeasiblePotentials n first arcs p e → IsReached n first arcs p e s q enter order place scanned ordered reached radius → IsOffer n first arcs p s q place scanned radius k v x → IsWithinFar x
-offer_fits n first arcs p e s q enter order place scanned ordered reached radius k v x g pr r o =
+pub offer_fits : (n : ℕ) (first : List ℕ) (arcs : List ResidualArc) (p e : ℕ → ℤ) (s : ℕ) (q : ℕ → ℤ) (predecessor order place : ℕ → ℕ) (scanned ordered reached : ℕ) (radius : ℤ) (k v : ℕ) (x : ℤ) → IsGraph n first arcs → AreFeasiblePotentials n first arcs p e → IsReached n first arcs p e s q predecessor order place scanned ordered reached radius → IsCandidate n first arcs p s q place scanned radius k v x → IsWithinFar x
+offer_fits n first arcs p e s q predecessor order place scanned ordered reached radius k v x g pr r o =
     let le : scanned ≤ n = omega (arith, r.counts) in
     label_fits n scanned (p s) x g.nodes le o.near (pr.low s r.root.0)
 
 pub potential_fits_at : (n : ℕ) (first : List ℕ) (arcs : List ResidualArc) (p e : ℕ → ℤ) (v : ℕ) → IsGraph n first arcs → AreFeasiblePotentials n first arcs p e → v < n → IsWithinFar (p v)
 potential_fits_at n first arcs p e v g pr b = potential_fits n (p v) g.nodes (pr.low v b)
 
-pub reached_fits : (n : ℕ) (first : List ℕ) (arcs : List ResidualArc) (p e : ℕ → ℤ) (s : ℕ) (q : ℕ → ℤ) (enter order place : ℕ → ℕ) (scanned ordered reached : ℕ) (radius : ℤ) (v : ℕ) → IsGraph n first arcs → AreFeasiblePotentials n first arcs p e → IsReached n first arcs p e s q enter order place scanned ordered reached radius → v < n → q v <ℤ far → IsWithinFar (q v)
-reached_fits n first arcs p e s q enter order place scanned ordered reached radius v g pr r b l =
+pub reached_fits : (n : ℕ) (first : List ℕ) (arcs : List ResidualArc) (p e : ℕ → ℤ) (s : ℕ) (q : ℕ → ℤ) (predecessor order place : ℕ → ℕ) (scanned ordered reached : ℕ) (radius : ℤ) (v : ℕ) → IsGraph n first arcs → AreFeasiblePotentials n first arcs p e → IsReached n first arcs p e s q predecessor order place scanned ordered reached radius → v < n → q v <ℤ far → IsWithinFar (q v)
+reached_fits n first arcs p e s q predecessor order place scanned ordered reached radius v g pr r b l =
     let le : scanned ≤ n = omega (arith, r.counts) in
     label_fits n scanned (p s) (q v) g.nodes le (r.near v b l) (pr.low s r.root.0)
 
 -- where an offer ends is a node, and its number is one of a residual arc
-pub offer_end : (n : ℕ) (first : List ℕ) (arcs : List ResidualArc) (p : ℕ → ℤ) (s : ℕ) (q : ℕ → ℤ) (place : ℕ → ℕ) (scanned : ℕ) (radius : ℤ) (k v : ℕ) (x : ℤ) → IsGraph n first arcs → IsOffer n first arcs p s q place scanned radius k v x → v < n
+pub offer_end : (n : ℕ) (first : List ℕ) (arcs : List ResidualArc) (p : ℕ → ℤ) (s : ℕ) (q : ℕ → ℤ) (place : ℕ → ℕ) (scanned : ℕ) (radius : ℤ) (k v : ℕ) (x : ℤ) → IsGraph n first arcs → IsCandidate n first arcs p s q place scanned radius k v x → v < n
 offer_end n first arcs p s q place scanned radius k v x g o = subst (λ (i : ℕ). i < n) o.arrives (g.end o.start k o.node o.leaves)
 
-pub offer_number : (n : ℕ) (first : List ℕ) (arcs : List ResidualArc) (p : ℕ → ℤ) (s : ℕ) (q : ℕ → ℤ) (place : ℕ → ℕ) (scanned : ℕ) (radius : ℤ) (k v : ℕ) (x : ℤ) → IsGraph n first arcs → IsOffer n first arcs p s q place scanned radius k v x → k < 8192
+pub offer_number : (n : ℕ) (first : List ℕ) (arcs : List ResidualArc) (p : ℕ → ℤ) (s : ℕ) (q : ℕ → ℤ) (place : ℕ → ℕ) (scanned : ℕ) (radius : ℤ) (k v : ℕ) (x : ℤ) → IsGraph n first arcs → IsCandidate n first arcs p s q place scanned radius k v x → k < 8192
 offer_number n first arcs p s q place scanned radius k v x g o = omega (arith, g.inside o.start o.node, o.leaves.below, g.few)
 
 pub at_radius : (q p x a radius : ℤ) → q ≡ x → a ≡ x -ℤ p → a ≡ radius → (q -ℤ p) ≤ℤ radius
 at_radius q p x a radius h k l = omega (arith, ints)
 
-pub offer_below : (n : ℕ) (first : List ℕ) (arcs : List ResidualArc) (p e : ℕ → ℤ) (s : ℕ) (q : ℕ → ℤ) (enter order place : ℕ → ℕ) (scanned ordered reached : ℕ) (radius : ℤ) (k v : ℕ) (x : ℤ) → IsReached n first arcs p e s q enter order place scanned ordered reached radius → IsOffer n first arcs p s q place scanned radius k v x → v < n → x <ℤ far
-offer_below n first arcs p e s q enter order place scanned ordered reached radius k v x r o b = not_far x (q v) o.less (r.most v b)
+pub offer_below : (n : ℕ) (first : List ℕ) (arcs : List ResidualArc) (p e : ℕ → ℤ) (s : ℕ) (q : ℕ → ℤ) (predecessor order place : ℕ → ℕ) (scanned ordered reached : ℕ) (radius : ℤ) (k v : ℕ) (x : ℤ) → IsReached n first arcs p e s q predecessor order place scanned ordered reached radius → IsCandidate n first arcs p s q place scanned radius k v x → v < n → x <ℤ far
+offer_below n first arcs p e s q predecessor order place scanned ordered reached radius k v x r o b = not_far x (q v) o.less (r.most v b)
 
 nothing_between : (x pv a bound : ℤ) → a ≡ x -ℤ pv → bound ≤ℤ a → (x -ℤ pv) <ℤ bound → ⊥
 nothing_between x pv a bound h k m = omega (arith, ints)
@@ -571,8 +571,8 @@ is_open n first arcs p e s q u k h x g pr sb ub le near st sum less most =
       | inr f ↦ absurd (closed_far x (q u) (q (end_at arcs k)) (cost_at arcs k) (p s) n h g.nodes le near (pr.low s sb) sum less most f.0)
     ]
 
-pub offer_made : (n : ℕ) (first : List ℕ) (arcs : List ResidualArc) (p e : ℕ → ℤ) (s : ℕ) (q : ℕ → ℤ) (enter order place : ℕ → ℕ) (scanned ordered reached : ℕ) (radius : ℤ) (u k v : ℕ) (x : ℤ) → IsGraph n first arcs → AreFeasiblePotentials n first arcs p e → IsReached n first arcs p e s q enter order place scanned ordered reached radius → u < n → q u <ℤ far → place u + 1 ≡ scanned → IsNear (p s) (place u) (q u) → radius ≤ℤ (q u -ℤ p u) → StartsAt first u k → v ≡ end_at arcs k → x ≡ q u +ℤ cost_at arcs k → x <ℤ q v → IsOffer n first arcs p s q place scanned radius k v x
-offer_made n first arcs p e s q enter order place scanned ordered reached radius u k v x g pr r ub lu at near high st ends sum less =
+pub offer_made : (n : ℕ) (first : List ℕ) (arcs : List ResidualArc) (p e : ℕ → ℤ) (s : ℕ) (q : ℕ → ℤ) (predecessor order place : ℕ → ℕ) (scanned ordered reached : ℕ) (radius : ℤ) (u k v : ℕ) (x : ℤ) → IsGraph n first arcs → AreFeasiblePotentials n first arcs p e → IsReached n first arcs p e s q predecessor order place scanned ordered reached radius → u < n → q u <ℤ far → place u + 1 ≡ scanned → IsNear (p s) (place u) (q u) → radius ≤ℤ (q u -ℤ p u) → StartsAt first u k → v ≡ end_at arcs k → x ≡ q u +ℤ cost_at arcs k → x <ℤ q v → IsCandidate n first arcs p s q place scanned radius k v x
+offer_made n first arcs p e s q predecessor order place scanned ordered reached radius u k v x g pr r ub lu at near high st ends sum less =
     let le : place u ≤ n = omega (arith, r.counts) in
     let here : x <ℤ q (end_at arcs k) = subst (λ (i : ℕ). x <ℤ q i) ends less in
     let o = is_open n first arcs p e s q u k (place u) x g pr r.root.0 ub le near st sum here (r.most (end_at arcs k) (g.end u k ub st)) in
@@ -592,18 +592,18 @@ offer_made n first arcs p e s q enter order place scanned ordered reached radius
     }
 
 -- a label that is no more than what is offered is served
-pub served_less : (arcs : List ResidualArc) (p q : ℕ → ℤ) (bound : ℤ) (u k v : ℕ) (x : ℤ) → v ≡ end_at arcs k → x ≡ q u +ℤ cost_at arcs k → q v ≤ℤ x → Serves arcs p q bound u k
+pub served_less : (arcs : List ResidualArc) (p q : ℕ → ℤ) (bound : ℤ) (u k v : ℕ) (x : ℤ) → v ≡ end_at arcs k → x ≡ q u +ℤ cost_at arcs k → q v ≤ℤ x → IsFeasibleAt arcs p q bound u k
 served_less arcs p q bound u k v x ends sum less _ _ = subst (λ (z : ℤ). q (end_at arcs k) ≤ℤ z) sum (subst (λ (i : ℕ). q i ≤ℤ x) ends less)
 
-pub served_after : (arcs : List ResidualArc) (p q q' : ℕ → ℤ) (bound : ℤ) (u k v : ℕ) (x : ℤ) → v ≡ end_at arcs k → x ≡ q u +ℤ cost_at arcs k → q' u ≡ q u → ((x -ℤ p v) <ℤ bound → q' v ≤ℤ x) → Serves arcs p q' bound u k
+pub served_after : (arcs : List ResidualArc) (p q q' : ℕ → ℤ) (bound : ℤ) (u k v : ℕ) (x : ℤ) → v ≡ end_at arcs k → x ≡ q u +ℤ cost_at arcs k → q' u ≡ q u → ((x -ℤ p v) <ℤ bound → q' v ≤ℤ x) → IsFeasibleAt arcs p q' bound u k
 served_after arcs p q q' bound u k v x ends sum same sv _ near =
     let total : x ≡ q' u +ℤ cost_at arcs k = sum ∙ ap (λ (z : ℤ). z +ℤ cost_at arcs k) (sym same) in
     let close : (x -ℤ p v) <ℤ bound = subst (λ (i : ℕ). (x -ℤ p i) <ℤ bound) (sym ends) (subst (λ (z : ℤ). (z -ℤ p (end_at arcs k)) <ℤ bound) (sym total) near) in
     subst (λ (z : ℤ). q' (end_at arcs k) ≤ℤ z) total (subst (λ (i : ℕ). q' i ≤ℤ x) ends (sv close))
 
 -- the order of the first h nodes stays
-pub order_kept : (n : ℕ) (first : List ℕ) (arcs : List ResidualArc) (p e : ℕ → ℤ) (s : ℕ) (q q' : ℕ → ℤ) (enter enter' order order' place place' : ℕ → ℕ) (scanned scanned' ordered ordered' reached reached' : ℕ) (radius radius' : ℤ) (h : ℕ) → IsReached n first arcs p e s q enter order place scanned ordered reached radius → IsReached n first arcs p e s q' enter' order' place' scanned' ordered' reached' radius' → AreLowered n h q place q' place' → h ≤ reached → (j : ℕ) → j < h → order' j ≡ order j
-order_kept n first arcs p e s q q' enter enter' order order' place place' scanned scanned' ordered ordered' reached reached' radius radius' h r r' kept le j b =
+pub order_kept : (n : ℕ) (first : List ℕ) (arcs : List ResidualArc) (p e : ℕ → ℤ) (s : ℕ) (q q' : ℕ → ℤ) (predecessor predecessor' order order' place place' : ℕ → ℕ) (scanned scanned' ordered ordered' reached reached' : ℕ) (radius radius' : ℤ) (h : ℕ) → IsReached n first arcs p e s q predecessor order place scanned ordered reached radius → IsReached n first arcs p e s q' predecessor' order' place' scanned' ordered' reached' radius' → AreLowered n h q place q' place' → h ≤ reached → (j : ℕ) → j < h → order' j ≡ order j
+order_kept n first arcs p e s q q' predecessor predecessor' order order' place place' scanned scanned' ordered ordered' reached reached' radius radius' h r r' kept le j b =
     let jb : j < reached = omega arith in
     let v : ℕ = order j in
     let vb : v < n = r.node j jb in
@@ -631,10 +631,10 @@ all_degrees (suc n) first arcs g =
     let whole : numbers first (suc n) ≡ numbers first (n + 1) = ap (numbers first) (omega arith) in
     omega arith
 
-pub looked_most : (n : ℕ) (first : List ℕ) (arcs : List ResidualArc) (p e : ℕ → ℤ) (s : ℕ) (q : ℕ → ℤ) (enter order place : ℕ → ℕ) (scanned ordered reached : ℕ) (radius : ℤ) → IsGraph n first arcs → IsReached n first arcs p e s q enter order place scanned ordered reached radius → looked first order scanned ≤ length arcs
-looked_most n first arcs p e s q enter order place scanned ordered reached radius g r =
+pub looked_most : (n : ℕ) (first : List ℕ) (arcs : List ResidualArc) (p e : ℕ → ℤ) (s : ℕ) (q : ℕ → ℤ) (predecessor order place : ℕ → ℕ) (scanned ordered reached : ℕ) (radius : ℤ) → IsGraph n first arcs → IsReached n first arcs p e s q predecessor order place scanned ordered reached radius → looked first order scanned ≤ length arcs
+looked_most n first arcs p e s q predecessor order place scanned ordered reached radius g r =
     let le : scanned ≤ reached = omega (arith, r.counts) in
-    let sum : looked first order scanned ≤ sum_below n (degree first) = distinct_sum scanned n order (degree first) (λ j b. r.node j (omega arith)) (λ i j a b h. order_distinct n first arcs p e s q enter order place scanned ordered reached radius r i j (omega arith) (omega arith) h) in
+    let sum : looked first order scanned ≤ sum_below n (degree first) = distinct_sum scanned n order (degree first) (λ j b. r.node j (omega arith)) (λ i j a b h. order_distinct n first arcs p e s q predecessor order place scanned ordered reached radius r i j (omega arith) (omega arith) h) in
     omega (arith, all_degrees n first arcs g)
 
 pub looked_same : (first : List ℕ) (order order' : ℕ → ℕ) (h : ℕ) → ((j : ℕ) → j < h → order' j ≡ order j) → looked first order' h ≡ looked first order h
@@ -664,12 +664,12 @@ more_than_none e h = omega (arith, ints)
 less_far : (a : ℤ) → a <ℤ far → a ≤ℤ far
 less_far a h = omega (arith, ints)
 
-pub root_reached : (n : ℕ) (first : List ℕ) (arcs : List ResidualArc) (p e : ℕ → ℤ) (s : ℕ) (q q' : ℕ → ℤ) (enter order place : ℕ → ℕ) → n ≤ MAX_NODES → s < n → p s ≤ℤ pos (2 * n) → pos 0 <ℤ e s → ((v : ℕ) → v < n → q v ≡ far) → IsPut q q' s (p s) → order 0 ≡ s → place s ≡ 0 → IsReached n first arcs p e s q' enter order place 0 1 1 (pos 0)
-root_reached n first arcs p e s q q' enter order place small sb low remaining blank put oat pat =
+pub root_reached : (n : ℕ) (first : List ℕ) (arcs : List ResidualArc) (p e : ℕ → ℤ) (s : ℕ) (q q' : ℕ → ℤ) (predecessor order place : ℕ → ℕ) → n ≤ MAX_NODES → s < n → p s ≤ℤ pos (2 * n) → pos 0 <ℤ e s → ((v : ℕ) → v < n → q v ≡ far) → IsPut q q' s (p s) → order 0 ≡ s → place s ≡ 0 → IsReached n first arcs p e s q' predecessor order place 0 1 1 (pos 0)
+root_reached n first arcs p e s q q' predecessor order place small sb low remaining unlabelled put oat pat =
     let ls : q' s <ℤ far = subst (λ (z : ℤ). z <ℤ far) (sym put.here) (low_near (p s) n small low) in
     let only : (w : ℕ) → w < n → q' w <ℤ far → w ≡ s = λ w b l. elim (cases_eq w s) [
       | inl t ↦ t
-      | inr ne ↦ absurd (not_less (q' w) far l (same_le far (q' w) (sym (put.others w ne ∙ blank w b))))
+      | inr ne ↦ absurd (not_less (q' w) far l (same_le far (q' w) (sym (put.others w ne ∙ unlabelled w b))))
     ] in
     let zeroth : (j : ℕ) → j < 1 → order j ≡ s = λ j b. ap order (omega arith) ∙ oat in
     record {
@@ -681,7 +681,7 @@ root_reached n first arcs p e s q q' enter order place small sb low remaining bl
       listed = λ w b l. let t : w ≡ s = only w b l in let g : place w ≡ 0 = ap place t ∙ pat in (omega arith, ap order g ∙ oat ∙ sym t);
       most = λ w b. elim (cases_eq w s) [
         | inl t ↦ subst (λ (i : ℕ). q' i ≤ℤ far) (sym t) (less_far (q' s) ls)
-        | inr ne ↦ same_le (q' w) far (put.others w ne ∙ blank w b)
+        | inr ne ↦ same_le (q' w) far (put.others w ne ∙ unlabelled w b)
       ];
       under = λ w b l h. subst (λ (i : ℕ). (q' i -ℤ p i) ≤ℤ pos 0) (sym (only w b l)) (no_distance (q' s) (p s) put.here).0;
       here = λ w b l h. subst (λ (i : ℕ). pos 0 ≤ℤ (q' i -ℤ p i)) (sym (only w b l)) (no_distance (q' s) (p s) put.here).1;
@@ -693,11 +693,11 @@ root_reached n first arcs p e s q q' enter order place small sb low remaining bl
 
 -- ---- leaving
 
-pub remaining_at_radius : (n : ℕ) (first : List ℕ) (arcs : List ResidualArc) (p e : ℕ → ℤ) (s : ℕ) (q : ℕ → ℤ) (enter order place : ℕ → ℕ) (scanned ordered reached : ℕ) (radius bound : ℤ) → IsReached n first arcs p e s q enter order place scanned ordered reached radius → radius ≡ bound → IsRemaining n p q place scanned bound
-remaining_at_radius n first arcs p e s q enter order place scanned ordered reached radius bound r same v b l h = subst (λ (z : ℤ). z ≤ℤ (q v -ℤ p v)) same (r.here v b l h)
+pub remaining_at_radius : (n : ℕ) (first : List ℕ) (arcs : List ResidualArc) (p e : ℕ → ℤ) (s : ℕ) (q : ℕ → ℤ) (predecessor order place : ℕ → ℕ) (scanned ordered reached : ℕ) (radius bound : ℤ) → IsReached n first arcs p e s q predecessor order place scanned ordered reached radius → radius ≡ bound → IsRemaining n p q place scanned bound
+remaining_at_radius n first arcs p e s q predecessor order place scanned ordered reached radius bound r same v b l h = subst (λ (z : ℤ). z ≤ℤ (q v -ℤ p v)) same (r.here v b l h)
 
-pub remaining_behind : (n : ℕ) (first : List ℕ) (arcs : List ResidualArc) (p e : ℕ → ℤ) (s : ℕ) (q : ℕ → ℤ) (enter order place : ℕ → ℕ) (scanned ordered reached : ℕ) (radius bound : ℤ) → IsReached n first arcs p e s q enter order place scanned ordered reached radius → ordered ≤ scanned → ((j : ℕ) → ordered ≤ j → j < reached → bound ≤ℤ (q (order j) -ℤ p (order j))) → IsRemaining n p q place scanned bound
-remaining_behind n first arcs p e s q enter order place scanned ordered reached radius bound r done least v b l h =
+pub remaining_behind : (n : ℕ) (first : List ℕ) (arcs : List ResidualArc) (p e : ℕ → ℤ) (s : ℕ) (q : ℕ → ℤ) (predecessor order place : ℕ → ℕ) (scanned ordered reached : ℕ) (radius bound : ℤ) → IsReached n first arcs p e s q predecessor order place scanned ordered reached radius → ordered ≤ scanned → ((j : ℕ) → ordered ≤ j → j < reached → bound ≤ℤ (q (order j) -ℤ p (order j))) → IsRemaining n p q place scanned bound
+remaining_behind n first arcs p e s q predecessor order place scanned ordered reached radius bound r done least v b l h =
     let (in_list, back) = r.listed v b l in
     subst (λ (i : ℕ). bound ≤ℤ (q i -ℤ p i)) back (least (place v) (omega arith) in_list)
 
@@ -731,8 +731,8 @@ pub record IsNext (n : ℕ) (p : ℕ → ℤ) (s : ℕ) (q : ℕ → ℤ) (place
   pub near : IsNear (p s) (place u) (q u)
   pub high : radius ≤ℤ (q u -ℤ p u)
 
-pub next_node : (n : ℕ) (first : List ℕ) (arcs : List ResidualArc) (p e : ℕ → ℤ) (s : ℕ) (q : ℕ → ℤ) (enter order place : ℕ → ℕ) (scanned ordered reached : ℕ) (radius : ℤ) → IsReached n first arcs p e s q enter order place scanned ordered reached radius → scanned < ordered → IsNext n p s q place scanned radius (order scanned)
-next_node n first arcs p e s q enter order place scanned ordered reached radius r more =
+pub next_node : (n : ℕ) (first : List ℕ) (arcs : List ResidualArc) (p e : ℕ → ℤ) (s : ℕ) (q : ℕ → ℤ) (predecessor order place : ℕ → ℕ) (scanned ordered reached : ℕ) (radius : ℤ) → IsReached n first arcs p e s q predecessor order place scanned ordered reached radius → scanned < ordered → IsNext n p s q place scanned radius (order scanned)
+next_node n first arcs p e s q predecessor order place scanned ordered reached radius r more =
     let b : scanned < reached = omega (arith, r.counts) in
     let at : place (order scanned) ≡ scanned = r.at scanned b in
     let l : q (order scanned) <ℤ far = r.has_label scanned b in
@@ -758,6 +758,6 @@ next_kept n p s q q' place place' scanned radius u x kept =
     }
 
 -- the only labelled node at its place
-pub next_only : (n : ℕ) (first : List ℕ) (arcs : List ResidualArc) (p e : ℕ → ℤ) (s : ℕ) (q : ℕ → ℤ) (enter order place : ℕ → ℕ) (h scanned ordered reached : ℕ) (radius radius' : ℤ) (u : ℕ) → IsReached n first arcs p e s q enter order place scanned ordered reached radius → IsNext n p s q place h radius' u → (v : ℕ) → v < n → q v <ℤ far → place v ≡ h → v ≡ u
-next_only n first arcs p e s q enter order place h scanned ordered reached radius radius' u r x v b l at =
+pub next_only : (n : ℕ) (first : List ℕ) (arcs : List ResidualArc) (p e : ℕ → ℤ) (s : ℕ) (q : ℕ → ℤ) (predecessor order place : ℕ → ℕ) (h scanned ordered reached : ℕ) (radius radius' : ℤ) (u : ℕ) → IsReached n first arcs p e s q predecessor order place scanned ordered reached radius → IsNext n p s q place h radius' u → (v : ℕ) → v < n → q v <ℤ far → place v ≡ h → v ≡ u
+next_only n first arcs p e s q predecessor order place h scanned ordered reached radius radius' u r x v b l at =
     sym (r.listed v b l).1 ∙ ap order (at ∙ sym x.stands) ∙ (r.listed u x.node x.labelled).1

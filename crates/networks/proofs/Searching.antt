@@ -7,10 +7,10 @@ use mir.Syntax.{w16, w32}
 use mir.Val.{of_z, to_z}
 use Rattle.networks.specs.declared.state.SearchInput.{SearchInput}
 use Rattle.networks.specs.declared.state.Search.{Search}
-use Rattle.networks.specs.declared.state.Offer.{Offer}
+use Rattle.networks.specs.declared.state.Candidate.{Candidate}
 use Rattle.networks.specs.declared.state.Visit.{Visit}
 use Rattle.networks.specs.ResidualArcs.{StartsAt, end_at, cost_at}
-use Rattle.networks.specs.Search.{far, nodes_of, first_of, arcs_of, IsScanning, potential_of, excess_of, labels, orders, places, Reaches, HasLowered, IsSearch, IsOffered, IsLabelled, IsRelaxed, AreLowered, IsSwapped, IsReordered, HasServed, IsSearchInput, Serves, IsServed, looked, degree, SameBesideBound, SameBesideOrder, IsWithinFar}
+use Rattle.networks.specs.Search.{far, nodes_of, first_of, arcs_of, IsScanning, potential_of, excess_of, labels, orders, places, Reaches, HasLowered, IsSearch, HasCandidate, IsLabelled, IsRelaxed, AreLowered, IsSwapped, IsReordered, HasFeasibleLabels, IsSearchInput, IsFeasibleAt, AreFeasible, looked, degree, SameBesideBound, SameBesideOrder, IsWithinFar}
 use Rattle.networks.proofs.Signs.{fits_within, label_fits, label_passed, passed_within, difference_is}
 use Rattle.networks.proofs.Reaching.{below_or_not, behind, swapped, nearest_kept, nearest_offered, kept_then, kept_same, at_radius, offer_below, offer_fits, offer_made, next_node, next_kept, next_only, serves_kept, served_kept, served_more, kept_less, same_le, order_kept, looked_most, looked_same, looked_more, same_z, relabelled, enlisted, order_room, reached_fits, potential_fits_at, offer_end}
 
@@ -49,29 +49,29 @@ pub room_remaining : (g : SearchInput) (s : Search) (v : ℕ) → IsSearch g s �
 room_remaining g s v h b l = omega (arith, h.size, order_room _ _ _ _ _ _ _ _ _ _ _ _ _ _ v h.reached b l)
 
 -- what a new label leaves
-pub record IsTaken (g : SearchInput) (s s' : Search) (step : Offer) : Type 0 where
+pub record IsTaken (g : SearchInput) (s s' : Search) (step : Candidate) : Type 0 where
   pub reached : Reaches g s'
   pub kept : HasLowered g s.scanned s s'
   pub place : s.ordered ≤ places s' step.end
 
-pub taken : (g : SearchInput) (s s' : Search) (step : Offer) → IsOffered g s step → pos 0 ≤ℤ excess_of g step.end → IsLabelled s s' step → IsTaken g s s' step
+pub taken : (g : SearchInput) (s s' : Search) (step : Candidate) → HasCandidate g s step → pos 0 ≤ℤ excess_of g step.end → IsLabelled s s' step → IsTaken g s s' step
 taken g s s' step o nonnegative m =
     let h = o.search in
-    let b : step.end < nodes_of g = offer_end _ _ _ _ _ _ _ _ _ _ _ _ h.input.graph o.offer in
+    let b : step.end < nodes_of g = offer_end _ _ _ _ _ _ _ _ _ _ _ _ h.input.graph o.candidate in
     let q = m.progress in
     elim (below_or_not (labels s step.end) far) [
       | inl l ↦
           let e = m.again l in
-          let all = relabelled _ _ _ _ _ _ _ _ _ _ _ _ _ _ _ _ _ _ _ h.reached o.offer b l nonnegative m.label m.enter in
+          let all = relabelled _ _ _ _ _ _ _ _ _ _ _ _ _ _ _ _ _ _ _ h.reached o.candidate b l nonnegative m.label m.predecessor in
           record {
             reached = rw (fun_ext e.order, fun_ext e.place, q.scanned, q.ordered, e.reached, q.radius) all.0;
             kept = rw (fun_ext e.place) all.1;
-            place = rw (fun_ext e.place) (behind _ _ _ _ _ _ _ _ _ _ _ _ _ _ step.end step.label h.reached b o.offer.beyond o.offer.less l);
+            place = rw (fun_ext e.place) (behind _ _ _ _ _ _ _ _ _ _ _ _ _ _ step.end step.label h.reached b o.candidate.beyond o.candidate.less l);
           }
       | inr l ↦
           let e = m.anew l in
           let d : s.reached < nodes_of g = order_room _ _ _ _ _ _ _ _ _ _ _ _ _ _ step.end h.reached b l in
-          let all = enlisted _ _ _ _ _ _ _ _ _ _ _ _ _ _ _ _ _ _ _ _ _ h.reached o.offer b l nonnegative d m.label m.enter e.0 e.1 in
+          let all = enlisted _ _ _ _ _ _ _ _ _ _ _ _ _ _ _ _ _ _ _ _ _ h.reached o.candidate b l nonnegative d m.label m.predecessor e.0 e.1 in
           let at : places s' step.end ≡ s.reached = e.1.here in
           record {
             reached = rw (q.scanned, q.ordered, e.2, q.radius) all.0;
@@ -81,14 +81,14 @@ taken g s s' step o nonnegative m =
     ]
 
 -- the label that is offered is in range
-pub offer_within : (g : SearchInput) (s : Search) (step : Offer) → IsOffered g s step → IsWithinFar step.label
-offer_within g s step o = offer_fits _ _ _ _ _ _ _ _ _ _ _ _ _ _ _ _ _ o.search.input.graph o.search.input.priced o.search.reached o.offer
+pub offer_within : (g : SearchInput) (s : Search) (step : Candidate) → HasCandidate g s step → IsWithinFar step.label
+offer_within g s step o = offer_fits _ _ _ _ _ _ _ _ _ _ _ _ _ _ _ _ _ o.search.input.graph o.search.input.priced o.search.reached o.candidate
 
-pub end_in : (g : SearchInput) (s : Search) (step : Offer) → IsOffered g s step → step.end < nodes_of g
-end_in g s step o = offer_end _ _ _ _ _ _ _ _ _ _ _ _ o.search.input.graph o.offer
+pub end_in : (g : SearchInput) (s : Search) (step : Candidate) → HasCandidate g s step → step.end < nodes_of g
+end_in g s step o = offer_end _ _ _ _ _ _ _ _ _ _ _ _ o.search.input.graph o.candidate
 
 -- units are wanting at the end, which may be the nearest such node now
-pub offered : (g : SearchInput) (s s' : Search) (step : Offer) (away : ℤ) → IsOffered g s step → excess_of g step.end <ℤ pos 0 → away ≡ step.label -ℤ potential_of g step.end → SameBesideBound s s' → s'.bound ≤ℤ s.bound → ((s'.bound ≡ s.bound) × (s'.found ≡ s.found)) ⊎ ((s'.bound ≡ away) × (s'.found ≡ step.number)) → IsRelaxed g s s'
+pub offered : (g : SearchInput) (s s' : Search) (step : Candidate) (away : ℤ) → HasCandidate g s step → excess_of g step.end <ℤ pos 0 → away ≡ step.label -ℤ potential_of g step.end → SameBesideBound s s' → s'.bound ≤ℤ s.bound → ((s'.bound ≡ s.bound) × (s'.found ≡ s.found)) ⊎ ((s'.bound ≡ away) × (s'.found ≡ step.number)) → IsRelaxed g s s'
 offered g s s' step away o wants at a bound either =
     let h = o.search in
     let v = step.end in
@@ -99,7 +99,7 @@ offered g s s' step away o wants at a bound either =
         input = h.input;
         size = rw a.visits h.size;
         reached = rw (a.visits, a.scanned, a.ordered, a.reached, a.radius) h.reached;
-        nearest = rw (a.visits, a.scanned, a.radius) (nearest_offered _ _ _ _ _ _ _ _ _ _ _ _ _ _ _ v _ h.nearest o.offer (h.reached.most v b) wants (h.input.priced.zero v b wants) given);
+        nearest = rw (a.visits, a.scanned, a.radius) (nearest_offered _ _ _ _ _ _ _ _ _ _ _ _ _ _ _ v _ h.nearest o.candidate (h.reached.most v b) wants (h.input.priced.zero v b wants) given);
       };
       list = ap (λ (v : MutBor (List Visit)). v.ghost_name) a.visits;
       kept = rw a.visits (kept_same _ _ _ _);
@@ -109,7 +109,7 @@ offered g s s' step away o wants at a bound either =
     }
 
 -- the end has got its label, further off than the radius
-pub node_labelled_behind : (g : SearchInput) (s t : Search) (step : Offer) → IsOffered g s step → pos 0 ≤ℤ excess_of g step.end → IsLabelled s t step → IsRelaxed g s t
+pub node_labelled_behind : (g : SearchInput) (s t : Search) (step : Candidate) → HasCandidate g s step → pos 0 ≤ℤ excess_of g step.end → IsLabelled s t step → IsRelaxed g s t
 node_labelled_behind g s t step o nonnegative m =
     let h = o.search in
     let p = m.progress in
@@ -139,14 +139,14 @@ pub record IsListed (g : SearchInput) (t : Search) (v : ℕ) : Type 0 where
   pub other : orders t t.ordered < nodes_of g
   pub at : places t (orders t t.ordered) ≡ t.ordered
 
-pub listed : (g : SearchInput) (s t : Search) (step : Offer) → IsOffered g s step → pos 0 ≤ℤ excess_of g step.end → IsLabelled s t step → IsListed g t step.end
+pub listed : (g : SearchInput) (s t : Search) (step : Candidate) → HasCandidate g s step → pos 0 ≤ℤ excess_of g step.end → IsLabelled s t step → IsListed g t step.end
 listed g s t step o nonnegative m =
     let h = o.search in
     let v = step.end in
     let b : v < nodes_of g = end_in g s step o in
     let k = taken g s t step o nonnegative m in
     let r = k.reached in
-    let l : labels t v <ℤ far = subst (λ (z : ℤ). z <ℤ far) (sym m.label.here) (offer_below _ _ _ _ _ _ _ _ _ _ _ _ _ _ _ _ _ h.reached o.offer b) in
+    let l : labels t v <ℤ far = subst (λ (z : ℤ). z <ℤ far) (sym m.label.here) (offer_below _ _ _ _ _ _ _ _ _ _ _ _ _ _ _ _ _ h.reached o.candidate b) in
     let (inside, back) = r.listed v b l in
     let low : t.ordered ≤ places t v = omega (arith, k.place, m.progress.ordered) in
     let w : t.ordered < t.reached = omega arith in
@@ -162,7 +162,7 @@ listed g s t step o nonnegative m =
     }
 
 -- the same at the radius, where it was put behind those that are ordered
-pub node_labelled : (g : SearchInput) (s t u : Search) (step : Offer) (away : ℤ) → IsOffered g s step → pos 0 ≤ℤ excess_of g step.end → IsLabelled s t step → away ≡ step.label -ℤ potential_of g step.end → away ≡ t.radius → IsSwapped (orders t) (places t) (orders u) (places u) step.end (places t step.end) t.ordered → SameBesideOrder t u → u.ordered ≡ t.ordered + 1 → IsRelaxed g s u
+pub node_labelled : (g : SearchInput) (s t u : Search) (step : Candidate) (away : ℤ) → HasCandidate g s step → pos 0 ≤ℤ excess_of g step.end → IsLabelled s t step → away ≡ step.label -ℤ potential_of g step.end → away ≡ t.radius → IsSwapped (orders t) (places t) (orders u) (places u) step.end (places t step.end) t.ordered → SameBesideOrder t u → u.ordered ≡ t.ordered + 1 → IsRelaxed g s u
 node_labelled g s t u step away o nonnegative m at same swap z up =
     let h = o.search in
     let v = step.end in
@@ -177,7 +177,7 @@ node_labelled g s t u step away o nonnegative m at same swap z up =
       search = record {
         input = h.input;
         size = z.size ∙ w.size;
-        reached = rw (fun_ext z.label, fun_ext z.enter, z.scanned, up, z.reached, z.radius) moved;
+        reached = rw (fun_ext z.label, fun_ext z.predecessor, z.scanned, up, z.reached, z.radius) moved;
         nearest = rw (fun_ext z.label, z.scanned, p.scanned, z.radius, p.radius, z.bound, p.bound, z.found, p.found) (nearest_kept _ _ _ _ _ _ _ _ _ _ _ _ _ _ _ h.nearest h.nearest.above both);
       };
       list = z.list ∙ p.list;
@@ -188,10 +188,10 @@ node_labelled g s t u step away o nonnegative m at same swap z up =
     }
 
 -- residual arc k of the scanned node u offers x to its end v
-pub offering : (g : SearchInput) (s : Search) (u : ℕ) (step : Offer) → IsScanning g s u → StartsAt (first_of g) u step.number → step.end ≡ end_at (arcs_of g) step.number → step.label ≡ labels s u +ℤ cost_at (arcs_of g) step.number → step.label <ℤ labels s step.end → IsOffered g s step
+pub offering : (g : SearchInput) (s : Search) (u : ℕ) (step : Candidate) → IsScanning g s u → StartsAt (first_of g) u step.number → step.end ≡ end_at (arcs_of g) step.number → step.label ≡ labels s u +ℤ cost_at (arcs_of g) step.number → step.label <ℤ labels s step.end → HasCandidate g s step
 offering g s u step n k e x l = record {
   search = n.search;
-  offer = offer_made _ _ _ _ _ _ _ _ _ _ _ _ _ _ u _ _ _ n.search.input.graph n.search.input.priced n.search.reached n.node n.labelled n.place n.near n.radius k e x l;
+  candidate = offer_made _ _ _ _ _ _ _ _ _ _ _ _ _ _ u _ _ _ n.search.input.graph n.search.input.priced n.search.reached n.node n.labelled n.place n.near n.radius k e x l;
 }
 
 -- node u is the next of the order, and is scanned now
@@ -214,24 +214,24 @@ pub next_in : (g : SearchInput) (s : Search) (u : ℕ) → IsSearch g s → s.sc
 next_in g s u h more e = subst (λ (w : ℕ). w < nodes_of g) (sym e) (next_node _ _ _ _ _ _ _ _ _ _ _ _ _ _ h.reached more).node
 
 -- what the scanned node's residual arcs have offered stays taken up
-pub still_serves : (g : SearchInput) (s t : Search) (u k : ℕ) → IsScanning g s u → IsRelaxed g s t → StartsAt (first_of g) u k → Serves (arcs_of g) (potential_of g) (labels s) s.bound u k → Serves (arcs_of g) (potential_of g) (labels t) t.bound u k
+pub still_serves : (g : SearchInput) (s t : Search) (u k : ℕ) → IsScanning g s u → IsRelaxed g s t → StartsAt (first_of g) u k → IsFeasibleAt (arcs_of g) (potential_of g) (labels s) s.bound u k → IsFeasibleAt (arcs_of g) (potential_of g) (labels t) t.bound u k
 still_serves g s t u k n r st old =
     let here : places s u < s.scanned = omega (arith, n.place) in
     serves_kept (arcs_of g) (potential_of g) (labels s) (labels t) s.bound t.bound u k (r.kept.same u n.node n.labelled here).0 (r.kept.lower (end_at (arcs_of g) k) (n.search.input.graph.end u k n.node st)) r.bound old
 
 -- one node more was scanned
-pub are_scanned : (g : SearchInput) (s t : Search) (u : ℕ) → IsSearch g s → s.scanned < s.ordered → u ≡ orders s s.scanned → HasServed g s → IsSearch g t → HasLowered g (s.scanned + 1) s t → t.scanned ≡ s.scanned + 1 → t.bound ≤ℤ s.bound → ((k : ℕ) → StartsAt (first_of g) u k → Serves (arcs_of g) (potential_of g) (labels t) t.bound u k) → HasServed g t
+pub are_scanned : (g : SearchInput) (s t : Search) (u : ℕ) → IsSearch g s → s.scanned < s.ordered → u ≡ orders s s.scanned → HasFeasibleLabels g s → IsSearch g t → HasLowered g (s.scanned + 1) s t → t.scanned ≡ s.scanned + 1 → t.bound ≤ℤ s.bound → ((k : ℕ) → StartsAt (first_of g) u k → IsFeasibleAt (arcs_of g) (potential_of g) (labels t) t.bound u k) → HasFeasibleLabels g t
 are_scanned g s t u h more e served k kept heads bound serves =
     let v : ℕ = orders s s.scanned in
     let x = next_kept _ _ _ _ _ _ _ _ _ _ (next_node _ _ _ _ _ _ _ _ _ _ _ _ _ _ h.reached more) kept in
-    let all : (j : ℕ) → StartsAt (first_of g) v j → Serves (arcs_of g) (potential_of g) (labels t) t.bound v j = subst (λ (w : ℕ). (j : ℕ) → StartsAt (first_of g) w j → Serves (arcs_of g) (potential_of g) (labels t) t.bound w j) e serves in
+    let all : (j : ℕ) → StartsAt (first_of g) v j → IsFeasibleAt (arcs_of g) (potential_of g) (labels t) t.bound v j = subst (λ (w : ℕ). (j : ℕ) → StartsAt (first_of g) w j → IsFeasibleAt (arcs_of g) (potential_of g) (labels t) t.bound w j) e serves in
     let less = kept_less _ _ s.scanned _ _ _ _ (omega arith) kept in
     let both = served_more _ _ _ _ _ _ _ s.scanned v (served_kept _ _ _ _ _ _ _ _ _ _ _ h.input.graph served less bound) (next_only _ _ _ _ _ _ _ _ _ _ _ _ _ _ _ _ v k.reached x) all in
-    subst (λ (i : ℕ). IsServed (nodes_of g) (first_of g) (arcs_of g) (potential_of g) (labels t) (places t) t.bound i) (sym heads) both
+    subst (λ (i : ℕ). AreFeasible (nodes_of g) (first_of g) (arcs_of g) (potential_of g) (labels t) (places t) t.bound i) (sym heads) both
 
-pub served_still : (g : SearchInput) (s t : Search) → IsSearch g s → IsReordered g s t → HasServed g s → HasServed g t
+pub served_still : (g : SearchInput) (s t : Search) → IsSearch g s → IsReordered g s t → HasFeasibleLabels g s → HasFeasibleLabels g t
 served_still g s t h o served =
-    subst (λ (i : ℕ). IsServed (nodes_of g) (first_of g) (arcs_of g) (potential_of g) (labels t) (places t) t.bound i) (sym o.scanned) (served_kept _ _ _ _ _ _ _ _ _ _ _ h.input.graph served o.kept (same_le _ _ o.bound))
+    subst (λ (i : ℕ). AreFeasible (nodes_of g) (first_of g) (arcs_of g) (potential_of g) (labels t) (places t) t.bound i) (sym o.scanned) (served_kept _ _ _ _ _ _ _ _ _ _ _ h.input.graph served o.kept (same_le _ _ o.bound))
 
 -- the looks at the residual arcs of the nodes that were scanned
 pub looked_ordered : (g : SearchInput) (s t : Search) → IsSearch g s → IsReordered g s t → looked (first_of g) (orders t) t.scanned ≡ looked (first_of g) (orders s) s.scanned

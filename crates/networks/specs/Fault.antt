@@ -2,7 +2,7 @@
 use Rattle.std.specs.Prelude.{ℕ, ◌<◌, ◌≤◌, pos, ◌-ℤ◌, ◌<ℤ◌, ◌⊎◌}
 use Rattle.networks.specs.declared.network.TheConstants.{MAX_ARCS, MAX_NODES}
 use Rattle.networks.specs.declared.fault.TheConstants.{MAX_SUPPLY}
-use Rattle.networks.specs.Networks.{NetworkModel, node_count, arc_count, arc_at, supply_at, IsSmall, HasEnds, HasFairSupplies}
+use Rattle.networks.specs.Networks.{NetworkModel, node_count, arc_count, arc_at, supply_at, IsSmall, HasEnds, HasSuppliesInRange}
 use Rattle.networks.specs.declared.fault.NetFault.{NetFault}
 use Rattle.networks.specs.declared.fault.NetFault.TheVariants.{TooLarge, BadEnd, BadSupply, BadCost}
 
@@ -18,7 +18,7 @@ abbrev pub HasNoFaultBefore : NetworkModel → NetFault → Type 0
 HasNoFaultBefore net TooLarge = Unit {0}
 HasNoFaultBefore net BadEnd = IsSmall net
 HasNoFaultBefore net BadSupply = IsSmall net × HasEnds net
-HasNoFaultBefore net BadCost = IsSmall net × HasEnds net × HasFairSupplies net
+HasNoFaultBefore net BadCost = IsSmall net × HasEnds net × HasSuppliesInRange net
 
 -- the fault is the first in their order
 pub record IsFirstFault (net : NetworkModel) (fault : NetFault) : Type 0 where

@@ -8,16 +8,16 @@ use Rattle.networks.specs.Networks.{NetworkModel, node_count, arc_count, arc_at,
 -- ---- flows: amounts x i by the arc's number i
 
 -- what leaves node v
-abbrev pub leaves : NetworkModel → (ℕ → ℕ) → ℕ → ℕ
-leaves net x v = sum_below (arc_count net) (λ i. if (arc_at net i).from == v then x i else 0)
+abbrev pub outflow : NetworkModel → (ℕ → ℕ) → ℕ → ℕ
+outflow net x v = sum_below (arc_count net) (λ i. if (arc_at net i).from == v then x i else 0)
 
 -- what enters node v
-abbrev pub enters : NetworkModel → (ℕ → ℕ) → ℕ → ℕ
-enters net x v = sum_below (arc_count net) (λ i. if (arc_at net i).to == v then x i else 0)
+abbrev pub inflow : NetworkModel → (ℕ → ℕ) → ℕ → ℕ
+inflow net x v = sum_below (arc_count net) (λ i. if (arc_at net i).to == v then x i else 0)
 
 -- what leaves v less what enters it
-abbrev pub balance : NetworkModel → (ℕ → ℕ) → ℕ → ℤ
-balance net x v = pos (leaves net x v) -ℤ pos (enters net x v)
+abbrev pub net_outflow : NetworkModel → (ℕ → ℕ) → ℕ → ℤ
+net_outflow net x v = pos (outflow net x v) -ℤ pos (inflow net x v)
 
 abbrev pub cost_of : NetworkModel → (ℕ → ℕ) → ℕ
 cost_of net x = sum_below (arc_count net) (λ i. (arc_at net i).cost * x i)
@@ -30,7 +30,7 @@ IsWithinCap Any amount = Unit {0}
 -- x is a flow: it keeps the capacities, and each node sends out its supply
 pub record Flow (net : NetworkModel) (x : ℕ → ℕ) : Type 0 where
   pub within : (i : ℕ) → i < arc_count net → IsWithinCap (arc_at net i).cap (x i)
-  pub meets : (v : ℕ) → v < node_count net → balance net x v ≡ supply_at net v
+  pub meets : (v : ℕ) → v < node_count net → net_outflow net x v ≡ supply_at net v
 
 abbrev pub HasNoFlow : NetworkModel → Type 0
 HasNoFlow net = (y : ℕ → ℕ) → Flow net y → ⊥

@@ -37,12 +37,12 @@ abbrev pub HasEnds : NetworkModel → Type 0
 HasEnds net = (i : ℕ) → i < arc_count net → ((arc_at net i).from < node_count net) × ((arc_at net i).to < node_count net)
 
 -- at most as many units as a node may supply or want
-abbrev pub IsFair : ℤ → Type 0
-IsFair units = ((pos 0 -ℤ pos MAX_SUPPLY) ≤ℤ units) × (units ≤ℤ pos MAX_SUPPLY)
+abbrev pub IsInSupplyRange : ℤ → Type 0
+IsInSupplyRange units = ((pos 0 -ℤ pos MAX_SUPPLY) ≤ℤ units) × (units ≤ℤ pos MAX_SUPPLY)
 
 -- no node supplies or wants more than it may
-abbrev pub HasFairSupplies : NetworkModel → Type 0
-HasFairSupplies net = (v : ℕ) → v < node_count net → IsFair (supply_at net v)
+abbrev pub HasSuppliesInRange : NetworkModel → Type 0
+HasSuppliesInRange net = (v : ℕ) → v < node_count net → IsInSupplyRange (supply_at net v)
 
 -- each arc costs 0 or 1 a unit
 abbrev pub HasUnitCosts : NetworkModel → Type 0
@@ -52,7 +52,7 @@ HasUnitCosts net = (i : ℕ) → i < arc_count net → (arc_at net i).cost ≤ 1
 pub record IsNetwork (net : NetworkModel) : Type 0 where
   pub small : IsSmall net
   pub ends : HasEnds net
-  pub supplies : HasFairSupplies net
+  pub supplies : HasSuppliesInRange net
   pub costs : HasUnitCosts net
 
 -- so many units more at one place, and so many less at another

@@ -43,7 +43,7 @@ number_of reverse forward i false = numbers forward i
 number_of reverse forward i true = reverse (numbers forward i)
 
 -- number k is that of a residual arc that starts at node v
-pub record HasOrigin (net : NetworkModel) (reverse : ℕ → ℕ) (forward : List ℕ) (v k : ℕ) : Type 0 where
+pub record StemsFromArc (net : NetworkModel) (reverse : ℕ → ℕ) (forward : List ℕ) (v k : ℕ) : Type 0 where
   pub arc : ℕ
   pub back : Bool
   pub inside : arc < arc_count net
@@ -57,7 +57,7 @@ pub record HasResidualArcs (net : NetworkModel) (first : List ℕ) (reverse : �
   pub rising : (v : ℕ) → v < node_count net → numbers first v ≤ numbers first (v + 1)
   pub inside : (v : ℕ) → v < node_count net → numbers first (v + 1) ≤ arc_count net + arc_count net
   pub block : (i : ℕ) (back : Bool) → i < arc_count net → StartsAt first (start_of net i back) (number_of reverse forward i back)
-  pub origins : (v k : ℕ) → v < node_count net → StartsAt first v k → HasOrigin net reverse forward v k
+  pub stem_from_arcs : (v k : ℕ) → v < node_count net → StartsAt first v k → StemsFromArc net reverse forward v k
   pub alone : (i j : ℕ) (b c : Bool) → i < arc_count net → j < arc_count net → number_of reverse forward i b ≡ number_of reverse forward j c → (i ≡ j) × (b ≡ c)
   pub undone : (i : ℕ) → i < arc_count net → reverse (reverse (numbers forward i)) ≡ numbers forward i
 

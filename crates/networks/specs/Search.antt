@@ -8,7 +8,7 @@ use Rattle.common.specs.Sums.{sum_below}
 use Rattle.networks.specs.declared.residual.ResidualArc.{ResidualArc}
 use Rattle.networks.specs.declared.state.SearchInput.{SearchInput}
 use Rattle.networks.specs.declared.state.Search.{Search}
-use Rattle.networks.specs.declared.state.Offer.{Offer}
+use Rattle.networks.specs.declared.state.Candidate.{Candidate}
 use Rattle.networks.specs.declared.state.Visit.{Visit}
 use Rattle.networks.specs.Flow.{at_nodes}
 use Rattle.networks.specs.ResidualArcs.{numbers, end_at, cost_at, StartsAt}
@@ -50,7 +50,7 @@ abbrev pub IsNear : ℤ → ℕ → ℤ → Type 0
 IsNear z k a = (z ≤ℤ (a +ℤ pos k)) × (a ≤ℤ (z +ℤ pos k))
 
 -- node v was labelled along residual arc k, from a node that was scanned before
-pub record IsEntered (n : ℕ) (first : List ℕ) (arcs : List ResidualArc) (q : ℕ → ℤ) (place : ℕ → ℕ) (scanned v k : ℕ) : Type 0 where
+pub record HasPredecessor (n : ℕ) (first : List ℕ) (arcs : List ResidualArc) (q : ℕ → ℤ) (place : ℕ → ℕ) (scanned v k : ℕ) : Type 0 where
   pub start : ℕ
   pub node : start < n
   pub labelled : q start <ℤ far
@@ -63,7 +63,7 @@ pub record IsEntered (n : ℕ) (first : List ℕ) (arcs : List ResidualArc) (q :
 
 -- the nodes that were reached, in order of their distance q v - p v: those that were scanned, those
 -- at the radius, and those further off
-pub record IsReached (n : ℕ) (first : List ℕ) (arcs : List ResidualArc) (p e : ℕ → ℤ) (s : ℕ) (q : ℕ → ℤ) (enter order place : ℕ → ℕ) (scanned ordered reached : ℕ) (radius : ℤ) : Type 0 where
+pub record IsReached (n : ℕ) (first : List ℕ) (arcs : List ResidualArc) (p e : ℕ → ℤ) (s : ℕ) (q : ℕ → ℤ) (predecessor order place : ℕ → ℕ) (scanned ordered reached : ℕ) (radius : ℤ) : Type 0 where
   pub counts : (scanned ≤ ordered) × (ordered ≤ reached) × (reached ≤ n)
   pub begun : 0 < ordered
   pub node : (j : ℕ) → j < reached → order j < n
@@ -76,7 +76,7 @@ pub record IsReached (n : ℕ) (first : List ℕ) (arcs : List ResidualArc) (p e
   pub near : (v : ℕ) → v < n → q v <ℤ far → IsNear (p s) scanned (q v)
   pub root : (s < n) × (q s <ℤ far) × (place s ≡ 0)
   pub nonnegative : (v : ℕ) → v < n → q v <ℤ far → pos 0 ≤ℤ e v
-  pub entered : (v : ℕ) → v < n → q v <ℤ far → v ≢ s → IsEntered n first arcs q place scanned v (enter v)
+  pub entered : (v : ℕ) → v < n → q v <ℤ far → v ≢ s → HasPredecessor n first arcs q place scanned v (predecessor v)
 
 -- residual arc k leads from a scanned node to one where units are wanting, at distance `bound`
 pub record IsHit (n : ℕ) (first : List ℕ) (arcs : List ResidualArc) (p e : ℕ → ℤ) (s : ℕ) (q : ℕ → ℤ) (place : ℕ → ℕ) (scanned : ℕ) (bound : ℤ) (k : ℕ) : Type 0 where
@@ -86,7 +86,7 @@ pub record IsHit (n : ℕ) (first : List ℕ) (arcs : List ResidualArc) (p e : �
   pub are_scanned : place start < scanned
   pub leaves : StartsAt first start k
   pub has_capacity : HasResidualCapacity arcs k
-  pub wanting : e (end_at arcs k) <ℤ pos 0
+  pub deficit : e (end_at arcs k) <ℤ pos 0
   pub distance : bound ≡ q start +ℤ cost_at arcs k -ℤ p (end_at arcs k)
   pub near : IsNear (p s) scanned bound
 
@@ -97,12 +97,12 @@ pub record IsNearest (n : ℕ) (first : List ℕ) (arcs : List ResidualArc) (p e
   pub hit : bound <ℤ far → IsHit n first arcs p e s q place scanned bound k
 
 -- residual arc k from node u offers nothing more to its end
-abbrev pub Serves : List ResidualArc → (ℕ → ℤ) → (ℕ → ℤ) → ℤ → ℕ → ℕ → Type 0
-Serves arcs p q bound u k = HasResidualCapacity arcs k → (q u +ℤ cost_at arcs k -ℤ p (end_at arcs k)) <ℤ bound → q (end_at arcs k) ≤ℤ (q u +ℤ cost_at arcs k)
+abbrev pub IsFeasibleAt : List ResidualArc → (ℕ → ℤ) → (ℕ → ℤ) → ℤ → ℕ → ℕ → Type 0
+IsFeasibleAt arcs p q bound u k = HasResidualCapacity arcs k → (q u +ℤ cost_at arcs k -ℤ p (end_at arcs k)) <ℤ bound → q (end_at arcs k) ≤ℤ (q u +ℤ cost_at arcs k)
 
 -- the same for all residual arcs of the first h nodes of the order
-pub record IsServed (n : ℕ) (first : List ℕ) (arcs : List ResidualArc) (p q : ℕ → ℤ) (place : ℕ → ℕ) (bound : ℤ) (h : ℕ) : Type 0 where
-  pub served : (u k : ℕ) → u < n → q u <ℤ far → place u < h → StartsAt first u k → Serves arcs p q bound u k
+pub record AreFeasible (n : ℕ) (first : List ℕ) (arcs : List ResidualArc) (p q : ℕ → ℤ) (place : ℕ → ℕ) (bound : ℤ) (h : ℕ) : Type 0 where
+  pub served : (u k : ℕ) → u < n → q u <ℤ far → place u < h → StartsAt first u k → IsFeasibleAt arcs p q bound u k
 
 -- nodes that were reached and not scanned are no nearer than `bound`
 abbrev pub IsRemaining : ℕ → (ℕ → ℤ) → (ℕ → ℤ) → (ℕ → ℕ) → ℕ → ℤ → Type 0
@@ -140,7 +140,7 @@ excess_of g = at_nodes g.excess.now
 
 -- stands for visits past the last
 abbrev pub no_visit : Visit
-no_visit = record { label = pos 0; enter = 0; place = 0; at_place = 0 }
+no_visit = record { label = pos 0; predecessor = 0; place = 0; at_place = 0 }
 
 abbrev pub visit_at : List Visit → ℕ → Visit
 visit_at visits v = slice_index_or visits v no_visit
@@ -148,8 +148,8 @@ visit_at visits v = slice_index_or visits v no_visit
 abbrev pub label_at : List Visit → ℕ → ℤ
 label_at visits v = (visit_at visits v).label
 
-abbrev pub enter_at : List Visit → ℕ → ℕ
-enter_at visits v = (visit_at visits v).enter
+abbrev pub predecessor_at : List Visit → ℕ → ℕ
+predecessor_at visits v = (visit_at visits v).predecessor
 
 abbrev pub order_at : List Visit → ℕ → ℕ
 order_at visits j = (visit_at visits j).at_place
@@ -160,8 +160,8 @@ place_at visits v = (visit_at visits v).place
 abbrev pub labels : Search → ℕ → ℤ
 labels s v = label_at s.visits.now v
 
-abbrev pub enters : Search → ℕ → ℕ
-enters s v = enter_at s.visits.now v
+abbrev pub predecessors : Search → ℕ → ℕ
+predecessors s v = predecessor_at s.visits.now v
 
 abbrev pub orders : Search → ℕ → ℕ
 orders s j = order_at s.visits.now j
@@ -181,14 +181,14 @@ pub record IsSearchInput (g : SearchInput) : Type 0 where
   pub root : g.root < nodes_of g
 
 -- a search can begin: units are left over at the root, and no node has a label
-pub record IsBlank (g : SearchInput) (visits : List Visit) : Type 0 where
+pub record IsUnlabelled (g : SearchInput) (visits : List Visit) : Type 0 where
   pub input : IsSearchInput g
   pub size : length visits ≡ nodes_of g
-  pub blank : (v : ℕ) → v < nodes_of g → label_at visits v ≡ far
+  pub unlabelled : (v : ℕ) → v < nodes_of g → label_at visits v ≡ far
   pub root : pos 0 <ℤ excess_of g g.root
 
 abbrev pub Reaches : SearchInput → Search → Type 0
-Reaches g s = IsReached (nodes_of g) (first_of g) (arcs_of g) (potential_of g) (excess_of g) g.root (labels s) (enters s) (orders s) (places s) s.scanned s.ordered s.reached s.radius
+Reaches g s = IsReached (nodes_of g) (first_of g) (arcs_of g) (potential_of g) (excess_of g) g.root (labels s) (predecessors s) (orders s) (places s) s.scanned s.ordered s.reached s.radius
 
 abbrev pub FindsNearest : SearchInput → Search → Type 0
 FindsNearest g s = IsNearest (nodes_of g) (first_of g) (arcs_of g) (potential_of g) (excess_of g) g.root (labels s) (places s) s.scanned s.radius s.bound s.found
@@ -200,8 +200,8 @@ pub record IsSearch (g : SearchInput) (s : Search) : Type 0 where
   pub reached : Reaches g s
   pub nearest : FindsNearest g s
 
-abbrev pub HasServed : SearchInput → Search → Type 0
-HasServed g s = IsServed (nodes_of g) (first_of g) (arcs_of g) (potential_of g) (labels s) (places s) s.bound s.scanned
+abbrev pub HasFeasibleLabels : SearchInput → Search → Type 0
+HasFeasibleLabels g s = AreFeasible (nodes_of g) (first_of g) (arcs_of g) (potential_of g) (labels s) (places s) s.bound s.scanned
 
 abbrev pub HasRemaining : SearchInput → Search → Type 0
 HasRemaining g s = IsRemaining (nodes_of g) (potential_of g) (labels s) (places s) s.scanned s.bound
@@ -265,7 +265,7 @@ pub record SameBesideOrder (s s' : Search) : Type 0 where
   pub list : HasSameList s s'
   pub size : length s'.visits.now ≡ length s.visits.now
   pub label : (v : ℕ) → labels s' v ≡ labels s v
-  pub enter : (v : ℕ) → enters s' v ≡ enters s v
+  pub predecessor : (v : ℕ) → predecessors s' v ≡ predecessors s v
   pub scanned : s'.scanned ≡ s.scanned
   pub reached : s'.reached ≡ s.reached
   pub radius : s'.radius ≡ s.radius
@@ -290,7 +290,7 @@ pub record SameOrder (s s' : Search) : Type 0 where
   pub progress : SameProgress s s'
 
 -- a scanned node's residual arc offers its end a lesser label, no nearer than the radius
-pub record IsOffer (n : ℕ) (first : List ℕ) (arcs : List ResidualArc) (p : ℕ → ℤ) (s : ℕ) (q : ℕ → ℤ) (place : ℕ → ℕ) (scanned : ℕ) (radius : ℤ) (k v : ℕ) (x : ℤ) : Type 0 where
+pub record IsCandidate (n : ℕ) (first : List ℕ) (arcs : List ResidualArc) (p : ℕ → ℤ) (s : ℕ) (q : ℕ → ℤ) (place : ℕ → ℕ) (scanned : ℕ) (radius : ℤ) (k v : ℕ) (x : ℤ) : Type 0 where
   pub start : ℕ
   pub node : start < n
   pub labelled : q start <ℤ far
@@ -304,12 +304,12 @@ pub record IsOffer (n : ℕ) (first : List ℕ) (arcs : List ResidualArc) (p : �
   pub less : x <ℤ q v
 
 -- the step is such an offer in a search
-pub record IsOffered (g : SearchInput) (s : Search) (step : Offer) : Type 0 where
+pub record HasCandidate (g : SearchInput) (s : Search) (step : Candidate) : Type 0 where
   pub search : IsSearch g s
-  pub offer : IsOffer (nodes_of g) (first_of g) (arcs_of g) (potential_of g) g.root (labels s) (places s) s.scanned s.radius step.number step.end step.label
+  pub candidate : IsCandidate (nodes_of g) (first_of g) (arcs_of g) (potential_of g) g.root (labels s) (places s) s.scanned s.radius step.number step.end step.label
 
 -- the step ends at a node of the search
-pub record HasEnd (s : Search) (step : Offer) : Type 0 where
+pub record HasEnd (s : Search) (step : Candidate) : Type 0 where
   pub few : length s.visits.now ≤ MAX_NODES
   pub node : step.end < length s.visits.now
   pub number : step.number < MAX_RESIDUAL_ARCS
@@ -346,9 +346,9 @@ pub record IsSwapped (order place order' place' : ℕ → ℕ) (v from to : ℕ)
 
 -- a node has got a label and the residual arc on which it was entered, and where it had no label a place behind
 -- all others
-pub record IsLabelled (s s' : Search) (step : Offer) : Type 0 where
+pub record IsLabelled (s s' : Search) (step : Candidate) : Type 0 where
   pub label : IsPut (labels s) (labels s') step.end step.label
-  pub enter : IsPut (enters s) (enters s') step.end step.number
+  pub predecessor : IsPut (predecessors s) (predecessors s') step.end step.number
   pub progress : SameProgress s s'
   pub again : labels s step.end <ℤ far → SameOrder s s'
   pub anew : far ≤ℤ labels s step.end → IsPut (orders s) (orders s') s.reached step.end × IsPut (places s) (places s') step.end s.reached × (s'.reached ≡ s.reached + 1)

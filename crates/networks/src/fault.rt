@@ -1,6 +1,6 @@
 ghost use Rattle.std.specs.Prelude.{◌≡◌, [], true, false};
 ghost use Rattle.networks.specs.Fault.{HasFault};
-ghost use Rattle.networks.specs.Networks.{net_of, HasEnds, HasFairSupplies, HasUnitCosts};
+ghost use Rattle.networks.specs.Networks.{net_of, HasEnds, HasSuppliesInRange, HasUnitCosts};
 
 use crate::arc::Arc;
 use thiserror::Error;
@@ -37,7 +37,7 @@ pub(crate) fn has_bad_end(supplies: &[i32], arcs: &[Arc]) -> bool
 /// Whether a supply is too large in absolute value.
 pub(crate) fn has_bad_supply(supplies: &[i32]) -> bool
     ensures some { result ≡ true → HasFault (net_of supplies.now []) NetFault.BadSupply }
-    ensures none { result ≡ false → HasFairSupplies (net_of supplies.now []) }
+    ensures none { result ≡ false → HasSuppliesInRange (net_of supplies.now []) }
 {
     supplies
         .iter()

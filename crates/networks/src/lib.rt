@@ -4,8 +4,8 @@
 
 mod arc;
 mod build;
+mod dijkstra;
 mod fault;
-mod nearest;
 mod network;
 mod reach;
 mod residual;

@@ -1,6 +1,6 @@
 ghost use Rattle.std.specs.Prelude.{◌≡◌, ◌<◌, ◌≤◌, IfOk, IfErr};
 ghost use Rattle.networks.specs.declared.fault.TheConstants.{MAX_SUPPLY};
-ghost use Rattle.networks.specs.Networks.{NetworkModel, net_of, node_count, arc_count, arc_at, supply_at, shifted, HasFairSupplies, IsNetwork};
+ghost use Rattle.networks.specs.Networks.{NetworkModel, net_of, node_count, arc_count, arc_at, supply_at, shifted, HasSuppliesInRange, IsNetwork};
 
 use crate::arc::Arc;
 use crate::fault::{NetFault, has_bad_cost, has_bad_end, has_bad_supply};
@@ -101,7 +101,7 @@ impl Network {
         requires from { from < node_count self.old }
         requires to { to < node_count self.old }
         requires few { amount ≤ MAX_SUPPLY }
-        requires fair { HasFairSupplies (shifted self.old from to amount) }
+        requires in_range { HasSuppliesInRange (shifted self.old from to amount) }
         ensures { self.new ≡ shifted self.old from to amount }
     {
         move_units(&mut self.supplies, from, to, amount);

@@ -3,15 +3,15 @@
 //!
 //! Labels are within 8,000 of 0. Each call takes constant time, and no memory.
 ghost use Rattle.std.specs.Prelude.{◌≡◌, ◌⊎◌, ◌<◌, ◌+◌, length, pos, ◌≤ℤ◌, ◌<ℤ◌, ◌-ℤ◌};
-ghost use Rattle.networks.specs.Search.{far, potential_of, excess_of, labels, enters, orders, places, HasEnd, CanAdvance, CanPut, IsOffered, IsRelaxed, IsLabelled, SameBesideBound, SameBesideOrder, SameOrder, SameProgress, IsPut, IsSwapped, IsWithinFar};
+ghost use Rattle.networks.specs.Search.{far, potential_of, excess_of, labels, predecessors, orders, places, HasEnd, CanAdvance, CanPut, HasCandidate, IsRelaxed, IsLabelled, SameBesideBound, SameBesideOrder, SameOrder, SameProgress, IsPut, IsSwapped, IsWithinFar};
 
-use crate::state::{FAR, Offer, Search, SearchInput};
+use crate::state::{Candidate, FAR, Search, SearchInput};
 
 impl Search<'_> {
     /// Takes up what a residual arc offers to its end: where units are wanting there, it may be the nearest such
     /// node now, and else it gets the label if that is nearer than the bound.
-    pub(crate) fn reach(&mut self, input: SearchInput<'_>, step: Offer)
-        requires offer { IsOffered input self.old step }
+    pub(crate) fn reach(&mut self, input: SearchInput<'_>, step: Candidate)
+        requires candidate { HasCandidate input self.old step }
         ensures relaxed { IsRelaxed input.entry self.old self.new }
         ensures served { (step.label -ℤ potential_of input.entry step.end) <ℤ self.new.bound → labels self.new step.end ≤ℤ step.label }
     {
@@ -20,7 +20,7 @@ impl Search<'_> {
             return;
         }
         if input.excess[step.end] < 0 {
-            self.offer(input, step.number, away);
+            self.candidate(input, step.number, away);
         } else if away < self.bound {
             self.label_node(input, step);
         }
@@ -28,8 +28,8 @@ impl Search<'_> {
 
     /// Gives a node where no units are wanting a label, and puts it behind those that are ordered if it is at
     /// the radius.
-    fn label_node(&mut self, input: SearchInput<'_>, step: Offer)
-        requires offer { IsOffered input self.old step }
+    fn label_node(&mut self, input: SearchInput<'_>, step: Candidate)
+        requires candidate { HasCandidate input self.old step }
         requires nonnegative { pos 0 ≤ℤ excess_of input step.end }
         ensures relaxed { IsRelaxed input.entry self.old self.new }
         ensures label { labels self.new step.end ≡ step.label }
@@ -42,7 +42,7 @@ impl Search<'_> {
 
     /// Takes a node where units are wanting for the nearest one, if it is, or if it is as near and has a
     /// lesser score.
-    fn offer(&mut self, input: SearchInput<'_>, number: usize, distance: i32)
+    fn candidate(&mut self, input: SearchInput<'_>, number: usize, distance: i32)
         ensures same { SameBesideBound self.old self.new }
         ensures bound { self.new.bound ≤ℤ self.old.bound }
         ensures least { self.new.bound ≤ℤ distance }
@@ -57,7 +57,7 @@ impl Search<'_> {
     }
 
     /// Gives a node a label, and a place behind all that were reached if it has none.
-    fn set_label(&mut self, step: Offer)
+    fn set_label(&mut self, step: Candidate)
         requires end { HasEnd self.old step }
         requires room { far ≤ℤ labels self.old step.end → self.old.reached < length self.old.visits.now }
         ensures has_label { IsLabelled self.old self.new step }
@@ -70,11 +70,11 @@ impl Search<'_> {
     }
 
     /// Gives a node that was not reached before a label, and a place behind all others.
-    fn enlist(&mut self, step: Offer)
+    fn enlist(&mut self, step: Candidate)
         requires end { HasEnd self.old step }
         requires room { self.old.reached < length self.old.visits.now }
         ensures label { IsPut (labels self.old) (labels self.new) step.end step.label }
-        ensures enter { IsPut (enters self.old) (enters self.new) step.end step.number }
+        ensures predecessor { IsPut (predecessors self.old) (predecessors self.new) step.end step.number }
         ensures order { IsPut (orders self.old) (orders self.new) self.old.reached step.end }
         ensures place { IsPut (places self.old) (places self.new) step.end self.old.reached }
         ensures same { SameProgress self.old self.new }
@@ -86,15 +86,15 @@ impl Search<'_> {
     }
 
     /// Writes the label of a node, and the residual arc by which it was reached.
-    pub(crate) fn relabel(&mut self, step: Offer)
+    pub(crate) fn relabel(&mut self, step: Candidate)
         requires { HasEnd self.old step }
         ensures label { IsPut (labels self.old) (labels self.new) step.end step.label }
-        ensures enter { IsPut (enters self.old) (enters self.new) step.end step.number }
+        ensures predecessor { IsPut (predecessors self.old) (predecessors self.new) step.end step.number }
         ensures order { SameOrder self.old self.new }
     {
         let visit = &mut self.visits[step.end];
         visit.label = step.label;
-        visit.enter = step.number as u16;
+        visit.predecessor = step.number as u16;
     }
 
     /// Puts a node behind those that are ordered, in exchange for the node that is there.

@@ -83,7 +83,7 @@ impl Residual {
     }
 
     /// Makes capacity for so many units more, at least one, along a residual arc, which may have been saturated.
-    pub fn give_capacity(&mut self, number: usize, units: u32)
+    pub fn add_capacity(&mut self, number: usize, units: u32)
         requires arc { HasNumber self.old number }
         requires cost { (z : ℤ) × (negsuc 0 ≤ℤ z) × (z ≤ℤ pos 1) × IsCosted self.old.arcs.items self.old.capacities.items number z }
         requires some { 0 < units }

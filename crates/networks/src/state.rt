@@ -26,7 +26,7 @@ pub struct Visit {
     /// The root's potential and the costs of the residual arcs on the way to the node, or `FAR`.
     pub label: i16,
     /// The residual arc on which the node was entered.
-    pub enter: u16,
+    pub predecessor: u16,
     /// The place of the node in the order.
     pub place: u16,
     /// The node at this place of the order.
@@ -54,7 +54,7 @@ pub struct Search<'a> {
 
 /// A residual arc that was looked at, and the label that it offers to its end.
 #[derive(Clone, Copy, Debug, PartialEq, Eq)]
-pub(crate) struct Offer {
+pub(crate) struct Candidate {
     pub number: usize,
     pub end: usize,
     pub label: i16,

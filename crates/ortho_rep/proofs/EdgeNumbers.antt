@@ -26,7 +26,7 @@ pub edge_total : (p : PlaneModel) → HasEnds p → 2 * edge_number p (darts p) 
 edge_total p ends =
     let n = darts p in
     let turned : sum_below n (λ d. one_if_lesser p (reverse_dart p d)) ≡ sum_below n (one_if_lesser p) =
-    sum_below-turned n (reverse_dart p) (one_if_lesser p) ends.reverse_dart_inside ends.reverse_dart_back in
+    sum_below-turned n (reverse_dart p) (one_if_lesser p) ends.reverse_dart_in_range ends.reverse_dart_back in
     let ones : sum_below n (λ d. one_if_lesser p d + one_if_lesser p (reverse_dart p d)) ≡ sum_below n (λ _. 1) =
     sum_below-same n (λ d. one_if_lesser p d + one_if_lesser p (reverse_dart p d)) (λ _. 1) (λ d b. one_of d (reverse_dart p d) (reverse_dart p (reverse_dart p d)) (ends.reverse_dart_apart d b) (ends.reverse_dart_back d b)) in
     omega (arith, turned, ones, sum_below-add n (one_if_lesser p) (λ d. one_if_lesser p (reverse_dart p d)), sum_below-constant n 1)

@@ -141,7 +141,7 @@ few_lefts p a s v q ends rep prove e b =
     sum-gap n e (lefts (s e)) (λ d. over d * lefts_of s d) (λ d. own d * lefts_of s d) b
     (λ d c. low_crossing k (a d) (s d) (v (head p d)) (q (face_at p d)) (q (face_at p (reverse_dart p d))) (prove d c))
     (high_crossing (a e) (s e) (v (head p e)) (q (face_at p e)) (q (face_at p (reverse_dart p e))) (prove e b)) in
-    let back : weighed n over (lefts_of s) ≡ weighed n own (λ d. lefts_of s (reverse_dart p d)) = paired n (reverse_dart p) own (lefts_of s) ends.reverse_dart_inside ends.reverse_dart_back in
+    let back : weighed n over (lefts_of s) ≡ weighed n own (λ d. lefts_of s (reverse_dart p d)) = paired n (reverse_dart p) own (lefts_of s) ends.reverse_dart_in_range ends.reverse_dart_back in
     let rights_here : sum_below n (λ d. own d * rights (s d)) ≡ weighed n own (λ d. lefts_of s (reverse_dart p d)) =
     sum_below-same n (λ d. own d * rights (s d)) (λ d. own d * lefts_of s (reverse_dart p d)) (λ d c. ap (λ (z : ℕ). own d * z) (rights_are p a s rep d c)) in
     let left_sum : weighed n own (λ d. 2 + lefts (s d)) ≡ sum_below n (λ d. own d * 2) + sum_below n (λ d. own d * lefts_of s d) =
@@ -172,5 +172,5 @@ few_turns p a s v q ends order rep prove d b =
       ends.few_darts,
       ends.few_faces,
       few_lefts p a s v q ends rep prove d b,
-      few_lefts p a s v q ends rep prove (reverse_dart p d) (ends.reverse_dart_inside d b),
+      few_lefts p a s v q ends rep prove (reverse_dart p d) (ends.reverse_dart_in_range d b),
     )

@@ -9,10 +9,10 @@ use Rattle.common.proofs.Sums.{sum_below-same, sum_below-add, sum_below-none, su
 use Rattle.faces.specs.Planes.{PlaneModel, HasEnds, darts, vertices, head, reverse_dart, face_at, degree}
 use Rattle.networks.specs.declared.arc.Arc.{Arc}
 use Rattle.networks.specs.Networks.{NetworkModel, arc_count, arc_at}
-use Rattle.networks.specs.Flow.{Flow, HasPotentials, IsWithinCap, IsUnsaturated, leaves, enters, balance}
+use Rattle.networks.specs.Flow.{Flow, HasPotentials, IsWithinCap, IsUnsaturated, outflow, inflow, net_outflow}
 use Rattle.ortho_rep.specs.declared.turn.Turn.{Turn}
 use Rattle.ortho_rep.specs.declared.turn.Turn.TheVariants.{Left, Right}
-use Rattle.flow_network.specs.FaceNet.{IsFaceNet, arrivals}
+use Rattle.flow_network.specs.FaceNet.{IsFaceNet, vertex_degree}
 use Rattle.ortho_rep.specs.Turns.{opposite, mirrored, lefts, rights}
 use Rattle.ortho_rep.specs.Representation.{Rep, IsShape, IsLeast, angles_around, turning_around, whole_turn}
 use Rattle.ortho_rep.specs.OfFlow.{lefts_then_rights, angles_of, strings_of}
@@ -81,8 +81,8 @@ part-same m at y z k same =
     sum_below-same m (λ d. cond (eqb (at d) k) (y d) 0) (λ d. cond (eqb (at d) k) (z d) 0) (λ d b. ap (λ (w : ℕ). cond (eqb (at d) k) w 0) (same d))
 
 -- what leaves a node, and what enters it, by corners and by crossings
-leaves-parts : (p : PlaneModel) (net : NetworkModel) (x : ℕ → ℕ) (k : ℕ) → IsFaceNet p net → leaves net x k ≡ part_at (darts p) (λ d. head p d - 1) x k + part_at (darts p) (λ d. vertices p + face_at p d) (λ d. x (darts p + d)) k
-leaves-parts p net x k is =
+outflow-parts : (p : PlaneModel) (net : NetworkModel) (x : ℕ → ℕ) (k : ℕ) → IsFaceNet p net → outflow net x k ≡ part_at (darts p) (λ d. head p d - 1) x k + part_at (darts p) (λ d. vertices p + face_at p d) (λ d. x (darts p + d)) k
+outflow-parts p net x k is =
     let n = darts p in
     ap (λ (m : ℕ). sum_below m (λ i. cond (eqb (arc_at net i).from k) (x i) 0)) is.arcs
     ∙ (sum_below-split n n (λ i. cond (eqb (arc_at net i).from k) (x i) 0)
@@ -93,8 +93,8 @@ leaves-parts p net x k is =
     ap2_add : {a b c d : ℕ} → a ≡ b → c ≡ d → a + c ≡ b + d
     ap2_add e h = omega (arith, e, h)
 
-enters-parts : (p : PlaneModel) (net : NetworkModel) (x : ℕ → ℕ) (k : ℕ) → IsFaceNet p net → enters net x k ≡ part_at (darts p) (λ d. vertices p + face_at p d) x k + part_at (darts p) (λ d. vertices p + face_at p (reverse_dart p d)) (λ d. x (darts p + d)) k
-enters-parts p net x k is =
+inflow-parts : (p : PlaneModel) (net : NetworkModel) (x : ℕ → ℕ) (k : ℕ) → IsFaceNet p net → inflow net x k ≡ part_at (darts p) (λ d. vertices p + face_at p d) x k + part_at (darts p) (λ d. vertices p + face_at p (reverse_dart p d)) (λ d. x (darts p + d)) k
+inflow-parts p net x k is =
     let n = darts p in
     ap (λ (m : ℕ). sum_below m (λ i. cond (eqb (arc_at net i).to k) (x i) 0)) is.arcs
     ∙ (sum_below-split n n (λ i. cond (eqb (arc_at net i).to k) (x i) 0)
@@ -115,9 +115,9 @@ around_vertex p net x v ends is flow from to =
     let out : part_at n (λ d. vertices p + face_at p d) (λ d. x (n + d)) k ≡ 0 = part-none n (λ d. vertices p + face_at p d) (λ d. x (n + d)) k (λ d b e. omega arith) in
     let in_corner : part_at n (λ d. vertices p + face_at p d) x k ≡ 0 = part-none n (λ d. vertices p + face_at p d) x k (λ d b e. omega arith) in
     let in_crossing : part_at n (λ d. vertices p + face_at p (reverse_dart p d)) (λ d. x (n + d)) k ≡ 0 = part-none n (λ d. vertices p + face_at p (reverse_dart p d)) (λ d. x (n + d)) k (λ d b e. omega arith) in
-    let meets : balance net x k ≡ pos 4 -ℤ pos (arrivals p v) = flow.meets k (omega (arith, is.nodes)) ∙ is.at_vertex v from to in
-    let angles : angles_around p (angles_of x) v ≡ part_at n (head p) x v + arrivals p v = part-add n (head p) x (λ d. 1) v in
-    omega (arith, ints, corners, out, in_corner, in_crossing, meets, angles, leaves-parts p net x k is, enters-parts p net x k is)
+    let meets : net_outflow net x k ≡ pos 4 -ℤ pos (vertex_degree p v) = flow.meets k (omega (arith, is.nodes)) ∙ is.at_vertex v from to in
+    let angles : angles_around p (angles_of x) v ≡ part_at n (head p) x v + vertex_degree p v = part-add n (head p) x (λ d. 1) v in
+    omega (arith, ints, corners, out, in_corner, in_crossing, meets, angles, outflow-parts p net x k is, inflow-parts p net x k is)
 
 -- at a face: its turning is what its corners and crossings carry
 around_face : (p : PlaneModel) (net : NetworkModel) (x : ℕ → ℕ) (f : ℕ) → HasEnds p → IsFaceNet p net → Flow net x → f < p.faces → turning_around p (angles_of x) (strings_of p x) f ≡ whole_turn p f
@@ -133,8 +133,8 @@ around_face p net x f ends is flow below =
     let back : part_at n (λ d. face (reverse_dart p d)) left f ≡ part_at n face right f =
     sum_below-same n (λ d. cond (eqb (face (reverse_dart p d)) f) (left d) 0) (λ d. cond (eqb (face (reverse_dart p d)) f) (right (reverse_dart p d)) 0)
     (λ d b. ap (λ (e : ℕ). cond (eqb (face (reverse_dart p d)) f) (x (n + e)) 0) (sym (ends.reverse_dart_back d b)))
-    ∙ sum_below-turned n (reverse_dart p) (λ d. cond (eqb (face d) f) (right d) 0) ends.reverse_dart_inside ends.reverse_dart_back in
-    let meets : balance net x k ≡ whole_turn p f -ℤ pos (degree p f) = flow.meets k (omega (arith, is.nodes)) ∙ is.at_face f below in
+    ∙ sum_below-turned n (reverse_dart p) (λ d. cond (eqb (face d) f) (right d) 0) ends.reverse_dart_in_range ends.reverse_dart_back in
+    let meets : net_outflow net x k ≡ whole_turn p f -ℤ pos (degree p f) = flow.meets k (omega (arith, is.nodes)) ∙ is.at_face f below in
     let left_sum : left_sums p (angles_of x) (strings_of p x) f ≡ part_at n face (λ d. 1) f + part_at n face (λ d. 1) f + part_at n face left f =
     omega (
       arith,
@@ -161,8 +161,8 @@ around_face p net x f ends is flow below =
       meets,
       left_sum,
       right_sum,
-      leaves-parts p net x k is,
-      enters-parts p net x k is,
+      outflow-parts p net x k is,
+      inflow-parts p net x k is,
     )
 
 -- a flow is a representation
@@ -213,7 +213,7 @@ one_sided_of_flow p net x q ends is fit d b left =
           let prices = prove_of_potentials p net x q ends is fit in
           let back : reverse_dart p r ≡ d = ends.reverse_dart_back d b in
           let here = (prices d b).tight (omega (arith, lefts-lefts_then_rights (x (darts p + d)) (x (darts p + r)))) in
-          let there = (prices r (ends.reverse_dart_inside d b)).tight (omega (arith, lefts-lefts_then_rights (x (darts p + r)) (x (darts p + reverse_dart p r)))) in
+          let there = (prices r (ends.reverse_dart_in_range d b)).tight (omega (arith, lefts-lefts_then_rights (x (darts p + r)) (x (darts p + reverse_dart p r)))) in
           omega (arith, ints, here, there, ap (λ e. q (vertices p + face_at p e)) back)
           )
     ]

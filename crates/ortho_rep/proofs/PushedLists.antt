@@ -3,8 +3,8 @@ use Rattle.std.proofs.Common.{◌≡◌, ◌≤◌, ◌<◌, ℕ, zero, suc, ◌
 use Rattle.std.specs.Prelude.{slice_range}
 use Rattle.std.proofs.lemmas.Bool.{cases_eq}
 use Rattle.std.proofs.lemmas.List.{get_or_append_left, get_or_at, drop-append-le, drop_at, take-append-le, take_all, length-drop, append_assoc}
-use Rattle.ortho_rep.specs.Storage.{pieces_at, AreStarts}
-use Rattle.ortho_rep.proofs.Pieces.{length-pieces_at, get_or-pieces_at}
+use Rattle.ortho_rep.specs.Storage.{slices_at, AreStarts}
+use Rattle.ortho_rep.proofs.Pieces.{length-slices_at, get_or-slices_at}
 
 -- n pieces stand in the list, and the next one starts at its end
 pub record IsConcatenated {A : Type 0} (starts : List ℕ) (items : List A) (n : ℕ) (IsPiece : ℕ → List A → Type 0) : Type 0 where
@@ -12,8 +12,8 @@ pub record IsConcatenated {A : Type 0} (starts : List ℕ) (items : List A) (n :
   pub ordered : (k : ℕ) → k < n → get_or starts k 0 ≤ get_or starts (k + 1) 0
   pub inside : (k : ℕ) → k < n + 1 → get_or starts k 0 ≤ length items
   pub end : get_or starts n 0 ≡ length items
-  pub pieces : (k : ℕ) → k < n → (piece : List A) → IsPiece k piece →
-      slice_range items (get_or starts k 0) (get_or starts (k + 1) 0) ≡ piece
+  pub pieces : (k : ℕ) → k < n → (slice_of : List A) → IsPiece k slice_of →
+      slice_range items (get_or starts k 0) (get_or starts (k + 1) 0) ≡ slice_of
 
 -- a piece stays where more is put behind it
 pub slice_range-append : {A : Type 0} (xs ys : List A) (a b : ℕ) → a ≤ b → b ≤ length xs → slice_range (xs ++ ys) a b ≡ slice_range xs a b
@@ -45,7 +45,7 @@ concatenated-starts starts items IsPiece s i = rw (s, i) (concatenated-none IsPi
 
 -- one piece more
 concatenated-more : {A : Type 0} (starts : List ℕ) (items more : List A) (n : ℕ) (IsPiece : ℕ → List A → Type 0) → IsConcatenated starts items n IsPiece →
-    ((piece : List A) → IsPiece n piece → more ≡ piece) →
+    ((slice_of : List A) → IsPiece n slice_of → more ≡ slice_of) →
     IsConcatenated (starts ++ length (items ++ more) ∷ []) (items ++ more) (n + 1) IsPiece
 concatenated-more {A} starts items more n IsPiece is this =
     let all : List A = items ++ more in
@@ -63,17 +63,17 @@ concatenated-more {A} starts items more n IsPiece is this =
         | inr ne ↦ omega (arith, old k (omega arith), is.inside k (omega arith), longer)
       ];
       end = new;
-      pieces = λ k b piece is_piece. elim (cases_eq k n) [
+      pieces = λ k b slice_of is_piece. elim (cases_eq k n) [
         | inl e ↦
             ap (λ (z : ℕ). slice_range all (get_or (starts ++ length all ∷ []) z 0) (get_or (starts ++ length all ∷ []) (z + 1) 0)) e
             ∙ (ap (λ (z : ℕ). slice_range all (get_or (starts ++ length all ∷ []) n 0) z) new
             ∙ (ap (λ (z : ℕ). slice_range all z (length all)) (old n (omega arith) ∙ is.end)
-            ∙ (slice_range-behind items more ∙ this piece (subst (λ (z : ℕ). IsPiece z piece) e is_piece))))
+            ∙ (slice_range-behind items more ∙ this slice_of (subst (λ (z : ℕ). IsPiece z slice_of) e is_piece))))
         | inr ne ↦
             ap (λ (z : ℕ). slice_range all z (get_or (starts ++ length all ∷ []) (k + 1) 0)) (old k (omega arith))
             ∙ (ap (λ (z : ℕ). slice_range all (get_or starts k 0) z) (old (k + 1) (omega arith))
             ∙ (slice_range-append items more (get_or starts k 0) (get_or starts (k + 1) 0) (is.ordered k (omega arith)) (is.inside (k + 1) (omega arith))
-            ∙ is.pieces k (omega arith) piece is_piece))
+            ∙ is.pieces k (omega arith) slice_of is_piece))
       ];
     }
 
@@ -84,19 +84,19 @@ one_behind items more other same =
 
 -- one piece more, as a loop finds it
 pub concatenated-pushed : {A : Type 0} (starts starts' : List ℕ) (items items' more : List A) (n m : ℕ) (IsPiece : ℕ → List A → Type 0) → IsConcatenated starts items n IsPiece →
-    items' ≡ items ++ more → ((piece : List A) → IsPiece n piece → items' ≡ items ++ piece) → m ≡ length items' → starts' ≡ starts ++ m ∷ [] →
+    items' ≡ items ++ more → ((slice_of : List A) → IsPiece n slice_of → items' ≡ items ++ slice_of) → m ≡ length items' → starts' ≡ starts ++ m ∷ [] →
     IsConcatenated starts' items' (n + 1) IsPiece
 concatenated-pushed starts starts' items items' more n m IsPiece is all each long longer =
-    rw (longer, long, all) (concatenated-more starts items more n IsPiece is (λ piece h. one_behind items more piece (sym all ∙ each piece h)))
+    rw (longer, long, all) (concatenated-more starts items more n IsPiece is (λ slice_of h. one_behind items more slice_of (sym all ∙ each slice_of h)))
 
 -- one piece more, which comes in two parts
 pub concatenated-two : {A : Type 0} (starts starts' : List ℕ) (items middle items' one two : List A) (n m : ℕ) (piece_at : ℕ → List A) →
-    IsConcatenated starts items n (λ k piece. piece ≡ piece_at k) → one ++ two ≡ piece_at n → middle ≡ items ++ one → items' ≡ middle ++ two → m ≡ length items' →
-    starts' ≡ starts ++ m ∷ [] → IsConcatenated starts' items' (n + 1) (λ k piece. piece ≡ piece_at k)
+    IsConcatenated starts items n (λ k slice_of. slice_of ≡ piece_at k) → one ++ two ≡ piece_at n → middle ≡ items ++ one → items' ≡ middle ++ two → m ≡ length items' →
+    starts' ≡ starts ++ m ∷ [] → IsConcatenated starts' items' (n + 1) (λ k slice_of. slice_of ≡ piece_at k)
 concatenated-two {A} starts starts' items middle items' one two n m piece_at is this first second long longer =
     let all : items' ≡ items ++ (one ++ two) = second ∙ ap (λ (z : List A). z ++ two) first ∙ append_assoc items one two in
-    concatenated-pushed starts starts' items items' (one ++ two) n m (λ k piece. piece ≡ piece_at k) is all
-    (λ piece h. all ∙ ap (λ (z : List A). items ++ z) (this ∙ sym h)) long longer
+    concatenated-pushed starts starts' items items' (one ++ two) n m (λ k slice_of. slice_of ≡ piece_at k) is all
+    (λ slice_of h. all ∙ ap (λ (z : List A). items ++ z) (this ∙ sym h)) long longer
 
 -- so the list can be pieces_at there
 pub concatenated-AreStarts : {A : Type 0} (starts : List ℕ) (items : List A) (n : ℕ) (IsPiece : ℕ → List A → Type 0) → IsConcatenated starts items n IsPiece → AreStarts starts items
@@ -107,9 +107,9 @@ concatenated-AreStarts starts items n IsPiece is = record {
 }
 
 -- into those pieces
-pub concatenated-pieces_at : {A : Type 0} (starts : List ℕ) (items : List A) (n : ℕ) (IsPiece : ℕ → List A → Type 0) → IsConcatenated starts items n IsPiece →
-    (length (pieces_at starts items) ≡ n) × ((k : ℕ) → k < n → (piece : List A) → IsPiece k piece → get_or (pieces_at starts items) k [] ≡ piece)
-concatenated-pieces_at starts items n IsPiece is = (
-  omega (arith, length-pieces_at starts items (omega (arith, is.count)), is.count),
-  λ k b piece h. get_or-pieces_at starts items k (omega (arith, is.count)) ∙ is.pieces k b piece h,
+pub concatenated-slices_at : {A : Type 0} (starts : List ℕ) (items : List A) (n : ℕ) (IsPiece : ℕ → List A → Type 0) → IsConcatenated starts items n IsPiece →
+    (length (slices_at starts items) ≡ n) × ((k : ℕ) → k < n → (slice_of : List A) → IsPiece k slice_of → get_or (slices_at starts items) k [] ≡ slice_of)
+concatenated-slices_at starts items n IsPiece is = (
+  omega (arith, length-slices_at starts items (omega (arith, is.count)), is.count),
+  λ k b slice_of h. get_or-slices_at starts items k (omega (arith, is.count)) ∙ is.pieces k b slice_of h,
 )

@@ -11,7 +11,7 @@ use Rattle.ortho_rep.specs.Prices.{IsPriced, Prove}
 pub rep-alike : (p : PlaneModel) (a b : ℕ → ℕ) (s t : ℕ → List Turn) → HasEnds p → ((d : ℕ) → d < darts p → b d ≡ a d) → ((d : ℕ) → d < darts p → t d ≡ s d) → Rep p a s → Rep p b t
 rep-alike p a b s t ends angles strings rep = record {
   angles = λ d c. (omega (arith, angles d c, (rep.angles d c).0), omega (arith, angles d c, (rep.angles d c).1));
-  strings = λ d c. strings (reverse_dart p d) (ends.reverse_dart_inside d c) ∙ (rep.strings d c ∙ ap mirrored (sym (strings d c)));
+  strings = λ d c. strings (reverse_dart p d) (ends.reverse_dart_in_range d c) ∙ (rep.strings d c ∙ ap mirrored (sym (strings d c)));
   around = λ v from to.
       sum_below-same (darts p) (λ d. cond (eqb (head p d) v) (b d) 0) (λ d. cond (eqb (head p d) v) (a d) 0) (λ d c. ap (λ (x : ℕ). cond (eqb (head p d) v) x 0) (angles d c))
       ∙ rep.around v from to;
@@ -27,4 +27,4 @@ priced_same a b s t v v' f f' g g' ea et ev ef eg h = rw (ea, et, ev, ef, eg) h
 pub prove-alike : (p : PlaneModel) (a b : ℕ → ℕ) (s t : ℕ → List Turn) (v v' q q' : ℕ → ℤ) → HasEnds p → ((d : ℕ) → d < darts p → b d ≡ a d) → ((d : ℕ) → d < darts p → t d ≡ s d) → ((u : ℕ) → 1 ≤ u → u ≤ vertices p → v' u ≡ v u) → ((f : ℕ) → f < p.faces → q' f ≡ q f) → Prove p a s v q → Prove p b t v' q'
 prove-alike p a b s t v v' q q' ends angles strings vertex face prove = λ d c.
     priced_same (a d) (b d) (s d) (t d) (v (head p d)) (v' (head p d)) (q (face_at p d)) (q' (face_at p d)) (q (face_at p (reverse_dart p d))) (q' (face_at p (reverse_dart p d)))
-    (angles d c) (strings d c) (vertex (head p d) (ends.head_from d c) (ends.head_to d c)) (face (face_at p d) (ends.face_named d c)) (face (face_at p (reverse_dart p d)) (ends.face_named (reverse_dart p d) (ends.reverse_dart_inside d c))) (prove d c)
+    (angles d c) (strings d c) (vertex (head p d) (ends.head_from d c) (ends.head_to d c)) (face (face_at p d) (ends.face_named d c)) (face (face_at p (reverse_dart p d)) (ends.face_named (reverse_dart p d) (ends.reverse_dart_in_range d c))) (prove d c)

@@ -6,9 +6,9 @@ use Rattle.std.proofs.lemmas.List.{ext_get_or, get_or-map, length-map, drop_at}
 use Rattle.std.proofs.lemmas.List.FromFn.{get_or-map-range_with_len, length-map-range_with_len}
 use Rattle.ortho_rep.specs.declared.points.Point.{Point}
 use Rattle.ortho_rep.specs.Points.{origin}
-use Rattle.ortho_rep.specs.Storage.{pieces_at, AreStarts}
+use Rattle.ortho_rep.specs.Storage.{slices_at, AreStarts}
 use Rattle.ortho_rep.specs.FlatPoints.{span_at, spans_of, spans_in, points_in, AreConcatenated}
-use Rattle.ortho_rep.proofs.Pieces.{length-pieces_at, get_or-pieces_at}
+use Rattle.ortho_rep.proofs.Pieces.{length-slices_at, get_or-slices_at}
 use Rattle.ortho_rep.proofs.PushedLists.{slice_range-append}
 
 length-spans : (starts : List ℕ) → length (spans_of starts) ≡ length starts - 1
@@ -24,25 +24,25 @@ spans-last vs cs starts =
     drop_at (vs ++ cs) (spans_of starts) (length all - (length starts - 1)) (omega (arith, length-append (vs ++ cs) (spans_of starts), length-spans starts))
 
 -- the corners of an edge
-piece-is : (cs : List Point) (starts : List ℕ) (e : ℕ) → AreStarts starts cs → e < length starts - 1 →
-    slice_range (cs ++ spans_of starts) (get_or starts e 0) (get_or starts (e + 1) 0) ≡ get_or (pieces_at starts cs) e []
-piece-is cs starts e places b =
+slice_of-is : (cs : List Point) (starts : List ℕ) (e : ℕ) → AreStarts starts cs → e < length starts - 1 →
+    slice_range (cs ++ spans_of starts) (get_or starts e 0) (get_or starts (e + 1) 0) ≡ get_or (slices_at starts cs) e []
+slice_of-is cs starts e places b =
     slice_range-append cs (spans_of starts) (get_or starts e 0) (get_or starts (e + 1) 0) (places.ordered e (omega arith)) (places.inside (e + 1) (omega arith))
-    ∙ sym (get_or-pieces_at starts cs e (omega arith))
+    ∙ sym (get_or-slices_at starts cs e (omega arith))
 
 corners-are : (cs : List Point) (starts : List ℕ) → AreStarts starts cs →
-    map (λ (span : Point). slice_range (cs ++ spans_of starts) span.x span.y) (spans_of starts) ≡ pieces_at starts cs
+    map (λ (span : Point). slice_range (cs ++ spans_of starts) span.x span.y) (spans_of starts) ≡ slices_at starts cs
 corners-are cs starts places =
-    let piece : Point → List Point = λ span. slice_range (cs ++ spans_of starts) span.x span.y in
-    let count : length (map piece (spans_of starts)) ≡ length starts - 1 = length-map (spans_of starts) piece ∙ length-spans starts in
-    ext_get_or [] (map piece (spans_of starts)) (pieces_at starts cs) (omega (arith, count, length-pieces_at starts cs places.some))
+    let slice_of : Point → List Point = λ span. slice_range (cs ++ spans_of starts) span.x span.y in
+    let count : length (map slice_of (spans_of starts)) ≡ length starts - 1 = length-map (spans_of starts) slice_of ∙ length-spans starts in
+    ext_get_or [] (map slice_of (spans_of starts)) (slices_at starts cs) (omega (arith, count, length-slices_at starts cs places.some))
     (λ e b.
-    get_or-map piece (spans_of starts) e origin [] (omega (arith, count, length-spans starts))
-    ∙ (ap piece (span-is starts e origin (omega (arith, count))) ∙ piece-is cs starts e places (omega (arith, count))))
+    get_or-map slice_of (spans_of starts) e origin [] (omega (arith, count, length-spans starts))
+    ∙ (ap slice_of (span-is starts e origin (omega (arith, count))) ∙ slice_of-is cs starts e places (omega (arith, count))))
 
 -- it stands for the points and the corners that were put into it
 pub concatenated-is : (vs cs : List Point) (starts : List ℕ) → AreStarts starts cs →
-    points_in ((vs ++ cs) ++ spans_of starts) (length vs) (length starts - 1) ≡ record { vertices = vs; corners = pieces_at starts cs }
+    points_in ((vs ++ cs) ++ spans_of starts) (length vs) (length starts - 1) ≡ record { vertices = vs; corners = slices_at starts cs }
 concatenated-is vs cs starts places =
     let all = append_assoc vs cs (spans_of starts) in
     let front : take (length vs) ((vs ++ cs) ++ spans_of starts) ≡ vs = ap (take (length vs)) all ∙ take-append_seam vs (cs ++ spans_of starts) in

@@ -11,13 +11,13 @@ use Rattle.faces.specs.Planes.{PlaneModel, IsPlane, HasEnds, darts, vertices, re
 use Rattle.networks.specs.declared.arc.Arc.{Arc}
 use Rattle.networks.specs.Networks.{NetworkModel, arc_at}
 use Rattle.networks.specs.Flow.{Flow, at_nodes, cost_of}
-use Rattle.min_cost_flow.specs.Stand.{IsShown}
+use Rattle.min_cost_flow.specs.SolverState.{IsShown}
 use Rattle.flow_network.specs.FaceNet.{IsFaceNet}
 use Rattle.ortho_rep.specs.declared.best.Incumbent.{Incumbent}
 use Rattle.ortho_rep.specs.Representation.{bends_of}
 use Rattle.ortho_rep.specs.OfFlow.{angles_of, strings_of}
 use Rattle.ortho_rep.specs.Best.{HasRep, NeedsBends, IsBest}
-use Rattle.ortho_rep.specs.Tries.{IsIncumbent, IsAhead, IsNoBetter, AreBounds}
+use Rattle.ortho_rep.specs.Tries.{IsIncumbent, IsNoWorse, IsNoBetter, AreBounds}
 use Rattle.ortho_rep.proofs.WeakDuality.{lefts_of, lengths-twice, least_by_prices, more_by_prices}
 use Rattle.ortho_rep.proofs.FromFlow.{lefts-lefts_then_rights, rep_of_flow, prove_of_potentials}
 
@@ -48,12 +48,12 @@ ends_turned p outer ends = record {
   tail_to = ends.tail_to;
   head_from = ends.head_from;
   head_to = ends.head_to;
-  reverse_dart_inside = ends.reverse_dart_inside;
+  reverse_dart_in_range = ends.reverse_dart_in_range;
   reverse_dart_back = ends.reverse_dart_back;
   reverse_dart_apart = ends.reverse_dart_apart;
   reverse_dart_tail = ends.reverse_dart_tail;
   reverse_dart_head = ends.reverse_dart_head;
-  after_inside = ends.after_inside;
+  after_in_range = ends.after_in_range;
   after_tail = ends.after_tail;
   next_one = ends.next_one;
   next_tail = ends.next_tail;
@@ -99,9 +99,9 @@ tried_turning p q outer bends face f turned is =
     subst (λ (m : PlaneModel). IsNoBetter m bends face f) (sym turned) will
 
 -- faces that were tried before, and one that is tried now
-pub tried_next : (p : PlaneModel) (incumbent other : Incumbent) (face : ℕ) → IsAhead incumbent other → ((f : ℕ) → f < face → IsNoBetter p other.bends other.face f) → IsNoBetter p incumbent.bends incumbent.face face → (f : ℕ) → f < face + 1 → IsNoBetter p incumbent.bends incumbent.face f
-tried_next p incumbent other face ahead all here =
-    below_more _ _ (λ f b. no_better_still p other.bends other.face incumbent.bends incumbent.face f ahead.fewer ahead.first (all f b)) here
+pub tried_next : (p : PlaneModel) (incumbent other : Incumbent) (face : ℕ) → IsNoWorse incumbent other → ((f : ℕ) → f < face → IsNoBetter p other.bends other.face f) → IsNoBetter p incumbent.bends incumbent.face face → (f : ℕ) → f < face + 1 → IsNoBetter p incumbent.bends incumbent.face f
+tried_next p incumbent other face no_worse all here =
+    below_more _ _ (λ f b. no_better_still p other.bends other.face incumbent.bends incumbent.face f no_worse.fewer no_worse.first (all f b)) here
 
 -- the bends of a flow are what it costs
 pub bends_are_cost : (p : PlaneModel) (net : NetworkModel) (x : ℕ → ℕ) → HasEnds p → IsFaceNet p net → Flow net x → bends_of (darts p) (strings_of p x) ≡ cost_of net x

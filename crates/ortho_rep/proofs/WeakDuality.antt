@@ -184,7 +184,7 @@ crossed_weigh p b s t ends rights_t w =
     let over : sum_below (darts p) (λ d. w (face_at p d) * rights (t d)) ≡ weighed (darts p) (λ d. w (face_at p d)) (λ d. lefts_of t (reverse_dart p d)) =
     sum_below-same (darts p) (λ d. w (face_at p d) * rights (t d)) (λ d. w (face_at p d) * lefts_of t (reverse_dart p d)) (λ d c. ap (λ (z : ℕ). w (face_at p d) * z) (rights_t d c)) in
     let back : weighed (darts p) (λ d. w (face_at p (reverse_dart p d))) (lefts_of t) ≡ weighed (darts p) (λ d. w (face_at p d)) (λ d. lefts_of t (reverse_dart p d)) =
-    paired (darts p) (reverse_dart p) (λ d. w (face_at p d)) (lefts_of t) ends.reverse_dart_inside ends.reverse_dart_back in
+    paired (darts p) (reverse_dart p) (λ d. w (face_at p d)) (lefts_of t) ends.reverse_dart_in_range ends.reverse_dart_back in
     omega (arith, apart, split, over, back)
 
 -- under each weight of the faces, what flows into them by corners and by crossings is the same, but for the eight
@@ -203,7 +203,7 @@ lengths-mirrored p s ends rights_s =
     sum_below-same (darts p) (λ d. length (s d)) (λ d. lefts_of s d + 1 * lefts_of s (reverse_dart p d)) (λ d b. omega (arith, lefts-add-rights (s d), rights_s d b)) in
     let parts = sum_below-add (darts p) (lefts_of s) (λ d. 1 * lefts_of s (reverse_dart p d)) in
     let back : weighed (darts p) (λ d. 1) (lefts_of s) ≡ weighed (darts p) (λ d. 1) (λ d. lefts_of s (reverse_dart p d)) =
-    paired (darts p) (reverse_dart p) (λ d. 1) (lefts_of s) ends.reverse_dart_inside ends.reverse_dart_back in
+    paired (darts p) (reverse_dart p) (λ d. 1) (lefts_of s) ends.reverse_dart_in_range ends.reverse_dart_back in
     let ones = sum_below-times (darts p) 1 (lefts_of s) in
     omega (arith, all, parts, back, ones)
 

@@ -10,14 +10,14 @@ abbrev pub lists_in : {A : Type 0} → List (Vec A Global) → List (List A)
 lists_in vectors = map (λ v. v.items) vectors
 
 -- the pieces of a list from place `start` on, pieces_at at each of the further places
-abbrev pub pieces_from : {A : Type 0} → ℕ → List ℕ → List A → List (List A)
-pieces_from start [] items = []
-pieces_from start (end ∷ ends) items = slice_range items start end ∷ pieces_from end ends items
+abbrev pub slices_from : {A : Type 0} → ℕ → List ℕ → List A → List (List A)
+slices_from start [] items = []
+slices_from start (end ∷ ends) items = slice_range items start end ∷ slices_from end ends items
 
 -- the pieces of a list between each two places that follow one another
-abbrev pub pieces_at : {A : Type 0} → List ℕ → List A → List (List A)
-pieces_at [] items = []
-pieces_at (start ∷ ends) items = pieces_from start ends items
+abbrev pub slices_at : {A : Type 0} → List ℕ → List A → List (List A)
+slices_at [] items = []
+slices_at (start ∷ ends) items = slices_from start ends items
 
 -- the places stand in order within the list
 pub record AreStarts {A : Type 0} (starts : List ℕ) (items : List A) : Type 0 where

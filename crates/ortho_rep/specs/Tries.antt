@@ -1,15 +1,15 @@
 -- What is known of the faces of a plane that were tried as outer faces.
 use Rattle.std.specs.Prelude.{◌≡◌, ℕ, ◌<◌, ◌≤◌, List, slice_index}
 use Rattle.faces.specs.Planes.{PlaneModel, with_outer}
-use Rattle.flow_network.specs.FaceNet.{IsNetOf}
+use Rattle.flow_network.specs.FaceNet.{IsFaceNetOf}
 use Rattle.ortho_rep.specs.declared.best.Incumbent.{Incumbent}
 use Rattle.ortho_rep.specs.declared.best.Moving.{Moving}
 use Rattle.ortho_rep.specs.Best.{HasRep, NeedsBends}
 
 -- the flow that moves stands at the outer face of p
 pub record IsMoving (p : PlaneModel) (moving : Moving) : Type 0 where
-  pub net : IsNetOf p moving.net
-  pub same : moving.standing ≡ moving.net.network
+  pub net : IsFaceNetOf p moving.net
+  pub same : moving.warm_start ≡ moving.net.network
 
 -- a face, and how many bends are needed with it as the outer one
 pub record IsIncumbent (p : PlaneModel) (incumbent : Incumbent) : Type 0 where
@@ -18,7 +18,7 @@ pub record IsIncumbent (p : PlaneModel) (incumbent : Incumbent) : Type 0 where
   pub needs : NeedsBends (with_outer p incumbent.face) incumbent.bends
 
 -- an incumbent is another one, or better: fewer bends, or as many and a lesser number
-pub record IsAhead (incumbent other : Incumbent) : Type 0 where
+pub record IsNoWorse (incumbent other : Incumbent) : Type 0 where
   pub fewer : incumbent.bends ≤ other.bends
   pub first : incumbent.bends ≡ other.bends → incumbent.face ≤ other.face
 

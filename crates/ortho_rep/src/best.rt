@@ -2,11 +2,11 @@
 
 ghost use Rattle.std.specs.Prelude.{◌≡◌, ◌<◌, ◌≤◌, ◌⊎◌, ℕ, pos, ◌+ℤ◌, ◌-ℤ◌, ◌*ℤ◌, ◌≤ℤ◌, ◌^◌, IsTrue, IsFalse, OnOk, IfOk, IfSome, OnErr, length};
 ghost use Rattle.faces.specs.Planes.{darts, with_outer};
-ghost use Rattle.min_cost_flow.specs.Stand.{IsShown};
+ghost use Rattle.min_cost_flow.specs.SolverState.{IsShown};
 ghost use Rattle.ortho_rep.specs.Representation.{IsShape, IsLeast};
 ghost use Rattle.ortho_rep.specs.Prices.{IsProof};
 ghost use Rattle.ortho_rep.specs.Best.{HasRep, NeedsBends, IsBest};
-ghost use Rattle.ortho_rep.specs.Tries.{IsMoving, IsIncumbent, IsAhead, IsNoBetter, AreBounds};
+ghost use Rattle.ortho_rep.specs.Tries.{IsMoving, IsIncumbent, IsNoWorse, IsNoBetter, AreBounds};
 
 use crate::least::shape_in;
 use crate::prices::Prices;
@@ -15,7 +15,7 @@ use crate::shape::Shape;
 use embedding::MAX_DARTS;
 use faces::{MAX_FACES, Plane};
 use flow_network::FaceNet;
-use min_cost_flow::{SolveFault, Standing};
+use min_cost_flow::{SolveFault, WarmStart};
 use std::alloc::{AllocError, Global};
 
 /// The best face so far, and how many bends are needed with it as the outer one.
@@ -77,7 +77,7 @@ fn best_found(alloc: Global, plane: &mut Plane) -> Result<(Shape, Prices), Alloc
     let (moving, incumbent) = best_incumbent(plane, moving);
     let moving = turned(moving, plane, incumbent.face);
     plane.turn_out(incumbent.face);
-    let solved = moving.standing.solved(alloc)?;
+    let solved = moving.warm_start.solved(alloc)?;
     let mut lists = ShapeLists::empty(alloc);
     shape_in(alloc, &mut lists, plane, &moving.net, &solved)
 }
@@ -86,7 +86,7 @@ fn best_found(alloc: Global, plane: &mut Plane) -> Result<(Shape, Prices), Alloc
 #[derive(Drop)]
 struct Moving {
     net: FaceNet,
-    standing: Standing,
+    warm_start: WarmStart,
 }
 
 /// The flow that begins with the plane's outer face.
@@ -94,8 +94,8 @@ fn begin(alloc: Global, plane: &Plane) -> Result<Moving, AllocError>
     ensures { IfOk result (IsMoving plane.now) }
 {
     let net = FaceNet::build(alloc, plane)?;
-    match Standing::new(alloc, net.network()) {
-        Ok(standing) => Ok(Moving { net, standing }),
+    match WarmStart::new(alloc, net.network()) {
+        Ok(warm_start) => Ok(Moving { net, warm_start }),
         Err(SolveFault::Memory) => Err(AllocError),
         Err(SolveFault::Infeasible) => unreachable!(),
     }
@@ -110,12 +110,15 @@ fn turned(moving: Moving, plane: &Plane, face: u16) -> Moving
 {
     // Only the proof needs this: `graph` says that the plane is one.
     let _graph = plane.graph();
-    let Moving { mut net, standing } = moving;
+    let Moving {
+        mut net,
+        warm_start,
+    } = moving;
     let from = net.face_node(plane.outer());
     let to = net.face_node(face);
     net.turn_out(plane, face);
-    match standing.shift(from, to, 8) {
-        Some(standing) => Moving { net, standing },
+    match warm_start.shift(from, to, 8) {
+        Some(warm_start) => Moving { net, warm_start },
         None => unreachable!(),
     }
 }
@@ -157,13 +160,13 @@ fn tour(plane: &mut Plane, moving: Moving, incumbent: &mut Incumbent, bounds: &m
 {
     let darts = plane.graph().darts();
     let mut seen = [false; MAX_FACES];
-    let mut doors = [false; MAX_DARTS];
+    let mut tree_darts = [false; MAX_DARTS];
     let outer = plane.outer();
     seen[usize::from(outer)] = true;
     let mut dart = plane.least_dart(outer);
     let mut moving = moving;
     for _step in 0..darts {
-        let (next, face) = next_of_tour(plane, dart, &mut seen, &mut doors);
+        let (next, face) = next_of_tour(plane, dart, &mut seen, &mut tree_darts);
         dart = next;
         if let Some(face) = face {
             moving = visit(plane, moving, incumbent, bounds, face);
@@ -178,11 +181,11 @@ fn next_of_tour(
     plane: &Plane,
     dart: u16,
     seen: &mut [bool],
-    doors: &mut [bool],
+    tree_darts: &mut [bool],
 ) -> (u16, Option<u16>)
     requires dart { dart < darts plane.now }
     requires seen { plane.now.faces ≤ length seen.old }
-    requires doors { darts plane.now ≤ length doors.old }
+    requires tree_darts { darts plane.now ≤ length tree_darts.old }
     ensures next { result.0 < darts plane.now }
     ensures face { IfSome result.1 (λ face. face < plane.now.faces) }
 {
@@ -191,11 +194,11 @@ fn next_of_tour(
     let mut found = None;
     if !seen[usize::from(face)] {
         seen[usize::from(face)] = true;
-        doors[usize::from(dart)] = true;
-        doors[usize::from(across)] = true;
+        tree_darts[usize::from(dart)] = true;
+        tree_darts[usize::from(across)] = true;
         found = Some(face);
     }
-    let from = if doors[usize::from(dart)] {
+    let from = if tree_darts[usize::from(dart)] {
         across
     } else {
         dart
@@ -220,7 +223,7 @@ fn visit(
     ensures moving { IsMoving plane.new result }
     ensures incumbent { IsIncumbent plane.new incumbent.new }
     ensures bounds { AreBounds plane.new bounds.new }
-    ensures ahead { IsAhead incumbent.new incumbent.old }
+    ensures no_worse { IsNoWorse incumbent.new incumbent.old }
     ensures tried { IsNoBetter plane.new incumbent.new.bends incumbent.new.face face }
 {
     if !incumbent.loses_to(bounds[usize::from(face)], face) {
@@ -247,7 +250,7 @@ fn bends_and_bounds(plane: &Plane, moving: &Moving, bounds: &mut [u64]) -> u64
 {
     // Only the proof needs this: `graph` says that the plane is one.
     let _graph = plane.graph();
-    let (bends, potentials) = moving.standing.least_cost();
+    let (bends, potentials) = moving.warm_start.least_cost();
     for face in 0..plane.face_count() {
         let place = usize::from(face);
         bounds[place] = bounds[place].max(bound(plane, moving, bends, potentials, face));
@@ -258,7 +261,7 @@ fn bends_and_bounds(plane: &Plane, moving: &Moving, bounds: &mut [u64]) -> u64
 /// How many bends are needed at least with a face as the outer one, as the potentials prove.
 fn bound(plane: &Plane, moving: &Moving, bends: u64, potentials: &[i32], face: u16) -> u64
     requires moving { IsMoving plane.now moving.now }
-    requires shown { IsShown moving.now.standing bends potentials.now }
+    requires shown { IsShown moving.now.warm_start bends potentials.now }
     requires few { bends < 2 ^ 48 }
     requires named { face < plane.now.faces }
     ensures { NeedsBends (with_outer plane.now face) result }

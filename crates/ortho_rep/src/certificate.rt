@@ -66,11 +66,11 @@ fn is_priced_at(plane: &Plane, shape: &Shape, prices: &Prices, dart: u16) -> boo
 fn is_priced(angle: u8, turns: &[Turn], vertex: i32, face: i32, across: i32) -> bool
     ensures { IsTrue result ↔ IsPriced angle turns.now vertex face across }
 {
-    fits_angle(angle, vertex, face) && fits_crossing(turns, face, across)
+    angle_agrees(angle, vertex, face) && crossing_agrees(turns, face, across)
 }
 
 /// Whether an angle fits the prices at its corner.
-fn fits_angle(angle: u8, vertex: i32, face: i32) -> bool
+fn angle_agrees(angle: u8, vertex: i32, face: i32) -> bool
     ensures { IsTrue result ↔ ((angle < 4 → face ≤ℤ vertex) × (1 < angle → vertex ≤ℤ face)) }
 {
     match angle {
@@ -81,19 +81,19 @@ fn fits_angle(angle: u8, vertex: i32, face: i32) -> bool
 }
 
 /// Whether turns fit the prices on both sides of their dart.
-fn fits_crossing(turns: &[Turn], face: i32, across: i32) -> bool
+fn crossing_agrees(turns: &[Turn], face: i32, across: i32) -> bool
     ensures { IsTrue result ↔ ((pos 0 ≤ℤ (pos 1 +ℤ face -ℤ across)) × (0 < lefts turns.now → (pos 1 +ℤ face -ℤ across) ≡ pos 0)) }
 {
-    let slack = slack(face, across);
+    let reduced_cost = reduced_cost(face, across);
     if count_lefts(turns) == 0 {
-        slack >= 0
+        reduced_cost >= 0
     } else {
-        slack == 0
+        reduced_cost == 0
     }
 }
 
 /// What a bend costs more than a unit across, between faces of these prices, gains.
-fn slack(face: i32, across: i32) -> i64
+fn reduced_cost(face: i32, across: i32) -> i64
     ensures { result ≡ (pos 1 +ℤ face -ℤ across) }
 {
     1 + i64::from(face) - i64::from(across)

@@ -2,7 +2,7 @@
 
 ghost use Rattle.std.specs.Prelude.{◌≡◌, ◌++◌, ◌<◌, ◌≤◌, length, vec_len, IfOk, OnOk, All, ◌^◌};
 ghost use Rattle.ortho_rep.specs.Points.{corners_at};
-ghost use Rattle.ortho_rep.specs.Storage.{pieces_at, AreStarts};
+ghost use Rattle.ortho_rep.specs.Storage.{slices_at, AreStarts};
 ghost use Rattle.ortho_rep.specs.FlatPoints.{spans_of};
 
 use crate::points::Point;
@@ -39,7 +39,7 @@ impl FlatPoints {
         starts: &[usize],
     ) -> Result<FlatPoints, AllocError>
         requires places { AreStarts starts.now corners.now }
-        ensures { IfOk result (λ made. made ≡ record { vertices = vertices.items; corners = pieces_at starts.now corners.now }) }
+        ensures { IfOk result (λ made. made ≡ record { vertices = vertices.items; corners = slices_at starts.now corners.now }) }
     {
         let first = vertices.len();
         let edges = starts.len() - 1;

@@ -4,7 +4,7 @@ ghost use Rattle.std.specs.Prelude.{◌≡◌, ◌+◌, ◌<◌, ◌≤◌, ◌+
 ghost use Rattle.std.specs.List.{range_with_len};
 ghost use Rattle.faces.specs.Planes.{darts, vertices};
 ghost use Rattle.networks.specs.Flow.{Flow, Solves, amounts, at_nodes};
-ghost use Rattle.flow_network.specs.FaceNet.{IsNetOf};
+ghost use Rattle.flow_network.specs.FaceNet.{IsFaceNetOf};
 ghost use Rattle.ortho_rep.specs.declared.turn.TheConstants.{MAX_REPEATS};
 ghost use Rattle.ortho_rep.specs.OfFlow.{angles_of, strings_of};
 ghost use Rattle.ortho_rep.specs.Repeats.{turns_in, AreRepeats, HaveShapes};
@@ -71,7 +71,7 @@ pub(crate) fn shape_in(
     net: &FaceNet,
     solved: &Solved,
 ) -> Result<(Shape, Prices), AllocError>
-    requires net { IsNetOf plane.now net.now }
+    requires net { IsFaceNetOf plane.now net.now }
     requires solves { Solves net.now.network solved.now }
     ensures shape { IfOk result (λ found. IsShape plane.now found.0) }
     ensures least { IfOk result (λ found. IsLeast plane.now found.0) }
@@ -119,7 +119,7 @@ fn darts_in(
     net: &FaceNet,
     solved: &Solved,
 ) -> Result<Vec<DartShape>, AllocError>
-    requires net { IsNetOf plane.now net.now }
+    requires net { IsFaceNetOf plane.now net.now }
     requires solves { Solves net.now.network solved.now }
     ensures repeats { IfOk result (λ found. AreRepeats found.items) }
     ensures flow { IfOk result (λ found. HaveShapes (angles_of (amounts solved.now.flow))
@@ -136,7 +136,7 @@ fn darts_in(
 /// The angle and the turns of a dart in a flow. No least flow uses an edge both ways, so they are all left turns or
 /// all right turns.
 fn dart_shape(plane: &Plane, net: &FaceNet, solved: &Solved, dart: u16) -> DartShape
-    requires net { IsNetOf plane.now net.now }
+    requires net { IsFaceNetOf plane.now net.now }
     requires solves { Solves net.now.network solved.now }
     requires within { dart < darts plane.now }
     ensures angle { result.angle ≡ angles_of (amounts solved.now.flow) dart }
@@ -171,7 +171,7 @@ fn prices_in(
     net: &FaceNet,
     solved: &Solved,
 ) -> Result<Vec<i32>, AllocError>
-    requires net { IsNetOf plane.now net.now }
+    requires net { IsFaceNetOf plane.now net.now }
     requires solves { Solves net.now.network solved.now }
     ensures { IfOk result (λ prices. prices.items
         ≡ map (at_nodes solved.now.potential) (range_with_len 0 (vertices plane.now + plane.now.faces))) }

@@ -1,7 +1,7 @@
 //! Lists of items that stand in one.
 
 ghost use Rattle.std.specs.Prelude.{◌≡◌, ◌+◌, ◌<◌, [], length, slice_index_or};
-ghost use Rattle.ortho_rep.specs.Storage.{pieces_at, AreStarts};
+ghost use Rattle.ortho_rep.specs.Storage.{slices_at, AreStarts};
 
 use std::marker::Model;
 
@@ -15,11 +15,11 @@ pub struct FlatLists<T> {
 
 impl<T> Model for FlatLists<T> {
     ghost use Rattle.std.specs.Prelude.{List};
-    ghost use Rattle.ortho_rep.specs.Storage.{pieces_at, AreStarts};
+    ghost use Rattle.ortho_rep.specs.Storage.{slices_at, AreStarts};
 
     ghost Value = { List (List T) };
 
-    ghost view = { λ a. pieces_at a.starts.items a.items.items };
+    ghost view = { λ a. slices_at a.starts.items a.items.items };
 
     ghost invariant = { λ a. AreStarts a.starts.items a.items.items };
 }
@@ -28,14 +28,14 @@ impl<T> FlatLists<T> {
     /// The pieces between places that follow one another in one list of items. It takes no memory.
     pub fn new(items: Vec<T>, starts: Vec<usize>) -> FlatLists<T>
         requires { AreStarts starts.items items.items }
-        ensures { result ≡ pieces_at starts.items items.items }
+        ensures { result ≡ slices_at starts.items items.items }
     {
         FlatLists { items, starts }
     }
 
     /// The one list and the places, whose memory can be used again.
     pub fn into_parts(self) -> (Vec<T>, Vec<usize>)
-        ensures { self ≡ pieces_at result.1.items result.0.items }
+        ensures { self ≡ slices_at result.1.items result.0.items }
     {
         (self.items, self.starts)
     }
@@ -52,15 +52,15 @@ impl<T> FlatLists<T> {
         requires { i < length self.now }
         ensures { result.now ≡ slice_index_or self.now i [] }
     {
-        piece(&self.items, &self.starts, i)
+        slice_of(&self.items, &self.starts, i)
     }
 }
 
 /// Piece i of a list that is split at the given places.
-fn piece<'a, T>(items: &'a [T], starts: &[usize], i: usize) -> &'a [T]
+fn slice_of<'a, T>(items: &'a [T], starts: &[usize], i: usize) -> &'a [T]
     requires places { AreStarts starts.now items.now }
     requires within { i + 1 < length starts.now }
-    ensures { result.now ≡ slice_index_or (pieces_at starts.now items.now) i [] }
+    ensures { result.now ≡ slice_index_or (slices_at starts.now items.now) i [] }
 {
     let start = starts[i];
     let end = starts[i + 1];

@@ -2,7 +2,7 @@
 
 ghost use Rattle.std.specs.Prelude.{◌≡◌, ◌<◌, ◌≤◌, length, IfOk};
 ghost use Rattle.ortho_rep.specs.Points.{vertex_point, corners_at};
-ghost use Rattle.ortho_rep.specs.Storage.{lists_in, pieces_at, AreStarts};
+ghost use Rattle.ortho_rep.specs.Storage.{lists_in, slices_at, AreStarts};
 
 use crate::flat_points::FlatPoints;
 use std::alloc::AllocError;
@@ -71,7 +71,7 @@ impl Points {
         starts: &[usize],
     ) -> Result<Points, AllocError>
         requires { AreStarts starts.now corners.now }
-        ensures { IfOk result (λ points. points ≡ record { vertices = vertices.items; corners = pieces_at starts.now corners.now }) }
+        ensures { IfOk result (λ points. points ≡ record { vertices = vertices.items; corners = slices_at starts.now corners.now }) }
     {
         let points = FlatPoints::new(vertices, corners, starts)?;
         Ok(Points {

@@ -35,7 +35,7 @@ split-truncated stream records count rest some s = inr (record {
   rest = rest;
   with_header = s.with_header;
   divided = s.divided;
-  ends = (s.open_record, some, λ full. some (s.full (sym s.counted ∙ full)));
+  ends = (s.partial_record, some, λ full. some (s.full (sym s.counted ∙ full)));
 })
 
 -- after a fault, it ends as the fault says

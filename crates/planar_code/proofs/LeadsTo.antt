@@ -51,7 +51,7 @@ goes_more count rest text room unfinished stream records s = adds_none records (
   with_header = ap (λ z. z ++ text) s.with_header ∙ append_assoc HEADER s.body text;
   divided = divided_from (s.body ++ text) records (rest ++ text) (ap (λ z. z ++ text) s.divided.concatenated ∙ append_assoc (concat records) rest text) s.divided.each s.divided.few (inr (no_record-unfinished (rest ++ text) unfinished));
   counted = s.counted;
-  open_record = unfinished;
+  partial_record = unfinished;
   full = λ e. absurd (room e);
 })
 
@@ -69,7 +69,7 @@ goes_whole count rest text bytes room same whole stream records s =
           (omega arith)
           (inr (no_record-unfinished [] unfinished-none));
       counted = omega arith;
-      open_record = unfinished-none;
+      partial_record = unfinished-none;
       full = λ e. refl;
     }
 
@@ -156,7 +156,7 @@ standing-header = record {
   with_header = refl;
   divided = divided_from [] [] [] refl (All-nil IsRecord) (omega arith) (inr (no_record-unfinished [] unfinished-none));
   counted = refl;
-  open_record = unfinished-none;
+  partial_record = unfinished-none;
   full = λ e. refl;
 }
 

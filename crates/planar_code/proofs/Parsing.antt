@@ -34,36 +34,36 @@ oversize_unfinished : (bytes : List ℕ) → IsOversize bytes → IsUnfinished b
 oversize_unfinished bytes o u = o.never u.missing (bytes ++ u.missing) [] u.whole (sym (append-nil (bytes ++ u.missing)))
 
 -- where one fault fits, no other does
-short_only : (bytes : List ℕ) → IsUnfinished bytes → (g : ParseFault) → IsParseFault bytes g → fault.Short ≡ g
-short_only bytes h fault.Short k = refl
+short_only : (bytes : List ℕ) → IsUnfinished bytes → (g : ParseFault) → IsParseFault bytes g → fault.Unfinished ≡ g
+short_only bytes h fault.Unfinished k = refl
 short_only bytes h fault.Order k = absurd (zero_unfinished bytes k h)
 short_only bytes h fault.Oversize k = absurd (oversize_unfinished bytes k h)
 short_only bytes h fault.Long k = absurd (no_record-unfinished bytes h k.first k.after k.whole k.parts)
 short_only bytes h fault.Memory k = absurd (no_record-first bytes (no_record-unfinished bytes h) k)
 
 order_only : (bytes : List ℕ) → BeginsWithZero bytes → (g : ParseFault) → IsParseFault bytes g → fault.Order ≡ g
-order_only bytes h fault.Short k = absurd (zero_unfinished bytes h k)
+order_only bytes h fault.Unfinished k = absurd (zero_unfinished bytes h k)
 order_only bytes h fault.Order k = refl
 order_only bytes h fault.Oversize k = absurd (k.nonzero h)
 order_only bytes h fault.Long k = absurd (no_record-zero bytes h k.first k.after k.whole k.parts)
 order_only bytes h fault.Memory k = absurd (no_record-first bytes (no_record-zero bytes h) k)
 
 oversize_only : (bytes : List ℕ) → IsOversize bytes → (g : ParseFault) → IsParseFault bytes g → fault.Oversize ≡ g
-oversize_only bytes h fault.Short k = absurd (oversize_unfinished bytes h k)
+oversize_only bytes h fault.Unfinished k = absurd (oversize_unfinished bytes h k)
 oversize_only bytes h fault.Order k = absurd (h.nonzero k)
 oversize_only bytes h fault.Oversize k = refl
 oversize_only bytes h fault.Long k = absurd (no_record-oversize bytes h k.first k.after k.whole k.parts)
 oversize_only bytes h fault.Memory k = absurd (no_record-first bytes (no_record-oversize bytes h) k)
 
 long_only : (bytes : List ℕ) → HasBytesAfter bytes → (g : ParseFault) → IsParseFault bytes g → fault.Long ≡ g
-long_only bytes h fault.Short k = absurd (no_record-unfinished bytes k h.first h.after h.whole h.parts)
+long_only bytes h fault.Unfinished k = absurd (no_record-unfinished bytes k h.first h.after h.whole h.parts)
 long_only bytes h fault.Order k = absurd (no_record-zero bytes k h.first h.after h.whole h.parts)
 long_only bytes h fault.Oversize k = absurd (no_record-oversize bytes k h.first h.after h.whole h.parts)
 long_only bytes h fault.Long k = refl
 long_only bytes h fault.Memory k = absurd (no_record-after bytes h k)
 
 memory_only : (bytes : List ℕ) → IsRecord bytes → (g : ParseFault) → IsParseFault bytes g → fault.Memory ≡ g
-memory_only bytes r fault.Short k = absurd (no_record-first bytes (no_record-unfinished bytes k) r)
+memory_only bytes r fault.Unfinished k = absurd (no_record-first bytes (no_record-unfinished bytes k) r)
 memory_only bytes r fault.Order k = absurd (no_record-first bytes (no_record-zero bytes k) r)
 memory_only bytes r fault.Oversize k = absurd (no_record-first bytes (no_record-oversize bytes k) r)
 memory_only bytes r fault.Long k = absurd (no_record-after bytes k r)
@@ -71,7 +71,7 @@ memory_only bytes r fault.Memory k = refl
 
 -- of the faults at most one fits
 pub fault_same : (bytes : List ℕ) (f g : ParseFault) → IsParseFault bytes f → IsParseFault bytes g → f ≡ g
-fault_same bytes fault.Short g h k = short_only bytes h g k
+fault_same bytes fault.Unfinished g h k = short_only bytes h g k
 fault_same bytes fault.Order g h k = order_only bytes h g k
 fault_same bytes fault.Oversize g h k = oversize_only bytes h g k
 fault_same bytes fault.Long g h k = long_only bytes h g k

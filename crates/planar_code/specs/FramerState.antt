@@ -29,7 +29,7 @@ pub record StandsAfter (stream : List ℕ) (records : List (List ℕ)) (count : 
   pub with_header : stream ≡ HEADER ++ body
   pub divided : IsDivided body records rest
   pub counted : length records ≡ count
-  pub open_record : IsUnfinished rest
+  pub partial_record : IsUnfinished rest
   pub full : count ≡ MAX_RECORDS → rest ≡ []
 
 -- a stream that has these records so far has led to the state; to a fault where, however the stream

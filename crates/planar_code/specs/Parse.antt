@@ -16,7 +16,7 @@ pub record HasBytesAfter (bytes : List ℕ) : Type 0 where
 
 -- the fault of the bytes; of want of memory all that they say is that they are a record
 abbrev pub IsParseFault : List ℕ → ParseFault → Type 0
-IsParseFault bytes fault.Short = IsUnfinished bytes
+IsParseFault bytes fault.Unfinished = IsUnfinished bytes
 IsParseFault bytes fault.Order = BeginsWithZero bytes
 IsParseFault bytes fault.Oversize = IsOversize bytes
 IsParseFault bytes fault.Long = HasBytesAfter bytes

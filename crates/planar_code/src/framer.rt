@@ -9,7 +9,7 @@ ghost use Rattle.planar_code.specs.declared.fault.FeedFault.{FeedFault};
 
 use crate::ending::Ending;
 use crate::fault::FeedFault;
-use crate::open_record::OpenRecord;
+use crate::partial_record::PartialRecord;
 use crate::record::Record;
 use crate::{HEADER, MAX_RECORDS};
 use std::alloc::{AllocError, Global};
@@ -34,7 +34,7 @@ enum Phase {
 pub struct Framer {
     phase: Phase,
     records: u32,
-    current: OpenRecord,
+    current: PartialRecord,
 }
 
 impl Model for Framer {
@@ -77,7 +77,7 @@ impl Framer {
         Ok(Framer {
             phase: Phase::Header { passed: 0 },
             records: 0,
-            current: OpenRecord::new(alloc)?,
+            current: PartialRecord::new(alloc)?,
         })
     }
 

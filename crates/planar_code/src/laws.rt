@@ -21,7 +21,7 @@ pub fn record_lists()
 {}
 
 /// No record is a beginning of another.
-pub fn no_front()
+pub fn no_prefix()
     ensures { (bytes more : List ℕ) → IsRecord bytes → IsRecord (bytes ++ more) → more ≡ [] }
 {}
 

@@ -13,7 +13,7 @@ use thiserror::Error;
 pub enum ParseFault {
     /// The bytes are only a beginning of a record. So are no bytes at all.
     #[error("the bytes end before the record does")]
-    Short,
+    Unfinished,
     /// The first byte is 0, which is no number of vertices. To a framer this is the fault `Large`.
     #[error("the record begins with byte 0")]
     Order,
@@ -36,7 +36,7 @@ impl Record {
     ///
     /// - `Order` where the first byte is 0;
     /// - `Oversize` where a neighbour list has a 255th entry;
-    /// - `Short` where the bytes end within a record, or are none;
+    /// - `Unfinished` where the bytes end within a record, or are none;
     /// - `Long` where more bytes follow a record;
     /// - `Memory` where the bytes are a record that finds no memory.
     pub fn parse(alloc: Global, bytes: &[u8]) -> Result<Record, ParseFault>
@@ -47,13 +47,13 @@ impl Record {
         ensures fault { IfErr result (IsParseFault bytes.now) }
     {
         if bytes.is_empty() {
-            return Err(ParseFault::Short);
+            return Err(ParseFault::Unfinished);
         }
         if bytes[0] == 0 {
             return Err(ParseFault::Order);
         }
         match record_end(bytes) {
-            End::Truncated => Err(ParseFault::Short),
+            End::Truncated => Err(ParseFault::Unfinished),
             End::Oversize => Err(ParseFault::Oversize),
             End::After(end) if end < bytes.len() => Err(ParseFault::Long),
             End::After(_) => match Record::from_slice(alloc, bytes) {

@@ -1,7 +1,7 @@
 //! Rectangles by hand, and refused allocations.
 
 ghost use Rattle.std.specs.Prelude.{◌↔◌, IsTrue, All};
-ghost use Rattle.geometry.specs.Rectangles.{IsFilled};
+ghost use Rattle.geometry.specs.Rectangles.{IsNonempty};
 
 use crate::known::same;
 use geometry::{Rectangle, all_apart_in};
@@ -9,7 +9,7 @@ use std::alloc::{AllocError, Global};
 use std::process::Abort;
 
 fn are_filled(rectangles: &[Rectangle]) -> bool
-    ensures { IsTrue result ↔ All IsFilled rectangles.now }
+    ensures { IsTrue result ↔ All IsNonempty rectangles.now }
 {
     rectangles
         .iter()

@@ -24,8 +24,8 @@ fn refused_memory_is_told(rt: HostRuntime) {
 #[test]
 fn faults_take_no_memory(rt: HostRuntime) {
     let cases: [(&[u8], ParseFault); 5] = [
-        (&[], ParseFault::Short),
-        (&[2, 2, 0, 1], ParseFault::Short),
+        (&[], ParseFault::Unfinished),
+        (&[2, 2, 0, 1], ParseFault::Unfinished),
         (&[0, 2, 0], ParseFault::Order),
         (&[1; 256], ParseFault::Oversize),
         (&[1, 0, 0], ParseFault::Long),

@@ -4,7 +4,7 @@ use Rattle.std.proofs.Math.Logic.{∥∥₁_elim}
 use Rattle.std.proofs.Props.{props}
 use Rattle.std.proofs.lemmas.List.{append_cancel_left}
 use Rattle.std.specs.Io.KnownBytes.{Appends}
-use Rattle.streams.specs.Sink.{AppendsFront}
+use Rattle.streams.specs.Sink.{AppendsPrefix}
 use Rattle.printing.specs.Telling.{IsNowhere, TellsNoneUndrawn, AddsNoneUndrawn}
 use Rattle.printing.proofs.Apart.{IsApart, tells_none}
 
@@ -23,7 +23,7 @@ added (Some start) (Some now) text adds is = λ more e. subst TellsNoneUndrawn (
 pub text_added : (start now : Option (List ℕ)) (text : List ℕ) → IsApart text → Appends start now text → AddsNoneUndrawn start now
 text_added start now text is adds = added start now text adds (tells_none text is)
 
-pub front_added : (start now : Option (List ℕ)) (text : List ℕ) → IsApart text → AppendsFront start now text → AddsNoneUndrawn start now
+pub front_added : (start now : Option (List ℕ)) (text : List ℕ) → IsApart text → AppendsPrefix start now text → AddsNoneUndrawn start now
 front_added start now text is adds =
     added start now adds.0 adds.3 (front_tells_none adds.0 adds.1 (subst TellsNoneUndrawn adds.2 (tells_none text is)))
 

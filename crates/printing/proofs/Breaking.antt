@@ -1,7 +1,7 @@
 -- What was added to a sink where the text was left off.
 use Rattle.std.proofs.Common.{◌≡◌, ℕ, ◌+◌, ◌<◌, ◌≤◌, List, ◌++◌, length, Option, Some, inl, inr, refl, sym, ap, subst, ◌∙◌, arith, append_assoc, get_or, Bool, Err}
 use Rattle.std.proofs.lemmas.Bool.{cases_lt}
-use Rattle.streams.specs.Sink.{AppendsFront, IsInTransit, Writes}
+use Rattle.streams.specs.Sink.{AppendsPrefix, IsInTransit, Writes}
 use Rattle.streams.proofs.Sinks.{added_both}
 use Rattle.streams.specs.declared.faults.WriteFault.{WriteFault}
 use Rattle.streams.specs.declared.faults.WriteFault.TheVariants.{Write, Memory}
@@ -23,12 +23,12 @@ Longer whole text = (more : List ℕ) × (whole ≡ text ++ more)
 longer_both : (a b c : List ℕ) → Longer a b → Longer b c → Longer a c
 longer_both a b c p q = (q.0 ++ p.0, p.1 ∙ ap (λ l. l ++ p.0) q.1 ∙ append_assoc c q.0 p.0)
 
-pub appends_longer : (start now : Option (List ℕ)) (whole text : List ℕ) → Longer whole text → AppendsFront start now text → AppendsFront start now whole
+pub appends_longer : (start now : Option (List ℕ)) (whole text : List ℕ) → Longer whole text → AppendsPrefix start now text → AppendsPrefix start now whole
 appends_longer start now whole text longer added =
     (added.0, added.1 ++ longer.0, longer.1 ∙ ap (λ l. l ++ longer.0) added.2 ∙ append_assoc added.0 added.1 longer.0, added.3)
 
 -- what is on its way was added up to what waits
-pub way_front : (start now : Option (List ℕ)) (waiting text : List ℕ) → IsInTransit start now waiting text → AppendsFront start now text
+pub way_front : (start now : Option (List ℕ)) (waiting text : List ℕ) → IsInTransit start now waiting text → AppendsPrefix start now text
 way_front start now waiting text way = (way.sent, waiting, way.split, way.added)
 
 -- whatever more was to go on its way, where nothing was added
@@ -36,23 +36,23 @@ pub breaks_here : (now : Option (List ℕ)) (waiting more : List ℕ) → Breaks
 breaks_here now waiting more start text way = appends_longer start now (text ++ more) text (more, refl) (way_front start now waiting text way)
 
 -- where a write failed
-pub writes_front : (A : Type 0) (old new : Option (List ℕ)) (text : List ℕ) (failed : Bool) (e : WriteFault) → Writes {A = A} old new failed text (Err e) → AppendsFront old new text
+pub writes_front : (A : Type 0) (old new : Option (List ℕ)) (text : List ℕ) (failed : Bool) (e : WriteFault) → Writes {A = A} old new failed text (Err e) → AppendsPrefix old new text
 writes_front A old new text failed Write writes = writes.1
 writes_front A old new text failed Memory writes = absurd writes
 
 -- of the files below this one all was on its way, and they have ended
 pub breaks_at : (form : Form) (start now : Option (List ℕ)) (came : ℕ → Came) (n files : ℕ) → n ≤ files → ((k : ℕ) → k < n → HasMark (came k))
-    → AppendsFront start now (ended_texts form came n) → BreaksOff form start now files came
+    → AppendsPrefix start now (ended_texts form came n) → BreaksOff form start now files came
 breaks_at form start now came n files within marked added = record { current = n; within = within; marked = marked; text = inl added }
 
 -- and of this one its first line and its lines so far
 pub breaks_in : (form : Form) (start now : Option (List ℕ)) (came : ℕ → Came) (n files : ℕ) → n < files → ((k : ℕ) → k < n → HasMark (came k))
-    → AppendsFront start now (ended_texts form came n ++ begun form n (came n)) → BreaksOff form start now files came
+    → AppendsPrefix start now (ended_texts form came n ++ begun form n (came n)) → BreaksOff form start now files came
 breaks_in form start now came n files below marked added = record { current = n; within = omega (arith, below); marked = marked; text = inr (below, added) }
 
 -- or its first line alone
 pub breaks_preamble : (form : Form) (start now : Option (List ℕ)) (came : ℕ → Came) (n files : ℕ) → n < files → ((k : ℕ) → k < n → HasMark (came k))
-    → AppendsFront start now (ended_texts form came n ++ preamble_in form (n + 1)) → BreaksOff form start now files came
+    → AppendsPrefix start now (ended_texts form came n ++ preamble_in form (n + 1)) → BreaksOff form start now files came
 breaks_preamble form start now came n files below marked added =
     breaks_in form start now came n files below marked
     (appends_longer start now (ended_texts form came n ++ begun form n (came n)) (ended_texts form came n ++ preamble_in form (n + 1))
@@ -60,7 +60,7 @@ breaks_preamble form start now came n files below marked added =
 
 -- where a beginning was added of what was on its way
 breaks_way : (form : Form) (start now new : Option (List ℕ)) (buffer : List ℕ) (current : ℕ) (waiting : List Waiting) (came : ℕ → Came)
-    → ((text : List ℕ) → IsInTransit start now buffer text → AppendsFront start new text)
+    → ((text : List ℕ) → IsInTransit start now buffer text → AppendsPrefix start new text)
     → AreWritten form start now buffer current waiting came → BreaksOff form start new (length waiting) came
 breaks_way form start now new buffer current waiting came added was =
     elim (cases_lt current (length waiting)) [
@@ -75,7 +75,7 @@ breaks_written form start now buffer current waiting came was = breaks_way form 
 
 -- where what was buffered was to be put
 pub breaks_flushed : (form : Form) (start now new : Option (List ℕ)) (buffer : List ℕ) (current : ℕ) (waiting : List Waiting) (came : ℕ → Came)
-    → AppendsFront now new buffer → AreWritten form start now buffer current waiting came → BreaksOff form start new (length waiting) came
+    → AppendsPrefix now new buffer → AreWritten form start now buffer current waiting came → BreaksOff form start new (length waiting) came
 breaks_flushed form start now new buffer current waiting came put was =
     breaks_way form start now new buffer current waiting came
     (λ text way. (way.sent ++ put.0, put.1, way.split ∙ ap (λ l. way.sent ++ l) put.2 ∙ sym (append_assoc way.sent put.0 put.1), added_both start now new way.sent put.0 way.added put.3)) was
@@ -91,7 +91,7 @@ pub breaks_line : (form : Form) (start old new : Option (List ℕ)) (buffer : Li
     → AreWritten form start old buffer current waiting came → BreaksOff form start new (length waiting) next
 breaks_line form start old new buffer current waiting came next entry line below is more breaks was =
     breaks_in form start new next current (length waiting) below (λ k lt. subst HasMark (sym (more.others k (λ e. absurd (omega (arith, lt, e))))) (was.marked k lt))
-    (subst (AppendsFront start new) (current_more form current came next entry line is more) (breaks start _ (was.going below)))
+    (subst (AppendsPrefix start new) (current_more form current came next entry line is more) (breaks start _ (was.going below)))
 
 -- where the last line of the current file was
 pub breaks_end : (form : Form) (start old new : Option (List ℕ)) (buffer : List ℕ) (current : ℕ) (waiting : List Waiting) (came : ℕ → Came) (mark : Mark) (count : ℕ)
@@ -99,7 +99,7 @@ pub breaks_end : (form : Form) (start old new : Option (List ℕ)) (buffer : Lis
     → AreWritten form start old buffer current waiting came → BreaksOff form start new (length waiting) came
 breaks_end form start old new buffer current waiting came mark count below is counted breaks was =
     breaks_at form start new came (current + 1) (length waiting) (omega (arith, below)) (marked_next came current (current + 1) mark refl is was.marked)
-    (subst (AppendsFront start new) (ended_more form current (current + 1) came mark count refl is counted) (breaks start _ (was.going below)))
+    (subst (AppendsPrefix start new) (ended_more form current (current + 1) came mark count refl is counted) (breaks start _ (was.going below)))
 
 -- where the first line of the current file was, or its lines so far
 pub breaks_first : (form : Form) (start old new : Option (List ℕ)) (buffer : List ℕ) (current : ℕ) (waiting : List Waiting) (came : ℕ → Came)
@@ -117,7 +117,7 @@ breaks_lines form start old mid new buffer between current waiting came lines be
     let other = some_waiting waiting current below in
     let same : lines ≡ lines_in form (came current).entries = are other ∙ was.lines current other (omega arith) below in
     let text : (T ++ H) ++ lines ≡ T ++ (H ++ lines_in form (came current).entries) = append_assoc T H lines ∙ ap (λ l. T ++ (H ++ l)) same in
-    breaks_in form start new came current (length waiting) below was.marked (subst (AppendsFront start new) text (breaks start (T ++ H) (preamble start T was.text)))
+    breaks_in form start new came current (length waiting) below was.marked (subst (AppendsPrefix start new) text (breaks start (T ++ H) (preamble start T was.text)))
 
 -- the same form and as many files
 pub breaks_as : (form now_form : Form) (start now : Option (List ℕ)) (files now_files : ℕ) (came : ℕ → Came) → now_form ≡ form → now_files ≡ files

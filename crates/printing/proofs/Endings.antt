@@ -130,7 +130,7 @@ found_at stream records (Ended ending.Truncated) s may =
       rest = 1 ∷ [];
       with_header = t.with_header;
       divided = t.divided;
-      ends = (t.open_record, (λ e. cc), λ full. may (sym t.counted ∙ full));
+      ends = (t.partial_record, (λ e. cc), λ full. may (sym t.counted ∙ full));
     })))
 found_at stream [] (Ended ending.Header) s may = found_header
 found_at stream (r ∷ records) (Ended ending.Header) s may = absurd (let none : ⊥ = omega (arith, may) in none)

@@ -23,9 +23,9 @@ use Rattle.printing.specs.Orders.{IsKnownAt, IsInOrder, IsNext}
 use Rattle.printing.specs.Spelt.{IsSpelt}
 use Rattle.printing.proofs.Ordering.{order_none, order_item, order_end, order_but}
 use Rattle.printing.proofs.Breaking.{breaks_written, breaks_flushed}
-use Rattle.printing.specs.Holding.{HoldsNotes, LinesHold, LinesWrite, LeavesOff, LinesLeaveOff, LinesLeaveOffAt, AreLinesOf}
+use Rattle.printing.specs.Holding.{HoldsNotes, LinesHold, LinesWrite, NotesBreakOff, LinesBreakOff, LinesBreakOffAt, AreLinesOf}
 use Rattle.printing.specs.Written.{BreaksOff}
-use Rattle.streams.specs.Sink.{AppendsFront}
+use Rattle.streams.specs.Sink.{AppendsPrefix}
 use Rattle.printing.proofs.Notes.{entry_more, has_entry_more, ended_now, has_mark_more, all_told_item, all_told_end}
 use Rattle.printing.proofs.Wholes.{whole_end}
 use Rattle.printing.proofs.Adding.{written_none}
@@ -167,7 +167,7 @@ preamble_short Report =
 preamble_short Json = omega arith
 
 -- what is held is left off as it is
-pub left_off_held : (meaning : ℕ → Meaning) (start now : Option (List ℕ)) (lines : Lines) (ns : List Note) → LinesHold meaning start now lines ns → LinesLeaveOff meaning start now lines ns
+pub left_off_held : (meaning : ℕ → Meaning) (start now : Option (List ℕ)) (lines : Lines) (ns : List Note) → LinesHold meaning start now lines ns → LinesBreakOff meaning start now lines ns
 left_off_held meaning start now lines ns held = record {
   came = held.came;
   told = held.told;
@@ -176,18 +176,18 @@ left_off_held meaning start now lines ns held = record {
 }
 
 -- of the same lines later
-pub left_off_as : (meaning : ℕ → Meaning) (start now : Option (List ℕ)) (before after : Lines) (ns : List Note) → AreLinesOf before after → LinesLeaveOff meaning start now before ns → LinesLeaveOff meaning start now after ns
+pub left_off_as : (meaning : ℕ → Meaning) (start now : Option (List ℕ)) (before after : Lines) (ns : List Note) → AreLinesOf before after → LinesBreakOff meaning start now before ns → LinesBreakOff meaning start now after ns
 left_off_as meaning start now before after ns same was =
-    subst (λ n. LeavesOff after.choice meaning after.form n start now ns) (sym same.files)
-    (subst (λ f. LeavesOff after.choice meaning f (length before.waiting.items) start now ns) (sym same.form)
-    (subst (λ c. LeavesOff c meaning before.form (length before.waiting.items) start now ns) (sym same.choice) was))
+    subst (λ n. NotesBreakOff after.choice meaning after.form n start now ns) (sym same.files)
+    (subst (λ f. NotesBreakOff after.choice meaning f (length before.waiting.items) start now ns) (sym same.form)
+    (subst (λ c. NotesBreakOff c meaning before.form (length before.waiting.items) start now ns) (sym same.choice) was))
 
 -- where one entry more was to be added
 pub left_off_item : (meaning : ℕ → Meaning) (start old new : Option (List ℕ)) (before after : Lines) (ns : List Note) (file : ℕ) (entry : Entry) → AreLinesOf before after
     → file < length before.waiting.items → before.current ≤ file → ComesNext before.choice (meaning file) file before.waiting.items entry
     → ((came next : ℕ → Came) → HasEntryMore file entry came next → LinesWrite start old before came
     → BreaksOff before.form start new (length before.waiting.items) came ⊎ BreaksOff before.form start new (length before.waiting.items) next)
-    → LinesHold meaning start old before ns → LinesLeaveOffAt meaning start new after ns (Item (about_of entry))
+    → LinesHold meaning start old before ns → LinesBreakOffAt meaning start new after ns (Item (about_of entry))
 left_off_item meaning start old new before after ns file entry same below from comes breaks held =
     let next = entry_more file entry held.came in
     let more = has_entry_more file entry held.came in
@@ -207,7 +207,7 @@ pub left_off_end : (meaning : ℕ → Meaning) (start old new : Option (List ℕ
     → ((other : Waiting) → ∥ IsEndAt (meaning file) (get_or before.waiting.items file other).count mark ∥₁) → before.current ≤ file
     → ((came next : ℕ → Came) → HasMarkMore file mark came next → LinesWrite start old before came → LinesWrite start old mid next)
     → ((came : ℕ → Came) → LinesWrite start old mid came → BreaksOff mid.form start new (length mid.waiting.items) came)
-    → LinesHold meaning start old before ns → LinesLeaveOffAt meaning start new after ns (End file mark)
+    → LinesHold meaning start old before ns → LinesBreakOffAt meaning start new after ns (End file mark)
 left_off_end meaning start old new before mid after ns file mark went kept below ends from keeps breaks held =
     let next = ended_now file mark held.came in
     let more = has_mark_more file mark held.came in
@@ -219,7 +219,7 @@ left_off_end meaning start old new before mid after ns file mark went kept below
     }))
 
 -- where what was buffered was to be put
-pub left_off_finish : (meaning : ℕ → Meaning) (start old new : Option (List ℕ)) (lines : Lines) (ns : List Note) → AppendsFront old new lines.buffer → LinesHold meaning start old lines ns → LinesLeaveOff meaning start new lines ns
+pub left_off_finish : (meaning : ℕ → Meaning) (start old new : Option (List ℕ)) (lines : Lines) (ns : List Note) → AppendsPrefix old new lines.buffer → LinesHold meaning start old lines ns → LinesBreakOff meaning start new lines ns
 left_off_finish meaning start old new lines ns put held = record {
   came = held.came;
   told = held.told;

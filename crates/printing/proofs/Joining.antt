@@ -2,7 +2,7 @@
 use Rattle.std.proofs.Common.{◌≡◌, ℕ, ◌+◌, ◌<◌, List, [], ◌∷◌, ◌++◌, length, take, drop, get_or, Vec, Global, Option, sym, ap, subst, ◌∙◌, append_assoc, append-nil}
 use Rattle.std.proofs.lemmas.List.{take_more, take-append-drop}
 use Rattle.std.proofs.lemmas.List.Concat.{flat_map-append}
-use Rattle.streams.specs.Sink.{AppendsFront, IsInTransit}
+use Rattle.streams.specs.Sink.{AppendsPrefix, IsInTransit}
 use Rattle.printing.specs.Concatenated.{concatenated}
 use Rattle.printing.specs.Written.{GoesOn, BreaksIn}
 use Rattle.printing.proofs.Breaking.{appends_longer}
@@ -26,7 +26,7 @@ goes_both old mid new waited between waits first next p q start text way =
 pub goes_breaks : (old mid new : Option (List ℕ)) (waited between first next : List ℕ)
     → GoesOn old waited mid between first → BreaksIn mid between new next → BreaksIn old waited new (first ++ next)
 goes_breaks old mid new waited between first next p q start text way =
-    subst (AppendsFront start new) (append_assoc text first next) (q start (text ++ first) (p start text way))
+    subst (AppendsPrefix start new) (append_assoc text first next) (q start (text ++ first) (p start text way))
 
 -- more was to come
 pub breaks_more : (old new : Option (List ℕ)) (waited text more : List ℕ) → BreaksIn old waited new text → BreaksIn old waited new (text ++ more)

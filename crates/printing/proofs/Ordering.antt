@@ -8,7 +8,7 @@ use Rattle.std.proofs.lemmas.List.Elements.{All-push, All-nil, All-cons, All-hea
 use Rattle.planar_code.specs.declared.TheConstants.{MAX_RECORDS}
 use Rattle.planar_code.specs.Stream.{IsRecord}
 use Rattle.streams.specs.declared.frames.Mark.{Mark}
-use Rattle.streams.specs.Sink.{AppendsFront}
+use Rattle.streams.specs.Sink.{AppendsPrefix}
 use Rattle.streams.proofs.Sinks.{added_none}
 use Rattle.common.specs.declared.choice.Choice.{Choice}
 use Rattle.lanes.specs.Notes.{Note, numbered}
@@ -27,7 +27,7 @@ use Rattle.printing.proofs.BookTexts.{text_by_lines}
 use Rattle.printing.specs.Came.{Came, HasMark, nothing}
 use Rattle.printing.specs.Orders.{IsKnownAt, IsInOrder}
 use Rattle.printing.specs.Written.{begun, ended_texts}
-use Rattle.printing.specs.Holding.{LeavesOff}
+use Rattle.printing.specs.Holding.{NotesBreakOff}
 use Rattle.printing.specs.Whole.{AreFirst, IsBegun}
 use Rattle.printing.proofs.Endings.{record_spelt, found_untold}
 use Rattle.printing.proofs.Finishing.{text_more}
@@ -168,21 +168,21 @@ end_up_to choice meaning form came (suc n) marked order =
 
 -- a text that was left off ends with the books of the files that have ended, or with the first entries of the next file
 begun_ended : (choice : Choice) (meaning : ℕ → Meaning) (form : Form) (files : ℕ) (start now : Option (List ℕ)) (came : ℕ → Came) (current : ℕ) → current ≤ files
-    → AppendsFront start now (ended_texts form came current) → AreEnded choice meaning form came current → IsBegun choice meaning form files start now
+    → AppendsPrefix start now (ended_texts form came current) → AreEnded choice meaning form came current → IsBegun choice meaning form files start now
 begun_ended choice meaning form files start now came current within added up_to =
     let text : ended_texts form came current ≡ text_in form up_to.books = sym up_to.text ∙ text_by_lines form choice meaning up_to.books up_to.each in
-    record { books = up_to.books; of_files = up_to.each; few = omega (arith, within, up_to.count); text = inl (subst (AppendsFront start now) text added) }
+    record { books = up_to.books; of_files = up_to.each; few = omega (arith, within, up_to.count); text = inl (subst (AppendsPrefix start now) text added) }
 
 begun_next : (choice : Choice) (meaning : ℕ → Meaning) (form : Form) (files : ℕ) (start now : Option (List ℕ)) (came : ℕ → Came) (current : ℕ) → current < files
-    → AppendsFront start now (ended_texts form came current ++ begun form current (came current)) → AreFirst choice (meaning current) current (came current).entries
+    → AppendsPrefix start now (ended_texts form came current ++ begun form current (came current)) → AreFirst choice (meaning current) current (came current).entries
     → AreEnded choice meaning form came current → IsBegun choice meaning form files start now
 begun_next choice meaning form files start now came current below added first up_to =
     let same : current ≡ length up_to.books = sym up_to.count in
     let text : ended_texts form came current ≡ text_in form up_to.books = sym up_to.text ∙ text_by_lines form choice meaning up_to.books up_to.each in
     let entries = (came current).entries in
-    let ended : AppendsFront start now (text_in form up_to.books ++ preamble_in form (current + 1) ++ lines_in form entries) =
-    subst (AppendsFront start now) (sym (append_assoc (text_in form up_to.books) (preamble_in form (current + 1)) (lines_in form entries)))
-    (subst (λ l. AppendsFront start now (l ++ begun form current (came current))) text added) in
+    let ended : AppendsPrefix start now (text_in form up_to.books ++ preamble_in form (current + 1) ++ lines_in form entries) =
+    subst (AppendsPrefix start now) (sym (append_assoc (text_in form up_to.books) (preamble_in form (current + 1)) (lines_in form entries)))
+    (subst (λ l. AppendsPrefix start now (l ++ begun form current (came current))) text added) in
     record {
       books = up_to.books;
       of_files = up_to.each;
@@ -192,12 +192,12 @@ begun_next choice meaning form files start now came current below added first up
         (
           entries,
           subst (λ k. AreFirst choice (meaning k) k entries) same first,
-          subst (λ k. AppendsFront start now (text_in form up_to.books ++ preamble_in form (k + 1) ++ lines_in form entries)) same ended,
+          subst (λ k. AppendsPrefix start now (text_in form up_to.books ++ preamble_in form (k + 1) ++ lines_in form entries)) same ended,
         ),
       );
     }
 
-pub begun_left_off : (choice : Choice) (meaning : ℕ → Meaning) (form : Form) (files : ℕ) (start now : Option (List ℕ)) (ns : List Note) → LeavesOff choice meaning form files start now ns
+pub begun_left_off : (choice : Choice) (meaning : ℕ → Meaning) (form : Form) (files : ℕ) (start now : Option (List ℕ)) (ns : List Note) → NotesBreakOff choice meaning form files start now ns
     → ∥ IsBegun choice meaning form files start now ∥₁
 begun_left_off choice meaning form files start now ns left =
     let off = left.text in

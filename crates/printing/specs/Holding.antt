@@ -20,7 +20,7 @@ pub record HoldsNotes (choice : Choice) (meaning : ℕ → Meaning) (form : Form
   pub all_whole : (whole ≡ true) ↔ ((file : ℕ) → file < length waiting → IsWholeSoFar (came file))
 
 -- What the notes tell of each of so many files, which means this, is in order, and the text of it was left off.
-pub record LeavesOff (choice : Choice) (meaning : ℕ → Meaning) (form : Form) (files : ℕ) (start now : Option (List ℕ)) (ns : List Note) : Type 0 where
+pub record NotesBreakOff (choice : Choice) (meaning : ℕ → Meaning) (form : Form) (files : ℕ) (start now : Option (List ℕ)) (ns : List Note) : Type 0 where
   pub came : ℕ → Came
   pub told : (file : ℕ) → file < files → IsToldByNotes file ns (came file)
   pub ordered : (file : ℕ) → file < files → IsInOrder choice (meaning file) file (came file)
@@ -41,21 +41,21 @@ abbrev pub LinesWrite : Option (List ℕ) → Option (List ℕ) → Lines → (�
 LinesWrite start now lines came = AreWritten lines.form start now lines.buffer lines.current lines.waiting.items came
 
 -- the same before anything of the first file that has not ended was put on its way
-abbrev pub LinesLeave : Option (List ℕ) → Option (List ℕ) → Lines → (ℕ → Came) → Type 0
-LinesLeave start now lines came = AreRemaining lines.form start now lines.buffer lines.current lines.waiting.items came
+abbrev pub LinesRemain : Option (List ℕ) → Option (List ℕ) → Lines → (ℕ → Came) → Type 0
+LinesRemain start now lines came = AreRemaining lines.form start now lines.buffer lines.current lines.waiting.items came
 
 -- what the notes tell of files that mean this is written or waits
 abbrev pub LinesHold : (ℕ → Meaning) → Option (List ℕ) → Option (List ℕ) → Lines → List Note → Type 0
 LinesHold meaning start now lines ns = HoldsNotes lines.choice meaning lines.form start now lines.buffer lines.current lines.waiting.items lines.whole ns
 
 -- the text of what the notes tell was left off
-abbrev pub LinesLeaveOff : (ℕ → Meaning) → Option (List ℕ) → Option (List ℕ) → Lines → List Note → Type 0
-LinesLeaveOff meaning start now lines ns = LeavesOff lines.choice meaning lines.form (length lines.waiting.items) start now ns
+abbrev pub LinesBreakOff : (ℕ → Meaning) → Option (List ℕ) → Option (List ℕ) → Lines → List Note → Type 0
+LinesBreakOff meaning start now lines ns = NotesBreakOff lines.choice meaning lines.form (length lines.waiting.items) start now ns
 
 -- the same, with or without the note that came last
-abbrev pub LinesLeaveOffAt : (ℕ → Meaning) → Option (List ℕ) → Option (List ℕ) → Lines → List Note → Note → Type 0
-LinesLeaveOffAt meaning start now lines ns note =
-    LinesLeaveOff meaning start now lines ns ⊎ LinesLeaveOff meaning start now lines (ns ++ note ∷ [])
+abbrev pub LinesBreakOffAt : (ℕ → Meaning) → Option (List ℕ) → Option (List ℕ) → Lines → List Note → Note → Type 0
+LinesBreakOffAt meaning start now lines ns note =
+    LinesBreakOff meaning start now lines ns ⊎ LinesBreakOff meaning start now lines (ns ++ note ∷ [])
 
 -- the form, the choice and the number of files are those of before
 pub record AreLinesOf (before after : Lines) : Type 0 where

@@ -3,7 +3,7 @@ use Rattle.std.specs.Prelude.{◌≡◌, ◌↔◌, ◌⊎◌, ℕ, ◌+◌, ◌
 use Rattle.std.specs.Io.KnownBytes.{Appends}
 use Rattle.planar_code.specs.declared.ending.Ending.{Ending}
 use Rattle.streams.specs.declared.frames.Mark.{Mark}
-use Rattle.streams.specs.Sink.{AppendsFront}
+use Rattle.streams.specs.Sink.{AppendsPrefix}
 use Rattle.common.specs.declared.choice.Choice.{Choice}
 use Rattle.lanes.specs.Notes.{Note}
 use Rattle.lanes.specs.Opening.{Meaning}
@@ -37,6 +37,6 @@ pub record IsBegun (choice : Choice) (meaning : ℕ → Meaning) (form : Form) (
   pub books : List BookModel
   pub of_files : AreBooks choice meaning 0 books
   pub few : length books ≤ files
-  pub text : AppendsFront start now (text_in form books)
+  pub text : AppendsPrefix start now (text_in form books)
       ⊎ ((length books < files) × ((entries : List Entry) × AreFirst choice (meaning (length books)) (length books) entries
-      × AppendsFront start now (text_in form books ++ preamble_in form (length books + 1) ++ lines_in form entries)))
+      × AppendsPrefix start now (text_in form books ++ preamble_in form (length books + 1) ++ lines_in form entries)))

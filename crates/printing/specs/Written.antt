@@ -1,7 +1,7 @@
 -- What has been written of what has come, and what waits.
 use Rattle.std.specs.Prelude.{◌≡◌, ℕ, zero, suc, ◌+◌, ◌<◌, ◌≤◌, ◌⊎◌, Bool, true, false, List, [], ◌++◌, length, Option, None, Some, slice_index_or}
 use Rattle.streams.specs.declared.frames.Mark.{Mark}
-use Rattle.streams.specs.Sink.{AppendsFront, IsInTransit}
+use Rattle.streams.specs.Sink.{AppendsPrefix, IsInTransit}
 use Rattle.reports.specs.declared.form.Form.{Form}
 use Rattle.printing.specs.FormLines.{preamble_in, lines_in, end_in}
 use Rattle.printing.specs.declared.refusal.Refusal.{Refusal}
@@ -21,7 +21,7 @@ GoesOn old waited new waits more = (start : Option (List ℕ)) (text : List ℕ)
 
 -- whatever text was on its way, a beginning of it with `more` at its end was added
 abbrev pub BreaksIn : Option (List ℕ) → List ℕ → Option (List ℕ) → List ℕ → Type 0
-BreaksIn old waited new more = (start : Option (List ℕ)) (text : List ℕ) → IsInTransit start old waited text → AppendsFront start new (text ++ more)
+BreaksIn old waited new more = (start : Option (List ℕ)) (text : List ℕ) → IsInTransit start old waited text → AppendsPrefix start new (text ++ more)
 
 -- what stands before the lines of this file, counted from 0, and its lines so far
 abbrev pub begun : Form → ℕ → Came → List ℕ
@@ -46,8 +46,8 @@ pub record BreaksOff (form : Form) (start now : Option (List ℕ)) (files : ℕ)
   pub current : ℕ
   pub within : current ≤ files
   pub marked : (file : ℕ) → file < current → HasMark (came file)
-  pub text : AppendsFront start now (ended_texts form came current)
-      ⊎ ((current < files) × AppendsFront start now (ended_texts form came current ++ begun form current (came current)))
+  pub text : AppendsPrefix start now (ended_texts form came current)
+      ⊎ ((current < files) × AppendsPrefix start now (ended_texts form came current ++ begun form current (came current)))
 
 -- the entries are counted and the mark is kept
 pub record IsCounted (waiting : Waiting) (came : Came) : Type 0 where

@@ -5,7 +5,7 @@ use lanes::Pauses;
 
 /// The part of what may wait from which on the next file that has not ended alone goes on beside the current file.
 /// So two lanes are at work for most of a run, where a whole bound for all would let one run alone.
-const PART: usize = 4;
+const QUARTER: usize = 4;
 
 /// How much may wait of files that are not current yet, and where it is written that their reading pauses.
 #[derive(Drop)]
@@ -21,7 +21,7 @@ impl Pace<'_> {
     pub(crate) fn keep(&self, lines: &Lines) {
         if lines.waits() >= self.most {
             self.pauses.pause_behind(lines.current());
-        } else if lines.waits() >= self.most / PART {
+        } else if lines.waits() >= self.most / QUARTER {
             self.pauses.pause_behind(lines.next());
         } else {
             self.pauses.lift();

@@ -11,7 +11,7 @@ ghost use Rattle.printing.specs.declared.waiting.Waiting.{Waiting};
 ghost use Rattle.printing.specs.Came.{Came, HasEntryMore};
 ghost use Rattle.printing.specs.Orders.{IsNext};
 ghost use Rattle.printing.specs.Written.{BreaksOff, GivesUp};
-ghost use Rattle.printing.specs.Holding.{form_of, choice_of, files_of, LinesWrite, LinesLeave, LinesHold, LinesLeaveOff, LinesLeaveOffAt, AreLinesOf, StandAt};
+ghost use Rattle.printing.specs.Holding.{form_of, choice_of, files_of, LinesWrite, LinesRemain, LinesHold, LinesBreakOff, LinesBreakOffAt, AreLinesOf, StandAt};
 ghost use Rattle.printing.specs.Whole.{HaveFiles, IsAllWritten};
 
 use crate::lines::{lacking_text, preamble_text};
@@ -111,7 +111,7 @@ impl Lines {
         ensures held { OnOk result ((start : Option (List ℕ)) (ns : List Note) → LinesHold J.meaning start (S.taken sink.old) self.old ns
             → LinesHold J.meaning start (S.taken sink.new) self.new (ns ++ Item (record { file = printed.file; ordinal = printed.ordinal; bytes = printed.rec.value; choice = printed.choice }) ∷ [])) }
         ensures broken { OnErr result ((start : Option (List ℕ)) (ns : List Note) → LinesHold J.meaning start (S.taken sink.old) self.old ns
-            → LinesLeaveOffAt J.meaning start (S.taken sink.new) self.new ns (Item (record { file = printed.file; ordinal = printed.ordinal; bytes = printed.rec.value; choice = printed.choice }))) }
+            → LinesBreakOffAt J.meaning start (S.taken sink.new) self.new ns (Item (record { file = printed.file; ordinal = printed.ordinal; bytes = printed.rec.value; choice = printed.choice }))) }
         ensures stands { OnOk result (S.failed sink.new ≡ false) }
         ensures gave_up { IfErr result (λ refusal. GivesUp (S.failed sink.new) refusal) }
         ensures same { AreLinesOf self.old self.new }
@@ -153,7 +153,7 @@ impl Lines {
         ensures held { OnOk result ((start : Option (List ℕ)) (ns : List Note) → LinesHold J.meaning start (S.taken sink.old) self.old ns
             → LinesHold J.meaning start (S.taken sink.new) self.new (ns ++ End file mark ∷ [])) }
         ensures broken { OnErr result ((start : Option (List ℕ)) (ns : List Note) → LinesHold J.meaning start (S.taken sink.old) self.old ns
-            → LinesLeaveOffAt J.meaning start (S.taken sink.new) self.new ns (End file mark)) }
+            → LinesBreakOffAt J.meaning start (S.taken sink.new) self.new ns (End file mark)) }
         ensures stands { OnOk result (S.failed sink.new ≡ false) }
         ensures gave_up { IfErr result (λ refusal. GivesUp (S.failed sink.new) refusal) }
         ensures same { AreLinesOf self.old self.new }
@@ -180,7 +180,7 @@ impl Lines {
             (ns : List Note) → LinesHold known start (S.taken sink.old) self ns → HaveFiles choice meaning (files_of self) ns
             → IsAllWritten choice meaning (form_of self) (files_of self) start (S.taken sink.new) status) }
         ensures broken { OnErr result ((meaning : ℕ → Meaning) (start : Option (List ℕ)) (ns : List Note)
-            → LinesHold meaning start (S.taken sink.old) self ns → LinesLeaveOff meaning start (S.taken sink.new) self ns) }
+            → LinesHold meaning start (S.taken sink.old) self ns → LinesBreakOff meaning start (S.taken sink.new) self ns) }
         ensures other { IfOk result (λ status. status ≢ 0 → status ≡ 3) }
         ensures write { (result ≡ Err WriteFault.Write) ↔ (S.failed sink.new ≡ true) }
         ensures memory { result ≢ Err WriteFault.Memory }
@@ -341,9 +341,9 @@ impl Lines {
         requires stands { S.failed sink.old ≡ false }
         requires below { self.old.current < length self.old.waiting.items }
         ensures begun { OnOk result ((start : Option (List ℕ)) (came : ℕ → Came)
-            → LinesLeave start (S.taken sink.old) self.old came → LinesWrite start (S.taken sink.new) self.new came) }
+            → LinesRemain start (S.taken sink.old) self.old came → LinesWrite start (S.taken sink.new) self.new came) }
         ensures broken { OnErr result ((start : Option (List ℕ)) (came : ℕ → Came)
-            → LinesLeave start (S.taken sink.old) self.old came → BreaksOff self.old.form start (S.taken sink.new) (files_of self.old) came) }
+            → LinesRemain start (S.taken sink.old) self.old came → BreaksOff self.old.form start (S.taken sink.new) (files_of self.old) came) }
         ensures stands { OnOk result (S.failed sink.new ≡ false) }
         ensures gave_up { IfErr result (λ refusal. GivesUp (S.failed sink.new) refusal) }
         ensures same { StandAt self.old self.new }

@@ -2,7 +2,7 @@
 use Rattle.std.proofs.Common.{◌≡◌, ℕ, Bool, false, List, ◌++◌, Option, Result, Ok, Err, subst, sym, ◌∙◌, ap, append_assoc}
 use Rattle.streams.specs.declared.faults.WriteFault.{WriteFault}
 use Rattle.streams.specs.declared.faults.WriteFault.TheVariants.{Write, Memory}
-use Rattle.streams.specs.Sink.{Writes, AppendsFront, IsInTransit, StaysInTransit}
+use Rattle.streams.specs.Sink.{Writes, AppendsPrefix, IsInTransit, StaysInTransit}
 use Rattle.streams.proofs.Sinks.{flushed_whole}
 use Rattle.reports.specs.Writing.{WritesOrLacks, StaysOrLacks}
 
@@ -23,15 +23,15 @@ lacks_both old mid new waited between waits was failed more next whole a (Ok b) 
 )
 lacks_both old mid new waited between waits was failed more next whole a (Err Write) p q joined = (
   q.0,
-  λ start text way. subst (AppendsFront start new) (append_assoc text more next ∙ ap (λ l. text ++ l) joined) (q.1 start (text ++ more) (p.1 start text way)),
+  λ start text way. subst (AppendsPrefix start new) (append_assoc text more next ∙ ap (λ l. text ++ l) joined) (q.1 start (text ++ more) (p.1 start text way)),
 )
 lacks_both old mid new waited between waits was failed more next whole a (Err Memory) p q joined = (
   q.0,
-  λ start text way. subst (AppendsFront start new) (append_assoc text more next ∙ ap (λ l. text ++ l) joined) (q.1 start (text ++ more) (p.1 start text way)),
+  λ start text way. subst (AppendsPrefix start new) (append_assoc text more next ∙ ap (λ l. text ++ l) joined) (q.1 start (text ++ more) (p.1 start text way)),
 )
 
 -- a beginning of a text is one of any text that goes on from it
-longer : (old new : Option (List ℕ)) (text more rest whole : List ℕ) → AppendsFront old new (text ++ more) → whole ≡ more ++ rest → AppendsFront old new (text ++ whole)
+longer : (old new : Option (List ℕ)) (text more rest whole : List ℕ) → AppendsPrefix old new (text ++ more) → whole ≡ more ++ rest → AppendsPrefix old new (text ++ whole)
 longer old new text more rest whole f split =
     (f.0, f.1 ++ rest, ap (λ l. text ++ l) split ∙ sym (append_assoc text more rest) ∙ ap (λ l. l ++ rest) f.2 ∙ append_assoc f.0 f.1 rest, f.3)
 

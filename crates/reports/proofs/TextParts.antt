@@ -3,7 +3,7 @@ use Rattle.std.proofs.Common.{◌≡◌, ℕ, ◌+◌, ◌<◌, ◌≤◌, Bool,
 use Rattle.std.proofs.lemmas.List.{take-append-drop, take_more, length-take, take_all}
 use Rattle.streams.specs.declared.faults.WriteFault.{WriteFault}
 use Rattle.streams.specs.declared.faults.WriteFault.TheVariants.{Write, Memory}
-use Rattle.streams.specs.Sink.{IsInTransit, AppendsFront, StaysInTransit}
+use Rattle.streams.specs.Sink.{IsInTransit, AppendsPrefix, StaysInTransit}
 use Rattle.streams.specs.declared.frames.Mark.{Mark}
 use Rattle.entries.specs.declared.entry.Entry.{Entry}
 use Rattle.entries.specs.Books.{BookModel}
@@ -57,7 +57,7 @@ stays_both old mid new waited between waits was failed more next whole a (Ok b) 
 )
 stays_both old mid new waited between waits was failed more next whole a (Err Write) p q joined = (
   q.0,
-  λ start text way. subst (AppendsFront start new) (append_assoc text more next ∙ ap (λ l. text ++ l) joined) (q.1 start (text ++ more) (p.1 start text way)),
+  λ start text way. subst (AppendsPrefix start new) (append_assoc text more next ∙ ap (λ l. text ++ l) joined) (q.1 start (text ++ more) (p.1 start text way)),
 )
 stays_both old mid new waited between waits was failed more next whole a (Err Memory) p q joined = q
 

@@ -25,8 +25,8 @@ abbrev pub natural : ℕ → Data
 natural n = number (unsigned n)
 
 -- a whole number, which may be below 0
-abbrev pub whole : ℤ → Data
-whole z = number (of_integer z)
+abbrev pub integer : ℤ → Data
+integer z = number (of_integer z)
 
 -- the array of what stands for each thing of a list
 abbrev pub array_of : {A : Type 0} → (A → Data) → List A → Data
@@ -53,8 +53,8 @@ turns_data turns = string (map letter_of turns)
 
 abbrev pub prices_data : PricesModel → Data
 prices_data prices = object_of (
-    (codes "faces", array_of whole prices.faces)
-    ∷ (codes "vertices", array_of whole prices.vertices)
+    (codes "faces", array_of integer prices.faces)
+    ∷ (codes "vertices", array_of integer prices.vertices)
     ∷ [])
 
 abbrev pub point_data : Point → Data

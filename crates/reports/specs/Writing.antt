@@ -3,14 +3,14 @@ use Rattle.std.specs.Prelude.{◌≡◌, ℕ, Bool, true, false, List, ◌++◌,
 use Rattle.std.specs.Io.KnownBytes.{Appends}
 use Rattle.streams.specs.declared.faults.WriteFault.{WriteFault}
 use Rattle.streams.specs.declared.faults.WriteFault.TheVariants.{Write, Memory}
-use Rattle.streams.specs.Sink.{AppendsFront, IsInTransit}
+use Rattle.streams.specs.Sink.{AppendsPrefix, IsInTransit}
 
 -- Ok: the whole text was added, and the sink has not failed. `Write`: a beginning of it, and the sink has failed.
 -- `Memory`: a beginning of it, and the sink has not failed.
 abbrev pub WritesOrLacks : {A : Type 0} → Option (List ℕ) → Option (List ℕ) → Bool → List ℕ → Result A WriteFault → Type 0
 WritesOrLacks old new failed text (Ok _) = (failed ≡ false) × Appends old new text
-WritesOrLacks old new failed text (Err Write) = (failed ≡ true) × AppendsFront old new text
-WritesOrLacks old new failed text (Err Memory) = (failed ≡ false) × AppendsFront old new text
+WritesOrLacks old new failed text (Err Write) = (failed ≡ true) × AppendsPrefix old new text
+WritesOrLacks old new failed text (Err Memory) = (failed ≡ false) × AppendsPrefix old new text
 
 -- Whatever text was on its way, it is on its way with `more` at its end. After an error a beginning of it was added, and
 -- the sink has failed exactly where the error is `Write`.
@@ -18,6 +18,6 @@ abbrev pub StaysOrLacks : {A : Type 0} → Option (List ℕ) → List ℕ → Op
 StaysOrLacks old waited new waits failed more (Ok _) =
     (failed ≡ false) × ((start : Option (List ℕ)) (text : List ℕ) → IsInTransit start old waited text → IsInTransit start new waits (text ++ more))
 StaysOrLacks old waited new waits failed more (Err Write) =
-    (failed ≡ true) × ((start : Option (List ℕ)) (text : List ℕ) → IsInTransit start old waited text → AppendsFront start new (text ++ more))
+    (failed ≡ true) × ((start : Option (List ℕ)) (text : List ℕ) → IsInTransit start old waited text → AppendsPrefix start new (text ++ more))
 StaysOrLacks old waited new waits failed more (Err Memory) =
-    (failed ≡ false) × ((start : Option (List ℕ)) (text : List ℕ) → IsInTransit start old waited text → AppendsFront start new (text ++ more))
+    (failed ≡ false) × ((start : Option (List ℕ)) (text : List ℕ) → IsInTransit start old waited text → AppendsPrefix start new (text ++ more))

@@ -5,9 +5,9 @@ ghost use Rattle.serde_json.specs.Written.{comma_if, compact_text};
 ghost use Rattle.ortho_rep.specs.Points.{corners_at};
 ghost use Rattle.ortho_rep.specs.Representation.{HasDarts};
 ghost use Rattle.ortho_rep.specs.Prices.{HasPrices};
-ghost use Rattle.reports.specs.LineData.{natural, whole, array_of, turns_data, point_data, corners_data};
+ghost use Rattle.reports.specs.LineData.{natural, integer, array_of, turns_data, point_data, corners_data};
 
-use crate::json_text::{bytes, comma, natural, point, turns, whole};
+use crate::json_text::{bytes, comma, integer, natural, point, turns};
 use faces::Plane;
 use ortho_rep::{Point, Points, Prices, Shape};
 use std::alloc::AllocError;
@@ -42,11 +42,11 @@ pub(crate) fn put_vertex_prices(
     prices: &Prices,
 ) -> Result<(), AllocError>
     requires { HasPrices plane.now prices.now }
-    ensures { OnOk result (out.new.items ≡ out.old.items ++ compact_text (array_of whole prices.now.vertices)) }
+    ensures { OnOk result (out.new.items ≡ out.old.items ++ compact_text (array_of integer prices.now.vertices)) }
 {
     bytes(out, b"[")?;
     for place in 0..plane.graph().vertices() {
-        whole(out, place > 0, prices.vertex(place + 1))?;
+        integer(out, place > 0, prices.vertex(place + 1))?;
     }
     bytes(out, b"]")
 }
@@ -58,11 +58,11 @@ pub(crate) fn put_face_prices(
     prices: &Prices,
 ) -> Result<(), AllocError>
     requires { HasPrices plane.now prices.now }
-    ensures { OnOk result (out.new.items ≡ out.old.items ++ compact_text (array_of whole prices.now.faces)) }
+    ensures { OnOk result (out.new.items ≡ out.old.items ++ compact_text (array_of integer prices.now.faces)) }
 {
     bytes(out, b"[")?;
     for face in 0..plane.face_count() {
-        whole(out, face > 0, prices.face(face))?;
+        integer(out, face > 0, prices.face(face))?;
     }
     bytes(out, b"]")
 }

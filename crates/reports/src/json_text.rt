@@ -1,7 +1,7 @@
 //! Parts of the text of a line, put behind what was written.
 ghost use Rattle.std.specs.Prelude.{◌≡◌, ◌<◌, ◌++◌, ◌∷◌, [], OnOk, decimal, map};
 ghost use Rattle.serde_json.specs.Written.{comma_if, compact_text};
-ghost use Rattle.reports.specs.LineData.{whole, point_data, turns_data, letter_of};
+ghost use Rattle.reports.specs.LineData.{integer, point_data, turns_data, letter_of};
 
 use itoa::Buffer;
 use ortho_rep::{Point, Turn};
@@ -60,8 +60,8 @@ fn digit(out: &mut Vec<u8>, later: bool, number: u8) -> Result<(), AllocError>
 }
 
 /// Puts a number, behind a comma where something stands before.
-pub(crate) fn whole(out: &mut Vec<u8>, later: bool, number: i32) -> Result<(), AllocError>
-    ensures { OnOk result (out.new.items ≡ out.old.items ++ (comma_if later ++ compact_text (whole number))) }
+pub(crate) fn integer(out: &mut Vec<u8>, later: bool, number: i32) -> Result<(), AllocError>
+    ensures { OnOk result (out.new.items ≡ out.old.items ++ (comma_if later ++ compact_text (integer number))) }
 {
     if number >= 0 {
         return natural(out, later, number as u64);

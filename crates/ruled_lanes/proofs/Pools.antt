@@ -7,7 +7,7 @@ use Rattle.ruled_lanes.specs.declared.ticket_protocol.Draws.{Draws}
 use mathlib.Core.Option.{some}
 use lib.ListN.{get_elem?}
 use Rattle.ruled_lanes.specs.TicketProtocol.{draws, HasOnceBelow, IsDealt}
-use Rattle.ruled_lanes.specs.TicketSeats.{drawn, has_ended, all_drawn, state_of, IsUnused, IsPool}
+use Rattle.ruled_lanes.specs.TicketSeats.{drawn, has_ended, all_drawn, word_value, IsUnused, IsPool}
 use Rattle.ruled_lanes.proofs.Deals.{closes}
 
 -- of all seats the view stands for the last ones, and not for the first, the rest
@@ -52,7 +52,7 @@ tells key words views id v seats limit word h at pool many is here =
     (subst (λ n. HasOnceBelow (min word n) (all_drawn seats)) is once, omega arith, (λ some_ended. let reached : key.0 ≤ word = past (omega arith) in omega arith), omega arith)
 
 -- the word of seats that have drawn nothing and have not ended
-pub word_at_first : (seats : List Seat) → All IsUnused seats → state_of seats ≡ 0
+pub word_at_first : (seats : List Seat) → All IsUnused seats → word_value seats ≡ 0
 word_at_first [] unused = refl
 word_at_first (s ∷ seats) unused =
     let first = All-head IsUnused s seats unused in

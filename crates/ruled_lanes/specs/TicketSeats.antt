@@ -27,8 +27,8 @@ abbrev pub all_drawn : List Seat → List ℕ
 all_drawn seats = flat_map drawn seats
 
 -- the word, as all seats know it: how many numbers they drew, and how many of them have ended
-abbrev pub state_of : List Seat → ℕ
-state_of seats = length (all_drawn seats) + count_by has_ended seats
+abbrev pub word_value : List Seat → ℕ
+word_value seats = length (all_drawn seats) + count_by has_ended seats
 
 -- it has drawn nothing and has not ended
 abbrev pub IsUnused : Seat → Type 0

@@ -49,7 +49,7 @@ impl Seat {
 impl Tickets {
     ghost use Rattle.std.specs.Prelude.{◌∷◌, ◌++◌, ◌+◌, ◌<◌, All, true, false, min, length, count_by, vec_len, Option, None, IfOk, IfSome, IfNone};
     ghost use Rattle.ruled_lanes.specs.TicketProtocol.{draws, HasOnceBelow};
-    ghost use Rattle.ruled_lanes.specs.TicketSeats.{limit_of, lanes_of, drawn, has_ended, all_drawn, state_of, SitsAt, IsSeatOf, IsUnused, IsPool};
+    ghost use Rattle.ruled_lanes.specs.TicketSeats.{limit_of, lanes_of, drawn, has_ended, all_drawn, word_value, SitsAt, IsSeatOf, IsUnused, IsPool};
 
     // Divides a pass that stands for all seats into one for each.
     fn divide(
@@ -102,7 +102,7 @@ impl Tickets {
         ensures limits { IfOk result (λ r. (limit_of r.0 ≡ limit) × (lanes_of r.0 ≡ lanes)) }
         ensures seats { IfOk result (λ r. (vec_len r.1 ≡ lanes) × All (IsSeatOf r.0) r.1.items) }
         ensures unused { IfOk result (λ r. All IsUnused r.1.items) }
-        ensures word { IfOk result (λ r. state_of r.1.items ≡ 0) }
+        ensures word { IfOk result (λ r. word_value r.1.items ≡ 0) }
     {
         let key = (limit as u64, lanes as u64);
         let (table, pass) = match Word::of_words(alloc, &[0], &key) {
@@ -146,7 +146,7 @@ impl Tickets {
     pub fn close(self, seats: Vec<Seat>) -> u32
         requires seats { (vec_len seats ≡ lanes_of self) × All (IsSeatOf self) seats.items }
         ensures each_once { HasOnceBelow (min result (limit_of self)) (all_drawn seats.items) }
-        ensures word { result ≡ state_of seats.items }
+        ensures word { result ≡ word_value seats.items }
         ensures ended { 0 < count_by has_ended seats.items → limit_of self ≤ result }
     {
         let Tickets { table, .. } = self;

@@ -6,7 +6,7 @@ use Rattle.planar_code.specs.Split.{IsSplit}
 use Rattle.planar_code.proofs.Splits.{split_same}
 use Rattle.streams.specs.declared.frames.Mark.{Mark}
 use Rattle.streams.specs.declared.frames.Mark.TheVariants.{Ended, Io}
-use Rattle.streams.specs.Marks.{IsMarked, IsTruncated}
+use Rattle.streams.specs.Marks.{IsMarked, IsInterrupted}
 use Rattle.streams.specs.Reading.{IsToldOf}
 use Rattle.common.specs.declared.choice.Choice.{Choice}
 use Rattle.lanes.specs.Opening.{Meaning, told_of, fails_of}
@@ -14,7 +14,7 @@ use Rattle.entries.specs.Books.{BookModel, IsBook}
 
 -- a mark that is none of want of memory
 split_by : (bytes : List ℕ) (fails : Bool) (records : List (List ℕ)) (end : Ending) → Ended end ≢ Ended ending.Memory
-    → IsMarked bytes fails records (Ended end) → (IsTruncated bytes fails → ⊥) × IsSplit bytes records end
+    → IsMarked bytes fails records (Ended end) → (IsInterrupted bytes fails → ⊥) × IsSplit bytes records end
 split_by bytes fails records ending.Complete has is = is
 split_by bytes fails records ending.Truncated has is = is
 split_by bytes fails records ending.Header has is = is

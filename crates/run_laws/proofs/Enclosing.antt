@@ -7,8 +7,8 @@ use Rattle.dissect.specs.Faces.{In, Below, last_of}
 use Rattle.dissect.specs.Boxes.{BoxesModel, dart_map}
 use Rattle.dissect.specs.Boxed.{IsBoxed, StandOn}
 use Rattle.dissect.specs.Ordered.{IsOrdered}
-use Rattle.dissect.specs.Rectangle.{HasRectangle, IsConnectedAt, IsInsideChain}
-use Rattle.run_laws.specs.Outside.{RectangleCorners, AreRectangleCorners, LiesBefore, LooksOut}
+use Rattle.dissect.specs.Rectangle.{HasRectangle, IsBridgedAt, IsInsideChain}
+use Rattle.run_laws.specs.Outside.{RectangleCorners, AreRectangleCorners, LiesBeside, LooksOut}
 use Rattle.run_laws.proofs.Straight.{Goes, path_goes, path_passes}
 
 -- what is on a list that stands on another is on the other
@@ -51,7 +51,7 @@ module _ (inner w : DartMap) (x y : ℕ → ℕ) (sound : IsSound w) (darts_fit 
   last_in n a [] a_in below = a_in
   last_in n a (c ∷ cs) a_in below = last_in n c cs below.0 below.1
 
-  module _ (right : ℕ) (bridged : IsConnectedAt inner right w) where
+  module _ (right : ℕ) (bridged : IsBridgedAt inner right w) where
     -- the bridge goes straight from the turn to its place on the side
     bridge_goes : (k : ℕ) → k < 4 → w.direction (inner.darts + 10) ≡ k → Goes k x y (w.head right) (w.head (inner.darts + 8))
     bridge_goes k few way =
@@ -70,7 +70,7 @@ module _ (inner w : DartMap) (x y : ℕ → ℕ) (sound : IsSound w) (darts_fit 
           subst (λ (u : ℕ). Goes k x y (w.head (inner.darts + 8)) u) (has.inside k few) further,
         )
 
-    looks : (side : ℕ) → side ≡ bridged.side → side < 4 → LiesBefore x y (corners_of inner.vertices) (w.head (inner.darts + 8)) (w.head right)
+    looks : (side : ℕ) → side ≡ bridged.side → side < 4 → LiesBeside x y (corners_of inner.vertices) (w.head (inner.darts + 8)) (w.head right)
     looks side at few =
         let quarter : w.direction (inner.darts + 10) < 4 =
         sound.meeting.quarter (inner.darts + 10)
@@ -79,7 +79,7 @@ module _ (inner w : DartMap) (x y : ℕ → ℕ) (sound : IsSound w) (darts_fit 
         by_side side at few quarter
       where
         by_side : (side : ℕ) → side ≡ bridged.side → side < 4 → w.direction (inner.darts + 10) < 4
-            → LiesBefore x y (corners_of inner.vertices) (w.head (inner.darts + 8)) (w.head right)
+            → LiesBeside x y (corners_of inner.vertices) (w.head (inner.darts + 8)) (w.head right)
         by_side zero at few quarter =
             let (to, on) = foot_between 0 (inner.vertices + 3) (omega arith) refl at in
             let bridge = bridge_goes 3 (omega arith) (omega (arith, bridged.meets, at, quarter)) in
@@ -128,6 +128,6 @@ looks_out p shape b boxed =
       foot = (dart_map b).head (n + 8);
       rectangle = λ x y ordered. are_corners e.enclosed_map (dart_map b) x y sound darts_fit ordered e.rectangle;
       before = λ x y ordered.
-          subst (λ (u : ℕ). LiesBefore x y (corners_of e.enclosed_map.vertices) ((dart_map b).head (n + 8)) u) (e.heads e.right e.right_in)
+          subst (λ (u : ℕ). LiesBeside x y (corners_of e.enclosed_map.vertices) ((dart_map b).head (n + 8)) u) (e.heads e.right e.right_in)
           (looks e.enclosed_map (dart_map b) x y sound darts_fit ordered e.rectangle e.right e.bridge e.bridge.side refl e.bridge.side_in);
     }

@@ -61,7 +61,7 @@ module _ (p : PlaneModel) (plane : IsPlane p) where
   -- a dart with the ends of d's reverse is that
   is_reverse : (d e : ℕ) → d < darts p → e < darts p → tail p e ≡ head p d → head p e ≡ tail p d → e ≡ reverse_dart p d
   is_reverse d e d_in e_in from to =
-      one_dart p.lists (seven_rules p.lists plane.rules) e (reverse_dart p d) e_in (ends.reverse_dart_inside d d_in)
+      one_dart p.lists (seven_rules p.lists plane.rules) e (reverse_dart p d) e_in (ends.reverse_dart_in_range d d_in)
       (from ∙ sym (ends.reverse_dart_tail d d_in)) (to ∙ sym (ends.reverse_dart_head d d_in))
 
   -- no dart comes back to where it sets out

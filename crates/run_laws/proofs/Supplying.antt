@@ -8,7 +8,7 @@ use Rattle.common.specs.Sums.{sum_below}
 use Rattle.common.proofs.Sums.{sum_below-same, sum_below-split}
 use Rattle.faces.specs.Planes.{PlaneModel, IsPlane, vertices, degree}
 use Rattle.networks.specs.Networks.{NetworkModel, supply_at}
-use Rattle.flow_network.specs.FaceNet.{FaceNetModel, IsNetOf, arrivals}
+use Rattle.flow_network.specs.FaceNet.{FaceNetModel, IsFaceNetOf, vertex_degree}
 use Rattle.min_cost_flow.specs.Round.{supply_sum}
 use Rattle.run_laws.specs.Supplies.{is_inner_triangle, supplied_quarters, inner_triangles}
 use Rattle.run_laws.proofs.ShortFaces.{three_darts}
@@ -36,16 +36,16 @@ face_units false z k is many =
       | inr other ↦ omega (arith, units, other, many refl) ∙ sym (cond-false {A = ℕ} ((k == 3) && true) 1 0 (ap (λ (b : Bool). b && true) (ne_eqb k 3 other)))
     ]
 
-pub units : (p : PlaneModel) (n : FaceNetModel) → IsPlane p → IsNetOf p n → supply_sum n.network ≡ supplied_quarters p + inner_triangles p
+pub units : (p : PlaneModel) (n : FaceNetModel) → IsPlane p → IsFaceNetOf p n → supply_sum n.network ≡ supplied_quarters p + inner_triangles p
 units p n plane is =
     let net : NetworkModel = n.network in
     let f : ℕ → ℕ = λ v. up (supply_at net v) in
     let at_vertices : sum_below (vertices p) f ≡ supplied_quarters p =
-    sum_below-same (vertices p) f (λ k. 4 - arrivals p (k + 1))
+    sum_below-same (vertices p) f (λ k. 4 - vertex_degree p (k + 1))
     (λ k k_in.
     let back : k + 1 - 1 ≡ k = omega arith in
-    up_less (supply_at net k) 4 (arrivals p (k + 1))
-    (subst (λ (j : ℕ). supply_at net j ≡ pos 4 -ℤ pos (arrivals p (k + 1))) back (is.network.at_vertex (k + 1) (omega arith) (omega arith)))) in
+    up_less (supply_at net k) 4 (vertex_degree p (k + 1))
+    (subst (λ (j : ℕ). supply_at net j ≡ pos 4 -ℤ pos (vertex_degree p (k + 1))) back (is.network.at_vertex (k + 1) (omega arith) (omega arith)))) in
     let at_faces : sum_below p.faces (λ k. f (vertices p + k)) ≡ inner_triangles p =
     sum_below-same p.faces (λ k. f (vertices p + k)) (λ k. if is_inner_triangle p k then 1 else 0)
     (λ k k_in. face_units (eqb k p.outer) (supply_at net (vertices p + k)) (degree p k) (is.network.at_face k k_in)

@@ -20,7 +20,7 @@ use Rattle.ortho_rep.specs.Points.{PointsModel}
 use Rattle.ortho_rep.specs.Prices.{PricesModel, vertex_price, face_price}
 use Rattle.ortho_rep.specs.Edges.{lesser_darts}
 use Rattle.drawing_check.specs.Paths.{path_along, paths, point_of}
-use Rattle.drawing_check.specs.Walks.{inner}
+use Rattle.drawing_check.specs.Walks.{interior}
 use Rattle.drawing_check.specs.Draws.{direction_of, turned, leaving}
 use Rattle.dissect.specs.Boxes.{BoxesModel}
 use Rattle.dissect.specs.Boxed.{IsBoxed}
@@ -47,7 +47,7 @@ pub record Represents (plane : PlaneModel) (angle : ℕ → ℕ) (turns : ℕ �
   -- the angles at each vertex are four right angles together
   pub around : (v : ℕ) → 1 ≤ v → v ≤ vertices plane → angle_sum plane angle v ≡ 4
   -- the walk round each inner face turns once to the left, that round the outer face once to the right
-  pub inner : (f : ℕ) → f < plane.faces → f ≢ plane.outer → turning plane angle turns f ≡ pos 4
+  pub interior : (f : ℕ) → f < plane.faces → f ≢ plane.outer → turning plane angle turns f ≡ pos 4
   pub outer : (f : ℕ) → f < plane.faces → f ≡ plane.outer → turning plane angle turns f ≡ negsuc 3
 
 -- the bends of strings of turns: half the sum of their lengths, since a dart and its reverse bend at the same places
@@ -123,7 +123,7 @@ pub record AreDrawn (plane : PlaneModel) (shape : ShapeModel) (points : PointsMo
   pub heads : (d : ℕ) → d < darts plane
       → leaving plane points (reverse_dart plane d) ≡ left_quarters (angle_at shape d) (leaving plane points (next plane d))
   -- no point stands twice among those of the vertices and those that the paths pass between their ends
-  pub apart : AllPairs (λ a b. a ≢ b) (points.vertices ++ flat_map inner (paths plane points))
+  pub apart : AllPairs (λ a b. a ≢ b) (points.vertices ++ flat_map interior (paths plane points))
 
 -- some boxes that dissect the shape show why it is not drawn
 pub record IsCauseShown (plane : PlaneModel) (shape : ShapeModel) (cause : Cause) : Type 0 where

@@ -29,8 +29,8 @@ abbrev pub Between : (ℕ → ℕ) → ℕ → ℕ → ℕ → Type 0
 Between x u v t = (x u < x v) × (x v < x t)
 
 -- the foot, a vertex on a side of the rectangle between two corners, lies straight in front of the vertex v: to its south, east, north or west
-abbrev pub LiesBefore : (ℕ → ℕ) → (ℕ → ℕ) → RectangleCorners → ℕ → ℕ → Type 0
-LiesBefore x y c foot v =
+abbrev pub LiesBeside : (ℕ → ℕ) → (ℕ → ℕ) → RectangleCorners → ℕ → ℕ → Type 0
+LiesBeside x y c foot v =
     (Between x c.south_west foot c.south_east × (y foot ≡ y c.south_west) × (x foot ≡ x v) × (y foot < y v))
     ⊎ ((Between y c.south_east foot c.north_east × (x foot ≡ x c.south_east) × (y foot ≡ y v) × (x v < x foot))
     ⊎ ((Between x c.north_west foot c.north_east × (y foot ≡ y c.north_east) × (x foot ≡ x v) × (y v < y foot))
@@ -60,4 +60,4 @@ pub record LooksOut (p : PlaneModel) (shape : ShapeModel) (b : BoxesModel) : Typ
   pub corners : RectangleCorners
   pub foot : ℕ
   pub rectangle : (x y : ℕ → ℕ) → IsOrdered (dart_map b) x y → AreRectangleCorners x y corners
-  pub before : (x y : ℕ → ℕ) → IsOrdered (dart_map b) x y → LiesBefore x y corners foot (enclosed_map.head right)
+  pub before : (x y : ℕ → ℕ) → IsOrdered (dart_map b) x y → LiesBeside x y corners foot (enclosed_map.head right)

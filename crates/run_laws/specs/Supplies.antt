@@ -2,7 +2,7 @@
 use Rattle.std.specs.Prelude.{ℕ, ◌+◌, ◌-◌, ◌==◌, ◌&&◌, not, Bool, if◌then◌else◌}
 use Rattle.common.specs.Sums.{sum_below}
 use Rattle.faces.specs.Planes.{PlaneModel, vertices, degree}
-use Rattle.flow_network.specs.FaceNet.{arrivals}
+use Rattle.flow_network.specs.FaceNet.{vertex_degree}
 
 -- an inner face with three darts
 abbrev pub is_inner_triangle : PlaneModel → ℕ → Bool
@@ -10,7 +10,7 @@ is_inner_triangle p f = (degree p f == 3) && not (f == p.outer)
 
 -- four less the degree, summed over all vertices
 abbrev pub supplied_quarters : PlaneModel → ℕ
-supplied_quarters p = sum_below (vertices p) (λ k. 4 - arrivals p (k + 1))
+supplied_quarters p = sum_below (vertices p) (λ k. 4 - vertex_degree p (k + 1))
 
 -- how many inner faces have three darts
 abbrev pub inner_triangles : PlaneModel → ℕ

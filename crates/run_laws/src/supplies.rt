@@ -2,7 +2,7 @@
 
 ghost use Rattle.std.specs.Prelude.{◌≡◌, ◌+◌};
 ghost use Rattle.faces.specs.Planes.{PlaneModel, IsPlane};
-ghost use Rattle.flow_network.specs.FaceNet.{FaceNetModel, IsNetOf};
+ghost use Rattle.flow_network.specs.FaceNet.{FaceNetModel, IsFaceNetOf};
 ghost use Rattle.min_cost_flow.specs.Round.{supply_sum};
 ghost use Rattle.run_laws.specs.Supplies.{supplied_quarters, inner_triangles};
 
@@ -10,6 +10,6 @@ ghost use Rattle.run_laws.specs.Supplies.{supplied_quarters, inner_triangles};
 /// inner face with three darts: no inner face has fewer, and the outer face supplies none. A solution takes no more
 /// searches than units are supplied.
 pub fn units_supplied()
-    ensures { (p : PlaneModel) (n : FaceNetModel) → IsPlane p → IsNetOf p n
+    ensures { (p : PlaneModel) (n : FaceNetModel) → IsPlane p → IsFaceNetOf p n
         → supply_sum n.network ≡ supplied_quarters p + inner_triangles p }
 {}

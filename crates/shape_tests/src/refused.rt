@@ -3,7 +3,7 @@
 //! before the call, the test ends.
 
 ghost use Rattle.std.specs.Prelude.{IfOk};
-ghost use Rattle.flow_network.specs.FaceNet.{IsNetOf};
+ghost use Rattle.flow_network.specs.FaceNet.{IsFaceNetOf};
 ghost use Rattle.ortho_rep.specs.Representation.{IsShape};
 
 use crate::best::NINTH;
@@ -12,7 +12,7 @@ use crate::straight::{Figures, figures};
 use crate::tests::{PATH, TRIANGLE, answers, plane_in};
 use faces::Plane;
 use flow_network::FaceNet;
-use min_cost_flow::{Arc, Cap, Network, SolveFault, Standing, solve};
+use min_cost_flow::{Arc, Cap, Network, SolveFault, WarmStart, solve};
 use ortho_rep::{Prices, Shape, Turn, best_shape, least_shape};
 use planar_code::{Ending, Record, frame, split};
 use std::alloc::{AllocError, Global};
@@ -105,32 +105,32 @@ fn flows(rt: HostRuntime) {
 }
 
 /// A flow that stands, by the second call where the first finds no memory.
-fn stand_at_last(rt: &impl Abort, alloc: Global, network: &Network) -> Standing {
-    match Standing::new(alloc, network) {
-        Ok(standing) => standing,
+fn stand_at_last(rt: &impl Abort, alloc: Global, network: &Network) -> WarmStart {
+    match WarmStart::new(alloc, network) {
+        Ok(warm_start) => warm_start,
         Err(fault) => {
             same(rt, fault, SolveFault::Memory);
-            Standing::new(alloc, network).expect(rt, "a flow")
+            WarmStart::new(alloc, network).expect(rt, "a flow")
         }
     }
 }
 
 /// The solution that is read off it, likewise.
-fn expect_read_off(rt: &impl Abort, alloc: Global, standing: &Standing) {
-    assert!(rt; standing.network().arc_count() == 1);
-    let solved = match standing.solved(alloc) {
+fn expect_read_off(rt: &impl Abort, alloc: Global, warm_start: &WarmStart) {
+    assert!(rt; warm_start.network().arc_count() == 1);
+    let solved = match warm_start.solved(alloc) {
         Ok(solved) => solved,
-        Err(AllocError) => standing.solved(alloc).expect(rt, "memory"),
+        Err(AllocError) => warm_start.solved(alloc).expect(rt, "memory"),
     };
     same(rt, solved.flow(0), 3);
 }
 
 /// A flow that stands on a network, and the solution that is read off it.
 fn expect_standing(rt: &impl Abort, alloc: Global, network: &Network) {
-    let standing = stand_at_last(rt, alloc, network);
-    same(rt, standing.least_cost().0, 3);
-    same(rt, standing.network().supplies(), network.supplies());
-    expect_read_off(rt, alloc, &standing);
+    let warm_start = stand_at_last(rt, alloc, network);
+    same(rt, warm_start.least_cost().0, 3);
+    same(rt, warm_start.network().supplies(), network.supplies());
+    expect_read_off(rt, alloc, &warm_start);
 }
 
 #[test]
@@ -152,7 +152,7 @@ fn expect_network(rt: &impl Abort, net: &FaceNet) {
 
 /// The supplies once the other face is the outer one.
 fn expect_other_face(rt: &impl Abort, plane: &Plane, mut net: FaceNet)
-    requires { IsNetOf plane.now net }
+    requires { IsFaceNetOf plane.now net }
 {
     assert!(rt; plane.face_count() > 1);
     net.turn_out(plane, 1);
@@ -162,7 +162,7 @@ fn expect_other_face(rt: &impl Abort, plane: &Plane, mut net: FaceNet)
 
 /// The network of a plane, by the second call where the first finds no memory.
 fn network_at_last(rt: &impl Abort, alloc: Global, plane: &Plane) -> FaceNet
-    ensures { IsNetOf plane.now result }
+    ensures { IsFaceNetOf plane.now result }
 {
     match FaceNet::build(alloc, plane) {
         Ok(net) => net,

@@ -10,7 +10,7 @@ use Rattle.ortho_rep.specs.Turns.{lefts}
 use Rattle.ortho_rep.specs.Shapes.{ShapeModel, angle_at, turns_at}
 use Rattle.ortho_rep.specs.Prices.{PricesModel, IsPriced, Prove, vertex_price, face_price}
 use Rattle.ortho_rep.proofs.FromFlow.{lefts-lefts_then_rights}
-use Rattle.straightening.specs.Flows.{AreFit, string_in}
+use Rattle.straightening.specs.Flows.{Agree, string_in}
 
 -- of one dart
 priced : (a a' : ℕ) (s s' : List Turn) (v f g : ℤ) → (a' ≡ a) ⊎ (v ≡ f) → (lefts s' ≤ lefts s) ⊎ ((pos 1 +ℤ f -ℤ g) ≡ pos 0) → IsPriced a s v f g → IsPriced a' s' v f g
@@ -30,15 +30,15 @@ IsTightCrossing p t d = (pos 1 +ℤ face_price t (face_at p d) -ℤ face_price t
 pub moved : (p : PlaneModel) (a a' l l' : List ℕ) (t : PricesModel)
     → ((d : ℕ) → d < darts p → (slice_index a' d ≡ slice_index a d) ⊎ IsTightAngle p t d)
     → ((d : ℕ) → d < darts p → (slice_index l' d ≤ slice_index l d) ⊎ IsTightCrossing p t d)
-    → AreFit p a l t → AreFit p a' l' t
-moved p a a' l l' t angles turns fit = λ d b.
+    → Agree p a l t → Agree p a' l' t
+moved p a a' l l' t angles turns agree = λ d b.
     priced (slice_index a d) (slice_index a' d) (string_in p l d) (string_in p l' d) (vertex_price t (head p d)) (face_price t (face_at p d)) (face_price t (face_at p (reverse_dart p d)))
     (angles d b)
     (elim (turns d b) [
       | inl e ↦ inl (omega (arith, e, lefts-lefts_then_rights (slice_index l d) (slice_index l (reverse_dart p d)), lefts-lefts_then_rights (slice_index l' d) (slice_index l' (reverse_dart p d))))
       | inr e ↦ inr e
     ])
-    (fit d b)
+    (agree d b)
 
 -- an entry that is written, and all others
 pub set-other : (l : List ℕ) (k x d : ℕ) → (slice_index (slice_set l k x) d ≡ slice_index l d) ⊎ (d ≡ k)
@@ -58,9 +58,9 @@ tight-alike f g f' g' ef eg h = rw (sym ef, sym eg) h
 pub loaded : (p : PlaneModel) (shape : ShapeModel) (a l : List ℕ) (t : PricesModel)
     → ((d : ℕ) → d < darts p → slice_index a d ≡ angle_at shape d)
     → ((d : ℕ) → d < darts p → slice_index l d ≤ lefts (turns_at shape d))
-    → Prove p (angle_at shape) (turns_at shape) (vertex_price t) (face_price t) → AreFit p a l t
-loaded p shape a l t angles turns fit = λ d b.
+    → Prove p (angle_at shape) (turns_at shape) (vertex_price t) (face_price t) → Agree p a l t
+loaded p shape a l t angles turns agree = λ d b.
     priced (angle_at shape d) (slice_index a d) (turns_at shape d) (string_in p l d) (vertex_price t (head p d)) (face_price t (face_at p d)) (face_price t (face_at p (reverse_dart p d)))
     (inl (angles d b))
     (inl (omega (arith, turns d b, lefts-lefts_then_rights (slice_index l d) (slice_index l (reverse_dart p d)))))
-    (fit d b)
+    (agree d b)

@@ -8,25 +8,25 @@ use Rattle.ortho_rep.specs.Representation.{Rep}
 use Rattle.ortho_rep.specs.Prices.{PricesModel, vertex_price, face_price}
 use Rattle.ortho_rep.proofs.FewTurns.{few_turns}
 use Rattle.ortho_rep.proofs.FromFlow.{lefts-lefts_then_rights, length-lefts_then_rights}
-use Rattle.straightening.specs.Flows.{angle_in, string_in, AreFit}
+use Rattle.straightening.specs.Flows.{angle_in, string_in, Agree}
 
-pub one_way : (p : PlaneModel) (angles lefts : List ℕ) (t : PricesModel) → HasEnds p → AreFit p angles lefts t → (d : ℕ) → d < darts p → 0 < slice_index lefts d → slice_index lefts (reverse_dart p d) ≡ 0
-one_way p angles lefts t ends fit d b left =
+pub one_way : (p : PlaneModel) (angles lefts : List ℕ) (t : PricesModel) → HasEnds p → Agree p angles lefts t → (d : ℕ) → d < darts p → 0 < slice_index lefts d → slice_index lefts (reverse_dart p d) ≡ 0
+one_way p angles lefts t ends agree d b left =
     elim (cases_eq (slice_index lefts (reverse_dart p d)) 0) [
       | inl none ↦ none
       | inr some ↦ absurd (
           let r = reverse_dart p d in
           let back = ends.reverse_dart_back d b in
-          let here = (fit d b).tight (omega (arith, lefts-lefts_then_rights (slice_index lefts d) (slice_index lefts r))) in
-          let there = (fit r (ends.reverse_dart_inside d b)).tight (omega (arith, lefts-lefts_then_rights (slice_index lefts r) (slice_index lefts (reverse_dart p r)))) in
+          let here = (agree d b).tight (omega (arith, lefts-lefts_then_rights (slice_index lefts d) (slice_index lefts r))) in
+          let there = (agree r (ends.reverse_dart_in_range d b)).tight (omega (arith, lefts-lefts_then_rights (slice_index lefts r) (slice_index lefts (reverse_dart p r)))) in
           omega (arith, ints, here, there, ap (λ e. face_price t (face_at p e)) back)
           )
     ]
 
-pub few : (p : PlaneModel) (angles lefts : List ℕ) (t : PricesModel) → HasEnds p → vertices p ≤ 255 → Rep p (angle_in angles) (string_in p lefts) → AreFit p angles lefts t → (d : ℕ) → d < darts p → slice_index lefts d + slice_index lefts (reverse_dart p d) ≤ 6144
-few p angles lefts t ends order rep fit d b =
+pub few : (p : PlaneModel) (angles lefts : List ℕ) (t : PricesModel) → HasEnds p → vertices p ≤ 255 → Rep p (angle_in angles) (string_in p lefts) → Agree p angles lefts t → (d : ℕ) → d < darts p → slice_index lefts d + slice_index lefts (reverse_dart p d) ≤ 6144
+few p angles lefts t ends order rep agree d b =
     omega (
       arith,
-      few_turns p (angle_in angles) (string_in p lefts) (vertex_price t) (face_price t) ends order rep fit d b,
+      few_turns p (angle_in angles) (string_in p lefts) (vertex_price t) (face_price t) ends order rep agree d b,
       length-lefts_then_rights (slice_index lefts d) (slice_index lefts (reverse_dart p d)),
     )

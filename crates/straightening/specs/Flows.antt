@@ -14,5 +14,5 @@ abbrev pub string_in : PlaneModel → List ℕ → ℕ → List Turn
 string_in p lefts d = lefts_then_rights (slice_index lefts d) (slice_index lefts (reverse_dart p d))
 
 -- the prices prove the shape least, if it is a representation
-abbrev pub AreFit : PlaneModel → List ℕ → List ℕ → PricesModel → Type 0
-AreFit p angles lefts t = Prove p (angle_in angles) (string_in p lefts) (vertex_price t) (face_price t)
+abbrev pub Agree : PlaneModel → List ℕ → List ℕ → PricesModel → Type 0
+Agree p angles lefts t = Prove p (angle_in angles) (string_in p lefts) (vertex_price t) (face_price t)

@@ -8,7 +8,7 @@ ghost use Rattle.ortho_rep.specs.Turns.{lefts};
 ghost use Rattle.ortho_rep.specs.Shapes.{angle_at, turns_at};
 ghost use Rattle.ortho_rep.specs.Representation.{Rep, HasDarts, IsShape, IsLeast};
 ghost use Rattle.ortho_rep.specs.Prices.{PricesModel, HasPrices, IsProof, vertex_price, face_price};
-ghost use Rattle.straightening.specs.Flows.{AreFit, angle_in, string_in};
+ghost use Rattle.straightening.specs.Flows.{Agree, angle_in, string_in};
 
 use embedding::MAX_DARTS;
 use faces::Plane;
@@ -66,8 +66,8 @@ impl ShapeFlow {
         requires prices { HasPrices plane.now prices.now }
         requires give { give < darts plane.now }
         requires take { take < darts plane.now }
-        requires fit { AreFit plane.now self.old.angles self.old.lefts prices.now }
-        ensures { AreFit plane.now self.new.angles self.new.lefts prices.now }
+        requires agree { Agree plane.now self.old.angles self.old.lefts prices.now }
+        ensures { Agree plane.now self.new.angles self.new.lefts prices.now }
     {
         let across = plane.graph().reverse(give) == take;
         let (from, to) = (usize::from(give), usize::from(take));
@@ -91,10 +91,10 @@ impl ShapeFlow {
     /// `AllocError` where there is no memory for it.
     pub(crate) fn shape(&self, alloc: Global, plane: &Plane) -> Result<Shape, AllocError>
         requires rep { Rep plane.now (angle_in self.now.angles) (string_in plane.now self.now.lefts) }
-        requires fit { (t : PricesModel) × AreFit plane.now self.now.angles self.now.lefts t }
+        requires agree { (t : PricesModel) × Agree plane.now self.now.angles self.now.lefts t }
         ensures shape { IfOk result (λ made. IsShape plane.now made) }
         ensures proof { IfOk result (λ made. (t : PricesModel) → HasPrices plane.now t
-            → AreFit plane.now self.now.angles self.now.lefts t → IsProof plane.now made t) }
+            → Agree plane.now self.now.angles self.now.lefts t → IsProof plane.now made t) }
         ensures least { IfOk result (λ made. (t : PricesModel) → IsProof plane.now made t → IsLeast plane.now made) }
     {
         let darts = plane.graph().darts();
@@ -109,7 +109,7 @@ impl ShapeFlow {
     fn dart_shape(&self, plane: &Plane, dart: u16) -> DartShape
         requires within { dart < darts plane.now }
         requires rep { Rep plane.now (angle_in self.now.angles) (string_in plane.now self.now.lefts) }
-        requires fit { (t : PricesModel) × AreFit plane.now self.now.angles self.now.lefts t }
+        requires agree { (t : PricesModel) × Agree plane.now self.now.angles self.now.lefts t }
         ensures angle { result.angle ≡ angle_in self.now.angles dart }
         ensures turns { turns_in result ≡ string_in plane.now self.now.lefts dart }
         ensures short { result.count ≤ MAX_REPEATS }
@@ -167,11 +167,11 @@ fn is_tight_crossing(plane: &Plane, prices: &Prices, dart: u16) -> bool
 fn is_tight(face: i32, across: i32) -> bool
     ensures { IsTrue result → (pos 1 +ℤ face -ℤ across) ≡ pos 0 }
 {
-    slack(face, across) == 0
+    reduced_cost(face, across) == 0
 }
 
 /// What a bend costs more than a unit across, between faces of these prices, gains.
-fn slack(face: i32, across: i32) -> i64
+fn reduced_cost(face: i32, across: i32) -> i64
     ensures { result ≡ (pos 1 +ℤ face -ℤ across) }
 {
     1 + i64::from(face) - i64::from(across)

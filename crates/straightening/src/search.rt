@@ -4,7 +4,7 @@ ghost use Rattle.std.specs.Prelude.{◌≡◌, ◌<◌, ◌≤◌};
 ghost use Rattle.faces.specs.Planes.{darts};
 ghost use Rattle.faces.specs.declared.plane.TheConstants.{MAX_FACES};
 ghost use Rattle.ortho_rep.specs.Prices.{HasPrices};
-ghost use Rattle.straightening.specs.Flows.{AreFit};
+ghost use Rattle.straightening.specs.Flows.{Agree};
 
 use crate::flow::{ShapeFlow, clockwise, is_tight_angle};
 use faces::{MAX_FACES, Plane};
@@ -183,8 +183,8 @@ impl FaceSearch {
     pub(crate) fn send(&self, plane: &Plane, prices: &Prices, flow: &mut ShapeFlow, path: PathEnds)
         requires prices { HasPrices plane.now prices.now }
         requires to { path.to < darts plane.now }
-        requires fit { AreFit plane.now flow.old.angles flow.old.lefts prices.now }
-        ensures { AreFit plane.now flow.new.angles flow.new.lefts prices.now }
+        requires agree { Agree plane.now flow.old.angles flow.old.lefts prices.now }
+        ensures { Agree plane.now flow.new.angles flow.new.lefts prices.now }
     {
         let darts = plane.graph().darts();
         let mut entered = path.to;

@@ -5,7 +5,7 @@ ghost use Rattle.faces.specs.Planes.{darts};
 ghost use Rattle.ortho_rep.specs.Shapes.{turns_at};
 ghost use Rattle.ortho_rep.specs.Representation.{HasDarts, IsShape, IsLeast, bends_of};
 ghost use Rattle.ortho_rep.specs.Prices.{HasPrices, IsProof};
-ghost use Rattle.straightening.specs.Flows.{AreFit};
+ghost use Rattle.straightening.specs.Flows.{Agree};
 ghost use Rattle.straightening.specs.Reflex.{reflex_angles};
 
 use crate::flow::{ShapeFlow, clockwise, is_tight_angle};
@@ -119,8 +119,8 @@ fn straighten_from(
     first: u16,
 ) -> bool
     requires prices { HasPrices plane.now prices.now }
-    requires fit { AreFit plane.now flow.old.angles flow.old.lefts prices.now }
-    ensures { AreFit plane.now flow.new.angles flow.new.lefts prices.now }
+    requires agree { Agree plane.now flow.old.angles flow.old.lefts prices.now }
+    ensures { Agree plane.now flow.new.angles flow.new.lefts prices.now }
 {
     let mut moved = false;
     for dart in first..plane.graph().darts() {
@@ -142,8 +142,8 @@ fn straighten_one(
 ) -> bool
     requires prices { HasPrices plane.now prices.now }
     requires within { reflex < darts plane.now }
-    requires fit { AreFit plane.now flow.old.angles flow.old.lefts prices.now }
-    ensures { AreFit plane.now flow.new.angles flow.new.lefts prices.now }
+    requires agree { Agree plane.now flow.old.angles flow.old.lefts prices.now }
+    ensures { Agree plane.now flow.new.angles flow.new.lefts prices.now }
 {
     let clockwise_dart = clockwise(plane, reflex);
     if plane.face_of(reflex) != plane.face_of(clockwise_dart) {

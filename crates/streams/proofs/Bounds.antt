@@ -34,7 +34,7 @@ length-running read records (After count rest) s running =
       ap length s.divided.concatenated,
       length-append (concat records) rest,
       length-records records s.divided.each,
-      length-unfinished rest s.open_record,
+      length-unfinished rest s.partial_record,
     )
 length-running read records (Failed f) s running = absurd (running f refl)
 

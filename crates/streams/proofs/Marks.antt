@@ -34,7 +34,7 @@ after_ends text records count (x ∷ rest) s =
       rest = x ∷ rest;
       with_header = s.with_header;
       divided = s.divided;
-      ends = (s.open_record, some, λ full. some (s.full (sym s.counted ∙ full)));
+      ends = (s.partial_record, some, λ full. some (s.full (sym s.counted ∙ full)));
     }))
 
 -- the stream so far has the records that it led to

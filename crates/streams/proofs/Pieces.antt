@@ -12,7 +12,7 @@ use Rattle.planar_code.proofs.Splits.{split_same}
 use Rattle.streams.specs.declared.frames.Mark.{Mark}
 use Rattle.streams.specs.declared.frames.Mark.TheVariants as mark
 use Rattle.streams.specs.Tap.{IsAtItsEnd, IsAtItsFailure}
-use Rattle.streams.specs.Marks.{IsMarked, IsTruncated}
+use Rattle.streams.specs.Marks.{IsMarked, IsInterrupted}
 use Rattle.streams.specs.Reading.{IsToldOf, IsFoundIn, IsBeingRead, IsReadToItsEnd}
 use Rattle.streams.proofs.Marks.{split_stands, open_stands, failed_not_open, beginning_stands}
 
@@ -52,7 +52,7 @@ told_so_far (Some xs) None told_fails read took = absurd took
 told_so_far (Some xs) (Some ys) told_fails read took = (ys, told_fails, (took, refl))
 
 -- a split, where the source is not cut short, gives the records and the mark
-pub marked_split : (bytes : List ℕ) (fails : Bool) (records : List (List ℕ)) (end : Ending) → (IsTruncated bytes fails → ⊥) → IsSplit bytes records end
+pub marked_split : (bytes : List ℕ) (fails : Bool) (records : List (List ℕ)) (end : Ending) → (IsInterrupted bytes fails → ⊥) → IsSplit bytes records end
     → IsMarked bytes fails records (mark.Ended end)
 marked_split bytes fails records ending.Complete whole split = (whole, split)
 marked_split bytes fails records ending.Truncated whole split = (whole, split)

@@ -80,7 +80,7 @@ pub first_step : (told : Option (List ℕ)) (told_fails : Bool) (rounds : ℕ) (
 first_step told told_fails rounds to_come fails records state step.More leads = first_read told told_fails (rounds + 1) to_come fails records state leads
 first_step told told_fails rounds to_come fails records state step.Ended leads = first_ended told told_fails records state leads
 first_step told told_fails rounds to_come fails records state step.Failed leads = first_found told told_fails records Io leads
-first_step told told_fails rounds to_come fails records state (step.Stopped fault) leads = first_found told told_fails records (Ended _) leads
+first_step told told_fails rounds to_come fails records state (step.Faulted fault) leads = first_found told told_fails records (Ended _) leads
 
 -- of records in a row, the one after the first ones
 pub each_at : (fits : ℕ → List ℕ → Type 0) (first : ℕ) (before : List (List ℕ)) (bytes : List ℕ) (rest : List (List ℕ)) → EachAt fits first (before ++ bytes ∷ rest)

@@ -4,7 +4,7 @@ use Rattle.std.proofs.lemmas.List.{drop-take, take-append-drop, take-take}
 use Rattle.std.specs.Io.KnownBytes.{Appends, Keeps}
 use Rattle.streams.specs.declared.faults.WriteFault.{WriteFault}
 use Rattle.streams.specs.declared.faults.WriteFault.TheVariants.{Write, Memory}
-use Rattle.streams.specs.Sink.{Writes, AppendsFront, IsInTransit, StaysInTransit}
+use Rattle.streams.specs.Sink.{Writes, AppendsPrefix, IsInTransit, StaysInTransit}
 
 -- nothing added is an addition
 pub added_none : (a : Option (List ℕ)) → Appends a a []
@@ -38,7 +38,7 @@ added_next a b c text at count p q =
 
 -- a beginning of what waits was added: a beginning of the whole text was
 pub sent_front : (start now after : Option (List ℕ)) (waiting text more : List ℕ) → IsInTransit start now waiting text
-    → AppendsFront now after waiting → AppendsFront start after (text ++ more)
+    → AppendsPrefix now after waiting → AppendsPrefix start after (text ++ more)
 sent_front start now after waiting text more w f =
     let spelt : text ++ more ≡ (w.sent ++ f.0) ++ (f.1 ++ more) =
     ap (λ l. l ++ more) (w.split ∙ ap (λ l. w.sent ++ l) f.2 ∙ sym (append_assoc w.sent f.0 f.1)) ∙ append_assoc (w.sent ++ f.0) f.1 more in

@@ -7,8 +7,8 @@ use Rattle.streams.specs.declared.frames.Mark.{Mark}
 use Rattle.streams.specs.declared.frames.Mark.TheVariants.{Ended, Io}
 
 -- it fails where more bytes could have come: in the header, after a record, or in one
-abbrev pub IsTruncated : List ℕ → Bool → Type 0
-IsTruncated bytes fails = (fails ≡ true) × MayGoOn bytes
+abbrev pub IsInterrupted : List ℕ → Bool → Type 0
+IsInterrupted bytes fails = (fails ≡ true) × MayGoOn bytes
 
 -- the records are a beginning of all
 abbrev pub IsBeginningOf : List (List ℕ) → List (List ℕ) → Type 0
@@ -17,6 +17,6 @@ IsBeginningOf records all = (rest : List (List ℕ)) × (all ≡ records ++ rest
 -- A source that is cut short is marked `Io`, and has the records of its bytes. Any other has the
 -- records and the ending of its bytes. Where memory was wanted, it has a beginning of the records.
 abbrev pub IsMarked : List ℕ → Bool → List (List ℕ) → Mark → Type 0
-IsMarked bytes fails records Io = IsTruncated bytes fails × ((end : Ending) × IsSplit bytes records end)
+IsMarked bytes fails records Io = IsInterrupted bytes fails × ((end : Ending) × IsSplit bytes records end)
 IsMarked bytes fails records (Ended ending.Memory) = (all : List (List ℕ)) (end : Ending) → IsSplit bytes all end → IsBeginningOf records all
-IsMarked bytes fails records (Ended end) = (IsTruncated bytes fails → ⊥) × IsSplit bytes records end
+IsMarked bytes fails records (Ended end) = (IsInterrupted bytes fails → ⊥) × IsSplit bytes records end

@@ -6,7 +6,7 @@ use Rattle.planar_code.specs.FramerState.{FramerState, StandsAt, HasNotFailed}
 use Rattle.streams.specs.declared.frames.Mark.{Mark}
 use Rattle.streams.specs.declared.frames.Mark.TheVariants as mark
 use Rattle.streams.specs.declared.reading.PieceOutcome.{PieceOutcome}
-use Rattle.streams.specs.declared.reading.PieceOutcome.TheVariants.{More, Ended, Failed, Stopped}
+use Rattle.streams.specs.declared.reading.PieceOutcome.TheVariants.{More, Ended, Failed, Faulted}
 use Rattle.streams.specs.Marks.{IsMarked}
 
 -- what a source told of itself is true of these bytes and of this failing; one that told nothing may have given any
@@ -42,7 +42,7 @@ abbrev pub LeadsTo : Option (List ℕ) → Bool → ℕ → Option (List ℕ) �
 LeadsTo told told_fails rounds to_come fails records state More = IsBeingRead told told_fails (rounds + 1) to_come fails records state
 LeadsTo told told_fails rounds to_come fails records state Ended = IsReadToItsEnd told told_fails records state
 LeadsTo told told_fails rounds to_come fails records state Failed = IsFoundIn told told_fails records mark.Io
-LeadsTo told told_fails rounds to_come fails records state (Stopped fault) = IsFoundIn told told_fails records (mark.Ended (ending_of fault))
+LeadsTo told told_fails rounds to_come fails records state (Faulted fault) = IsFoundIn told told_fails records (mark.Ended (ending_of fault))
 
 -- Whatever was read of the source before, and whatever records were taken out of the list by then.
 abbrev pub ReadsOn : Option (List ℕ) → Bool → List (List ℕ) → FramerState → Option (List ℕ) → Bool → List (List ℕ) → FramerState → PieceOutcome → Type 0

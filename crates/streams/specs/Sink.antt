@@ -5,14 +5,14 @@ use Rattle.streams.specs.declared.faults.WriteFault.{WriteFault}
 use Rattle.streams.specs.declared.faults.WriteFault.TheVariants.{Write, Memory}
 
 -- a beginning of the text was added
-abbrev pub AppendsFront : Option (List ℕ) → Option (List ℕ) → List ℕ → Type 0
-AppendsFront old new text = (front : List ℕ) × (rest : List ℕ) × (text ≡ front ++ rest) × Appends old new front
+abbrev pub AppendsPrefix : Option (List ℕ) → Option (List ℕ) → List ℕ → Type 0
+AppendsPrefix old new text = (front : List ℕ) × (rest : List ℕ) × (text ≡ front ++ rest) × Appends old new front
 
 -- Ok: the whole text was added, and the sink has not failed. `Write`: a beginning of it, and the sink has failed.
 -- Memory is not asked for.
 abbrev pub Writes : {A : Type 0} → Option (List ℕ) → Option (List ℕ) → Bool → List ℕ → Result A WriteFault → Type 0
 Writes old new failed text (Ok _) = (failed ≡ false) × Appends old new text
-Writes old new failed text (Err Write) = (failed ≡ true) × AppendsFront old new text
+Writes old new failed text (Err Write) = (failed ≡ true) × AppendsPrefix old new text
 Writes old new failed text (Err Memory) = ⊥
 
 -- From `start` on, a beginning of the text was added to the sink, and the rest of it waits.
@@ -26,5 +26,5 @@ abbrev pub StaysInTransit : {A : Type 0} → Option (List ℕ) → List ℕ → 
 StaysInTransit old waited new waits failed more (Ok _) =
     (failed ≡ false) × ((start : Option (List ℕ)) (text : List ℕ) → IsInTransit start old waited text → IsInTransit start new waits (text ++ more))
 StaysInTransit old waited new waits failed more (Err Write) =
-    (failed ≡ true) × ((start : Option (List ℕ)) (text : List ℕ) → IsInTransit start old waited text → AppendsFront start new (text ++ more))
+    (failed ≡ true) × ((start : Option (List ℕ)) (text : List ℕ) → IsInTransit start old waited text → AppendsPrefix start new (text ++ more))
 StaysInTransit old waited new waits failed more (Err Memory) = ⊥

@@ -25,7 +25,7 @@ pub enum PieceOutcome {
     /// The source failed.
     Failed,
     /// The framer reads no further.
-    Stopped(FeedFault),
+    Faulted(FeedFault),
 }
 
 /// A buffer of `PIECE` bytes, into which a source is read.
@@ -67,7 +67,7 @@ pub fn read_piece<T: Tap>(
         Ok(0) => PieceOutcome::Ended,
         Ok(count) => match framer.feed(alloc, &buffer[..count], records) {
             Ok(()) => PieceOutcome::More,
-            Err(fault) => PieceOutcome::Stopped(fault),
+            Err(fault) => PieceOutcome::Faulted(fault),
         },
         Err(_) => PieceOutcome::Failed,
     }
@@ -136,7 +136,7 @@ pub fn read_source<T: Tap, V: Receiver>(
                     mark: Mark::Io,
                 });
             }
-            PieceOutcome::Stopped(fault) => {
+            PieceOutcome::Faulted(fault) => {
                 return Ok(SourceEnd {
                     count: ordinal,
                     mark: Mark::Ended(Ending::from(fault)),

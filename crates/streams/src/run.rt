@@ -24,12 +24,12 @@ use std::thread::{Promise, Threads};
 
 /// What the thread of a reader promises of the giver that it gives back.
 #[derive(Drop)]
-struct ReaderPromise<T: Tap> {
+struct ReadingPromise<T: Tap> {
     source: Snapshot<T>,
     giver: Snapshot<Giver<ReadMessage>>,
 }
 
-impl<T: Tap> Promise<Option<Giver<ReadMessage>>> for ReaderPromise<T> {
+impl<T: Tap> Promise<Option<Giver<ReadMessage>>> for ReadingPromise<T> {
     ghost kept_by = { λ p result.
         GivesBack (T.to_come p.source.value) (T.fails p.source.value) p.giver.value result };
 }
@@ -83,7 +83,7 @@ pub fn run_frames<R: Threads + Wait + Sync, T: Tap + Send>(
                 × IfErr result (λ fault.
                 (fault ≢ BatchFault.TooManyFiles) × (fault ≢ BatchFault.BadLanes)) }
         {
-            let promise = ReaderPromise {
+            let promise = ReadingPromise {
                 source: Snapshot::of(&source),
                 giver: Snapshot::of(&giver),
             };

@@ -42,8 +42,8 @@ pub(crate) fn list_segments(
     )?;
     for (place, point) in points.vertices().iter().enumerate() {
         let vertex = place.wrapping_add(1).min(255) as u8;
-        scratch.x.follow(vertex, point.x)?;
-        scratch.y.follow(vertex, point.y)?;
+        scratch.x.add_straight(vertex, point.x)?;
+        scratch.y.add_straight(vertex, point.y)?;
     }
     for bent in scratch.bent.as_slice() {
         let corners = corners_of(points, bent.edge);
@@ -103,8 +103,8 @@ fn list_corners(
     y: &mut Segments,
 ) -> Result<(), AllocError> {
     let mut from = bent.from;
-    let mut upright = corners.first().is_some_and(|corner| corner.x == from.x);
-    let mut segment = if upright {
+    let mut vertical = corners.first().is_some_and(|corner| corner.x == from.x);
+    let mut segment = if vertical {
         x.of_vertex(bent.tail)
     } else {
         y.of_vertex(bent.tail)
@@ -117,17 +117,17 @@ fn list_corners(
         } else {
             None
         };
-        segment = if upright {
+        segment = if vertical {
             x.extend(segment, place, from.y < corner.y);
             turn(x, segment, y, corner.y, end)?
         } else {
             y.extend(segment, place, from.x < corner.x);
             turn(y, segment, x, corner.x, end)?
         };
-        upright = !upright;
+        vertical = !vertical;
         from = *corner;
     }
-    if upright {
+    if vertical {
         x.extend(segment, place, bent.to.y < from.y);
     } else {
         y.extend(segment, place, bent.to.x < from.x);
@@ -138,19 +138,19 @@ fn list_corners(
 /// Adds a corner at which an edge leaves a segment for one that crosses it, and gives that one back: that of
 /// the vertex at its end, or a new one with this coordinate.
 fn turn(
-    departed: &mut Segments,
+    from_segments: &mut Segments,
     segment: u16,
-    entered: &mut Segments,
+    to_segments: &mut Segments,
     coordinate: u32,
     end: Option<u8>,
 ) -> Result<u16, AllocError> {
-    let place = departed.of.len().min(usize::from(u16::MAX)) as u16;
+    let place = from_segments.of.len().min(usize::from(u16::MAX)) as u16;
     let next = match end {
-        Some(vertex) => entered.of_vertex(vertex),
-        None => entered.add_at(coordinate, place)?,
+        Some(vertex) => to_segments.of_vertex(vertex),
+        None => to_segments.add_at(coordinate, place)?,
     };
-    departed.of.push(segment)?;
-    entered.of.push(next)?;
+    from_segments.of.push(segment)?;
+    to_segments.of.push(next)?;
     Ok(next)
 }
 

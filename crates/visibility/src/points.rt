@@ -2,7 +2,7 @@
 
 ghost use Rattle.std.specs.Prelude.{◌≡◌, ◌++◌, List, length, IfOk, OnOk};
 ghost use Rattle.ortho_rep.specs.declared.points.Point.{Point};
-ghost use Rattle.ortho_rep.specs.Storage.{pieces_at, AreStarts};
+ghost use Rattle.ortho_rep.specs.Storage.{slices_at, AreStarts};
 
 use crate::segments::Segments;
 use ortho_rep::{Point, Points};
@@ -54,7 +54,7 @@ fn corner_points(
 ) -> Result<(Vec<Point>, Vec<usize>), AllocError>
     requires { length old.now.corners ≡ edges }
     ensures places { IfOk result (λ found. AreStarts found.1.items found.0.items) }
-    ensures count { IfOk result (λ found. length (pieces_at found.1.items found.0.items) ≡ edges) }
+    ensures count { IfOk result (λ found. length (slices_at found.1.items found.0.items) ≡ edges) }
 {
     let mut place = old.vertex_count();
     let mut corners = Vec::with_capacity(alloc, x.of.len().saturating_sub(place))?;

@@ -138,7 +138,7 @@ impl Segments {
 
     /// Adds the segment with this coordinate that begins at a vertex, with all to which straight edges lead
     /// from there; none where such an edge leads to the vertex.
-    pub(crate) fn follow(&mut self, vertex: u8, coordinate: u32) -> Result<(), AllocError> {
+    pub(crate) fn add_straight(&mut self, vertex: u8, coordinate: u32) -> Result<(), AllocError> {
         if self.edges.is_led_to(vertex) {
             return Ok(());
         }

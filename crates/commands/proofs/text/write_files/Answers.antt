@@ -4,7 +4,7 @@ use Rattle.lanes.specs.Files.{AreToldWhole}
 use Rattle.lane_runs.specs.Faults.{EndsRun}
 use Rattle.printing.specs.declared.refusal.Refusal.{Refusal}
 use Rattle.printing.specs.Written.{GivesUp}
-use Rattle.printing.specs.Holding.{form_of, choice_of, files_of, LinesHold, LinesLeaveOff}
+use Rattle.printing.specs.Holding.{form_of, choice_of, files_of, LinesHold, LinesBreakOff}
 use Rattle.printing.specs.Whole.{IsAllWritten, IsBegun}
 use Rattle.printing.proofs.Ordering.{begun_none}
 use Rattle.printing.proofs.Held.{left_off_held}
@@ -57,7 +57,7 @@ returns-in-Err-clause-begun g c =
     let taken = g.S.Sink.taken in
     let texts = c.run_into-texts.result in
     let stays = c.run_into-texts.ensures.stays in
-    let Left : Type 0 = (ns : List Note) × LinesLeaveOff g.J.Told.meaning (taken texts.start.value) (taken texts.sink.now) texts.lines ns in
+    let Left : Type 0 = (ns : List Note) × LinesBreakOff g.J.Told.meaning (taken texts.start.value) (taken texts.sink.now) texts.lines ns in
     let gave_up : Refusal → Type 0 = λ refusal. GivesUp (g.S.Sink.failed texts.sink.now) refusal × Left in
     let holds : List Note → Type 0 = λ ns. (g.S.Sink.failed texts.sink.now ≡ false) × LinesHold g.J.Told.meaning (taken texts.start.value) (taken texts.sink.now) texts.lines ns in
     let ended = subst (λ r. IfErr r (EndsRun gave_up holds)) c.in-Err.is c.run_into-texts.ensures.ended in

@@ -12,9 +12,9 @@ loop-vertex-preserved c =
     let around = c.args.around.now in
     let x = c.args.x.now in
     let y = c.args.y.now in
-    let kept = both c.is_step_kept.result c.is_step_kept-in-loop-vertex.result c.if-not-is_step_kept.false in
-    let east = c.is_step_kept.ensures in
-    let north = c.is_step_kept-in-loop-vertex.ensures in
+    let kept = both c.is_step_satisfied.result c.is_step_satisfied-in-loop-vertex.result c.if-not-is_step_satisfied.false in
+    let east = c.is_step_satisfied.ensures in
+    let north = c.is_step_satisfied-in-loop-vertex.ensures in
     record {
       east = kept_next around 0 v (slice_index around (4 * v)) x y (ap (λ (i : ℕ). slice_index around i) (omega arith)) (east.grows kept.0) (east.equal kept.0) c.loop-vertex.invariant.east;
       north = kept_next around 1 v (slice_index around (4 * v + 1)) y x refl (north.grows kept.1) (north.equal kept.1) c.loop-vertex.invariant.north;

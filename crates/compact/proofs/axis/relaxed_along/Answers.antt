@@ -1,27 +1,27 @@
 use Rattle.std.proofs.Common.{◌≡◌, ◌≤◌, ℕ, List, length, slice_index, subst, sym, ap, refl, arith}
 use Rattle.std.proofs.lemmas.List.{take_at}
 use Rattle.compact.specs.declared.constraint_graph.Constraint.{Constraint}
-use Rattle.compact.specs.Constraints.{Keeps}
+use Rattle.compact.specs.Constraints.{Satisfies}
 use Rattle.compact.specs.Ordered.{AreLeast, growth}
 use Rattle.dissect.specs.Boxes.{dart_map}
 use Rattle.compact.proofs.Constraining.{all_along}
 use Rattle.compact.proofs.axis.relaxed_along.Goals as goal
 
-pub relax_in_rounds-all_kept-requires-clause-low : goal.relax_in_rounds-all_kept-requires-clause-low
-relax_in_rounds-all_kept-requires-clause-low c = λ y keeps v v_in.
+pub relax_in_rounds-all_satisfied-requires-clause-low : goal.relax_in_rounds-all_satisfied-requires-clause-low
+relax_in_rounds-all_satisfied-requires-clause-low c = λ y keeps v v_in.
     let size = ap (λ (xs : List ℕ). length xs) c.deref_mut.ensures.value in
-    let kept = subst (λ (gs : List Constraint). Keeps gs y) c.deref.ensures.value keeps in
+    let kept = subst (λ (gs : List Constraint). Satisfies gs y) c.deref.ensures.value keeps in
     let along = all_along (dart_map c.args.boxes.now) (growth c.args.axis) c.constraints_along.new.constraints.items y c.in-Ok.ensures kept in
     subst (λ (xs : List ℕ). slice_index xs v ≤ y v) (sym c.deref_mut.ensures.value)
     (c.requires.under y along v (omega (arith, v_in, size, c.requires.count)))
 
-pub returns-then-not-all_kept-clause-fault : goal.returns-then-not-all_kept-clause-fault
-returns-then-not-all_kept-clause-fault c =
+pub returns-then-not-all_satisfied-clause-fault : goal.returns-then-not-all_satisfied-clause-fault
+returns-then-not-all_satisfied-clause-fault c =
     let size = ap (λ (xs : List ℕ). length xs) c.deref_mut.ensures.value in (
       c.requires.sound,
       λ x along.
-          let keeps = subst (λ (gs : List Constraint). Keeps gs x) (sym c.deref.ensures.value) (c.in-Ok.ensures.no_more x along) in
-          let (v, v_in, far) = c.if-not-all_kept.ensures.wide refl x keeps in
+          let keeps = subst (λ (gs : List Constraint). Satisfies gs x) (sym c.deref.ensures.value) (c.in-Ok.ensures.no_more x along) in
+          let (v, v_in, far) = c.if-not-all_satisfied.ensures.wide refl x keeps in
           (v, omega (arith, v_in, size, c.requires.count), far),
     )
 
@@ -29,20 +29,20 @@ pub returns-clause-along : goal.returns-clause-along
 returns-clause-along c =
     let w = dart_map c.args.boxes.now in
     let k = growth c.args.axis in
-    let found = c.relax_in_rounds-all_kept.new.coordinates in
-    let all_kept = c.if-not-all_kept.ensures in
+    let found = c.relax_in_rounds-all_satisfied.new.coordinates in
+    let all_satisfied = c.if-not-all_satisfied.ensures in
     let x : ℕ → ℕ = λ v. slice_index found v in
     let before : length c.deref_mut.result.now ≡ c.args.boxes.now.vertices =
     omega (arith, ap (λ (xs : List ℕ). length xs) c.deref_mut.ensures.value, c.requires.count) in
-    let room : length found ≡ c.args.coordinates.len = omega (arith, all_kept.length, c.deref_mut.ensures.len) in
-    let keeps = subst (λ (gs : List Constraint). Keeps gs x) c.deref.ensures.value (all_kept.keeps refl) in
+    let room : length found ≡ c.args.coordinates.len = omega (arith, all_satisfied.length, c.deref_mut.ensures.len) in
+    let keeps = subst (λ (gs : List Constraint). Satisfies gs x) c.deref.ensures.value (all_satisfied.keeps refl) in
     subst (λ (xs : List ℕ). AreLeast c.args.boxes.now k xs)
     (sym (take_at found _ c.args.coordinates.len room))
     (record {
       along = all_along w k c.constraints_along.new.constraints.items x c.in-Ok.ensures keeps;
       least = λ y along v v_in.
-          let kept = subst (λ (gs : List Constraint). Keeps gs y) (sym c.deref.ensures.value) (c.in-Ok.ensures.no_more y along) in
-          all_kept.least refl y kept v (omega (arith, v_in, before));
-      within = λ v v_in. all_kept.small v (omega (arith, v_in, before, all_kept.length));
-      count = omega (arith, before, all_kept.length);
+          let kept = subst (λ (gs : List Constraint). Satisfies gs y) (sym c.deref.ensures.value) (c.in-Ok.ensures.no_more y along) in
+          all_satisfied.least refl y kept v (omega (arith, v_in, before));
+      within = λ v v_in. all_satisfied.small v (omega (arith, v_in, before, all_satisfied.length));
+      count = omega (arith, before, all_satisfied.length);
     })

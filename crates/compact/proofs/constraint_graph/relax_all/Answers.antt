@@ -1,9 +1,9 @@
 use Rattle.std.proofs.Common.{◌+◌, sym, subst, arith}
 use Rattle.compact.specs.declared.constraint_graph.Relaxation.{Relaxation}
-use Rattle.compact.specs.declared.constraint_graph.Relaxation.TheVariants.{Kept, Raised, Wide}
+use Rattle.compact.specs.declared.constraint_graph.Relaxation.TheVariants.{Satisfied, Raised, Wide}
 use Rattle.compact.proofs.Relaxing.{IsRelaxedUpTo, goes_on, ends_up, no_constraint}
 use Rattle.compact.proofs.constraint_graph.relax_all.Goals as goal
-use Rattle.compact.proofs.constraint_graph.relax_all.Goals.{in-Kept, in-Raised}
+use Rattle.compact.proofs.constraint_graph.relax_all.Goals.{in-Satisfied, in-Raised}
 
 pub returns-in-Wide-clause-relaxed : goal.returns-in-Wide-clause-relaxed
 returns-in-Wide-clause-relaxed c =
@@ -16,8 +16,8 @@ returns-in-Wide-clause-low c =
 pub loop-constraint-preserved : goal.loop-constraint-preserved
 loop-constraint-preserved c =
     elim c.match-relax.branch [
-      | in-Kept w ↦ subst (λ (found : Relaxation). IsRelaxedUpTo c.args.constraints.now (c.loop-constraint.constraint-index + 1) c.args.coordinates.now c.relax.new.coordinates found) (sym w.found-is)
-          (goes_on c.args.constraints.now c.loop-constraint.constraint-index no_constraint c.args.coordinates.now c.loop-constraint.coordinates c.relax.new.coordinates c.loop-constraint.found Kept c.loop-constraint-test.true c.requires.inside c.loop-constraint.invariant w.in-Kept.ensures.relaxed w.in-Kept.ensures.length)
+      | in-Satisfied w ↦ subst (λ (found : Relaxation). IsRelaxedUpTo c.args.constraints.now (c.loop-constraint.constraint-index + 1) c.args.coordinates.now c.relax.new.coordinates found) (sym w.found-is)
+          (goes_on c.args.constraints.now c.loop-constraint.constraint-index no_constraint c.args.coordinates.now c.loop-constraint.coordinates c.relax.new.coordinates c.loop-constraint.found Satisfied c.loop-constraint-test.true c.requires.inside c.loop-constraint.invariant w.in-Satisfied.ensures.relaxed w.in-Satisfied.ensures.length)
       | in-Raised w ↦ subst (λ (found : Relaxation). IsRelaxedUpTo c.args.constraints.now (c.loop-constraint.constraint-index + 1) c.args.coordinates.now c.relax.new.coordinates found) (sym w.found-is)
           (goes_on c.args.constraints.now c.loop-constraint.constraint-index no_constraint c.args.coordinates.now c.loop-constraint.coordinates c.relax.new.coordinates c.loop-constraint.found Raised c.loop-constraint-test.true c.requires.inside c.loop-constraint.invariant w.in-Raised.ensures.relaxed w.in-Raised.ensures.length)
     ]

@@ -1,8 +1,8 @@
 use Rattle.std.proofs.Common.{◌∙◌, arith}
 use Rattle.compact.proofs.constraint_graph.relax_in_rounds.Goals as goal
 
-pub returns-in-Kept-clause-least : goal.returns-in-Kept-clause-least
-returns-in-Kept-clause-least c = λ _ y keeps v v_in. c.in-Kept.ensures.low y keeps v (omega (arith, v_in, c.rounds.invariant.size))
+pub returns-in-Satisfied-clause-least : goal.returns-in-Satisfied-clause-least
+returns-in-Satisfied-clause-least c = λ _ y keeps v v_in. c.in-Satisfied.ensures.low y keeps v (omega (arith, v_in, c.rounds.invariant.size))
 
 pub rounds-preserved : goal.rounds-preserved
 rounds-preserved c = record {

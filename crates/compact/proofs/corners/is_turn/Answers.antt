@@ -10,7 +10,7 @@ use Rattle.compact.proofs.corners.is_turn.Goals as goal
 
 pub returns : goal.returns
 returns c =
-    let same = same_way (dart_map c.args.boxes.now) c.args.front c.args.dart c.direction.ensures.boxes.sound c.requires.front c.requires.dart in (
+    let same = same_way (dart_map c.args.boxes.now) c.args.before c.args.dart c.direction.ensures.boxes.sound c.requires.before c.requires.dart in (
       λ differs straight.
           let one = one_number c.direction.result c.direction-2.result (c.direction.ensures.value ∙ same.0 straight ∙ sym c.direction-2.ensures.value) in
           differs_true the_type c.direction.result c.direction-2.result (sym c.ne.ensures ∙ differs) one,

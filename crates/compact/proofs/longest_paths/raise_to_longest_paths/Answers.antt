@@ -15,8 +15,8 @@ loop-at-preserved c =
     let ahead = step c.args.steps.around.now c.args.steps.ahead in
     record {
       under = λ y grow equal under.
-          under_at ahead _ _ _ _ _ c.loop-at.invariant.count c.pass_segment.ensures.under y grow (c.loop-at.invariant.segments.equal y equal) (c.loop-at.invariant.under y grow equal under);
-      count = c.pass_segment.ensures.count ∙ c.loop-at.invariant.count;
+          under_at ahead _ _ _ _ _ c.loop-at.invariant.count c.leave_segment.ensures.under y grow (c.loop-at.invariant.segments.equal y equal) (c.loop-at.invariant.under y grow equal under);
+      count = c.leave_segment.ensures.count ∙ c.loop-at.invariant.count;
       segments = c.loop-at.invariant.segments;
     }
 

@@ -1,7 +1,7 @@
 use Rattle.std.proofs.Common.{◌≡◌, ◌<◌, ◌∙◌, ◌++◌, ℕ, List, [], ◌∷◌, length, All, slice_index, map, subst, sym, ap, refl, arith}
 use Rattle.dissect.specs.Paths.{turning_vertices}
 use Rattle.ortho_rep.specs.declared.points.Point.{Point}
-use Rattle.ortho_rep.proofs.PushedLists.{concatenated-starts, concatenated-pushed, concatenated-AreStarts, concatenated-pieces_at}
+use Rattle.ortho_rep.proofs.PushedLists.{concatenated-starts, concatenated-pushed, concatenated-AreStarts, concatenated-slices_at}
 use Rattle.dissect.specs.Boxes.{dart_map}
 use Rattle.compact.specs.Ordered.{point_at, vertices_along}
 use Rattle.compact.proofs.Walking.{path_below}
@@ -39,7 +39,7 @@ returns c =
     let b = c.args.boxes.now in
     let x : ℕ → ℕ = λ v. slice_index c.args.x.now v in
     let y : ℕ → ℕ = λ v. slice_index c.args.y.now v in
-    let pieces = concatenated-pieces_at c.loop-edge.starts.items c.loop-edge.corners.items c.loop-edge.edge (IsCornersOf b x y) c.loop-edge.invariant in
+    let pieces = concatenated-slices_at c.loop-edge.starts.items c.loop-edge.corners.items c.loop-edge.edge (IsCornersOf b x y) c.loop-edge.invariant in
     let all : c.loop-edge.edge ≡ length b.edges = omega (arith, c.loop-edge-test.false, c.loop-edge.auto.edge-end, c.edges-edge-end.ensures.value) in
     record {
       places = concatenated-AreStarts _ _ _ _ c.loop-edge.invariant;

@@ -1,5 +1,5 @@
-use Rattle.dissect.proofs.Existence.{directions}
+use Rattle.dissect.proofs.Existence.{plane_directions}
 use Rattle.dissect.proofs.direction_laws.directions_exist.Goals as goal
 
 pub returns : goal.returns
-returns c = directions
+returns c = plane_directions

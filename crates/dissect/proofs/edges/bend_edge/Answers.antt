@@ -15,14 +15,14 @@ turns-preserved c =
     let direction_is = get_or_read t.direction.items c.index-reverse_dart.result.now c.index.result.now (omega (arith, reverse_dart_in)) c.index.ensures 0 in
     let way_is : (c.index.result.now + 2) % 4 ≡ start_direction (dart_map_of t) c.args.e =
     ap (λ (k : ℕ). (k + 2) % 4) (direction_is ∙ ap (dart_map_of t).direction reverse_dart_is) in
-    let step = turn_on (dart_map_of t) c.args.e _ c.angle_of.result c.args.turns.now c.turns.turn-index _ (dart_map_of c.split.new.self)
-    before.tied before.meeting before.inside c.turns-test.true way_is c.angle_of.ensures c.split.ensures.split in
+    let step = turn_on (dart_map_of t) c.args.e _ c.angle_of.result c.args.turns.now c.turns.turn-index _ (dart_map_of c.subdivide.new.self)
+    before.tied before.meeting before.inside c.turns-test.true way_is c.angle_of.ensures c.subdivide.ensures.subdivide in
     record {
       tied = step.tied;
       meeting = step.meeting;
-      inside = omega (arith, before.inside, c.split.ensures.split.darts);
-      count = omega (arith, before.count, c.split.ensures.split.darts);
-      same = c.split.ensures.room ∙ before.same;
+      inside = omega (arith, before.inside, c.subdivide.ensures.subdivide.darts);
+      count = omega (arith, before.count, c.subdivide.ensures.subdivide.darts);
+      same = c.subdivide.ensures.room ∙ before.same;
       steps = λ new rest. before.steps new (step.steps new rest);
     }
 

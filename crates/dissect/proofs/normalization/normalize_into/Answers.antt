@@ -23,8 +23,8 @@ edges-init c =
     let h = slice_index c.args.directions.now in
     let w = dart_map_of c.in_ok-table.table in
     none_done p s c.in_ok-table.table c.args.edges.now
-    (tied p a s h w c.graph-graph.ensures.plane c.graph-graph.ensures.ends c.requires.shape.rep c.requires.headings c.in_ok-table.ensures.bare)
-    (meeting p a s h w c.graph-graph.ensures.plane c.graph-graph.ensures.ends c.requires.shape.rep c.requires.headings c.in_ok-table.ensures.bare)
+    (tied p a s h w c.graph-graph.ensures.plane c.graph-graph.ensures.ends c.requires.shape.rep c.requires.directions c.in_ok-table.ensures.bare)
+    (meeting p a s h w c.graph-graph.ensures.plane c.graph-graph.ensures.ends c.requires.shape.rep c.requires.directions c.in_ok-table.ensures.bare)
     c.requires.edges
 
 pub turns-requires : goal.turns-requires
@@ -91,8 +91,8 @@ returns c =
     let w = dart_map_of start in
     let new = dart_map_of c.edges.table in
     let bent : AreBent p s 0 w new = done.steps new (finished (darts p) new (omega arith)) in
-    let bends = all_bends p a s h w new plane ends rep c.requires.headings bare bent in
-    let plain = tied p a s h w plane ends rep c.requires.headings bare in
+    let bends = all_bends p a s h w new plane ends rep c.requires.directions bare bent in
+    let plain = tied p a s h w plane ends rep c.requires.directions bare in
     record {
       sound = bends.sound;
       darts = bends.darts;
@@ -100,7 +100,7 @@ returns c =
       faces = bends.faces;
       counts = bends.counts;
       paths = bends_have_paths p a h s w new plane rep.strings bare plain (omega arith) bent;
-      chains = bends_have_chains p a h s w new bare plain (meeting p a s h w plane ends rep c.requires.headings bare) bent;
+      chains = bends_have_chains p a h s w new bare plain (meeting p a s h w plane ends rep c.requires.directions bare) bent;
       connected = bends_stay_connected p a h s w new plane bare plain bent;
       space = omega (
         arith,

@@ -2,7 +2,7 @@ use Rattle.std.proofs.Common.{◌≡◌, ◌∙◌, ◌++◌, ℕ, List, [], ◌
 use Rattle.dissect.specs.Tables.{dart_map_of}
 use Rattle.dissect.specs.Paths.{IsPath}
 use Rattle.dissect.proofs.PathsOfEdges.{IsPathOf}
-use Rattle.ortho_rep.proofs.PushedLists.{concatenated-starts, concatenated-pushed, concatenated-AreStarts, concatenated-pieces_at}
+use Rattle.ortho_rep.proofs.PushedLists.{concatenated-starts, concatenated-pushed, concatenated-AreStarts, concatenated-slices_at}
 use Rattle.dissect.proofs.parts.paths_of.Goals as goal
 
 pub edges-init : goal.edges-init
@@ -37,7 +37,7 @@ pub returns : goal.returns
 returns c =
     let w = dart_map_of c.args.table.now in
     let es = c.args.edges.now in
-    let pieces = concatenated-pieces_at c.edges.starts.items c.edges.darts.items c.edges.last-index (IsPathOf w es) c.edges.invariant in
+    let pieces = concatenated-slices_at c.edges.starts.items c.edges.darts.items c.edges.last-index (IsPathOf w es) c.edges.invariant in
     let all : c.edges.last-index ≡ length es = omega (arith, c.edges-test.false, c.edges.auto.last-index-end) in
     record {
       count = ap length c.new.ensures ∙ pieces.0 ∙ all;

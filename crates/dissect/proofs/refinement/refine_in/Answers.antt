@@ -37,14 +37,14 @@ cut_faces-requires-clause-waiting c =
     c.cut_across.ensures.cut.0 (dart_map_of c.cut_across.new.table) c.requires.sound c.surround.ensures.surrounded c.find_right-right.ensures.inside
     c.cut_side-side.ensures.side c.cut_across.ensures.cut.1 in
     let listed = c.in_ok-faces.ensures.listed in
-    let made = c.in_ok-add_connected_face.ensures.connected listed.0 listed.2 listed.1 in
+    let made = c.in_ok-add_merged_face.ensures.connected listed.0 listed.2 listed.1 in
     let flat = bridge_ready (dart_map_of c.args.table.now) (dart_map_of c.surround.new.table) c.find_right-right.result c.cut_side-side.result
     c.cut_across.ensures.cut.0 (dart_map_of c.cut_across.new.table) c.requires.sound j listed.0 c.in_ok-faces.faces.outer.items
-    c.add_connected_face.new.faces.corners.items c.add_connected_face.new.faces.counts.items listed.2 made 0 (omega arith) in
+    c.add_merged_face.new.faces.corners.items c.add_merged_face.new.faces.counts.items listed.2 made 0 (omega arith) in
     let o : ℕ = c.args.table.now.darts + 4 + 0 in
     let ready : AreReady (dart_map_of c.cut_across.new.table) o c.as_mut_slice.result.now c.as_slice.result.now =
     subst (λ (xs : List ℕ). AreReady (dart_map_of c.cut_across.new.table) o xs c.as_slice.result.now) (sym c.as_mut_slice.ensures.value)
-    (subst (λ (ns : List ℕ). AreReady (dart_map_of c.cut_across.new.table) o c.add_connected_face.new.faces.corners.items ns)
+    (subst (λ (ns : List ℕ). AreReady (dart_map_of c.cut_across.new.table) o c.add_merged_face.new.faces.corners.items ns)
     (sym c.as_slice.ensures.value) flat) in
     (o, ready.waiting)
 
@@ -54,14 +54,14 @@ cut_faces-requires-clause-all c =
     c.cut_across.ensures.cut.0 (dart_map_of c.cut_across.new.table) c.requires.sound c.surround.ensures.surrounded c.find_right-right.ensures.inside
     c.cut_side-side.ensures.side c.cut_across.ensures.cut.1 in
     let listed = c.in_ok-faces.ensures.listed in
-    let made = c.in_ok-add_connected_face.ensures.connected listed.0 listed.2 listed.1 in
+    let made = c.in_ok-add_merged_face.ensures.connected listed.0 listed.2 listed.1 in
     let flat = bridge_ready (dart_map_of c.args.table.now) (dart_map_of c.surround.new.table) c.find_right-right.result c.cut_side-side.result
     c.cut_across.ensures.cut.0 (dart_map_of c.cut_across.new.table) c.requires.sound j listed.0 c.in_ok-faces.faces.outer.items
-    c.add_connected_face.new.faces.corners.items c.add_connected_face.new.faces.counts.items listed.2 made 0 (omega arith) in
+    c.add_merged_face.new.faces.corners.items c.add_merged_face.new.faces.counts.items listed.2 made 0 (omega arith) in
     let o : ℕ = c.args.table.now.darts + 4 + 0 in
     let ready : AreReady (dart_map_of c.cut_across.new.table) o c.as_mut_slice.result.now c.as_slice.result.now =
     subst (λ (xs : List ℕ). AreReady (dart_map_of c.cut_across.new.table) o xs c.as_slice.result.now) (sym c.as_mut_slice.ensures.value)
-    (subst (λ (ns : List ℕ). AreReady (dart_map_of c.cut_across.new.table) o c.add_connected_face.new.faces.corners.items ns)
+    (subst (λ (ns : List ℕ). AreReady (dart_map_of c.cut_across.new.table) o c.add_merged_face.new.faces.corners.items ns)
     (sym c.as_slice.ensures.value) flat) in
     ready.all
 
@@ -71,14 +71,14 @@ cut_faces-requires-clause-few c =
     c.cut_across.ensures.cut.0 (dart_map_of c.cut_across.new.table) c.requires.sound c.surround.ensures.surrounded c.find_right-right.ensures.inside
     c.cut_side-side.ensures.side c.cut_across.ensures.cut.1 in
     let listed = c.in_ok-faces.ensures.listed in
-    let made = c.in_ok-add_connected_face.ensures.connected listed.0 listed.2 listed.1 in
+    let made = c.in_ok-add_merged_face.ensures.connected listed.0 listed.2 listed.1 in
     let flat = bridge_ready (dart_map_of c.args.table.now) (dart_map_of c.surround.new.table) c.find_right-right.result c.cut_side-side.result
     c.cut_across.ensures.cut.0 (dart_map_of c.cut_across.new.table) c.requires.sound j listed.0 c.in_ok-faces.faces.outer.items
-    c.add_connected_face.new.faces.corners.items c.add_connected_face.new.faces.counts.items listed.2 made 0 (omega arith) in
+    c.add_merged_face.new.faces.corners.items c.add_merged_face.new.faces.counts.items listed.2 made 0 (omega arith) in
     let o : ℕ = c.args.table.now.darts + 4 + 0 in
     let ready : AreReady (dart_map_of c.cut_across.new.table) o c.as_mut_slice.result.now c.as_slice.result.now =
     subst (λ (xs : List ℕ). AreReady (dart_map_of c.cut_across.new.table) o xs c.as_slice.result.now) (sym c.as_mut_slice.ensures.value)
-    (subst (λ (ns : List ℕ). AreReady (dart_map_of c.cut_across.new.table) o c.add_connected_face.new.faces.corners.items ns)
+    (subst (λ (ns : List ℕ). AreReady (dart_map_of c.cut_across.new.table) o c.add_merged_face.new.faces.corners.items ns)
     (sym c.as_slice.ensures.value) flat) in
     omega (arith, ready.few, c.cut_across.new.table.darts_in, c.cut_across.new.table.darts_fit)
 
@@ -96,14 +96,14 @@ returns-clause-done c k k_in =
     c.cut_across.ensures.cut.0 (dart_map_of c.cut_across.new.table) c.requires.sound c.surround.ensures.surrounded c.find_right-right.ensures.inside
     c.cut_side-side.ensures.side c.cut_across.ensures.cut.1 in
     let listed = c.in_ok-faces.ensures.listed in
-    let made = c.in_ok-add_connected_face.ensures.connected listed.0 listed.2 listed.1 in
+    let made = c.in_ok-add_merged_face.ensures.connected listed.0 listed.2 listed.1 in
     let flat = bridge_ready (dart_map_of c.args.table.now) (dart_map_of c.surround.new.table) c.find_right-right.result c.cut_side-side.result
     c.cut_across.ensures.cut.0 (dart_map_of c.cut_across.new.table) c.requires.sound j listed.0 c.in_ok-faces.faces.outer.items
-    c.add_connected_face.new.faces.corners.items c.add_connected_face.new.faces.counts.items listed.2 made k k_in in
+    c.add_merged_face.new.faces.corners.items c.add_merged_face.new.faces.counts.items listed.2 made k k_in in
     let o : ℕ = c.args.table.now.darts + 4 + k in
     let ready : AreReady (dart_map_of c.cut_across.new.table) o c.as_mut_slice.result.now c.as_slice.result.now =
     subst (λ (xs : List ℕ). AreReady (dart_map_of c.cut_across.new.table) o xs c.as_slice.result.now) (sym c.as_mut_slice.ensures.value)
-    (subst (λ (ns : List ℕ). AreReady (dart_map_of c.cut_across.new.table) o c.add_connected_face.new.faces.corners.items ns)
+    (subst (λ (ns : List ℕ). AreReady (dart_map_of c.cut_across.new.table) o c.add_merged_face.new.faces.corners.items ns)
     (sym c.as_slice.ensures.value) flat) in
     c.cut_faces.ensures.done o ready.waiting
 
@@ -122,14 +122,14 @@ returns-clause-few c =
     c.cut_across.ensures.cut.0 (dart_map_of c.cut_across.new.table) c.requires.sound c.surround.ensures.surrounded c.find_right-right.ensures.inside
     c.cut_side-side.ensures.side c.cut_across.ensures.cut.1 in
     let listed = c.in_ok-faces.ensures.listed in
-    let made = c.in_ok-add_connected_face.ensures.connected listed.0 listed.2 listed.1 in
+    let made = c.in_ok-add_merged_face.ensures.connected listed.0 listed.2 listed.1 in
     let flat = bridge_ready (dart_map_of c.args.table.now) (dart_map_of c.surround.new.table) c.find_right-right.result c.cut_side-side.result
     c.cut_across.ensures.cut.0 (dart_map_of c.cut_across.new.table) c.requires.sound j listed.0 c.in_ok-faces.faces.outer.items
-    c.add_connected_face.new.faces.corners.items c.add_connected_face.new.faces.counts.items listed.2 made 0 (omega arith) in
+    c.add_merged_face.new.faces.corners.items c.add_merged_face.new.faces.counts.items listed.2 made 0 (omega arith) in
     let o : ℕ = c.args.table.now.darts + 4 + 0 in
     let ready : AreReady (dart_map_of c.cut_across.new.table) o c.as_mut_slice.result.now c.as_slice.result.now =
     subst (λ (xs : List ℕ). AreReady (dart_map_of c.cut_across.new.table) o xs c.as_slice.result.now) (sym c.as_mut_slice.ensures.value)
-    (subst (λ (ns : List ℕ). AreReady (dart_map_of c.cut_across.new.table) o c.add_connected_face.new.faces.corners.items ns)
+    (subst (λ (ns : List ℕ). AreReady (dart_map_of c.cut_across.new.table) o c.add_merged_face.new.faces.corners.items ns)
     (sym c.as_slice.ensures.value) flat) in
     enclosed_few (dart_map_of c.args.table.now) (dart_map_of c.surround.new.table) c.find_right-right.result c.cut_side-side.result
     c.cut_across.ensures.cut.0 (dart_map_of c.cut_across.new.table) (dart_map_of c.cut_faces.new.table) c.requires.sound j

@@ -29,7 +29,7 @@ chord-requires-clause-tied c =
     c.args.d c.args.c c.index-e.result.now c.index-edge_direction.result.now c.index.result.now c.index-2.result.now
     c.requires.sound c.requires.can (omega arith) (omega arith) (omega arith)
     c.index-e.ensures c.index-edge_direction.ensures c.index.ensures c.index-2.ensures in
-    read_tied (dart_map_of t) c.args.d c.args.c _ _ _ _ (dart_map_of c.split.new.self) read c.requires.sound c.requires.can c.split.ensures.split
+    read_tied (dart_map_of t) c.args.d c.args.c _ _ _ _ (dart_map_of c.subdivide.new.self) read c.requires.sound c.requires.can c.subdivide.ensures.subdivide
 
 pub chord-requires-clause-fits : goal.chord-requires-clause-fits
 chord-requires-clause-fits c =
@@ -38,7 +38,7 @@ chord-requires-clause-fits c =
     c.args.d c.args.c c.index-e.result.now c.index-edge_direction.result.now c.index.result.now c.index-2.result.now
     c.requires.sound c.requires.can (omega arith) (omega arith) (omega arith)
     c.index-e.ensures c.index-edge_direction.ensures c.index.ensures c.index-2.ensures in
-    read_fits (dart_map_of t) c.args.d c.args.c _ _ _ _ (dart_map_of c.split.new.self) read c.requires.sound c.requires.can c.split.ensures.split
+    read_fits (dart_map_of t) c.args.d c.args.c _ _ _ _ (dart_map_of c.subdivide.new.self) read c.requires.sound c.requires.can c.subdivide.ensures.subdivide
 
 pub returns-clause-cut : goal.returns-clause-cut
 returns-clause-cut c =
@@ -48,6 +48,6 @@ returns-clause-cut c =
     c.requires.sound c.requires.can (omega arith) (omega arith) (omega arith)
     c.index-e.ensures c.index-edge_direction.ensures c.index.ensures c.index-2.ensures in (
       (c.index.result.now + 7 - c.index-2.result.now) % 4,
-      read_cut (dart_map_of t) c.args.d c.args.c _ _ _ _ (dart_map_of c.split.new.self) (dart_map_of c.chord.new.self) read c.requires.sound c.requires.can
-          c.split.ensures.split c.chord.ensures.chord,
+      read_cut (dart_map_of t) c.args.d c.args.c _ _ _ _ (dart_map_of c.subdivide.new.self) (dart_map_of c.chord.new.self) read c.requires.sound c.requires.can
+          c.subdivide.ensures.subdivide c.chord.ensures.chord,
     )

@@ -1,7 +1,7 @@
 use Rattle.std.proofs.Common.{◌<◌, ◌≤◌, ◌+◌, ◌++◌, ℕ, List, map, length, get_or, drop, take, All, arith, sym, subst}
 use Rattle.dissect.specs.DartMaps.{same}
 use Rattle.dissect.specs.Tables.{dart_map_of, room}
-use Rattle.dissect.specs.Turning.{IsHighest}
+use Rattle.dissect.specs.Turning.{IsPeak}
 use Rattle.dissect.specs.Faces.{Below, concatenated}
 use Rattle.dissect.proofs.Listing.{below_left}
 use Rattle.dissect.proofs.Finishing.{four_corners_done}
@@ -15,14 +15,14 @@ pub returns-then-ring-eq-BOX_CORNERS-clause-waiting : goal.returns-then-ring-eq-
 returns-then-ring-eq-BOX_CORNERS-clause-waiting c =
     λ o rs wait. four_corners_done (dart_map_of c.args.table.now) c.args.ring.now o rs c.requires.sound c.if-ring-eq-BOX_CORNERS.true wait
 
-pub highest-start-requires-clause-inside : goal.highest-start-requires-clause-inside
-highest-start-requires-clause-inside c =
+pub peak-start-requires-clause-inside : goal.peak-start-requires-clause-inside
+peak-start-requires-clause-inside c =
     let t = c.args.table.now in
     let below : Below t.darts c.args.ring.now = below_left t.darts c.args.ring.now (concatenated c.requires.waiting.1) c.requires.waiting.2.below in
     all_below t.darts (length c.as_slice.result.now) c.args.ring.now (omega (arith, c.as_slice.ensures.len)) below
 
-pub highest-start-requires-clause-small : goal.highest-start-requires-clause-small
-highest-start-requires-clause-small c =
+pub peak-start-requires-clause-small : goal.peak-start-requires-clause-small
+peak-start-requires-clause-small c =
     let t = c.args.table.now in
     let below : Below t.darts c.args.ring.now = below_left t.darts c.args.ring.now (concatenated c.requires.waiting.1) c.requires.waiting.2.below in
     subst (λ (A : List ℕ). All (λ a. get_or A a 0 ≤ 4) c.args.ring.now) (sym c.as_slice.ensures.value)
@@ -32,12 +32,12 @@ pub corners-init : goal.corners-init
 corners-init c =
     let t = c.args.table.now in
     let face = c.args.ring.now in
-    let m = c.highest-start.result in
+    let m = c.peak-start.result in
     let below : Below t.darts face = below_left t.darts face (concatenated c.requires.waiting.1) c.requires.waiting.2.below in
     let turned : Below t.darts (drop m face ++ take m face) = below_turned t.darts m face below in
     reading_begins (dart_map_of t) face (room t) m c.start_at.new.ring c.requires.sound c.requires.waiting.0 c.requires.waiting.1 c.requires.waiting.2
     c.requires.space
-    (subst (λ (A : List ℕ). IsHighest (map (λ (a : ℕ). get_or A a 0) face) m) c.as_slice.ensures.value c.highest-start.ensures)
+    (subst (λ (A : List ℕ). IsPeak (map (λ (a : ℕ). get_or A a 0) face) m) c.as_slice.ensures.value c.peak-start.ensures)
     c.start_at.ensures.after
     (subst (λ (xs : List ℕ). All (λ a. a < room t) xs) (sym c.start_at.ensures.after)
     (all_below t.darts (room t) (drop m face ++ take m face) (omega arith) turned))

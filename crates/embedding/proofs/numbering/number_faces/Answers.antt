@@ -11,7 +11,7 @@ loop-dart-preserved c =
     elim c.if-faces-from.branch [
       | then-faces-from w ↦ record {
         size = ap length w.faces-is ∙ omega (arith, size);
-        traced = rw (w.faces-is, w.count-is) (subst (λ (n : ℕ). IsTraced n (next_in c.args.ties.now) (at w.walk_face.new.faces) (c.loop-dart.count + 1) (c.loop-dart.dart + 1)) size w.walk_face.ensures);
+        traced = rw (w.faces-is, w.count-is) (subst (λ (n : ℕ). IsTraced n (next_in c.args.rotation.now) (at w.walk_face.new.faces) (c.loop-dart.count + 1) (c.loop-dart.dart + 1)) size w.walk_face.ensures);
       }
       | else-faces-from w ↦
           let same = ap (λ i. get_or c.loop-dart.faces i 0) c.from.ensures in
@@ -24,4 +24,4 @@ loop-dart-preserved c =
 pub returns-clause-numbered : goal.returns-clause-numbered
 returns-clause-numbered c =
     let all : c.loop-dart.dart ≡ length c.args.faces.now = omega arith in
-    all_faces _ _ _ _ (subst (λ (d : ℕ). IsTraced (length c.args.faces.now) (next_in c.args.ties.now) (at c.loop-dart.faces) c.loop-dart.count d) all c.loop-dart.invariant.traced)
+    all_faces _ _ _ _ (subst (λ (d : ℕ). IsTraced (length c.args.faces.now) (next_in c.args.rotation.now) (at c.loop-dart.faces) c.loop-dart.count d) all c.loop-dart.invariant.traced)

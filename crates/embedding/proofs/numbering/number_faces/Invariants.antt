@@ -5,5 +5,5 @@ use Rattle.embedding.proofs.numbering.number_faces.Given as goal
 abbrev pub invariant-loop-dart : goal.invariant-loop-dart
 invariant-loop-dart l = record {
   size : length l.faces ≡ length l.initial.faces;
-  traced : IsTraced (length l.initial.faces) (next_in l.ties) (at l.faces) l.count l.dart;
+  traced : IsTraced (length l.initial.faces) (next_in l.rotation) (at l.faces) l.count l.dart;
 }

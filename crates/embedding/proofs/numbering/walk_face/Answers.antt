@@ -6,15 +6,15 @@ use Rattle.embedding.proofs.numbering.walk_face.Goals as goal
 
 pub loop-dart-preserved : goal.loop-dart-preserved
 loop-dart-preserved c =
-    let ties = c.args.ties.now in
+    let rotation = c.args.rotation.now in
     let walk = c.loop-dart.invariant.walk in
     let inside = walk.inside in
     let size = c.loop-dart.invariant.size in
     let put = put_list c.loop-dart.faces c.from.result c.loop-dart.dart c.args.face c.from.ensures (omega (arith, inside, size)) in
-    let back : c.from-in-loop-dart-2.result ≡ get_or ties (2 * c.loop-dart.dart) 0 =
-    c.from-in-loop-dart-2.ensures ∙ ap (λ (k : ℕ). get_or ties (2 * k) 0) c.from-in-loop-dart.ensures in
-    let next : get_or ties (2 * c.from-in-loop-dart-2.result + 1) 0 ≡ next_in ties c.loop-dart.dart =
-    ap (λ (e : ℕ). get_or ties (2 * e + 1) 0) back in
+    let back : c.from-in-loop-dart-2.result ≡ get_or rotation (2 * c.loop-dart.dart) 0 =
+    c.from-in-loop-dart-2.ensures ∙ ap (λ (k : ℕ). get_or rotation (2 * k) 0) c.from-in-loop-dart.ensures in
+    let next : get_or rotation (2 * c.from-in-loop-dart-2.result + 1) 0 ≡ next_in rotation c.loop-dart.dart =
+    ap (λ (e : ℕ). get_or rotation (2 * e + 1) 0) back in
     record {
       size = length-set c.loop-dart.faces c.from.result c.args.face ∙ size;
       walk = rw next (walk_on _ _ _ _ _ _ _ _ c.requires.tied.walked walk put (λ e. c.if-dart-start.false (next ∙ e)));
@@ -30,13 +30,13 @@ loop-dart-smaller c =
 
 pub returns-then-dart-start : goal.returns-then-dart-start
 returns-then-dart-start c =
-    let ties = c.args.ties.now in
+    let rotation = c.args.rotation.now in
     let walk = c.loop-dart.invariant.walk in
     let inside = walk.inside in
     let size = c.loop-dart.invariant.size in
     let put = put_list c.loop-dart.faces c.from.result c.loop-dart.dart c.args.face c.from.ensures (omega (arith, inside, size)) in
-    let back : c.from-in-loop-dart-2.result ≡ get_or ties (2 * c.loop-dart.dart) 0 =
-    c.from-in-loop-dart-2.ensures ∙ ap (λ (k : ℕ). get_or ties (2 * k) 0) c.from-in-loop-dart.ensures in
-    let next : get_or ties (2 * c.from-in-loop-dart-2.result + 1) 0 ≡ next_in ties c.loop-dart.dart =
-    ap (λ (e : ℕ). get_or ties (2 * e + 1) 0) back in
+    let back : c.from-in-loop-dart-2.result ≡ get_or rotation (2 * c.loop-dart.dart) 0 =
+    c.from-in-loop-dart-2.ensures ∙ ap (λ (k : ℕ). get_or rotation (2 * k) 0) c.from-in-loop-dart.ensures in
+    let next : get_or rotation (2 * c.from-in-loop-dart-2.result + 1) 0 ≡ next_in rotation c.loop-dart.dart =
+    ap (λ (e : ℕ). get_or rotation (2 * e + 1) 0) back in
     walk_ends _ _ _ _ _ _ _ _ c.requires.tied.walked walk put (sym next ∙ c.if-dart-start.true)

@@ -6,7 +6,7 @@ use Rattle.embedding.proofs.numbering.walk_face.Given as goal
 abbrev pub invariant-loop-dart : goal.invariant-loop-dart
 invariant-loop-dart l = record {
   size : length l.faces ≡ length l.fn.faces;
-  walk : IsWalk (length l.fn.faces) (next_in l.ties) (at l.fn.faces) (at l.faces) l.face l.start l.dart;
+  walk : IsWalk (length l.fn.faces) (next_in l.rotation) (at l.fn.faces) (at l.faces) l.face l.start l.dart;
 }
 
 abbrev pub decreases-loop-dart : goal.decreases-loop-dart

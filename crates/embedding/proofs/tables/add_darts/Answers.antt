@@ -1,6 +1,6 @@
 use Rattle.std.proofs.Common.{◌≡◌, ℕ, ◌+◌, ◌<◌, List, [], length, get_or, refl, sym, ap, ◌∙◌, subst, arith}
 use Rattle.embedding.specs.Darts.{first_dart, head_of}
-use Rattle.embedding.specs.Tables.{IsTable, AreTies}
+use Rattle.embedding.specs.Tables.{IsTable, IsRotation}
 use Rattle.embedding.proofs.Entries.{Stands, stands_at, stands_below}
 use Rattle.embedding.proofs.Parts.{first_dart-within}
 use Rattle.embedding.proofs.Building.{table_push, ties_push, first_dart-more, after_found}
@@ -31,7 +31,7 @@ push_reserved-requires-in-darts c =
     let g = c.args.lists.now in
     let i = c.darts.head-index in
     let inside : i < length (get_or g c.args.place []) = omega (arith, c.darts-test.true, ap length c.at-list.ensures.value) in
-    omega (arith, c.darts.ties.ok.0, c.darts.invariant.ties.size, c.darts.invariant.tie_room, c.requires.tie_room, stands_below g c.args.place i c.requires.within inside)
+    omega (arith, c.darts.rotation.ok.0, c.darts.invariant.rotation.size, c.darts.invariant.rotation_room, c.requires.rotation_room, stands_below g c.args.place i c.requires.within inside)
 
 pub push_reserved-requires-in-darts-2 : goal.push_reserved-requires-in-darts-2
 push_reserved-requires-in-darts-2 c =
@@ -39,7 +39,7 @@ push_reserved-requires-in-darts-2 c =
     let i = c.darts.head-index in
     let inside : i < length (get_or g c.args.place []) = omega (arith, c.darts-test.true, ap length c.at-list.ensures.value) in
     let pushed = c.push_reserved-in-darts.ensures in
-    omega (arith, pushed.len, pushed.capacity, c.darts.ties.ok.0, c.darts.invariant.ties.size, c.darts.invariant.tie_room, c.requires.tie_room, stands_below g c.args.place i c.requires.within inside)
+    omega (arith, pushed.len, pushed.capacity, c.darts.rotation.ok.0, c.darts.invariant.rotation.size, c.darts.invariant.rotation_room, c.requires.rotation_room, stands_below g c.args.place i c.requires.within inside)
 
 pub darts-preserved : goal.darts-preserved
 darts-preserved c =
@@ -56,9 +56,9 @@ darts-preserved c =
     record {
       next = omega (arith, c.darts.invariant.next);
       heads = rw c.push_reserved.ensures.items (table_push _ (head_of g) _ _ _ (omega arith) (sym head) c.darts.invariant.heads);
-      ties = rw (c.push_reserved-in-darts-2.ensures.items, c.push_reserved-in-darts.ensures.items) (ties_push g _ _ c.reverse_between.result c.after_in.result _ (omega arith) back turned c.darts.invariant.ties);
+      rotation = rw (c.push_reserved-in-darts-2.ensures.items, c.push_reserved-in-darts.ensures.items) (ties_push g _ _ c.reverse_between.result c.after_in.result _ (omega arith) back turned c.darts.invariant.rotation);
       head_room = omega (arith, c.darts.invariant.head_room, c.push_reserved.ensures.capacity);
-      tie_room = omega (arith, c.darts.invariant.tie_room, c.push_reserved-in-darts.ensures.capacity, c.push_reserved-in-darts-2.ensures.capacity);
+      rotation_room = omega (arith, c.darts.invariant.rotation_room, c.push_reserved-in-darts.ensures.capacity, c.push_reserved-in-darts-2.ensures.capacity);
     }
 
 pub returns-clause-heads : goal.returns-clause-heads
@@ -68,9 +68,9 @@ returns-clause-heads c =
     omega (arith, first_dart-more g c.args.place c.requires.within, ap length c.at-list.ensures.value, c.darts-test.false, c.darts.auto.head-index-end) in
     subst (λ (n : ℕ). IsTable n (head_of g) c.darts.heads.items) all c.darts.invariant.heads
 
-pub returns-clause-ties : goal.returns-clause-ties
-returns-clause-ties c =
+pub returns-clause-rotation : goal.returns-clause-rotation
+returns-clause-rotation c =
     let g = c.args.lists.now in
     let all : first_dart g c.args.place + c.darts.head-index ≡ first_dart g (c.args.place + 1) =
     omega (arith, first_dart-more g c.args.place c.requires.within, ap length c.at-list.ensures.value, c.darts-test.false, c.darts.auto.head-index-end) in
-    subst (λ (n : ℕ). AreTies g n c.darts.ties.items) all c.darts.invariant.ties
+    subst (λ (n : ℕ). IsRotation g n c.darts.rotation.items) all c.darts.invariant.rotation

@@ -2,13 +2,13 @@ use Rattle.std.proofs.Common.{◌≡◌, ◌↔◌, Bool, true, AllPairs, rules}
 use Rattle.std.proofs.lemmas.Result.{IfOk-weaker}
 use Rattle.std.proofs.lemmas.List.Sorted.{IsNonDecreasingBy-from_sort_by_key, All-permutation, IsPermutation-sym}
 use Rattle.geometry.specs.declared.rectangles.Rectangle.{Rectangle}
-use Rattle.geometry.specs.Rectangles.{IsFilled, AreApart}
+use Rattle.geometry.specs.Rectangles.{IsNonempty, AreApart}
 use Rattle.geometry.proofs.Pairs.{AllPairs-permutation}
 use Rattle.geometry.proofs.rectangles.all_apart_in.Goals as goal
 
 pub sweep-requires-clause-filled : goal.sweep-requires-clause-filled
 sweep-requires-clause-filled c =
-    rw c.deref-in-None.ensures.value (All-permutation IsFilled _ _ c.sort_unstable_by_key.ensures.permutation c.requires)
+    rw c.deref-in-None.ensures.value (All-permutation IsNonempty _ _ c.sort_unstable_by_key.ensures.permutation c.requires)
 
 pub sweep-requires-clause-ordered : goal.sweep-requires-clause-ordered
 sweep-requires-clause-ordered c =

@@ -8,10 +8,10 @@ pub returns-clause-exact : goal.returns-clause-exact
 returns-clause-exact c =
     let joined : c.have_ends.result ≡ true = search rules in
     let seen : c.are_sights.result ≡ true = search rules in
-    IfOk-weaker c.is_even.result _ _
+    IfOk-weaker c.is_balanced.result _ _
     (λ found even. certificate_parts c.args.segments.now c.args.wires.now (coordinates_in c.args.coordinates.now) c.args.sights.now found (c.in_ok-kept.ensures.0 (search rules)) (c.have_ends.ensures.0 joined) (c.are_sights.ensures.0 seen) (sym c.weigh.ensures ∙ c.if-weigh-measure.false ∙ c.measure.ensures) even)
-    c.is_even.ensures
+    c.is_balanced.ensures
 
 pub returns-clause-least : goal.returns-clause-least
 returns-clause-least c =
-    IfOk-weaker c.is_even.result _ _ (λ found exact h. certified c.args.segments.now c.args.wires.now (coordinates_in c.args.coordinates.now) c.args.sights.now (exact.0 h)) (returns-clause-exact c)
+    IfOk-weaker c.is_balanced.result _ _ (λ found exact h. certified c.args.segments.now c.args.wires.now (coordinates_in c.args.coordinates.now) c.args.sights.now (exact.0 h)) (returns-clause-exact c)

@@ -6,14 +6,14 @@ use mir.Val.{SFits, of_z}
 use Rattle.networks.specs.Networks.{node_count}
 use Rattle.networks.specs.Flow.{at_nodes}
 use Rattle.networks.specs.ResidualArcs.{reverse_at}
-use Rattle.networks.specs.Search.{far, labels, enters, orders, places, IsGraph, AreFeasiblePotentials, IsReached, IsNearest, IsServed, IsRemaining}
+use Rattle.networks.specs.Search.{far, labels, predecessors, orders, places, IsGraph, AreFeasiblePotentials, IsReached, IsNearest, AreFeasible, IsRemaining}
 use Rattle.networks.proofs.Signs.{same_from_bits}
 use Rattle.networks.proofs.Reaching.{strictly, reached_fits}
 use Rattle.min_cost_flow.proofs.Solving.{is_graph, is_priced, can_augment, nothing_found, path_looks, short_path, label_bounds}
 use Rattle.min_cost_flow.proofs.solver.find_path.Goals as goal
 
-pub run-search-requires-clause-blank : goal.run-search-requires-clause-blank
-run-search-requires-clause-blank c =
+pub run-search-requires-clause-unlabelled : goal.run-search-requires-clause-unlabelled
+run-search-requires-clause-unlabelled c =
     let net = c.requires.ready.0 in
     let r = c.requires.ready.1 in
     let n : length c.args.nodes.now.potential.items ≡ node_count net = r.potentials in
@@ -31,7 +31,7 @@ run-search-requires-clause-blank c =
         root = omega (arith, c.requires.root, r.excesses, n);
       };
       size = r.labels ∙ sym n;
-      blank = λ v b. r.blank v (omega arith);
+      unlabelled = λ v b. r.unlabelled v (omega arith);
       root = c.requires.remaining;
     })
 
@@ -47,15 +47,15 @@ returns-then-search-clause-no_flow c net r =
     let exc = c.args.nodes.now.excess.items in
     let p = at_nodes pot in
     let x = at_nodes exc in
-    let re0 : IsReached (length pot) first arcs p x c.args.root (labels t) (enters t) (orders t) (places t) t.scanned t.ordered t.reached t.radius = rw (c.deref.ensures.value, c.deref-2.ensures.value, c.deref-3.ensures.value, c.deref-4.ensures.value) at h.reached in
-    let sv0 : IsServed (length pot) first arcs p (labels t) (places t) t.bound t.scanned = rw (c.deref.ensures.value, c.deref-2.ensures.value, c.deref-3.ensures.value) at f.served in
+    let re0 : IsReached (length pot) first arcs p x c.args.root (labels t) (predecessors t) (orders t) (places t) t.scanned t.ordered t.reached t.radius = rw (c.deref.ensures.value, c.deref-2.ensures.value, c.deref-3.ensures.value, c.deref-4.ensures.value) at h.reached in
+    let sv0 : AreFeasible (length pot) first arcs p (labels t) (places t) t.bound t.scanned = rw (c.deref.ensures.value, c.deref-2.ensures.value, c.deref-3.ensures.value) at f.served in
     let remaining0 : IsRemaining (length pot) p (labels t) (places t) t.scanned t.bound = rw c.deref-3.ensures.value at f.remaining in
     let n = r.potentials in
     let fc : SFits w32 t.bound = search rules in
     let ff : SFits w32 far = search rules in
     let bound : t.bound ≡ far = same_from_bits _ _ fc ff c.if-search.true in
-    let re = subst (λ (k : ℕ). IsReached k first arcs p x c.args.root (labels t) (enters t) (orders t) (places t) t.scanned t.ordered t.reached t.radius) n re0 in
-    let sv = subst (λ (k : ℕ). IsServed k first arcs p (labels t) (places t) t.bound t.scanned) n sv0 in
+    let re = subst (λ (k : ℕ). IsReached k first arcs p x c.args.root (labels t) (predecessors t) (orders t) (places t) t.scanned t.ordered t.reached t.radius) n re0 in
+    let sv = subst (λ (k : ℕ). AreFeasible k first arcs p (labels t) (places t) t.bound t.scanned) n sv0 in
     let remaining = subst (λ (k : ℕ). IsRemaining k p (labels t) (places t) t.scanned t.bound) n remaining0 in
     nothing_found _ _ _ _ _ _ _ _ _ _ _ _ _ _ _ _ _ _ r.network r.residual.arcs_built r.residual.filled r.round re sv remaining bound c.requires.remaining
 
@@ -73,7 +73,7 @@ update_potentials-requires c =
     let exc = c.args.nodes.now.excess.items in
     let p = at_nodes pot in
     let x = at_nodes exc in
-    let re0 : IsReached (length pot) first arcs p x c.args.root (labels t) (enters t) (orders t) (places t) t.scanned t.ordered t.reached t.radius = rw (c.deref.ensures.value, c.deref-2.ensures.value, c.deref-3.ensures.value, c.deref-4.ensures.value) at h.reached in
+    let re0 : IsReached (length pot) first arcs p x c.args.root (labels t) (predecessors t) (orders t) (places t) t.scanned t.ordered t.reached t.radius = rw (c.deref.ensures.value, c.deref-2.ensures.value, c.deref-3.ensures.value, c.deref-4.ensures.value) at h.reached in
     let near0 : IsNearest (length pot) first arcs p x c.args.root (labels t) (places t) t.scanned t.radius t.bound t.found = rw (c.deref.ensures.value, c.deref-2.ensures.value, c.deref-3.ensures.value, c.deref-4.ensures.value) at h.nearest in
     let g0 : IsGraph (length pot) first arcs = rw (c.deref.ensures.value, c.deref-2.ensures.value, c.deref-3.ensures.value) at h.input.graph in
     let hit : t.bound <ℤ far = strictly _ _ near0.most (λ q. c.if-search.false (ap (of_z w32) q)) in
@@ -111,10 +111,10 @@ returns-clause-found c net r =
     let exc = c.args.nodes.now.excess.items in
     let p = at_nodes pot in
     let x = at_nodes exc in
-    let re0 : IsReached (length pot) first arcs p x c.args.root (labels t) (enters t) (orders t) (places t) t.scanned t.ordered t.reached t.radius = rw (c.deref.ensures.value, c.deref-2.ensures.value, c.deref-3.ensures.value, c.deref-4.ensures.value) at h.reached in
+    let re0 : IsReached (length pot) first arcs p x c.args.root (labels t) (predecessors t) (orders t) (places t) t.scanned t.ordered t.reached t.radius = rw (c.deref.ensures.value, c.deref-2.ensures.value, c.deref-3.ensures.value, c.deref-4.ensures.value) at h.reached in
     let near0 : IsNearest (length pot) first arcs p x c.args.root (labels t) (places t) t.scanned t.radius t.bound t.found = rw (c.deref.ensures.value, c.deref-2.ensures.value, c.deref-3.ensures.value, c.deref-4.ensures.value) at h.nearest in
     let g0 : IsGraph (length pot) first arcs = rw (c.deref.ensures.value, c.deref-2.ensures.value, c.deref-3.ensures.value) at h.input.graph in
-    let sv0 : IsServed (length pot) first arcs p (labels t) (places t) t.bound t.scanned = rw (c.deref.ensures.value, c.deref-2.ensures.value, c.deref-3.ensures.value) at f.served in
+    let sv0 : AreFeasible (length pot) first arcs p (labels t) (places t) t.bound t.scanned = rw (c.deref.ensures.value, c.deref-2.ensures.value, c.deref-3.ensures.value) at f.served in
     let remaining0 : IsRemaining (length pot) p (labels t) (places t) t.scanned t.bound = rw c.deref-3.ensures.value at f.remaining in
     let hit : t.bound <ℤ far = strictly _ _ near0.most (λ q. c.if-search.false (ap (of_z w32) q)) in
     let up = c.update_potentials.ensures in
@@ -141,12 +141,12 @@ returns-clause-short c =
     let exc = c.args.nodes.now.excess.items in
     let p = at_nodes pot in
     let x = at_nodes exc in
-    let re0 : IsReached (length pot) first arcs p x c.args.root (labels t) (enters t) (orders t) (places t) t.scanned t.ordered t.reached t.radius = rw (c.deref.ensures.value, c.deref-2.ensures.value, c.deref-3.ensures.value, c.deref-4.ensures.value) at h.reached in
+    let re0 : IsReached (length pot) first arcs p x c.args.root (labels t) (predecessors t) (orders t) (places t) t.scanned t.ordered t.reached t.radius = rw (c.deref.ensures.value, c.deref-2.ensures.value, c.deref-3.ensures.value, c.deref-4.ensures.value) at h.reached in
     let near0 : IsNearest (length pot) first arcs p x c.args.root (labels t) (places t) t.scanned t.radius t.bound t.found = rw (c.deref.ensures.value, c.deref-2.ensures.value, c.deref-3.ensures.value, c.deref-4.ensures.value) at h.nearest in
     let hit : t.bound <ℤ far = strictly _ _ near0.most (λ q. c.if-search.false (ap (of_z w32) q)) in
     let n = r.potentials in
     let q = c.clear.ensures.cleared in
-    let re = subst (λ (k : ℕ). IsReached k first arcs p x c.args.root (labels t) (enters t) (orders t) (places t) t.scanned t.ordered t.reached t.radius) n re0 in
+    let re = subst (λ (k : ℕ). IsReached k first arcs p x c.args.root (labels t) (predecessors t) (orders t) (places t) t.scanned t.ordered t.reached t.radius) n re0 in
     let near = subst (λ (k : ℕ). IsNearest k first arcs p x c.args.root (labels t) (places t) t.scanned t.radius t.bound t.found) n near0 in
     let short = path_looks _ _ _ _ _ _ _ _ _ _ _ _ _ _ _ _ _ _ _ r.residual.arcs_built r.residual.filled re (near.hit hit) in
     let looks = rw c.deref.ensures.value at f.looks in

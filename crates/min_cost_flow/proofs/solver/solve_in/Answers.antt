@@ -43,5 +43,5 @@ returns c =
       looks = at.bounded;
       begun = at.begun;
       carrying = at.carried;
-      confined = at.confined;
+      in_bounds = at.in_bounds;
     }

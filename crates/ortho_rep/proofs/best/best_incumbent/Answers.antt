@@ -18,7 +18,7 @@ loop-face-preserved c =
       moving = tried.moving;
       incumbent = tried.incumbent;
       bounds = tried.bounds;
-      best = tried_next is c.visit-moving.new.incumbent other c.loop-face.face tried.ahead
+      best = tried_next is c.visit-moving.new.incumbent other c.loop-face.face tried.no_worse
           (λ f b. tried_turning was is is.outer other.bends other.face f tried.turned (known.best f b))
           tried.tried;
     }

@@ -4,7 +4,7 @@ use mir.Val.{SFits}
 use Rattle.faces.specs.Planes.{vertices}
 use Rattle.networks.specs.Networks.{NetworkModel}
 use Rattle.networks.specs.Flow.{at_nodes}
-use Rattle.min_cost_flow.specs.Stand.{IsShown}
+use Rattle.min_cost_flow.specs.SolverState.{IsShown}
 use Rattle.ortho_rep.proofs.Tries.{bound_of_potentials}
 use Rattle.ortho_rep.proofs.best.bound.Goals as goal
 

@@ -11,5 +11,5 @@ invariant-loop-step l = record {
   bounds : AreBounds l.plane l.bounds;
   dart : l.dart < darts l.plane;
   faces : l.plane.faces ≤ length l.seen;
-  darts : darts l.plane ≤ length l.doors;
+  darts : darts l.plane ≤ length l.tree_darts;
 }

@@ -1,6 +1,6 @@
 use Rattle.std.proofs.Common.{◌≡◌, ◌+◌, ℕ, ap, sym, ◌∙◌, subst, arith}
 use Rattle.faces.specs.Planes.{with_outer}
-use Rattle.networks.specs.Networks.{NetworkModel, shifted, HasFairSupplies}
+use Rattle.networks.specs.Networks.{NetworkModel, shifted, HasSuppliesInRange}
 use Rattle.networks.specs.Flow.{Flow}
 use Rattle.flow_network.proofs.TurnedOut.{turned_fair}
 use Rattle.flow_network.proofs.Flowing.{net_flows}
@@ -8,24 +8,24 @@ use Rattle.flow_network.proofs.Faultless.{arc_ends}
 use Rattle.ortho_rep.proofs.Tries.{plane_turned}
 use Rattle.ortho_rep.proofs.best.turned.Goals as goal
 
-pub shift-requires-clause-fair : goal.shift-requires-clause-fair
-shift-requires-clause-fair c =
+pub shift-requires-clause-in_range : goal.shift-requires-clause-in_range
+shift-requires-clause-in_range c =
     let p = c.args.plane.now in
     let w = c.args.moving in
     let from_is : c.face_node-from.result ≡ w.net.vertices + p.outer = omega (arith, c.face_node-from.ensures, c.outer.ensures.value) in
-    let net_is : shifted w.standing c.face_node-from.result c.face_node-to.result 8 ≡ c.turn_out.new.self.network =
+    let net_is : shifted w.warm_start c.face_node-from.result c.face_node-to.result 8 ≡ c.turn_out.new.self.network =
     ap (λ (n : NetworkModel). shifted n c.face_node-from.result c.face_node-to.result 8) c.requires.moving.same
     ∙ ap (λ (k : ℕ). shifted w.net.network k c.face_node-to.result 8) from_is
     ∙ ap (λ (k : ℕ). shifted w.net.network (w.net.vertices + p.outer) k 8) c.face_node-to.ensures
     ∙ sym c.turn_out.ensures.moved in
-    subst HasFairSupplies (sym net_is) (turned_fair p c.turn_out.new.self.network c.args.face c.graph-graph.ensures.plane c.turn_out.ensures.net.network)
+    subst HasSuppliesInRange (sym net_is) (turned_fair p c.turn_out.new.self.network c.args.face c.graph-graph.ensures.plane c.turn_out.ensures.net.network)
 
 pub unreachable-requires : goal.unreachable-requires
 unreachable-requires c =
     let p = c.args.plane.now in
     let w = c.args.moving in
     let from_is : c.face_node-from.result ≡ w.net.vertices + p.outer = omega (arith, c.face_node-from.ensures, c.outer.ensures.value) in
-    let net_is : shifted w.standing c.face_node-from.result c.face_node-to.result 8 ≡ c.turn_out.new.self.network =
+    let net_is : shifted w.warm_start c.face_node-from.result c.face_node-to.result 8 ≡ c.turn_out.new.self.network =
     ap (λ (n : NetworkModel). shifted n c.face_node-from.result c.face_node-to.result 8) c.requires.moving.same
     ∙ ap (λ (k : ℕ). shifted w.net.network k c.face_node-to.result 8) from_is
     ∙ ap (λ (k : ℕ). shifted w.net.network (w.net.vertices + p.outer) k 8) c.face_node-to.ensures

@@ -11,7 +11,7 @@ loop-done-init c =
     record {
       some = omega arith;
       within = omega (arith, c.requires.some);
-      open_record = λ more.
+      partial_record = λ more.
           subst (λ n. IsStarted (take 1 c.args.bytes.now) n 0) (omega arith)
           (subst (λ z. IsStarted z order 0) (sym (take-first c.args.bytes.now c.requires.some)) (started-first order more (omega (arith, c.type_inv.bytes 0))));
       whole = λ none. absurd (c.requires.nonzero (sym none));
@@ -24,10 +24,10 @@ loop-done-preserved c =
     let n = c.in-After.end in
     let test = c.loop-done-test.true in
     let e = ends-next c.args.bytes.now at (order - c.loop-done.done) n c.loop-done.invariant.within
-    (c.in-After.ensures (take at c.args.bytes.now) (order - c.loop-done.done) (c.loop-done.invariant.open_record test)) in
+    (c.in-After.ensures (take at c.args.bytes.now) (order - c.loop-done.done) (c.loop-done.invariant.partial_record test)) in
     record {
       some = omega (arith, c.loop-done.invariant.some);
       within = e.0;
-      open_record = λ more. subst (λ k. IsStarted (take (at + n) c.args.bytes.now) k 0) (omega arith) (e.1 (omega arith));
+      partial_record = λ more. subst (λ k. IsStarted (take (at + n) c.args.bytes.now) k 0) (omega arith) (e.1 (omega arith));
       whole = λ all. e.2 (omega arith);
     }

@@ -8,6 +8,6 @@ abbrev pub invariant-loop-done : goal.invariant-loop-done
 invariant-loop-done l = record {
   some : 0 < l.at;
   within : l.at ≤ length l.bytes;
-  open_record : l.done < l.order → IsStarted (take l.at l.bytes) (l.order - l.done) 0;
+  partial_record : l.done < l.order → IsStarted (take l.at l.bytes) (l.order - l.done) 0;
   whole : l.done ≡ l.order → IsRecord (take l.at l.bytes);
 }

@@ -61,10 +61,10 @@ returns-in-Failed-clause-found g c =
     let then = received_from g.V.Receiver.received _ _ _ _ _ inv.next c.in-Ok-receive.ensures.received in
     (_, g.met.V.Receiver.received_on _ _ _ _ _ inv.received then, omega (arith, inv.next, length-append inv.found c.read_piece-step.new.records.items), failed)
 
-pub returns-in-Stopped-clause-found : goal.returns-in-Stopped-clause-found
-returns-in-Stopped-clause-found g c =
+pub returns-in-Faulted-clause-found : goal.returns-in-Faulted-clause-found
+returns-in-Faulted-clause-found g c =
     let inv = c.loop.invariant in
-    let stopped = c.in-Stopped.ensures.reads _ _ c.loop.counter inv.found (nothing_new _ _ _ _ _ _ _ _ inv.none inv.being_read) in
+    let stopped = c.in-Faulted.ensures.reads _ _ c.loop.counter inv.found (nothing_new _ _ _ _ _ _ _ _ inv.none inv.being_read) in
     let then = received_from g.V.Receiver.received _ _ _ _ _ inv.next c.in-Ok-receive.ensures.received in
     (_, g.met.V.Receiver.received_on _ _ _ _ _ inv.received then, omega (arith, inv.next, length-append inv.found c.read_piece-step.new.records.items), found_as _ _ _ _ _ _ refl (ap Ended c.from.ensures) stopped)
 

@@ -1,12 +1,12 @@
 use Rattle.std.proofs.Common.{◌≡◌, ◌+◌, ℕ, ap, sym, ◌∙◌, subst, arith}
 use Rattle.faces.specs.Planes.{vertices, with_outer}
-use Rattle.networks.specs.Networks.{NetworkModel, shifted, HasFairSupplies}
+use Rattle.networks.specs.Networks.{NetworkModel, shifted, HasSuppliesInRange}
 use Rattle.flow_network.specs.FaceNet.{IsFaceNet, FaceNetModel}
 use Rattle.flow_network.proofs.TurnedOut.{net_turned, turned_fair}
 use Rattle.flow_network.proofs.face_net.FaceNet.turn_out.Goals as goal
 
-pub shift-requires-clause-fair : goal.shift-requires-clause-fair
-shift-requires-clause-fair c =
+pub shift-requires-clause-in_range : goal.shift-requires-clause-in_range
+shift-requires-clause-in_range c =
     let p = c.args.plane.now in
     let net : NetworkModel = c.self.inside.network in
     let is : IsFaceNet p net = subst (IsFaceNet p) (sym (ap (λ (n : FaceNetModel). n.network) c.self.view_is)) c.requires.net.network in
@@ -14,8 +14,8 @@ shift-requires-clause-fair c =
     let turned = net_turned p net c.args.face (omega (arith, c.outer.ensures.value)) c.requires.face is in
     let from_is : c.face_node-from.result ≡ vertices p + p.outer = omega (arith, ap (λ (n : FaceNetModel). n.vertices) c.self.view_is, c.requires.net.vertices, c.outer.ensures.value, c.face_node-from.ensures) in
     let to_is : c.face_node-to.result ≡ vertices p + c.args.face = omega (arith, ap (λ (n : FaceNetModel). n.vertices) c.self.view_is, c.requires.net.vertices, c.face_node-to.ensures) in
-    subst (λ (k : ℕ). HasFairSupplies (shifted net k c.face_node-to.result 8)) (sym from_is)
-    (subst (λ (k : ℕ). HasFairSupplies (shifted net (vertices p + p.outer) k 8)) (sym to_is)
+    subst (λ (k : ℕ). HasSuppliesInRange (shifted net k c.face_node-to.result 8)) (sym from_is)
+    (subst (λ (k : ℕ). HasSuppliesInRange (shifted net (vertices p + p.outer) k 8)) (sym to_is)
     (turned_fair p _ c.args.face c.graph-graph.ensures.plane turned))
 
 pub returns-clause-net : goal.returns-clause-net

@@ -13,7 +13,7 @@ use Rattle.min_cost_flow.specs.declared.state.Solver.{Solver}
 use Rattle.min_cost_flow.specs.Excess.{Carries}
 use Rattle.min_cost_flow.specs.Path.{IsOnPath, previous_of}
 use Rattle.min_cost_flow.specs.Round.{IsRound, carrying}
-use Rattle.min_cost_flow.specs.Stand.{excess_at, potential_at, flow_in, last_node, CanAugment, IsBottleneck, enters_in, places_in}
+use Rattle.min_cost_flow.specs.SolverState.{excess_at, potential_at, flow_in, last_node, CanAugment, IsBottleneck, predecessors_in, places_in}
 use Rattle.min_cost_flow.proofs.Changes.{taken_carries}
 use Rattle.min_cost_flow.proofs.Rounds.{IsSent, sent_round}
 use Rattle.min_cost_flow.proofs.Augmenting.{IsPushed, IsSending, is_paired, was_pushed, pushed_network, same_flow, same_filled, own_step, own_last, own_end, last_pair, step_pair, path_first, path_more, still_fits, sending_first, sending_more, filled_caps, few_remaining, sent_all, sent_less}
@@ -38,7 +38,7 @@ own_sent net s root k capacity arcs h b filled carries grown =
     let tb : to < length es = omega (arith, h.ready.excesses, own_end net s root h) in
     let long : length es' ≡ length es = length-set es to (at_nodes es to +ℤ pos k) in
     let sb : root < length es' = omega (arith, h.ready.excesses, h.root) in
-    sent_all net (flow_in s) (carried (reverse_at s.residual.capacities.items) s.residual.forward.items capacity) (excess_at s) (at_nodes es') (at_nodes (moved es to root k)) root to k h.root h.remaining h.wanting b.fitting.remaining b.fitting.short
+    sent_all net (flow_in s) (carried (reverse_at s.residual.capacities.items) s.residual.forward.items capacity) (excess_at s) (at_nodes es') (at_nodes (moved es to root k)) root to k h.root h.remaining h.deficit b.fitting.remaining b.fitting.short
     (filled_caps net (reverse_at s.residual.capacities.items) s.residual.forward.items capacity arcs filled) carries
     (raised_here es to k tb) (raised_others es to k)
     (get_or-set_same es' root (at_nodes es' root -ℤ pos k) (pos 0) sb)
@@ -66,9 +66,9 @@ move_units-requires c =
     record {
       from = rw (m, target) (omega (arith, r.excesses, own_end net s c.args.root h));
       to = rw m (omega (arith, r.excesses, h.root));
-      few = few_remaining (excess_at s c.args.root) c.bottleneck-amount.result b.fitting.remaining (r.round.fair c.args.root h.root).1;
-      low = rw m (λ v d. (r.round.fair v (omega (arith, r.excesses))).0);
-      high = rw m (λ v d. (r.round.fair v (omega (arith, r.excesses))).1);
+      few = few_remaining (excess_at s c.args.root) c.bottleneck-amount.result b.fitting.remaining (r.round.in_range c.args.root h.root).1;
+      low = rw m (λ v d. (r.round.in_range v (omega (arith, r.excesses))).0);
+      high = rw m (λ v d. (r.round.in_range v (omega (arith, r.excesses))).1);
     }
 
 pub push-requires : goal.push-requires
@@ -91,7 +91,7 @@ along-init c =
     let reverse = reverse_at capacities in
     let es = s.nodes.excess.items in
     let place = places_in s in
-    let next = previous_of arcs capacities (enters_in s) in
+    let next = previous_of arcs capacities (predecessors_in s) in
     let from = last_node s in
     let to = end_of_path s in
     let e = at_nodes (raised es to k) in
@@ -144,12 +144,12 @@ push-requires-in-along c =
     let t = c.along.self in
     let k = c.bottleneck-amount.result in
     let place = places_in s in
-    let enter = enters_in s in
+    let predecessor = predecessors_in s in
     let size : length s.visits.items ≡ node_count net = r.labels in
     let wide : length s.visits.items ≡ node_count net = r.labels in
     let pl : c.index-in-along.result.now.place ≡ place v = rw i.visits at (place_read t.visits.items v c.index-in-along.result.now (rw i.visits (omega (arith, i.node net h))) c.index-in-along.ensures) in
     let some : 0 < place v = omega (arith, c.along-test.true) in
-    let en : c.index-in-along-2.result.now.enter ≡ enter v = rw i.visits at (enter_read t.visits.items v c.index-in-along-2.result.now (rw i.visits (omega (arith, i.node net h))) c.index-in-along-2.ensures) in
+    let en : c.index-in-along-2.result.now.predecessor ≡ predecessor v = rw i.visits at (enter_read t.visits.items v c.index-in-along-2.result.now (rw i.visits (omega (arith, i.node net h))) c.index-in-along-2.ensures) in
     let st = own_step net s c.args.root h v (i.on net h) some in
     let first = s.residual.first.items in
     let forward = s.residual.forward.items in
@@ -161,9 +161,9 @@ push-requires-in-along c =
     let e = at_nodes (raised s.nodes.excess.items to k) in
     let most = carrying net (flow_in s) + place from + 1 in
     let sd = subst (λ (y : ℕ → ℕ). IsSending net (potential_at s) e h.path.on place (flow_in s) y v k most) (same_flow s.residual t.residual i.reverse i.forward) (i.sending net h) in
-    let fits : k ≤ capacity_at t.residual.capacities.items (enter v) = still_fits net reverse forward (capacity_at capacities) (capacity_at t.residual.capacities.items) arcs t.residual.arcs.items (potential_at s) e h.path.on place (previous_of arcs capacities (enters_in s) v) (enter v) v k most r.residual.filled (same_filled net s.residual t.residual i.reverse i.forward (i.residual net h)) st.tight_arc st.member (i.on net h) st.before sd (c.bottleneck-amount.ensures.fitting.fits v i.on_path some) in
+    let fits : k ≤ capacity_at t.residual.capacities.items (predecessor v) = still_fits net reverse forward (capacity_at capacities) (capacity_at t.residual.capacities.items) arcs t.residual.arcs.items (potential_at s) e h.path.on place (previous_of arcs capacities (predecessors_in s) v) (predecessor v) v k most r.residual.filled (same_filled net s.residual t.residual i.reverse i.forward (i.residual net h)) st.tight_arc st.member (i.on net h) st.before sd (c.bottleneck-amount.ensures.fitting.fits v i.on_path some) in
     rw en (record {
-      pair = is_paired net t.residual (previous_of arcs capacities (enters_in s) v) (enter v) r.network (i.residual net h) st.node (rw i.first st.leaves);
+      pair = is_paired net t.residual (previous_of arcs capacities (predecessors_in s) v) (predecessor v) r.network (i.residual net h) st.node (rw i.first st.leaves);
       some = c.bottleneck-amount.ensures.some;
       fits = fits;
     })
@@ -179,19 +179,19 @@ start-node-requires-in-along c =
     let t = c.along.self in
     let k = c.bottleneck-amount.result in
     let place = places_in s in
-    let enter = enters_in s in
+    let predecessor = predecessors_in s in
     let size : length s.visits.items ≡ node_count net = r.labels in
     let wide : length s.visits.items ≡ node_count net = r.labels in
     let pl : c.index-in-along.result.now.place ≡ place v = rw i.visits at (place_read t.visits.items v c.index-in-along.result.now (rw i.visits (omega (arith, i.node net h))) c.index-in-along.ensures) in
     let some : 0 < place v = omega (arith, c.along-test.true) in
-    let en : c.index-in-along-2.result.now.enter ≡ enter v = rw i.visits at (enter_read t.visits.items v c.index-in-along-2.result.now (rw i.visits (omega (arith, i.node net h))) c.index-in-along-2.ensures) in
+    let en : c.index-in-along-2.result.now.predecessor ≡ predecessor v = rw i.visits at (enter_read t.visits.items v c.index-in-along-2.result.now (rw i.visits (omega (arith, i.node net h))) c.index-in-along-2.ensures) in
     let st = own_step net s c.args.root h v (i.on net h) some in
     let q = c.push-in-along.ensures in
     let n = step_pair net s c.args.root v h (i.on net h) some in
     let long : length c.push-in-along.new.residual.arcs.items ≡ length s.residual.arcs.items = omega (arith, r.residual.filled.arc_size, q.arc_size, (i.residual net h).filled.arc_size) in
     rw en (record {
       number = omega (arith, n.here, long, r.residual.capacities_size, q.capacities_size, (i.residual net h).capacities_size, r.residual.filled.arc_size);
-      reverse = omega (arith, n.there, long, q.reverse (enter v) ∙ i.reverse (enter v));
+      reverse = omega (arith, n.there, long, q.reverse (predecessor v) ∙ i.reverse (predecessor v));
     })
 
 pub along-smaller : goal.along-smaller
@@ -205,17 +205,17 @@ along-smaller c =
     let t = c.along.self in
     let k = c.bottleneck-amount.result in
     let place = places_in s in
-    let enter = enters_in s in
+    let predecessor = predecessors_in s in
     let size : length s.visits.items ≡ node_count net = r.labels in
     let wide : length s.visits.items ≡ node_count net = r.labels in
     let pl : c.index-in-along.result.now.place ≡ place v = rw i.visits at (place_read t.visits.items v c.index-in-along.result.now (rw i.visits (omega (arith, i.node net h))) c.index-in-along.ensures) in
     let some : 0 < place v = omega (arith, c.along-test.true) in
-    let en : c.index-in-along-2.result.now.enter ≡ enter v = rw i.visits at (enter_read t.visits.items v c.index-in-along-2.result.now (rw i.visits (omega (arith, i.node net h))) c.index-in-along-2.ensures) in
+    let en : c.index-in-along-2.result.now.predecessor ≡ predecessor v = rw i.visits at (enter_read t.visits.items v c.index-in-along-2.result.now (rw i.visits (omega (arith, i.node net h))) c.index-in-along-2.ensures) in
     let st = own_step net s c.args.root h v (i.on net h) some in
     let q = c.push-in-along.ensures in
-    let j = reverse_at s.residual.capacities.items (enter v) in
+    let j = reverse_at s.residual.capacities.items (predecessor v) in
     let start = rw en at c.start-node-in-along.ensures in
-    let at : c.start-node-in-along.result ≡ end_at s.residual.arcs.items j = start ∙ ap (end_at c.push-in-along.new.residual.arcs.items) (q.reverse (enter v) ∙ i.reverse (enter v)) ∙ q.ends j ∙ i.ends j in
+    let at : c.start-node-in-along.result ≡ end_at s.residual.arcs.items j = start ∙ ap (end_at c.push-in-along.new.residual.arcs.items) (q.reverse (predecessor v) ∙ i.reverse (predecessor v)) ∙ q.ends j ∙ i.ends j in
     subst (λ (u : ℕ). place u < place v) (sym at) st.before
 
 pub along-preserved : goal.along-preserved
@@ -229,12 +229,12 @@ along-preserved c =
     let t = c.along.self in
     let k = c.bottleneck-amount.result in
     let place = places_in s in
-    let enter = enters_in s in
+    let predecessor = predecessors_in s in
     let size : length s.visits.items ≡ node_count net = r.labels in
     let wide : length s.visits.items ≡ node_count net = r.labels in
     let pl : c.index-in-along.result.now.place ≡ place v = rw i.visits at (place_read t.visits.items v c.index-in-along.result.now (rw i.visits (omega (arith, i.node net h))) c.index-in-along.ensures) in
     let some : 0 < place v = omega (arith, c.along-test.true) in
-    let en : c.index-in-along-2.result.now.enter ≡ enter v = rw i.visits at (enter_read t.visits.items v c.index-in-along-2.result.now (rw i.visits (omega (arith, i.node net h))) c.index-in-along-2.ensures) in
+    let en : c.index-in-along-2.result.now.predecessor ≡ predecessor v = rw i.visits at (enter_read t.visits.items v c.index-in-along-2.result.now (rw i.visits (omega (arith, i.node net h))) c.index-in-along-2.ensures) in
     let st = own_step net s c.args.root h v (i.on net h) some in
     let first = s.residual.first.items in
     let forward = s.residual.forward.items in
@@ -247,15 +247,15 @@ along-preserved c =
     let most = carrying net (flow_in s) + place from + 1 in
     let q = c.push-in-along.ensures in
     let new = c.push-in-along.new.residual in
-    let next = previous_of arcs capacities (enters_in s) in
-    let j = reverse (enter v) in
+    let next = previous_of arcs capacities (predecessors_in s) in
+    let j = reverse (predecessor v) in
     let undone : (m : ℕ) → reverse_at new.capacities.items m ≡ reverse m = λ m. q.reverse m ∙ i.reverse m in
     let start = rw en at c.start-node-in-along.ensures in
-    let at : c.start-node-in-along.result ≡ end_at arcs j = start ∙ ap (end_at new.arcs.items) (undone (enter v)) ∙ q.ends j ∙ i.ends j in
-    let pushed : IsPushed reverse (capacity_at t.residual.capacities.items) (capacity_at new.capacities.items) (enter v) k = subst (λ (backward : ℕ → ℕ). IsPushed backward (capacity_at t.residual.capacities.items) (capacity_at new.capacities.items) (enter v) k) (fun_ext i.reverse) (rw en at (was_pushed t.residual new c.index-in-along-2.result.now.enter k q)) in
+    let at : c.start-node-in-along.result ≡ end_at arcs j = start ∙ ap (end_at new.arcs.items) (undone (predecessor v)) ∙ q.ends j ∙ i.ends j in
+    let pushed : IsPushed reverse (capacity_at t.residual.capacities.items) (capacity_at new.capacities.items) (predecessor v) k = subst (λ (backward : ℕ → ℕ). IsPushed backward (capacity_at t.residual.capacities.items) (capacity_at new.capacities.items) (predecessor v) k) (fun_ext i.reverse) (rw en at (was_pushed t.residual new c.index-in-along-2.result.now.predecessor k q)) in
     record {
       node = λ net' g. subst (λ (u : ℕ). u < node_count net') (sym at) (own_step net' s c.args.root g v (i.on net' g) some).node;
-      residual = λ net' g. let l = own_step net' s c.args.root g v (i.on net' g) some in pushed_network net' t.residual new (next v) (enter v) k (i.residual net' g) l.node (rw i.first l.leaves) (rw en at q);
+      residual = λ net' g. let l = own_step net' s c.args.root g v (i.on net' g) some in pushed_network net' t.residual new (next v) (predecessor v) k (i.residual net' g) l.node (rw i.first l.leaves) (rw en at q);
       first = q.first ∙ i.first;
       forward = q.forward ∙ i.forward;
       ends = λ m. q.ends m ∙ i.ends m;
@@ -273,7 +273,7 @@ along-preserved c =
           let sd = subst (λ (y : ℕ → ℕ). IsSending net' (potential_at s) e g.path.on place (flow_in s) y v k most') (same_flow s.residual t.residual i.reverse i.forward) (i.sending net' g) in
           subst (λ (y : ℕ → ℕ). IsSending net' (potential_at s) e g.path.on place (flow_in s) y c.start-node-in-along.result k most') (sym (same_flow s.residual new undone (q.forward ∙ i.forward)))
           (subst (λ (u : ℕ). IsSending net' (potential_at s) e g.path.on place (flow_in s) (carried reverse forward (capacity_at new.capacities.items)) u k most') (sym at)
-          (sending_more net' first reverse forward (capacity_at capacities) (capacity_at t.residual.capacities.items) (capacity_at new.capacities.items) (potential_at s) e g.path.on place (end_at arcs j) (enter v) v k most' g.ready.residual.arcs_built l.tight_arc l.member (i.on net' g) l.before sd pushed));
+          (sending_more net' first reverse forward (capacity_at capacities) (capacity_at t.residual.capacities.items) (capacity_at new.capacities.items) (potential_at s) e g.path.on place (end_at arcs j) (predecessor v) v k most' g.ready.residual.arcs_built l.tight_arc l.member (i.on net' g) l.before sd pushed));
     }
 
 pub returns-clause-sent : goal.returns-clause-sent
@@ -285,7 +285,7 @@ returns-clause-sent c net h =
     let t = c.along.self in
     let k = c.bottleneck-amount.result in
     let place = places_in s in
-    let enter = enters_in s in
+    let predecessor = predecessors_in s in
     let size : length s.visits.items ≡ node_count net = r.labels in
     let wide : length s.visits.items ≡ node_count net = r.labels in
     let pl : c.index-in-along.result.now.place ≡ place v = rw i.visits at (place_read t.visits.items v c.index-in-along.result.now (rw i.visits (omega (arith, i.node net h))) c.index-in-along.ensures) in
@@ -319,7 +319,7 @@ returns-clause-sent c net h =
         excesses = rw excess_is (length-moved s.nodes.excess.items to c.args.root k ∙ r.excesses);
         labels = rw i.visits r.labels;
         round = subst (λ (x : ℕ → ℕ). IsRound net x (potential_at t) (excess_at t)) (sym flow_is) (rw (potential_is, excess_is) (sent_round net (flow_in s) y (potential_at s) (excess_at s) (at_nodes (moved s.nodes.excess.items to c.args.root k)) c.args.root k sent sd.priced r.round));
-        blank = rw i.visits r.blank;
+        unlabelled = rw i.visits r.unlabelled;
       };
       less = rw excess_is (sent_less net (flow_in s) y (excess_at s) (at_nodes (moved s.nodes.excess.items to c.args.root k)) c.args.root k sent c.bottleneck-amount.ensures.some);
       carrying = subst (λ (x : ℕ → ℕ). carrying net x ≤ most) (sym flow_is) (omega (arith, sd.few));

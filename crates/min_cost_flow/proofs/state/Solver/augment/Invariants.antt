@@ -5,7 +5,7 @@ use Rattle.networks.specs.ResidualArcs.{end_at, reverse_at}
 use Rattle.networks.specs.Residuals.{IsResidualNetwork}
 use Rattle.min_cost_flow.specs.Path.{IsOnPath, previous_of}
 use Rattle.min_cost_flow.specs.Round.{carrying}
-use Rattle.min_cost_flow.specs.Stand.{flow_in, potential_at, last_node, CanAugment, enters_in, places_in}
+use Rattle.min_cost_flow.specs.SolverState.{flow_in, potential_at, last_node, CanAugment, predecessors_in, places_in}
 use Rattle.min_cost_flow.proofs.Augmenting.{IsSending}
 use Rattle.min_cost_flow.proofs.state.Solver.augment.Given as goal
 
@@ -23,7 +23,7 @@ invariant-along l = record {
   searches : l.self.searches ≡ l.fn.self.searches;
   looks : l.self.looks ≡ l.fn.self.looks;
   on : (net : NetworkModel) (h : CanAugment net l.fn.self l.root) → h.path.on l.node ≡ true;
-  on_path : IsOnPath (previous_of l.fn.self.residual.arcs.items l.fn.self.residual.capacities.items (enters_in l.fn.self)) (places_in l.fn.self) (last_node l.fn.self) l.node;
+  on_path : IsOnPath (previous_of l.fn.self.residual.arcs.items l.fn.self.residual.capacities.items (predecessors_in l.fn.self)) (places_in l.fn.self) (last_node l.fn.self) l.node;
   sending : (net : NetworkModel) (h : CanAugment net l.fn.self l.root) →
       IsSending net (potential_at l.fn.self) (at_nodes (raised l.fn.self.nodes.excess.items (end_at l.fn.self.residual.arcs.items l.fn.self.found) l.amount)) h.path.on (places_in l.fn.self) (flow_in l.fn.self) (flow_in l.self) l.node l.amount (carrying net (flow_in l.fn.self) + places_in l.fn.self (last_node l.fn.self) + 1);
 }

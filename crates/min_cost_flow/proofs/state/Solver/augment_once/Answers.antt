@@ -1,6 +1,6 @@
 use Rattle.std.proofs.Common.{arith}
 use Rattle.std.proofs.lemmas.List.{with_items_is}
-use Rattle.min_cost_flow.specs.Stand.{CanAugmentIn}
+use Rattle.min_cost_flow.specs.SolverState.{CanAugmentIn}
 use Rattle.min_cost_flow.proofs.state.Solver.augment_once.Goals as goal
 
 pub augment-requires : goal.augment-requires

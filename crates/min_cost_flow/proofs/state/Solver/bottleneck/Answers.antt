@@ -6,7 +6,7 @@ use Rattle.networks.specs.Networks.{node_count}
 use Rattle.networks.specs.ResidualArcs.{end_at, reverse_at, capacity_at, no_residual_arc, no_residual_capacity}
 use Rattle.min_cost_flow.proofs.Augmenting.{place_read, enter_read}
 use Rattle.min_cost_flow.specs.Path.{previous_of, capacity_into}
-use Rattle.min_cost_flow.specs.Stand.{excess_at, last_node, enters_in, places_in}
+use Rattle.min_cost_flow.specs.SolverState.{excess_at, last_node, predecessors_in, places_in}
 use Rattle.min_cost_flow.proofs.Augmenting.{IsNarrowed, narrowed_first, narrowed_more, narrowed_all, own_step, own_last, own_end, last_pair, step_pair, lesser_some, lesser_remaining, lesser_short}
 use Rattle.min_cost_flow.proofs.state.Solver.bottleneck.Goals as goal
 
@@ -25,7 +25,7 @@ most_between-most-requires c =
       root = rw d (omega (arith, h.ready.excesses, h.root));
       target = rw (d, target) (omega (arith, h.ready.excesses, own_end net s c.args.root h));
       remaining = rw d h.remaining;
-      wanting = rw (d, target) h.wanting;
+      deficit = rw (d, target) h.deficit;
     }
 
 pub index-requires-2 : goal.index-requires-2
@@ -50,15 +50,15 @@ narrow-init c =
     let fits : c.index-2.result.now.capacity ≡ capacity_at s.residual.capacities.items s.found = ap (λ (a : ResidualCapacity). a.capacity) (get_or_read s.residual.capacities.items s.found c.index-2.result.now (omega (arith, n.here, n.sizes)) c.index-2.ensures no_residual_capacity) in
     let least : c.min-amount.result ≡ min c.most_between-most.result c.index-2.result.now.capacity = c.min-amount.ensures in
     let m = c.most_between-most.ensures in
-    let next = previous_of s.residual.arcs.items s.residual.capacities.items (enters_in s) in
-    let capacities = capacity_into s.residual.capacities.items (enters_in s) in
+    let next = previous_of s.residual.arcs.items s.residual.capacities.items (predecessors_in s) in
+    let capacities = capacity_into s.residual.capacities.items (predecessors_in s) in
     record {
       node = λ net' g. subst (λ (t : ℕ). t < node_count net') (sym at) (own_last net' s c.args.root g).node;
       narrowed = subst (λ (t : ℕ). IsNarrowed next (places_in s) capacities (last_node s) t c.min-amount.result) (sym at) (narrowed_first next (places_in s) capacities (last_node s) c.min-amount.result);
       some = lesser_some c.most_between-most.result c.index-2.result.now.capacity c.min-amount.result least m.some (omega (arith, l.tight_arc.some));
       found = omega (arith, least);
       remaining = lesser_remaining c.most_between-most.result c.min-amount.result (excess_at s c.args.root) (omega (arith, least)) (rw d at m.remaining);
-      short = lesser_short c.most_between-most.result c.min-amount.result (excess_at s (end_at s.residual.arcs.items s.found)) (omega (arith, least)) (rw (d, target) at m.wanting);
+      short = lesser_short c.most_between-most.result c.min-amount.result (excess_at s (end_at s.residual.arcs.items s.found)) (omega (arith, least)) (rw (d, target) at m.deficit);
       on = λ net' g. ap g.path.on at ∙ (own_last net' s c.args.root g).member;
       most = λ k f. let under : k ≤ c.most_between-most.result = m.most k (rw d f.remaining) (rw (d, target) f.short) in omega (arith, least, under, f.found);
     }
@@ -72,8 +72,8 @@ narrow-smaller c =
     let v = c.narrow.node in
     let pl : c.index-in-narrow.result.now.place ≡ places_in s v = place_read s.visits.items v c.index-in-narrow.result.now (omega (arith, i.node net h, h.ready.labels)) c.index-in-narrow.ensures in
     let some : 0 < places_in s v = omega (arith, c.narrow-test.true) in
-    let en : c.index-in-narrow-2.result.now.enter ≡ enters_in s v = enter_read s.visits.items v c.index-in-narrow-2.result.now (omega (arith, i.node net h, h.ready.labels)) c.index-in-narrow-2.ensures in
-    let at : c.start-node-in-narrow.result ≡ previous_of s.residual.arcs.items s.residual.capacities.items (enters_in s) v = c.start-node-in-narrow.ensures ∙ ap (λ (t : ℕ). end_at s.residual.arcs.items (reverse_at s.residual.capacities.items t)) en in
+    let en : c.index-in-narrow-2.result.now.predecessor ≡ predecessors_in s v = enter_read s.visits.items v c.index-in-narrow-2.result.now (omega (arith, i.node net h, h.ready.labels)) c.index-in-narrow-2.ensures in
+    let at : c.start-node-in-narrow.result ≡ previous_of s.residual.arcs.items s.residual.capacities.items (predecessors_in s) v = c.start-node-in-narrow.ensures ∙ ap (λ (t : ℕ). end_at s.residual.arcs.items (reverse_at s.residual.capacities.items t)) en in
     subst (λ (t : ℕ). places_in s t < places_in s v) (sym at) (own_step net s c.args.root h v (i.on net h) some).before
 
 pub index-requires-in-narrow : goal.index-requires-in-narrow
@@ -91,7 +91,7 @@ index-requires-in-narrow-3 c =
     let v = c.narrow.node in
     let pl : c.index-in-narrow.result.now.place ≡ places_in s v = place_read s.visits.items v c.index-in-narrow.result.now (omega (arith, i.node net h, h.ready.labels)) c.index-in-narrow.ensures in
     let some : 0 < places_in s v = omega (arith, c.narrow-test.true) in
-    let en : c.index-in-narrow-2.result.now.enter ≡ enters_in s v = enter_read s.visits.items v c.index-in-narrow-2.result.now (omega (arith, i.node net h, h.ready.labels)) c.index-in-narrow-2.ensures in
+    let en : c.index-in-narrow-2.result.now.predecessor ≡ predecessors_in s v = enter_read s.visits.items v c.index-in-narrow-2.result.now (omega (arith, i.node net h, h.ready.labels)) c.index-in-narrow-2.ensures in
     let n = step_pair net s c.args.root v h (i.on net h) some in
     omega (arith, n.here, n.sizes)
 
@@ -104,7 +104,7 @@ start-node-requires-in-narrow c =
     let v = c.narrow.node in
     let pl : c.index-in-narrow.result.now.place ≡ places_in s v = place_read s.visits.items v c.index-in-narrow.result.now (omega (arith, i.node net h, h.ready.labels)) c.index-in-narrow.ensures in
     let some : 0 < places_in s v = omega (arith, c.narrow-test.true) in
-    let en : c.index-in-narrow-2.result.now.enter ≡ enters_in s v = enter_read s.visits.items v c.index-in-narrow-2.result.now (omega (arith, i.node net h, h.ready.labels)) c.index-in-narrow-2.ensures in
+    let en : c.index-in-narrow-2.result.now.predecessor ≡ predecessors_in s v = enter_read s.visits.items v c.index-in-narrow-2.result.now (omega (arith, i.node net h, h.ready.labels)) c.index-in-narrow-2.ensures in
     let n = step_pair net s c.args.root v h (i.on net h) some in
     rw en (record { number = omega (arith, n.here, n.sizes); reverse = n.there })
 
@@ -117,16 +117,16 @@ narrow-preserved c =
     let v = c.narrow.node in
     let pl : c.index-in-narrow.result.now.place ≡ places_in s v = place_read s.visits.items v c.index-in-narrow.result.now (omega (arith, i.node net h, h.ready.labels)) c.index-in-narrow.ensures in
     let some : 0 < places_in s v = omega (arith, c.narrow-test.true) in
-    let en : c.index-in-narrow-2.result.now.enter ≡ enters_in s v = enter_read s.visits.items v c.index-in-narrow-2.result.now (omega (arith, i.node net h, h.ready.labels)) c.index-in-narrow-2.ensures in
+    let en : c.index-in-narrow-2.result.now.predecessor ≡ predecessors_in s v = enter_read s.visits.items v c.index-in-narrow-2.result.now (omega (arith, i.node net h, h.ready.labels)) c.index-in-narrow-2.ensures in
     let n = step_pair net s c.args.root v h (i.on net h) some in
-    let rm : c.index-in-narrow-3.result.now.capacity ≡ capacity_at s.residual.capacities.items (enters_in s v) = ap (λ (a : ResidualCapacity). a.capacity) (get_or_read s.residual.capacities.items c.index-in-narrow-2.result.now.enter c.index-in-narrow-3.result.now (omega (arith, n.here, n.sizes)) c.index-in-narrow-3.ensures no_residual_capacity) ∙ ap (capacity_at s.residual.capacities.items) en in
-    let at : c.start-node-in-narrow.result ≡ previous_of s.residual.arcs.items s.residual.capacities.items (enters_in s) v = c.start-node-in-narrow.ensures ∙ ap (λ (t : ℕ). end_at s.residual.arcs.items (reverse_at s.residual.capacities.items t)) en in
+    let rm : c.index-in-narrow-3.result.now.capacity ≡ capacity_at s.residual.capacities.items (predecessors_in s v) = ap (λ (a : ResidualCapacity). a.capacity) (get_or_read s.residual.capacities.items c.index-in-narrow-2.result.now.predecessor c.index-in-narrow-3.result.now (omega (arith, n.here, n.sizes)) c.index-in-narrow-3.ensures no_residual_capacity) ∙ ap (capacity_at s.residual.capacities.items) en in
+    let at : c.start-node-in-narrow.result ≡ previous_of s.residual.arcs.items s.residual.capacities.items (predecessors_in s) v = c.start-node-in-narrow.ensures ∙ ap (λ (t : ℕ). end_at s.residual.arcs.items (reverse_at s.residual.capacities.items t)) en in
     let st = own_step net s c.args.root h v (i.on net h) some in
     let k' = c.min-amount-in-narrow.result in
     let least : k' ≡ min c.narrow.amount c.index-in-narrow-3.result.now.capacity = c.min-amount-in-narrow.ensures in
     let less : k' ≤ c.narrow.amount = omega (arith, least) in
-    let next = previous_of s.residual.arcs.items s.residual.capacities.items (enters_in s) in
-    let capacities = capacity_into s.residual.capacities.items (enters_in s) in
+    let next = previous_of s.residual.arcs.items s.residual.capacities.items (predecessors_in s) in
+    let capacities = capacity_into s.residual.capacities.items (predecessors_in s) in
     record {
       node = λ net' g. subst (λ (t : ℕ). t < node_count net') (sym at) (own_step net' s c.args.root g v (i.on net' g) some).node;
       narrowed = subst (λ (t : ℕ). IsNarrowed next (places_in s) capacities (last_node s) t k') (sym at) (narrowed_more next (places_in s) capacities (last_node s) v c.narrow.amount k' i.narrowed some less (omega (arith, least)));
@@ -154,6 +154,6 @@ returns c =
         found = i.found;
         remaining = i.remaining;
         short = i.short;
-        fits = λ u on some. narrowed_all (previous_of s.residual.arcs.items s.residual.capacities.items (enters_in s)) (places_in s) (capacity_into s.residual.capacities.items (enters_in s)) (last_node s) v c.narrow.amount i.narrowed none u on some;
+        fits = λ u on some. narrowed_all (previous_of s.residual.arcs.items s.residual.capacities.items (predecessors_in s)) (places_in s) (capacity_into s.residual.capacities.items (predecessors_in s)) (last_node s) v c.narrow.amount i.narrowed none u on some;
       };
     }

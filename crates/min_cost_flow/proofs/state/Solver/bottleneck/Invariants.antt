@@ -2,14 +2,14 @@ use Rattle.std.proofs.Common.{ℕ, ◌≡◌, ◌<◌, ◌≤◌, pos, ◌≤ℤ
 use Rattle.networks.specs.Networks.{NetworkModel, node_count}
 use Rattle.networks.specs.ResidualArcs.{end_at, capacity_at}
 use Rattle.min_cost_flow.specs.Path.{previous_of, capacity_into}
-use Rattle.min_cost_flow.specs.Stand.{excess_at, last_node, CanAugment, IsFitting, enters_in, places_in}
+use Rattle.min_cost_flow.specs.SolverState.{excess_at, last_node, CanAugment, IsFitting, predecessors_in, places_in}
 use Rattle.min_cost_flow.proofs.Augmenting.{IsNarrowed}
 use Rattle.min_cost_flow.proofs.state.Solver.bottleneck.Given as goal
 
 abbrev pub invariant-narrow : goal.invariant-narrow
 invariant-narrow l = record {
   node : (net : NetworkModel) → CanAugment net l.self l.root → l.node < node_count net;
-  narrowed : IsNarrowed (previous_of l.self.residual.arcs.items l.self.residual.capacities.items (enters_in l.self)) (places_in l.self) (capacity_into l.self.residual.capacities.items (enters_in l.self)) (last_node l.self) l.node l.amount;
+  narrowed : IsNarrowed (previous_of l.self.residual.arcs.items l.self.residual.capacities.items (predecessors_in l.self)) (places_in l.self) (capacity_into l.self.residual.capacities.items (predecessors_in l.self)) (last_node l.self) l.node l.amount;
   some : 0 < l.amount;
   found : l.amount ≤ capacity_at l.self.residual.capacities.items l.self.found;
   remaining : pos l.amount ≤ℤ excess_at l.self l.root;

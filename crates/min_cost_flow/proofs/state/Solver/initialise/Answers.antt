@@ -28,7 +28,7 @@ returns c =
         excesses = ap (length {A = ℤ}) (c.copy_from_slice.ensures.items ∙ c.supplies.ensures.supplies);
         labels = z.labels;
         round = rw pot_is (first_round _ _ _ _ z.network c.build.ensures.none (flat_all ps c.write_all.ensures) full);
-        blank = z.blank;
+        unlabelled = z.unlabelled;
       };
       work = first_work _ _ _ c.build.ensures.none full;
     }

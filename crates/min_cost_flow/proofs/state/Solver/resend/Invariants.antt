@@ -3,7 +3,7 @@ use Rattle.std.specs.Prelude.{pos, ◌≤ℤ◌}
 use borrow.Author.Differences.{up}
 use Rattle.common.specs.Sums.{sum_below}
 use Rattle.networks.specs.Networks.{NetworkModel}
-use Rattle.min_cost_flow.specs.Stand.{IsReady, excess_at}
+use Rattle.min_cost_flow.specs.SolverState.{IsReady, excess_at}
 use Rattle.min_cost_flow.proofs.state.Solver.resend.Given as goal
 
 abbrev pub invariant-units : goal.invariant-units

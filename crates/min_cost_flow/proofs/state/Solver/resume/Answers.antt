@@ -14,7 +14,7 @@ carries_little-requires-clause-read c =
 
 pub solve-requires : goal.solve-requires
 solve-requires c =
-    rw c.shift.ensures (sized_moved c.args.network.now c.args.self.now c.args.self.now c.args.from c.args.to c.args.amount c.requires.all_sent.ready c.requires.fair refl refl refl refl)
+    rw c.shift.ensures (sized_moved c.args.network.now c.args.self.now c.args.self.now c.args.from c.args.to c.args.amount c.requires.all_sent.ready c.requires.in_range refl refl refl refl)
 
 pub rebase-requires : goal.rebase-requires
 rebase-requires c =
@@ -34,8 +34,8 @@ move_units-requires c =
       from = rw m (omega (arith, r.excesses, c.requires.from));
       to = rw m (omega (arith, r.excesses, c.requires.to));
       few = c.requires.few;
-      low = rw m (λ v b. (r.round.fair v (omega (arith, r.excesses))).0);
-      high = rw m (λ v b. (r.round.fair v (omega (arith, r.excesses))).1);
+      low = rw m (λ v b. (r.round.in_range v (omega (arith, r.excesses))).0);
+      high = rw m (λ v b. (r.round.in_range v (omega (arith, r.excesses))).1);
     }
 
 pub resend-requires : goal.resend-requires
@@ -59,7 +59,7 @@ resend-requires c =
     record {
       ready = (
         shifted net c.args.from c.args.to c.args.amount,
-        ready_moved net l _ _ c.args.from c.args.to c.args.amount st c.requires.fair c.requires.from c.requires.to c.requires.few
+        ready_moved net l _ _ c.args.from c.args.to c.args.amount st c.requires.in_range c.requires.from c.requires.to c.requires.few
             (λ v b. rw pot_is (base v (omega (arith, size))))
             (λ v b. rw pot_is (subst (λ (m : ℕ). (pos 0 ≤ℤ (at_nodes p' v +ℤ pos (2 * m))) × (at_nodes p' v ≤ℤ pos (2 * m))) size (low v (omega (arith, size)))))
             (λ i b. little i (omega (arith, r.residual.arcs_built.forwards)))
@@ -88,7 +88,7 @@ returns c =
     let little = rw (c.deref.ensures.value, c.deref-2.ensures.value) at (c.carries_little.ensures c.if-not-carries_little.false) in
     record {
       network = c.shift.ensures;
-      answer = rw c.shift.ensures (c.resend.ensures (shifted net c.args.from c.args.to c.args.amount) (ready_moved net l _ _ c.args.from c.args.to c.args.amount st c.requires.fair c.requires.from c.requires.to c.requires.few
+      answer = rw c.shift.ensures (c.resend.ensures (shifted net c.args.from c.args.to c.args.amount) (ready_moved net l _ _ c.args.from c.args.to c.args.amount st c.requires.in_range c.requires.from c.requires.to c.requires.few
           (λ v b. rw pot_is (base v (omega (arith, size))))
           (λ v b. rw pot_is (subst (λ (m : ℕ). (pos 0 ≤ℤ (at_nodes p' v +ℤ pos (2 * m))) × (at_nodes p' v ≤ℤ pos (2 * m))) size (low v (omega (arith, size)))))
           (λ i b. little i (omega (arith, r.residual.arcs_built.forwards)))

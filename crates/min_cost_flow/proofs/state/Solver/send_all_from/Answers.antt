@@ -3,7 +3,7 @@ use Rattle.std.specs.Prelude.{ℤ, pos, ◌≤ℤ◌, ◌<ℤ◌}
 use Rattle.std.proofs.lemmas.List.{get_or_read}
 use mir.Syntax.{w32}
 use mir.Val.{SFits}
-use Rattle.min_cost_flow.specs.Stand.{excess_at}
+use Rattle.min_cost_flow.specs.SolverState.{excess_at}
 use Rattle.min_cost_flow.proofs.Comparisons.{is_more, is_no_more}
 use Rattle.min_cost_flow.proofs.Rounds.{looks_most, work_more}
 use Rattle.min_cost_flow.proofs.state.Solver.send_all_from.Goals as goal

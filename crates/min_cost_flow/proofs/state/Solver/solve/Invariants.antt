@@ -1,6 +1,6 @@
 use Rattle.std.proofs.Common.{◌<◌, ℕ}
 use Rattle.std.specs.Prelude.{pos, ◌≤ℤ◌}
-use Rattle.min_cost_flow.specs.Stand.{IsBetweenSearches, excess_at}
+use Rattle.min_cost_flow.specs.SolverState.{IsBetweenSearches, excess_at}
 use Rattle.min_cost_flow.proofs.state.Solver.solve.Given as goal
 
 abbrev pub invariant-loop-root : goal.invariant-loop-root

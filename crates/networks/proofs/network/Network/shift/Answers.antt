@@ -2,7 +2,7 @@ use Rattle.std.proofs.Common.{◌≡◌, ap, sym, ◌∙◌, subst, arith, List,
 use Rattle.std.specs.Prelude.{ℤ}
 use Rattle.std.specs.Vec.{with_items}
 use Rattle.std.proofs.lemmas.List.{with_items_is}
-use Rattle.networks.specs.Networks.{NetworkModel, net_of, IsNetwork, HasFairSupplies, shifted, moved}
+use Rattle.networks.specs.Networks.{NetworkModel, net_of, IsNetwork, HasSuppliesInRange, shifted, moved}
 use Rattle.networks.proofs.Moving.{still_network, length-moved}
 use Rattle.networks.proofs.network.Network.shift.Goals as goal
 
@@ -15,8 +15,8 @@ items_are c =
 pub invariant_of-self : goal.invariant_of-self
 invariant_of-self c =
     let inside : NetworkModel = net_of c.self.inside.supplies.items c.self.inside.arcs.items in
-    let fair : HasFairSupplies (shifted inside c.args.from c.args.to c.args.amount) = subst (λ (n : NetworkModel). HasFairSupplies (shifted n c.args.from c.args.to c.args.amount)) (sym c.self.view_is) c.requires.fair in
-    subst (λ (units : List ℤ). IsNetwork (net_of units c.self.inside.arcs.items)) (sym (items_are c)) (still_network inside c.args.from c.args.to c.args.amount c.self.invariant fair)
+    let in_range : HasSuppliesInRange (shifted inside c.args.from c.args.to c.args.amount) = subst (λ (n : NetworkModel). HasSuppliesInRange (shifted n c.args.from c.args.to c.args.amount)) (sym c.self.view_is) c.requires.in_range in
+    subst (λ (units : List ℤ). IsNetwork (net_of units c.self.inside.arcs.items)) (sym (items_are c)) (still_network inside c.args.from c.args.to c.args.amount c.self.invariant in_range)
 
 pub returns : goal.returns
 returns c = ap (λ (units : List ℤ). net_of units c.self.inside.arcs.items) (items_are c) ∙ ap (λ (n : NetworkModel). shifted n c.args.from c.args.to c.args.amount) c.self.view_is

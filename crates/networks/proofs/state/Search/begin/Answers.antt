@@ -3,7 +3,7 @@ use Rattle.std.proofs.Math.Path.{fun_ext}
 use Rattle.std.proofs.lemmas.Int.{to_z-of_z}
 use mir.Syntax.{w16, w32}
 use mir.Val.{SFits}
-use Rattle.networks.specs.Search.{labels, enters, potential_of, IsPut, label_at}
+use Rattle.networks.specs.Search.{labels, predecessors, potential_of, IsPut, label_at}
 use Rattle.networks.proofs.Signs.{fits_within, label_fits}
 use Rattle.networks.proofs.Reaching.{root_reached}
 use Rattle.networks.proofs.Searching.{potential_near}
@@ -11,7 +11,7 @@ use Rattle.networks.proofs.state.Search.begin.Goals as goal
 
 pub returns-clause-search : goal.returns-clause-search
 returns-clause-search c =
-    let b = c.requires.blank in
+    let b = c.requires.unlabelled in
     let g = c.args.input in
     let v = g.root in
     let p = c.put.new.self in
@@ -25,6 +25,6 @@ returns-clause-search c =
     record {
       input = b.input;
       size = q.same.size ∙ c.relabel.ensures.order.progress.size ∙ b.size;
-      reached = rw (q.same.scanned ∙ o.progress.scanned, q.ordered ∙ o.progress.ordered, q.same.reached ∙ o.reached, q.same.radius ∙ o.progress.radius) (root_reached _ _ _ _ _ _ (label_at c.args.visits.now) _ (enters p) _ _ b.input.graph.nodes b.input.root (b.input.priced.low v b.input.root).1 b.root b.blank put q.order.here q.place.here);
+      reached = rw (q.same.scanned ∙ o.progress.scanned, q.ordered ∙ o.progress.ordered, q.same.reached ∙ o.reached, q.same.radius ∙ o.progress.radius) (root_reached _ _ _ _ _ _ (label_at c.args.visits.now) _ (predecessors p) _ _ b.input.graph.nodes b.input.root (b.input.priced.low v b.input.root).1 b.root b.unlabelled put q.order.here q.place.here);
       nearest = rw (q.same.scanned ∙ o.progress.scanned, q.same.radius ∙ o.progress.radius, q.same.bound ∙ o.progress.bound, q.same.found ∙ o.progress.found) (search rules);
     }

@@ -22,8 +22,8 @@ returns-then-nearest-self-clause-remaining c _ =
     let same : c.least_distance-nearest.result ≡ s.bound = same_from_bits _ _ fn fc c.if-nearest-self.true in
     remaining_behind _ _ _ _ _ _ _ _ _ _ _ _ _ _ _ c.requires.search.reached c.if-self-2.false (λ j a b. subst (λ (z : ℤ). z ≤ℤ (labels s (orders s j) -ℤ potential_of c.args.input (orders s j))) same (c.least_distance-nearest.ensures.least j a b))
 
-pub climb-requires-clause-radius : goal.climb-requires-clause-radius
-climb-requires-clause-radius c =
+pub raise_radius-requires-clause-radius : goal.raise_radius-requires-clause-radius
+raise_radius-requires-clause-radius c =
     let fn : SFits w32 c.least_distance-nearest.result = search rules in
     let e = c.least_distance-nearest.ensures in
     let less : c.least_distance-nearest.result <ℤ c.args.self.now.bound = strictly _ _ e.bound (λ t. c.if-nearest-self.false (ap (of_z w32) t)) in

@@ -42,7 +42,7 @@ reach-requires c =
     let sum : to_z w16 (of_z w16 (added (labels s u) (cost_at (arcs_of g) k))) ≡ labels s u +ℤ cost_at (arcs_of g) k = added_is _ _ known cost in
     let fe : SFits w16 (labels s v) = search rules in
     let less : (labels s u +ℤ cost_at (arcs_of g) k) <ℤ labels s v = label_under (added (labels s u) (cost_at (arcs_of g) k)) _ _ sum fe c.if-label-self.true in
-    rw sum (record { offer = offering g s u (record { number = k; end = v; label = labels s u +ℤ cost_at (arcs_of g) k }) n c.requires.number refl refl less })
+    rw sum (record { candidate = offering g s u (record { number = k; end = v; label = labels s u +ℤ cost_at (arcs_of g) k }) n c.requires.number refl refl less })
 
 pub returns-then-label-self : goal.returns-then-label-self
 returns-then-label-self c =

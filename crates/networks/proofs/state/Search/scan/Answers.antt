@@ -1,6 +1,6 @@
 use Rattle.std.proofs.Common.{◌≡◌, ◌<◌, ◌+◌, ℕ, arith, refl, inl, inr, subst, sym, ◌∙◌}
 use Rattle.std.proofs.lemmas.Bool.{cases_lt}
-use Rattle.networks.specs.Search.{nodes_of, arcs_of, potential_of, labels, orders, places, AreLowered, IsScanning, Serves}
+use Rattle.networks.specs.Search.{nodes_of, arcs_of, potential_of, labels, orders, places, AreLowered, IsScanning, IsFeasibleAt}
 use Rattle.networks.proofs.Reaching.{headed, headed_nearest, kept_same, kept_then, same_z, under_radius}
 use Rattle.networks.proofs.Searching.{scanning, next_in, still_serves, are_scanned}
 use Rattle.networks.proofs.state.Search.scan.Goals as goal
@@ -65,7 +65,7 @@ loop-number-preserved c =
     let new = c.look.new.self in
     let k = c.look.ensures.relaxed in
     let number : ℕ = c.loop-number.number in
-    let here : Serves (arcs_of g) (potential_of g) (labels new) new.bound u number = c.look.ensures.serves in
+    let here : IsFeasibleAt (arcs_of g) (potential_of g) (labels new) new.bound u number = c.look.ensures.serves in
     let step : AreLowered (nodes_of g) (s.scanned + 1) (labels t) (places t) (labels new) (places new) = subst (λ (m : ℕ). AreLowered (nodes_of g) m (labels t) (places t) (labels new) (places new)) r.scanned k.kept in
     record {
       relaxed = record {
@@ -78,7 +78,7 @@ loop-number-preserved c =
       };
       serves = λ j a d. elim (cases_lt j number) [
         | inl l ↦ still_serves g t new u j n k (record { from = a; below = omega (arith, l) }) (i.serves j a l)
-        | inr l ↦ let q : j ≡ number = omega arith in subst (λ (m : ℕ). Serves (arcs_of g) (potential_of g) (labels new) new.bound u m) (sym q) here
+        | inr l ↦ let q : j ≡ number = omega arith in subst (λ (m : ℕ). IsFeasibleAt (arcs_of g) (potential_of g) (labels new) new.bound u m) (sym q) here
       ];
     }
 

@@ -66,7 +66,7 @@ returns-then-distance-self-clause-ordered c =
       search = record {
         input = h.input;
         size = k.size ∙ h.size;
-        reached = rw (fun_ext k.label, fun_ext k.enter, k.scanned, a.ordered, k.reached, k.radius) moved;
+        reached = rw (fun_ext k.label, fun_ext k.predecessor, k.scanned, a.ordered, k.reached, k.radius) moved;
         nearest = rw (fun_ext k.label, k.scanned, k.radius, k.bound, k.found) (nearest_kept _ _ _ _ _ _ _ _ _ _ _ _ _ _ _ h.nearest h.nearest.above kept);
       };
       list = k.list;

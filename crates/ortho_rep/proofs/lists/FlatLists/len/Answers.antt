@@ -1,10 +1,10 @@
 use Rattle.std.proofs.Common.{◌≡◌, length, ap, arith}
-use Rattle.ortho_rep.specs.Storage.{pieces_at}
-use Rattle.ortho_rep.proofs.Pieces.{length-pieces_at}
+use Rattle.ortho_rep.specs.Storage.{slices_at}
+use Rattle.ortho_rep.proofs.Pieces.{length-slices_at}
 use Rattle.ortho_rep.proofs.lists.FlatLists.len.Goals as goal
 
 pub returns : goal.returns
 returns g c =
     let a = c.self.inside in
-    let seen : pieces_at a.starts.items a.items.items ≡ c.args.self.now = c.self.view_is in
-    omega (arith, length-pieces_at a.starts.items a.items.items c.self.invariant.some, ap length seen)
+    let seen : slices_at a.starts.items a.items.items ≡ c.args.self.now = c.self.view_is in
+    omega (arith, length-slices_at a.starts.items a.items.items c.self.invariant.some, ap length seen)

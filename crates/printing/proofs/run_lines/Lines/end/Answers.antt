@@ -7,7 +7,7 @@ use Rattle.printing.proofs.SucceedsOrFails.{ok_both}
 use Rattle.printing.proofs.Held.{left_off_end}
 use Rattle.printing.proofs.SucceedsOrFails.{err_then}
 use Rattle.std.proofs.Common.{sym, subst, inl}
-use Rattle.printing.specs.Holding.{LinesLeaveOff}
+use Rattle.printing.specs.Holding.{LinesBreakOff}
 use Rattle.printing.proofs.Held.{left_off_held, left_off_as}
 use Rattle.printing.proofs.run_lines.Lines.end.Goals as goal
 use Rattle.printing.proofs.run_lines.Lines.end.Goals.{then-not-is_open-via-then-not-is_open, then-not-is_open-via-else-not-is_open+then-not-keep_mark}
@@ -56,10 +56,10 @@ returns-then-not-is_open-clause-broken g c = λ start ns held.
     let now = g.S.Sink.taken c.args.sink.now in
     let here = left_off_held g.J.Told.meaning start now before ns held in
     elim c.then-not-is_open.branch [
-      | then-not-is_open-via-then-not-is_open w ↦ inl (subst (λ l. LinesLeaveOff g.J.Told.meaning start now l ns) (sym w.self-is) here)
+      | then-not-is_open-via-then-not-is_open w ↦ inl (subst (λ l. LinesBreakOff g.J.Told.meaning start now l ns) (sym w.self-is) here)
       | then-not-is_open-via-else-not-is_open+then-not-keep_mark w ↦
           let mid : Lines = record { form = before.form; choice = before.choice; buffer = before.buffer; current = before.current; waiting = w.keep_mark.new.waiting; held = before.held; whole = before.whole } in
-          inl (subst (λ l. LinesLeaveOff g.J.Told.meaning start now l ns) (sym w.self-is) (left_off_as g.J.Told.meaning start now before mid ns (record { form = refl; choice = refl; files = w.keep_mark.ensures.count }) here))
+          inl (subst (λ l. LinesBreakOff g.J.Told.meaning start now l ns) (sym w.self-is) (left_off_as g.J.Told.meaning start now before mid ns (record { form = refl; choice = refl; files = w.keep_mark.ensures.count }) here))
     ]
 
 pub returns-then-known-file-clause-broken : goal.returns-then-known-file-clause-broken

@@ -13,13 +13,13 @@ returns-then-lefts-gt0-clause-turns c =
     let plane = c.args.plane.now in
     let lefts = c.args.self.now.lefts in
     let here : c.left_turns-lefts.result ≡ slice_index lefts c.args.dart = c.left_turns-lefts.ensures in
-    let none = one_way plane c.args.self.now.angles lefts c.requires.fit.0 c.graph.ensures.ends c.requires.fit.1 c.args.dart c.requires.within (omega (arith, here, c.if-lefts-gt0.true)) in
+    let none = one_way plane c.args.self.now.angles lefts c.requires.agree.0 c.graph.ensures.ends c.requires.agree.1 c.args.dart c.requires.within (omega (arith, here, c.if-lefts-gt0.true)) in
     sym (ap (lefts_then_rights (slice_index lefts c.args.dart)) none ∙ (append-nil (replicate (slice_index lefts c.args.dart) Left) ∙ ap (λ (n : ℕ). replicate n Left) (sym here)))
 
 pub returns-then-lefts-gt0-clause-short : goal.returns-then-lefts-gt0-clause-short
 returns-then-lefts-gt0-clause-short c =
     let lefts = c.args.self.now.lefts in
-    let small = few c.args.plane.now c.args.self.now.angles lefts c.requires.fit.0 c.graph.ensures.ends c.graph.ensures.plane.order c.requires.rep c.requires.fit.1 c.args.dart c.requires.within in
+    let small = few c.args.plane.now c.args.self.now.angles lefts c.requires.agree.0 c.graph.ensures.ends c.graph.ensures.plane.order c.requires.rep c.requires.agree.1 c.args.dart c.requires.within in
     omega (arith, small, c.left_turns-lefts.ensures)
 
 pub returns-else-lefts-gt0-clause-turns : goal.returns-else-lefts-gt0-clause-turns
@@ -35,7 +35,7 @@ pub returns-else-lefts-gt0-clause-short : goal.returns-else-lefts-gt0-clause-sho
 returns-else-lefts-gt0-clause-short c =
     let plane = c.args.plane.now in
     let lefts = c.args.self.now.lefts in
-    let small = few plane c.args.self.now.angles lefts c.requires.fit.0 c.graph.ensures.ends c.graph.ensures.plane.order c.requires.rep c.requires.fit.1 c.args.dart c.requires.within in
+    let small = few plane c.args.self.now.angles lefts c.requires.agree.0 c.graph.ensures.ends c.graph.ensures.plane.order c.requires.rep c.requires.agree.1 c.args.dart c.requires.within in
     let back : c.reverse-reverse.result ≡ reverse_dart plane c.args.dart = c.reverse-reverse.ensures.value ∙ ap (λ g. reverse_of g c.args.dart) c.graph.ensures.value in
     let rights : c.left_turns-rights.result ≡ slice_index lefts (reverse_dart plane c.args.dart) = c.left_turns-rights.ensures ∙ ap (λ (d : ℕ). slice_index lefts d) back in
     omega (arith, small, rights)

@@ -12,7 +12,7 @@ returns-then-self-to-gt0 c =
     moved c.args.plane.now angles angles turns _ c.args.prices.now
     (λ d b. inl refl)
     (λ d b. inl (set-lower turns to _ d within (omega arith)))
-    c.requires.fit
+    c.requires.agree
 
 pub returns-then-is_tight_crossing : goal.returns-then-is_tight_crossing
 returns-then-is_tight_crossing c =
@@ -28,7 +28,7 @@ returns-then-is_tight_crossing c =
       | inl e ↦ inl (omega (arith, e))
       | inr e ↦ inr (subst (IsTightCrossing plane prices) (sym (e ∙ c.from-from.ensures)) tight)
     ])
-    c.requires.fit
+    c.requires.agree
 
 pub returns-then-is_tight_angle-2 : goal.returns-then-is_tight_angle-2
 returns-then-is_tight_angle-2 c =
@@ -50,4 +50,4 @@ returns-then-is_tight_angle-2 c =
       | inr e ↦ inr (subst (IsTightAngle plane prices) (sym (e ∙ c.from-to.ensures)) takes)
     ])
     (λ d b. inl (omega arith))
-    c.requires.fit
+    c.requires.agree

@@ -47,10 +47,10 @@ pub returns-clause-shape : goal.returns-clause-shape
 returns-clause-shape c = shaped c
 
 pub returns-clause-proof : goal.returns-clause-proof
-returns-clause-proof c = λ t prices fit. record {
+returns-clause-proof c = λ t prices agree. record {
   lengths = lengths c;
   prices = prices;
-  prove = prove-alike c.args.plane.now (angle_in c.args.self.now.angles) (angle_at c.of_darts.result) (string_in c.args.plane.now c.args.self.now.lefts) (turns_at c.of_darts.result) (vertex_price t) (vertex_price t) (face_price t) (face_price t) c.graph.ensures.ends (angle-is c) (string-is c) (λ u from to. refl) (λ f b. refl) fit;
+  prove = prove-alike c.args.plane.now (angle_in c.args.self.now.angles) (angle_at c.of_darts.result) (string_in c.args.plane.now c.args.self.now.lefts) (turns_at c.of_darts.result) (vertex_price t) (vertex_price t) (face_price t) (face_price t) c.graph.ensures.ends (angle-is c) (string-is c) (λ u from to. refl) (λ f b. refl) agree;
 }
 
 pub returns-clause-least : goal.returns-clause-least

@@ -1,0 +1,222 @@
+//! How a plane gets its least shape and the directions of its darts.
+
+ghost use Rattle.std.specs.Prelude.{◌≡◌, ℕ, List, IfOk, OnOk};
+ghost use Rattle.ortho_rep.specs.Representation.{IsShape, IsLeast};
+ghost use Rattle.ortho_rep.specs.Prices.{IsProof};
+ghost use Rattle.compact.specs.Ordered.{AreDirectionsOf};
+ghost use Rattle.answers.specs.Steps.{IsTracedPlane, IsPlaneOf, IsShaped};
+ghost use Rattle.common.specs.declared.choice.Choice.{Choice};
+
+use crate::fault::ShapeFault;
+use crate::held::{Holder, Shell};
+use crate::shaped_plane::{ShapedPlane, SpentShapedPlane};
+use crate::spent::ReturnQueue;
+use common::{Choice, DrawingKind};
+use compact::{DirectionSearch, directions_in};
+use faces::Plane;
+use ortho_rep::{Prices, Shape, best_shape, least_shape_in};
+use std::alloc::{AllocError, Global};
+use std::mem;
+use std::sync::Wait;
+use straightening::straighten_in;
+
+/// What finding shapes takes memory for and does not keep. It is lent to one plane after another.
+#[derive(Drop)]
+pub struct ShapeScratch {
+    shapes: ortho_rep::Scratch,
+    straight: straightening::Scratch,
+    search: DirectionSearch,
+    // directions that are done with
+    directions: Vec<u8>,
+    // a plane that is done with, the holder of the plane that was taken last, and the holder of the next shaped plane
+    plane: Option<Plane>,
+    plane_shell: Option<Shell<Plane, Plane>>,
+    shell: Option<Shell<ShapedPlane, SpentShapedPlane>>,
+    pub(crate) return_queues: Passages,
+}
+
+/// The ways back of the stage that finds shapes: holders of planes go to the stage before, and holders of shaped planes
+/// come from the next one.
+#[derive(Drop)]
+pub(crate) struct Passages {
+    pub(crate) planes: ReturnQueue<Shell<Plane, Plane>>,
+    pub(crate) shaped_planes: ReturnQueue<Shell<ShapedPlane, SpentShapedPlane>>,
+}
+
+impl ShapeScratch {
+    /// No memory yet, and nothing comes back.
+    pub fn empty(alloc: Global) -> ShapeScratch {
+        ShapeScratch {
+            shapes: ortho_rep::Scratch::empty(alloc),
+            straight: straightening::Scratch::new(),
+            search: DirectionSearch::empty(alloc),
+            directions: Vec::new(alloc),
+            plane: None,
+            plane_shell: None,
+            shell: None,
+            return_queues: Passages {
+                planes: ReturnQueue::none(),
+                shaped_planes: ReturnQueue::none(),
+            },
+        }
+    }
+
+    /// Takes in the holder of a shaped plane that is done with and its lists, where they have come back.
+    pub(crate) fn restock<R: Wait>(&mut self, rt: &R) {
+        if let Some(mut shell) = self.return_queues.shaped_planes.receive(rt) {
+            if let Some(spent) = shell.unload() {
+                let SpentShapedPlane {
+                    plane,
+                    shape,
+                    prices,
+                    directions,
+                } = spent;
+                shape.give_back(&mut self.shapes);
+                prices.give_back(&mut self.shapes);
+                self.directions = directions;
+                self.plane = Some(plane);
+            }
+            self.shell = Some(shell);
+        }
+    }
+
+    /// Sends the holder of the plane that was taken last back, with a plane that is done with, where there is one.
+    pub(crate) fn send_back<R: Wait>(&mut self, rt: &R) {
+        if let Some(mut shell) = self.plane_shell.take() {
+            if let Some(plane) = self.plane.take() {
+                shell.refill(plane);
+            }
+            self.return_queues.planes.send(rt, shell);
+        }
+    }
+
+    /// The plane out of its holder, which goes back.
+    pub(crate) fn unpack(
+        &mut self,
+        plane: Result<Holder<Plane, Plane>, ShapeFault>,
+    ) -> Result<Plane, ShapeFault>
+        ensures { result ≡ plane }
+    {
+        let (plane, shell) = plane?.take();
+        self.plane_shell = Some(shell);
+        Ok(plane)
+    }
+
+    /// The shaped plane in a holder, where there is memory for one.
+    pub(crate) fn hold(
+        &mut self,
+        alloc: Global,
+        shaped_plane: Result<ShapedPlane, ShapeFault>,
+    ) -> Result<Holder<ShapedPlane, SpentShapedPlane>, ShapeFault>
+        ensures { (choice : Choice) (bytes : List ℕ) → IsShaped choice bytes shaped_plane → IsShaped choice bytes result }
+    {
+        let shaped_plane = shaped_plane?;
+        match self.shell.take() {
+            Some(shell) => Ok(shell.fill(shaped_plane)),
+            None => match Shell::new(alloc) {
+                Ok(shell) => Ok(shell.fill(shaped_plane)),
+                Err(AllocError) => Err(ShapeFault::Memory),
+            },
+        }
+    }
+}
+
+/// The plane with a least shape for this drawing; its outer face is then the chosen one.
+///
+/// The directions of the darts are found here, and not where the shape is drawn, since drawing takes
+/// longest of all stages.
+///
+/// # Errors
+///
+/// `AllocError` where there is no memory for it; the plane is dropped then.
+pub(crate) fn lay(
+    alloc: Global,
+    scratch: &mut ShapeScratch,
+    mut plane: Plane,
+    choice: Choice,
+    drawing: DrawingKind,
+) -> Result<ShapedPlane, AllocError>
+    ensures { IfOk result (λ shaped_plane. (bytes : List ℕ)
+        → IsTracedPlane bytes plane → IsPlaneOf choice bytes shaped_plane.plane) }
+{
+    let (shape, prices) = shape_of(alloc, &mut scratch.shapes, &mut plane, choice)?;
+    let shape = shape_for(
+        alloc,
+        &mut scratch.straight,
+        &plane,
+        shape,
+        &prices,
+        drawing,
+    )?;
+    let spare = mem::replace(&mut scratch.directions, Vec::new(alloc));
+    let directions = directions_of(alloc, &mut scratch.search, spare, &plane, &shape)?;
+    Ok(ShapedPlane {
+        plane,
+        shape,
+        prices,
+        directions,
+    })
+}
+
+/// A least shape of the plane, whose outer face is then the chosen one, and prices that prove it least.
+fn shape_of(
+    alloc: Global,
+    scratch: &mut ortho_rep::Scratch,
+    plane: &mut Plane,
+    choice: Choice,
+) -> Result<(Shape, Prices), AllocError>
+    ensures chosen { OnOk result ((bytes : List ℕ)
+        → IsTracedPlane bytes plane.old → IsPlaneOf choice bytes plane.new) }
+    ensures shape { IfOk result (λ found. IsShape plane.new found.0) }
+    ensures least { IfOk result (λ found. IsLeast plane.new found.0) }
+    ensures proof { IfOk result (λ found. IsProof plane.new found.0 found.1) }
+{
+    let found = match choice {
+        Choice::First => least_shape_in(alloc, scratch, plane)?,
+        Choice::Best => best_shape(alloc, plane)?,
+    };
+    // Only the proof needs this: `graph` says that the plane still is one.
+    let _graph = plane.graph();
+    Ok(found)
+}
+
+/// The shape that is drawn so: for a short drawing one in which few vertices of degree 2 turn, and else the shape as it
+/// is. The same prices prove it least.
+fn shape_for(
+    alloc: Global,
+    scratch: &mut straightening::Scratch,
+    plane: &Plane,
+    shape: Shape,
+    prices: &Prices,
+    drawing: DrawingKind,
+) -> Result<Shape, AllocError>
+    requires shape { IsShape plane.now shape }
+    requires least { IsLeast plane.now shape }
+    requires proof { IsProof plane.now shape prices.now }
+    ensures shape { IfOk result (λ made. IsShape plane.now made) }
+    ensures least { IfOk result (λ made. IsLeast plane.now made) }
+    ensures proof { IfOk result (λ made. IsProof plane.now made prices.now) }
+{
+    match drawing {
+        DrawingKind::Quick => Ok(shape),
+        DrawingKind::Short => straighten_in(alloc, scratch, plane, shape, prices),
+    }
+}
+
+/// The directions of the darts of a plane that is drawn by the shape. The next search has this spare list for its own.
+fn directions_of(
+    alloc: Global,
+    scratch: &mut DirectionSearch,
+    spare: Vec<u8>,
+    plane: &Plane,
+    shape: &Shape,
+) -> Result<Vec<u8>, AllocError>
+    requires { IsShape plane.now shape.now }
+    ensures { IfOk result (λ directions. AreDirectionsOf plane.now shape.now directions.items) }
+{
+    let lent = mem::replace(scratch, DirectionSearch::empty(alloc));
+    let mut search = directions_in(plane, shape, lent)?;
+    let directions = mem::replace(&mut search.directions, spare);
+    *scratch = search;
+    Ok(directions)
+}

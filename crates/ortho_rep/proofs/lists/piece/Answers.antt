@@ -1,6 +1,0 @@
-use Rattle.std.proofs.Common.{sym}
-use Rattle.ortho_rep.proofs.Pieces.{get_or-pieces_at}
-use Rattle.ortho_rep.proofs.lists.piece.Goals as goal
-
-pub returns : goal.returns
-returns g c = sym (get_or-pieces_at c.args.starts.now c.args.items.now c.args.i c.requires.within)

@@ -1,0 +1,114 @@
+ghost use Rattle.std.specs.Prelude.{◌≡◌, ℕ, ◌<◌, List, [], ◌++◌, length, IsTrue, ◌↔◌, IfOk, OnOk, OnErr};
+ghost use Rattle.planar_code.specs.Stream.{IsRecord};
+ghost use Rattle.planar_code.specs.Started.{IsStarted};
+ghost use Rattle.planar_code.specs.Scan.{Scans, TakesFrom};
+
+use crate::fault::FeedFault;
+use crate::record::Record;
+use crate::scan::{Scan, scan_lists};
+use std::alloc::{AllocError, Global};
+use std::marker::Model;
+
+/// How many bytes a record has at most: its first byte, and 255 lists of 254 entries and a 0.
+pub(crate) const MAX_BYTES: usize = 65_026;
+
+/// The bytes of the record that is open, with room for the longest record.
+///
+/// Where there are some, `remaining` lists are not yet ended, the open one among them, which has
+/// `entries` entries so far.
+#[derive(Debug, Drop)]
+pub struct PartialRecord {
+    bytes: Vec<u8>,
+    remaining: u8,
+    entries: u8,
+}
+
+impl Model for PartialRecord {
+    ghost use Rattle.std.specs.Prelude.{ℕ, List, ◌≤◌, vec_capacity};
+    ghost use Rattle.planar_code.specs.declared.partial_record.TheConstants.{MAX_BYTES};
+    ghost use Rattle.planar_code.specs.Started.{HasBegun};
+
+    ghost Value = { List ℕ };
+
+    ghost view = { λ r. r.bytes.items };
+
+    ghost invariant = { λ r. HasBegun r.bytes.items r.remaining r.entries × (MAX_BYTES ≤ vec_capacity r.bytes) };
+}
+
+impl PartialRecord {
+    pub fn new(alloc: Global) -> Result<PartialRecord, AllocError>
+        ensures { IfOk result (λ r. r ≡ []) }
+    {
+        Ok(PartialRecord {
+            bytes: Vec::with_capacity(alloc, MAX_BYTES)?,
+            remaining: 0,
+            entries: 0,
+        })
+    }
+
+    pub fn is_empty(&self) -> bool
+        ensures { IsTrue result ↔ (self.now ≡ []) }
+    {
+        self.bytes.is_empty()
+    }
+
+    /// How far `text` takes the record.
+    fn scan(&self, text: &[u8]) -> Result<Scan, FeedFault>
+        requires { 0 < length text.now }
+        ensures { Scans self.now text.now result }
+    {
+        if !self.bytes.is_empty() {
+            return scan_lists(text, 0, self.remaining, self.entries);
+        }
+        let order = text[0];
+        if order == 0 {
+            return Err(FeedFault::Large);
+        }
+        scan_lists(text, 1, order, 0)
+    }
+
+    /// Takes in `text`, which leaves the record open.
+    fn keep(&mut self, text: &[u8], remaining: u8, entries: u8)
+        requires { IsStarted (self.old ++ text.now) remaining entries }
+        ensures { self.new ≡ self.old ++ text.now }
+    {
+        self.bytes.extend_from_slice(text).unwrap();
+        self.remaining = remaining;
+        self.entries = entries;
+    }
+
+    /// Hands out the record that `text` ends. One that lies whole in `text` is copied once.
+    fn complete(&mut self, alloc: Global, text: &[u8]) -> Result<Record, AllocError>
+        requires { IsRecord (self.old ++ text.now) }
+        ensures record { IfOk result (λ r. r ≡ self.old ++ text.now) }
+        ensures empty { self.new ≡ [] }
+    {
+        if self.bytes.is_empty() {
+            return Record::from_slice(alloc, text);
+        }
+        self.bytes.extend_from_slice(text).unwrap();
+        let result = Record::from_slice(alloc, self.bytes.as_slice());
+        self.bytes.clear();
+        result
+    }
+
+    /// Reads on to the record's end, or to the end of `text`: the record and how many bytes of
+    /// `text` end it, or nothing where it stays open.
+    ///
+    /// Want of memory is returned only where `text` ends the record.
+    pub fn read(&mut self, alloc: Global, text: &[u8]) -> Result<Option<(Record, usize)>, FeedFault>
+        requires { 0 < length text.now }
+        ensures { TakesFrom self.old text.now self.new result }
+    {
+        match self.scan(text)? {
+            Scan::Open { remaining, entries } => {
+                self.keep(text, remaining, entries);
+                Ok(None)
+            }
+            Scan::Whole(end) => match self.complete(alloc, &text[..end]) {
+                Ok(record) => Ok(Some((record, end))),
+                Err(_) => Err(FeedFault::Memory),
+            },
+        }
+    }
+}
