@@ -10,7 +10,7 @@ use Rattle.dissect.specs.Boxes.{BoxesModel, HasEdge, dart_map}
 use Rattle.compact.specs.Ordered.{tail, point_at, IsOrdered, IsAlong, AreCorners, AreCornersOf, IsAxisFault, IsCompactFault, AreLaidOut, AreLeast, AreWithin}
 use Rattle.std.specs.List.{range_with_len}
 use Rattle.ortho_rep.specs.declared.points.TheConstants.{MAX_COORDINATE}
-use Rattle.compact.specs.Steps.{AreUnder}
+use Rattle.compact.specs.Neighbours.{AreUnder}
 use Rattle.compact.proofs.Walking.{one_turning}
 use Rattle.compact.specs.declared.fault.CompactFault.{CompactFault}
 use Rattle.compact.specs.declared.fault.CompactFault.TheVariants.{Wide, Memory}

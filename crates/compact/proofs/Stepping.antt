@@ -7,7 +7,7 @@ use Rattle.dissect.specs.DartMaps.{DartMap, IsSound}
 use Rattle.compact.specs.declared.axis.Axis.{Axis}
 use Rattle.compact.specs.declared.axis.Axis.TheVariants.{X, Y}
 use Rattle.compact.specs.Ordered.{tail, growth, across, IsAcross, IsAlong}
-use Rattle.compact.specs.Steps.{step, AreSteps, HasSteps, Grow, StayEqual, AreVertices, AreEqualIn, AreSegments, IsOnSegment, AreUnder, StayUnder}
+use Rattle.compact.specs.Neighbours.{neighbour, AreNeighbours, HasNeighbours, Grow, StayEqual, AreVertices, AreEqualIn, AreSegments, IsOnSegment, AreUnder, StayUnder}
 use Rattle.compact.proofs.OneWay.{one_leaves}
 
 -- a coordinate raised to one that is not above y stays under y
@@ -53,7 +53,7 @@ equal_set n segments new v first y v_in same_coordinate made equal u u_in =
           ap y here ∙ equal u u_in
     ]
 
--- a vertex of a segment may be written where all coordinates that stay the same along the steps are there as at its first one
+-- a vertex of a segment may be written where all coordinates that stay the same along the arcs are there as at its first one
 pub segments_set : (next : ℕ → ℕ) (n : ℕ) (segments new : List ℕ) (v first : ℕ) → v < n → first < n → ((y : ℕ → ℕ) → StayEqual next n y → y first ≡ y v) →
     new ≡ set segments v first → AreSegments next n segments → AreSegments next n new
 segments_set next n segments new v first v_in first_in connected made are = record {
@@ -62,14 +62,14 @@ segments_set next n segments new v first v_in first_in connected made are = reco
 }
 
 -- segments stay segments under other names of the steps and of the number of vertices
-pub segments_at : (around other : List ℕ) (d e n m : ℕ) (segments : List ℕ) → around ≡ other → d ≡ e → n ≡ m → AreSegments (step around d) n segments → AreSegments (step other e) m segments
+pub segments_at : (around other : List ℕ) (d e n m : ℕ) (segments : List ℕ) → around ≡ other → d ≡ e → n ≡ m → AreSegments (neighbour around d) n segments → AreSegments (neighbour other e) m segments
 segments_at around other d e n m segments same way size are =
-    subst (λ (k : ℕ). AreSegments (step other e) k segments) size (subst (λ (k : ℕ). AreSegments (step other k) n segments) way (subst (λ (list : List ℕ). AreSegments (step list d) n segments) same are))
+    subst (λ (k : ℕ). AreSegments (neighbour other e) k segments) size (subst (λ (k : ℕ). AreSegments (neighbour other k) n segments) way (subst (λ (list : List ℕ). AreSegments (neighbour list d) n segments) same are))
 
 -- and a vertex stays on its segment
-pub on_segment_at : (around other : List ℕ) (d e n m first vertex : ℕ) → around ≡ other → d ≡ e → n ≡ m → IsOnSegment (step around d) n first vertex → IsOnSegment (step other e) m first vertex
+pub on_segment_at : (around other : List ℕ) (d e n m first vertex : ℕ) → around ≡ other → d ≡ e → n ≡ m → IsOnSegment (neighbour around d) n first vertex → IsOnSegment (neighbour other e) m first vertex
 on_segment_at around other d e n m first vertex same way size is =
-    subst (λ (k : ℕ). IsOnSegment (step other e) k first vertex) size (subst (λ (k : ℕ). IsOnSegment (step other k) n first vertex) way (subst (λ (list : List ℕ). IsOnSegment (step list d) n first vertex) same is))
+    subst (λ (k : ℕ). IsOnSegment (neighbour other e) k first vertex) size (subst (λ (k : ℕ). IsOnSegment (neighbour other k) n first vertex) way (subst (λ (list : List ℕ). IsOnSegment (neighbour list d) n first vertex) same is))
 
 -- a first vertex is on its own segment
 pub on_own_segment : (next : ℕ → ℕ) (n : ℕ) (segment_firsts : List ℕ) (first vertex : ℕ) → 0 < n → AreVertices n segment_firsts → first ≡ slice_index segment_firsts 0 → vertex ≡ slice_index segment_firsts 0 → IsOnSegment next n first vertex
@@ -101,27 +101,27 @@ spread_one n segments xs new v x v_in size are is made y equal under =
 
 -- each dart writes its step
 pub step_written : (w : DartMap) (a : ℕ) (around new : List ℕ) (n place to : ℕ) → a < w.darts → w.direction a < 4 → place ≡ 4 * tail w a + w.direction a →
-    place < length around → to ≡ w.head a → new ≡ set around place to → AreSteps w around n → AreSteps w new n
+    place < length around → to ≡ w.head a → new ≡ set around place to → AreNeighbours w around n → AreNeighbours w new n
 step_written w a around new n place to a_in few here there is made are v d v_in d_in real =
     elim (cases_eq place (4 * v + d)) [
       | inl same ↦
-          let value : step new d v ≡ to = ap (λ (zs : List ℕ). step zs d v) made ∙ subst (λ (k : ℕ). slice_index (set around place to) k ≡ to) same (get_or-set_same around place to 0 there) in
+          let value : neighbour new d v ≡ to = ap (λ (zs : List ℕ). neighbour zs d v) made ∙ subst (λ (k : ℕ). slice_index (set around place to) k ≡ to) same (get_or-set_same around place to 0 there) in
           (a, a_in, omega (arith, same, here, few, d_in), omega (arith, same, here, few, d_in), sym is ∙ sym value)
       | inr other ↦
-          let value : step new d v ≡ step around d v = ap (λ (zs : List ℕ). step zs d v) made ∙ get_or-set_other around place (4 * v + d) to 0 (λ e. other (sym e)) in
+          let value : neighbour new d v ≡ neighbour around d v = ap (λ (zs : List ℕ). neighbour zs d v) made ∙ get_or-set_other around place (4 * v + d) to 0 (λ e. other (sym e)) in
           let (b, b_in, b_way, b_from, b_to) = are v d v_in d_in (subst (λ (k : ℕ). k < n) value real) in
           (b, b_in, b_way, b_from, b_to ∙ sym value)
     ]
 
 -- and writes over no other one's, as no other dart leaves its vertex in its direction
 pub step_kept : (w : DartMap) (a : ℕ) (around new : List ℕ) (place to : ℕ) → IsSound w → a < w.darts → place ≡ 4 * tail w a + w.direction a →
-    place < length around → to ≡ w.head a → new ≡ set around place to → HasSteps w around a → HasSteps w new (a + 1)
+    place < length around → to ≡ w.head a → new ≡ set around place to → HasNeighbours w around a → HasNeighbours w new (a + 1)
 step_kept w a around new place to sound a_in here there is made has b below =
     let at : ℕ = 4 * tail w b + w.direction b in
     elim (cases_eq b a) [
       | inl same ↦
           let value : slice_index new place ≡ to = ap (λ (zs : List ℕ). slice_index zs place) made ∙ get_or-set_same around place to 0 there in
-          subst (λ (c : ℕ). step new (w.direction c) (tail w c) ≡ w.head c) (sym same)
+          subst (λ (c : ℕ). neighbour new (w.direction c) (tail w c) ≡ w.head c) (sym same)
           (subst (λ (k : ℕ). slice_index new k ≡ w.head a) here (value ∙ is))
       | inr other ↦
           let b_in : b < w.darts = omega (arith, below, a_in) in
@@ -132,13 +132,13 @@ step_kept w a around new place to sound a_in here there is made has b below =
     ]
 
 -- coordinates in the order of the darts along an axis grow by 1 along its direction
-pub grow_ahead : (w : DartMap) (k : ℕ) (around : List ℕ) (n : ℕ) (y : ℕ → ℕ) → k < 4 → AreSteps w around n → IsAlong w k y → Grow (step around k) n y
+pub grow_ahead : (w : DartMap) (k : ℕ) (around : List ℕ) (n : ℕ) (y : ℕ → ℕ) → k < 4 → AreNeighbours w around n → IsAlong w k y → Grow (neighbour around k) n y
 grow_ahead w k around n y k_in are along v v_in real =
     let (a, a_in, way, from, to) = are v k v_in k_in real in
     omega (arith, along.forward a a_in way, ap y from, ap y to)
 
 -- and stay the same across it, as the two darts of each edge say
-pub equal_across : (w : DartMap) (k d : ℕ) (around : List ℕ) (n : ℕ) (y : ℕ → ℕ) → IsSound w → k < 2 → d < 4 → d ≢ k → d ≢ k + 2 → AreSteps w around n → IsAlong w k y → StayEqual (step around d) n y
+pub equal_across : (w : DartMap) (k d : ℕ) (around : List ℕ) (n : ℕ) (y : ℕ → ℕ) → IsSound w → k < 2 → d < 4 → d ≢ k → d ≢ k + 2 → AreNeighbours w around n → IsAlong w k y → StayEqual (neighbour around d) n y
 equal_across w k d around n y sound k_in d_in one two are along v v_in real =
     let (a, a_in, way, from, to) = are v d v_in d_in real in
     let b = w.reverse_dart a in
@@ -161,14 +161,14 @@ across_far Y = (λ e. omega (arith, e), λ e. omega (arith, e))
 -- coordinates that grow along the steps in one direction of an axis, and stay the same along those across it, are in
 -- the order of all darts: the other darts go back along these steps
 pub along_steps : (w : DartMap) (k d : ℕ) (around : List ℕ) (x : ℕ → ℕ) → IsSound w → k < 2 → k + d ≡ 1 →
-    HasSteps w around w.darts → Grow (step around k) w.vertices x → StayEqual (step around d) w.vertices x → IsAlong w k x
+    HasNeighbours w around w.darts → Grow (neighbour around k) w.vertices x → StayEqual (neighbour around d) w.vertices x → IsAlong w k x
 along_steps w k d around x sound k_in other has grow equal =
     let head_in = sound.meeting.head_in in
     let reverse_in = sound.tied.reverse_dart_in in
-    let to : (e a : ℕ) → a < w.darts → w.direction a ≡ e → step around e (tail w a) ≡ w.head a =
-    λ e a a_in way. subst (λ (m : ℕ). step around m (tail w a) ≡ w.head a) way (has a a_in) in
+    let to : (e a : ℕ) → a < w.darts → w.direction a ≡ e → neighbour around e (tail w a) ≡ w.head a =
+    λ e a a_in way. subst (λ (m : ℕ). neighbour around m (tail w a) ≡ w.head a) way (has a a_in) in
     let from_in : (a : ℕ) → a < w.darts → tail w a < w.vertices = λ a a_in. head_in (w.reverse_dart a) (reverse_in a a_in) in
-    let to_in : (e a : ℕ) → a < w.darts → w.direction a ≡ e → step around e (tail w a) < w.vertices =
+    let to_in : (e a : ℕ) → a < w.darts → w.direction a ≡ e → neighbour around e (tail w a) < w.vertices =
     λ e a a_in way. omega (arith, to e a a_in way, head_in a a_in) in
     let beside : (a : ℕ) → a < w.darts → w.direction a ≡ d → x (w.head a) ≡ x (tail w a) =
     λ a a_in way. ap x (sym (to d a a_in way)) ∙ equal (tail w a) (from_in a a_in) (to_in d a a_in way) in
@@ -187,11 +187,11 @@ along_steps w k d around x sound k_in other has grow equal =
 
 -- the steps in this direction from the first vertices keep the order: the coordinates along it grow, those across it stay
 pub record AreKeptTo (around : List ℕ) (d vertices : ℕ) (along across : List ℕ) : Type 0 where
-  pub grows : (v : ℕ) → v < vertices → step around d v < length along → slice_index along v + 1 ≤ slice_index along (step around d v)
-  pub equal : (v : ℕ) → v < vertices → step around d v < length along → slice_index across (step around d v) ≡ slice_index across v
+  pub grows : (v : ℕ) → v < vertices → neighbour around d v < length along → slice_index along v + 1 ≤ slice_index along (neighbour around d v)
+  pub equal : (v : ℕ) → v < vertices → neighbour around d v < length along → slice_index across (neighbour around d v) ≡ slice_index across v
 
 -- with one vertex more
-pub kept_next : (around : List ℕ) (d v to : ℕ) (along across : List ℕ) → to ≡ step around d v →
+pub kept_next : (around : List ℕ) (d v to : ℕ) (along across : List ℕ) → to ≡ neighbour around d v →
     (to < length along → slice_index along v + 1 ≤ slice_index along to) → (to < length along → slice_index across to ≡ slice_index across v) →
     AreKeptTo around d v along across → AreKeptTo around d (v + 1) along across
 kept_next around d v to along across is grows equal so_far =
@@ -199,18 +199,18 @@ kept_next around d v to along across is grows equal so_far =
     let equal_here = subst (λ (u : ℕ). u < length along → slice_index across u ≡ slice_index across v) is equal in
     record {
       grows = λ u below. elim (cases_eq u v) [
-        | inl same ↦ subst (λ (t : ℕ). step around d t < length along → slice_index along t + 1 ≤ slice_index along (step around d t)) (sym same) grows_here
+        | inl same ↦ subst (λ (t : ℕ). neighbour around d t < length along → slice_index along t + 1 ≤ slice_index along (neighbour around d t)) (sym same) grows_here
         | inr other ↦ so_far.grows u (omega (arith, below, other))
       ];
       equal = λ u below. elim (cases_eq u v) [
-        | inl same ↦ subst (λ (t : ℕ). step around d t < length along → slice_index across (step around d t) ≡ slice_index across t) (sym same) equal_here
+        | inl same ↦ subst (λ (t : ℕ). neighbour around d t < length along → slice_index across (neighbour around d t) ≡ slice_index across t) (sym same) equal_here
         | inr other ↦ so_far.equal u (omega (arith, below, other))
       ];
     }
 
 -- with all of them, the coordinates are in the order of the darts
 pub kept_along : (w : DartMap) (k d : ℕ) (around x y : List ℕ) → IsSound w → length x ≡ w.vertices → length y ≡ w.vertices → k < 2 → k + d ≡ 1 →
-    HasSteps w around w.darts → AreKeptTo around k w.vertices x y → AreKeptTo around d w.vertices y x → IsAlong w k (λ v. slice_index x v)
+    HasNeighbours w around w.darts → AreKeptTo around k w.vertices x y → AreKeptTo around d w.vertices y x → IsAlong w k (λ v. slice_index x v)
 kept_along w k d around x y sound x_all y_all k_in other has ahead beside =
     along_steps w k d around (λ v. slice_index x v) sound k_in other has
     (λ v v_in real. ahead.grows v v_in (omega (arith, real, x_all)))

@@ -1,4 +1,4 @@
--- Constraints on coordinates: the lengths of longest paths are the least coordinates that keep them.
+-- Constraints on coordinates: the lengths of longest paths are the least coordinates that satisfy them.
 use Rattle.std.specs.Prelude.{◌≡◌, ℕ, ◌+◌, ◌-◌, ◌<◌, ◌≤◌, List, All, length, slice_index, slice_set}
 use Rattle.ortho_rep.specs.declared.points.TheConstants.{MAX_COORDINATE}
 use Rattle.common.specs.Sums.{sum_below}
@@ -6,7 +6,7 @@ use Rattle.compact.specs.declared.constraint_graph.Constraint.{Constraint}
 use Rattle.compact.specs.declared.constraint_graph.Relaxation.{Relaxation}
 use Rattle.compact.specs.declared.constraint_graph.Relaxation.TheVariants.{Satisfied, Raised, Wide}
 
--- the coordinates x keep each constraint: the coordinate at its end is that at its start and `least` more, or greater
+-- the coordinates x satisfy each constraint: the coordinate at its end is that at its start and `least` more, or greater
 abbrev pub Satisfies : List Constraint → (ℕ → ℕ) → Type 0
 Satisfies constraints x = All (λ constraint. x constraint.from + constraint.least ≤ x constraint.to) constraints
 
@@ -14,11 +14,11 @@ Satisfies constraints x = All (λ constraint. x constraint.from + constraint.lea
 abbrev pub AreInRange : ℕ → List Constraint → Type 0
 AreInRange n constraints = All (λ constraint. (constraint.from < n) × (constraint.to < n) × (constraint.least ≤ 1)) constraints
 
--- no coordinates that keep the constraints are below the coordinates x anywhere
+-- no coordinates that satisfy the constraints are below the coordinates x anywhere
 abbrev pub IsLow : List Constraint → ℕ → (ℕ → ℕ) → Type 0
 IsLow constraints n x = (y : ℕ → ℕ) → Satisfies constraints y → (v : ℕ) → v < n → x v ≤ y v
 
--- all coordinates that keep the constraints exceed 65,535 somewhere
+-- all coordinates that satisfy the constraints exceed 65,535 somewhere
 abbrev pub AreWide : List Constraint → ℕ → Type 0
 AreWide constraints n = (y : ℕ → ℕ) → Satisfies constraints y → (v : ℕ) × (v < n) × (MAX_COORDINATE < y v)
 

@@ -3,7 +3,7 @@
 ghost use Rattle.std.specs.Prelude.{◌≡◌, ◌≢◌, ◌+◌, ◌*◌, length, slice_index, Some, None, IsTrue, IfOk, IfErr, OnOk, ℕ, ◌<◌, ◌≤◌};
 ghost use Rattle.ortho_rep.specs.declared.points.TheConstants.{MAX_COORDINATE};
 ghost use Rattle.compact.specs.Ordered.{IsAlong, AreAlong, AreLeast, IsAxisFault, IsCompactFault, growth, across};
-ghost use Rattle.compact.specs.Steps.{step, AreSteps, HasSteps, AreSegments, AreUnder};
+ghost use Rattle.compact.specs.Neighbours.{neighbour, AreNeighbours, HasNeighbours, AreSegments, AreUnder};
 ghost use Rattle.dissect.specs.DartMaps.{IsSound};
 ghost use Rattle.geometry.specs.Directions.{quarters};
 ghost use Rattle.dissect.specs.Boxes.{dart_map};
@@ -11,7 +11,7 @@ ghost use Rattle.dissect.specs.Boxes.{dart_map};
 use crate::constraint_graph::{Constraint, relax_in_rounds};
 use crate::fault::CompactFault;
 use crate::longest_paths::{
-    AxisSegments, SegmentsByAxis, Steps, find_segments, raise_to_longest_paths,
+    AxisSegments, Neighbours, SegmentsByAxis, find_segments, raise_to_longest_paths,
 };
 use common::filled;
 use dissect::Boxes;
@@ -62,12 +62,12 @@ fn constraints_along(
     Ok(())
 }
 
-/// Whether a step from a vertex keeps the order: the coordinates along it grow, and those across it stay the
+/// Whether the arc from a vertex to a neighbour is satisfied: the coordinate along it grows, and that across it stays the
 /// same. So it does where it leads to no vertex.
 ///
 /// The vertex itself then stands in the place of the next one, so that no branch hangs on whether there is
 /// one, which cannot be foreseen.
-fn is_step_satisfied(along: &[u16], across: &[u16], vertex: usize, to: u32) -> bool
+fn is_arc_satisfied(along: &[u16], across: &[u16], vertex: usize, to: u32) -> bool
     requires vertex { vertex < length along.now }
     requires count { length across.now ≡ length along.now }
     ensures grows { IsTrue result → to < length along.now → slice_index along.now vertex + 1 ≤ slice_index along.now to }
@@ -80,10 +80,10 @@ fn is_step_satisfied(along: &[u16], across: &[u16], vertex: usize, to: u32) -> b
     grows & (across[vertex] == across[end])
 }
 
-/// Whether coordinates grow along the darts, on both axes. `around` has the steps from each vertex:
+/// Whether coordinates grow along the darts, on both axes. `around` has the neighbours of each vertex:
 /// those to the east and to the north say it of all darts, since the others go back along them.
 fn are_along(boxes: &Boxes, around: &[u32], x: &[u16], y: &[u16]) -> bool
-    requires all_steps { HasSteps (dart_map boxes.now) around.now boxes.now.darts }
+    requires all_neighbours { HasNeighbours (dart_map boxes.now) around.now boxes.now.darts }
     requires around { length around.now ≡ 4 * boxes.now.vertices }
     requires x_count { length x.now ≡ boxes.now.vertices }
     requires y_count { length y.now ≡ boxes.now.vertices }
@@ -95,27 +95,27 @@ fn are_along(boxes: &Boxes, around: &[u32], x: &[u16], y: &[u16]) -> bool
     for vertex in 0..boxes.vertices() as usize {
         let east = around[4 * vertex];
         let north = around[4 * vertex + 1];
-        if !(is_step_satisfied(x, y, vertex, east) & is_step_satisfied(y, x, vertex, north)) {
+        if !(is_arc_satisfied(x, y, vertex, east) & is_arc_satisfied(y, x, vertex, north)) {
             return false;
         }
     }
     true
 }
 
-/// The steps from each vertex by their directions along an axis. Directions are numbered from east.
-fn steps_along(around: &[u32], axis: Axis) -> Steps<'_>
+/// The neighbours of each vertex by their directions along an axis. Directions are numbered from east.
+fn neighbours_along(around: &[u32], axis: Axis) -> Neighbours<'_>
     ensures around { result.around.now ≡ around.now }
     ensures ahead { (result.ahead < 4) × (result.ahead ≡ growth axis) }
     ensures left { (result.left < 4) × (result.left ≡ across axis) }
 {
     match axis {
-        Axis::X => Steps::east(around),
-        Axis::Y => Steps::north(around),
+        Axis::X => Neighbours::east(around),
+        Axis::Y => Neighbours::north(around),
     }
 }
 
 /// Coordinates that are nowhere above any that grow along the darts of an axis: the lengths of longest
-/// paths, found segment by segment, in the memory of the list that is lent. `around` has the steps from each
+/// paths, found segment by segment, in the memory of the list that is lent. `around` has the neighbours of each
 /// vertex. Linear in the darts.
 fn low_along(
     boxes: &Boxes,
@@ -124,15 +124,19 @@ fn low_along(
     coordinates: Vec<u16>,
     axis_segments: &mut AxisSegments,
 ) -> Result<Vec<u16>, AllocError>
-    requires steps { AreSteps (dart_map boxes.now) around.now boxes.now.vertices }
+    requires neighbours { AreNeighbours (dart_map boxes.now) around.now boxes.now.vertices }
     requires around { length around.now ≡ 4 * boxes.now.vertices }
-    requires segments { AreSegments (step around.now (across axis)) boxes.now.vertices axis_segments.old.segments.items }
+    requires segments { AreSegments (neighbour around.now (across axis)) boxes.now.vertices axis_segments.old.segments.items }
     ensures sound { IfOk result (λ _. IsSound (dart_map boxes.now)) }
     ensures count { IfOk result (λ coordinates. length coordinates.items ≡ boxes.now.vertices) }
     ensures under { IfOk result (λ coordinates. (y : ℕ → ℕ) → IsAlong (dart_map boxes.now) (growth axis) y → AreUnder boxes.now.vertices coordinates.items y) }
 {
     let mut coordinates = filled(coordinates, boxes.vertices() as usize, 0)?;
-    raise_to_longest_paths(axis_segments, steps_along(around, axis), &mut coordinates);
+    raise_to_longest_paths(
+        axis_segments,
+        neighbours_along(around, axis),
+        &mut coordinates,
+    );
     Ok(coordinates)
 }
 
@@ -161,7 +165,7 @@ fn relaxed_along(
 }
 
 /// The least coordinates of the vertices that grow along the darts, on x and on y, in the memory of the
-/// lists that are lent. `around` has the steps from each vertex.
+/// lists that are lent. `around` has the neighbours of each vertex.
 pub fn least_coordinates(
     boxes: &Boxes,
     around: &[u32],
@@ -170,8 +174,8 @@ pub fn least_coordinates(
     by_axis: &mut SegmentsByAxis,
     constraints: &mut Vec<Constraint>,
 ) -> Result<(Vec<u16>, Vec<u16>), CompactFault>
-    requires steps { AreSteps (dart_map boxes.now) around.now boxes.now.vertices }
-    requires all_steps { HasSteps (dart_map boxes.now) around.now boxes.now.darts }
+    requires neighbours { AreNeighbours (dart_map boxes.now) around.now boxes.now.vertices }
+    requires all_neighbours { HasNeighbours (dart_map boxes.now) around.now boxes.now.darts }
     requires around { length around.now ≡ 4 * boxes.now.vertices }
     ensures sound { IfOk result (λ _. IsSound (dart_map boxes.now)) }
     ensures x { IfOk result (λ found. AreLeast boxes.now 0 found.0.items) }

@@ -1,4 +1,4 @@
-//! Longest paths by rounds over all constraints (Bellman 1958): the least coordinates that keep them.
+//! Longest paths by rounds over all constraints (Bellman 1958): the least coordinates that satisfy them.
 
 ghost use Rattle.std.specs.Prelude.{◌≡◌, ℕ, ◌+◌, ◌<◌, ◌≤◌, ◌↔◌, IsTrue, IsFalse, length, replicate, slice_index, All};
 ghost use Rattle.ortho_rep.specs.declared.points.TheConstants.{MAX_COORDINATE};
@@ -17,7 +17,7 @@ pub struct Constraint {
 /// What the relaxation of constraints has found.
 #[derive(Clone, Copy, Debug)]
 pub enum Relaxation {
-    /// Each constraint is kept.
+    /// Each constraint is satisfied.
     Satisfied,
     /// Some coordinate was raised.
     Raised,
@@ -25,7 +25,7 @@ pub enum Relaxation {
     Wide,
 }
 
-/// Raises the coordinate that a constraint ends at, where the constraint is not kept.
+/// Raises the coordinate that a constraint ends at, where the constraint is not satisfied.
 fn relax(constraint: Constraint, coordinates: &mut [u16]) -> Relaxation
     requires from { constraint.from < length coordinates.old }
     requires to { constraint.to < length coordinates.old }
@@ -44,7 +44,7 @@ fn relax(constraint: Constraint, coordinates: &mut [u16]) -> Relaxation
     Relaxation::Raised
 }
 
-/// Raises coordinates, constraint by constraint, where a constraint is not kept.
+/// Raises coordinates, constraint by constraint, where a constraint is not satisfied.
 fn relax_all(constraints: &[Constraint], coordinates: &mut [u16]) -> Relaxation
     requires inside { AreInRange (length coordinates.old) constraints.now }
     requires low { IsLow constraints.now (length coordinates.old) (λ v. slice_index coordinates.old v) }
@@ -63,8 +63,8 @@ fn relax_all(constraints: &[Constraint], coordinates: &mut [u16]) -> Relaxation
     found
 }
 
-/// Raises low coordinates until each constraint is kept, and says whether that could be: they are then the
-/// least that keep the constraints, the lengths of longest paths. If not, all coordinates that keep the
+/// Raises low coordinates until each constraint is satisfied, and says whether that could be: they are then the
+/// least that satisfy the constraints, the lengths of longest paths. If not, all coordinates that satisfy the
 /// constraints exceed 65,535 somewhere.
 ///
 /// Each round is linear in the constraints. Where no cycle has a constraint of 1 it needs at most as many rounds

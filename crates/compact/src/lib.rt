@@ -1,4 +1,4 @@
-//! Coordinates for a dissection: least whole numbers that grow along its darts.
+//! Coordinates for a dissection: least integers that grow along its darts.
 #![tactic(auto)]
 
 mod axis;
@@ -6,9 +6,9 @@ mod constraint_graph;
 mod corners;
 mod fault;
 mod longest_paths;
+mod neighbours;
 mod points;
 mod scratch;
-mod steps;
 
 pub use dissect::{
     DirectionSearch, Scratch as BoxesScratch, directions_in, dissect, dissect_along, dissect_in,

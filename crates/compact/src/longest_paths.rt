@@ -1,15 +1,15 @@
 //! Longest paths (Tamassia 1987) in topological order (Kahn 1962) over segments: vertices that darts across join.
 
 ghost use Rattle.std.specs.Prelude.{◌≡◌, ◌*◌, ◌^◌, ◌<◌, ℕ, length, OnOk};
-ghost use Rattle.compact.specs.Steps.{step, AreVertices, AreEqualIn, AreSegments, AreOwn, IsOnSegment, AreUnder, StayUnder, StayUnderAll};
+ghost use Rattle.compact.specs.Neighbours.{neighbour, AreVertices, AreEqualIn, AreSegments, AreOwn, IsOnSegment, AreUnder, StayUnder, StayUnderAll};
 
-use crate::steps::NO_VERTEX;
+use crate::neighbours::NO_VERTEX;
 use ortho_rep::MAX_COORDINATE;
 use std::alloc::{AllocError, Global};
 
-/// The steps from each vertex along an axis and across it, by their directions.
+/// The neighbours of each vertex along an axis and across it, by their directions.
 #[derive(Clone, Copy)]
-pub struct Steps<'a> {
+pub struct Neighbours<'a> {
     /// For each vertex the next one in each of the four directions, out of range where there is none.
     pub around: &'a [u32],
     /// The direction along the axis.
@@ -22,16 +22,16 @@ pub struct Steps<'a> {
     pub right: u8,
 }
 
-impl<'a> Steps<'a> {
+impl<'a> Neighbours<'a> {
     /// Those along x, which grows to the east. Directions are numbered from east.
-    pub fn east(around: &'a [u32]) -> Steps<'a>
+    pub fn east(around: &'a [u32]) -> Neighbours<'a>
         ensures around { result.around.now ≡ around.now }
         ensures ahead { result.ahead ≡ 0 }
         ensures left { result.left ≡ 1 }
         ensures back { result.back ≡ 2 }
         ensures right { result.right ≡ 3 }
     {
-        Steps {
+        Neighbours {
             around,
             ahead: 0,
             left: 1,
@@ -41,14 +41,14 @@ impl<'a> Steps<'a> {
     }
 
     /// Those along y, which grows to the north.
-    pub fn north(around: &'a [u32]) -> Steps<'a>
+    pub fn north(around: &'a [u32]) -> Neighbours<'a>
         ensures around { result.around.now ≡ around.now }
         ensures ahead { result.ahead ≡ 1 }
         ensures left { result.left ≡ 2 }
         ensures back { result.back ≡ 3 }
         ensures right { result.right ≡ 0 }
     {
-        Steps {
+        Neighbours {
             around,
             ahead: 1,
             left: 2,
@@ -64,12 +64,12 @@ impl<'a> Steps<'a> {
 pub struct AxisSegments {
     /// For each vertex the first one of its segment. A segment has one coordinate, which stands there.
     segments: Vec<u32>,
-    // Time alone rests on what follows: whatever it holds, coordinates are raised along steps alone.
+    // Time alone rests on what follows: whatever it holds, coordinates are raised along arcs alone.
     /// The first vertices of all segments, and others behind them.
     segment_firsts: Vec<u32>,
     /// How many segments there are.
     count: usize,
-    /// How many steps to a segment are still to come, at the place of its first vertex.
+    /// The in-degree of a segment by arcs still to come, at the place of its first vertex.
     in_degrees: Vec<u32>,
     /// The segments in the order in which they come, by their first vertices.
     queue: Vec<u32>,
@@ -89,9 +89,9 @@ impl AxisSegments {
 
     /// Makes a segment of each of so many vertices, and lists the first ones of the segments that are to be
     /// written: those with no vertex to their right.
-    fn begin(&mut self, steps: Steps<'_>, vertices: u32) -> Result<(), AllocError>
-        requires right { steps.right < 4 }
-        requires count { length steps.around.now ≡ 4 * vertices }
+    fn begin(&mut self, neighbours: Neighbours<'_>, vertices: u32) -> Result<(), AllocError>
+        requires right { neighbours.right < 4 }
+        requires count { length neighbours.around.now ≡ 4 * vertices }
         ensures own { OnOk result (AreOwn vertices self.new.segments.items) }
         ensures segment_firsts { OnOk result (AreVertices vertices self.new.segment_firsts.items) }
         ensures in_degrees { OnOk result (length self.new.in_degrees.items ≡ vertices) }
@@ -104,7 +104,7 @@ impl AxisSegments {
         self.in_degrees.resize(places, 0)?;
         self.queue.resize(places, 0)?;
         self.count = list_segments(
-            steps,
+            neighbours,
             self.segments.as_mut_slice(),
             self.segment_firsts.as_mut_slice(),
         );
@@ -114,9 +114,13 @@ impl AxisSegments {
 
 /// Writes each vertex at its own place, lists those with no vertex to their right, and says how many they are. All are
 /// written and some are counted, so that no branch hangs on which.
-fn list_segments(steps: Steps<'_>, segments: &mut [u32], segment_firsts: &mut [u32]) -> usize
-    requires right { steps.right < 4 }
-    requires count { length steps.around.now ≡ 4 * length segments.old }
+fn list_segments(
+    neighbours: Neighbours<'_>,
+    segments: &mut [u32],
+    segment_firsts: &mut [u32],
+) -> usize
+    requires right { neighbours.right < 4 }
+    requires count { length neighbours.around.now ≡ 4 * length segments.old }
     requires few { length segments.old < 2 ^ 32 }
     requires segment_firsts { AreVertices (length segments.old) segment_firsts.old }
     ensures own { AreOwn (length segments.old) segments.new }
@@ -126,7 +130,7 @@ fn list_segments(steps: Steps<'_>, segments: &mut [u32], segment_firsts: &mut [u
     for vertex in 0..segments.len() {
         segments[vertex] = vertex as u32;
         segment_firsts[count] = vertex as u32;
-        let right = steps.around[4 * vertex + usize::from(steps.right)];
+        let right = neighbours.around[4 * vertex + usize::from(neighbours.right)];
         count += usize::from(right as usize >= segments.len());
     }
     count
@@ -156,24 +160,24 @@ impl SegmentWalk {
     }
 }
 
-/// Writes the first vertex of the segment at the vertex where the walk is, counts the step that leads to it
+/// Writes the first vertex of the segment at the vertex where the walk is, counts the arc that leads to it
 /// along the axis, and goes on: to the next vertex of the segment, or to the first one of the next segment.
 /// No branch hangs on where segments end, which cannot be foreseen.
 fn write_next(
-    steps: Steps<'_>,
+    neighbours: Neighbours<'_>,
     segment_firsts: &[u32],
     walk: SegmentWalk,
     segments: &mut [u32],
     in_degrees: &mut [u32],
 ) -> SegmentWalk
-    requires directions { (steps.left < 4) × (steps.back < 4) }
-    requires count { length steps.around.now ≡ 4 * length segments.old }
+    requires directions { (neighbours.left < 4) × (neighbours.back < 4) }
+    requires count { length neighbours.around.now ≡ 4 * length segments.old }
     requires segment_firsts { AreVertices (length segments.old) segment_firsts.now }
     requires in_degrees { length in_degrees.old ≡ length segments.old }
-    requires walk { IsOnSegment (step steps.around.now steps.left) (length segments.old) walk.first walk.vertex }
-    requires segments { AreSegments (step steps.around.now steps.left) (length segments.old) segments.old }
-    ensures walk { IsOnSegment (step steps.entry.around.now steps.entry.left) (length segments.old) result.first result.vertex }
-    ensures segments { AreSegments (step steps.entry.around.now steps.entry.left) (length segments.old) segments.new }
+    requires walk { IsOnSegment (neighbour neighbours.around.now neighbours.left) (length segments.old) walk.first walk.vertex }
+    requires segments { AreSegments (neighbour neighbours.around.now neighbours.left) (length segments.old) segments.old }
+    ensures walk { IsOnSegment (neighbour neighbours.entry.around.now neighbours.entry.left) (length segments.old) result.first result.vertex }
+    ensures segments { AreSegments (neighbour neighbours.entry.around.now neighbours.entry.left) (length segments.old) segments.new }
     ensures in_degrees { length in_degrees.new ≡ length in_degrees.old }
 {
     let SegmentWalk {
@@ -183,9 +187,10 @@ fn write_next(
     } = walk;
     segments[vertex as usize] = first;
     let at = 4 * vertex as usize;
-    let is_led_to = (steps.around[at + usize::from(steps.back)] as usize) < segments.len();
+    let is_led_to = (neighbours.around[at + usize::from(neighbours.back)] as usize)
+        < segments.len();
     in_degrees[first as usize] = in_degrees[first as usize].wrapping_add(u32::from(is_led_to));
-    let next = steps.around[at + usize::from(steps.left)];
+    let next = neighbours.around[at + usize::from(neighbours.left)];
     let ends = next as usize >= segments.len();
     let after = segment_firsts.get(next_place).copied().unwrap_or(first);
     SegmentWalk {
@@ -195,7 +200,7 @@ fn write_next(
     }
 }
 
-/// Writes the segments along both axes. The two walks go side by side, since each step of a walk waits for the
+/// Writes the segments along both axes. The two walks go side by side, since each read of a walk waits for the
 /// one before.
 fn write_both(around: &[u32], x: &mut AxisSegments, y: &mut AxisSegments)
     requires count { length around.now ≡ 4 * length x.old.segments.items }
@@ -204,10 +209,10 @@ fn write_both(around: &[u32], x: &mut AxisSegments, y: &mut AxisSegments)
     requires y_firsts { AreVertices (length x.old.segments.items) y.old.segment_firsts.items }
     requires x_in_degrees { length x.old.in_degrees.items ≡ length x.old.segments.items }
     requires y_in_degrees { length y.old.in_degrees.items ≡ length y.old.segments.items }
-    requires x_segments { AreSegments (step around.now 1) (length x.old.segments.items) x.old.segments.items }
-    requires y_segments { AreSegments (step around.now 2) (length y.old.segments.items) y.old.segments.items }
-    ensures x_segments { AreSegments (step around.now 1) (length x.old.segments.items) x.new.segments.items }
-    ensures y_segments { AreSegments (step around.now 2) (length y.old.segments.items) y.new.segments.items }
+    requires x_segments { AreSegments (neighbour around.now 1) (length x.old.segments.items) x.old.segments.items }
+    requires y_segments { AreSegments (neighbour around.now 2) (length y.old.segments.items) y.old.segments.items }
+    ensures x_segments { AreSegments (neighbour around.now 1) (length x.old.segments.items) x.new.segments.items }
+    ensures y_segments { AreSegments (neighbour around.now 2) (length y.old.segments.items) y.new.segments.items }
 {
     let x_firsts = x.segment_firsts.as_slice();
     let x_segments = x.segments.as_mut_slice();
@@ -218,13 +223,13 @@ fn write_both(around: &[u32], x: &mut AxisSegments, y: &mut AxisSegments)
     if x_segments.is_empty() {
         return;
     }
-    let x_steps = Steps::east(around);
-    let y_steps = Steps::north(around);
+    let x_neighbours = Neighbours::east(around);
+    let y_neighbours = Neighbours::north(around);
     let mut x_walk = SegmentWalk::new(x_firsts[0]);
     let mut y_walk = SegmentWalk::new(y_firsts[0]);
     for _ in 0..x_segments.len() {
-        x_walk = write_next(x_steps, x_firsts, x_walk, x_segments, x_in_degrees);
-        y_walk = write_next(y_steps, y_firsts, y_walk, y_segments, y_in_degrees);
+        x_walk = write_next(x_neighbours, x_firsts, x_walk, x_segments, x_in_degrees);
+        y_walk = write_next(y_neighbours, y_firsts, y_walk, y_segments, y_in_degrees);
     }
 }
 
@@ -252,12 +257,12 @@ pub fn find_segments(
     by_axis: &mut SegmentsByAxis,
 ) -> Result<(), AllocError>
     requires count { length around.now ≡ 4 * vertices }
-    ensures x { OnOk result (AreSegments (step around.now 1) vertices by_axis.new.x.segments.items) }
-    ensures y { OnOk result (AreSegments (step around.now 2) vertices by_axis.new.y.segments.items) }
+    ensures x { OnOk result (AreSegments (neighbour around.now 1) vertices by_axis.new.x.segments.items) }
+    ensures y { OnOk result (AreSegments (neighbour around.now 2) vertices by_axis.new.y.segments.items) }
 {
     let SegmentsByAxis { x, y } = by_axis;
-    x.begin(Steps::east(around), vertices)?;
-    y.begin(Steps::north(around), vertices)?;
+    x.begin(Neighbours::east(around), vertices)?;
+    y.begin(Neighbours::north(around), vertices)?;
     write_both(around, x, y);
     Ok(())
 }
@@ -265,7 +270,7 @@ pub fn find_segments(
 /// The segments in the order in which they come, while coordinates are raised.
 #[derive(Drop)]
 struct ReadyQueue<'a> {
-    /// How many steps to a segment are still to come, at the place of its first vertex.
+    /// The in-degree of a segment by arcs still to come, at the place of its first vertex.
     in_degrees: &'a mut [u32],
     /// The first vertices of the segments that have come, and others behind them.
     segment_firsts: &'a mut [u32],
@@ -291,7 +296,7 @@ impl ReadyQueue<'_> {
         }
     }
 
-    /// Puts the segments to which no step leads, among so many, behind the others.
+    /// Puts the segments of in-degree 0, among so many, behind the others.
     fn begin(&mut self, segment_firsts: &[u32], segments: usize) {
         for first in segment_firsts.iter().take(segments) {
             let comes = self.in_degrees.get(*first as usize).copied() == Some(0);
@@ -299,7 +304,7 @@ impl ReadyQueue<'_> {
         }
     }
 
-    /// Counts off one step to the segment with this first vertex, which comes with the last one.
+    /// Counts off one arc to the segment with this first vertex, which comes with the last one.
     fn count_off(&mut self, first: u32) {
         let Some(in_degree) = self.in_degrees.get_mut(first as usize) else {
             return;
@@ -323,7 +328,7 @@ fn raise(
     requires vertex { vertex < length coordinates.old }
     requires count { length around.now ≡ 4 * length coordinates.old }
     requires segments { AreVertices (length coordinates.old) segments.now }
-    ensures under { StayUnder (step around.now ahead) (length coordinates.old) segments.now coordinates.old coordinates.new }
+    ensures under { StayUnder (neighbour around.now ahead) (length coordinates.old) segments.now coordinates.old coordinates.new }
     ensures count { length coordinates.new ≡ length coordinates.old }
 {
     let to = around[4 * vertex as usize + usize::from(ahead)];
@@ -339,27 +344,33 @@ fn raise(
 }
 
 /// Walks along a segment from its first vertex, raises the coordinates of the segments that come next along the
-/// axis, and counts off the steps to them.
+/// axis, and counts off the arcs to them.
 fn leave_segment(
-    steps: Steps<'_>,
+    neighbours: Neighbours<'_>,
     first: u32,
     segments: &[u32],
     queue: &mut ReadyQueue<'_>,
     coordinates: &mut [u16],
 )
-    requires directions { (steps.ahead < 4) × (steps.left < 4) }
+    requires directions { (neighbours.ahead < 4) × (neighbours.left < 4) }
     requires first { first < length coordinates.old }
-    requires count { length steps.around.now ≡ 4 * length coordinates.old }
+    requires count { length neighbours.around.now ≡ 4 * length coordinates.old }
     requires segments { AreVertices (length coordinates.old) segments.now }
-    ensures under { StayUnder (step steps.entry.around.now steps.entry.ahead) (length coordinates.old) segments.now coordinates.old coordinates.new }
+    ensures under { StayUnder (neighbour neighbours.entry.around.now neighbours.entry.ahead) (length coordinates.old) segments.now coordinates.old coordinates.new }
     ensures count { length coordinates.new ≡ length coordinates.old }
 {
     let mut vertex = first;
     for _ in 0..coordinates.len() {
-        if let Some(segment) = raise(steps.around, steps.ahead, segments, vertex, coordinates) {
+        if let Some(segment) = raise(
+            neighbours.around,
+            neighbours.ahead,
+            segments,
+            vertex,
+            coordinates,
+        ) {
             queue.count_off(segment);
         }
-        let next = steps.around[4 * vertex as usize + usize::from(steps.left)];
+        let next = neighbours.around[4 * vertex as usize + usize::from(neighbours.left)];
         if next as usize >= coordinates.len() {
             return;
         }
@@ -379,16 +390,16 @@ fn spread(segments: &[u32], coordinates: &mut [u16])
 }
 
 /// Raises coordinates to those of longest paths, segment by segment: a segment comes when the coordinates of all
-/// segments that have a step to it are known. Linear in the vertices.
+/// segments that have an arc to it are known. Linear in the vertices.
 pub fn raise_to_longest_paths(
     axis_segments: &mut AxisSegments,
-    steps: Steps<'_>,
+    neighbours: Neighbours<'_>,
     coordinates: &mut [u16],
 )
-    requires directions { (steps.ahead < 4) × (steps.left < 4) }
-    requires count { length steps.around.now ≡ 4 * length coordinates.old }
-    requires segments { AreSegments (step steps.around.now steps.left) (length coordinates.old) axis_segments.old.segments.items }
-    ensures under { StayUnderAll (length coordinates.old) (step steps.entry.around.now steps.entry.ahead) (step steps.entry.around.now steps.entry.left) coordinates.old coordinates.new }
+    requires directions { (neighbours.ahead < 4) × (neighbours.left < 4) }
+    requires count { length neighbours.around.now ≡ 4 * length coordinates.old }
+    requires segments { AreSegments (neighbour neighbours.around.now neighbours.left) (length coordinates.old) axis_segments.old.segments.items }
+    ensures under { StayUnderAll (length coordinates.old) (neighbour neighbours.entry.around.now neighbours.entry.ahead) (neighbour neighbours.entry.around.now neighbours.entry.left) coordinates.old coordinates.new }
     ensures count { length coordinates.new ≡ length coordinates.old }
 {
     let segments = axis_segments.segments.as_slice();
@@ -403,7 +414,7 @@ pub fn raise_to_longest_paths(
         if first as usize >= coordinates.len() {
             break;
         }
-        leave_segment(steps, first, segments, &mut queue, coordinates);
+        leave_segment(neighbours, first, segments, &mut queue, coordinates);
     }
     spread(segments, coordinates);
 }

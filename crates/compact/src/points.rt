@@ -8,8 +8,8 @@ ghost use Rattle.compact.specs.Ordered.{AreLaidOut, AreCorners, IsCompactFault, 
 use crate::axis::least_coordinates;
 use crate::corners::{point_of, push_corners};
 use crate::fault::CompactFault;
+use crate::neighbours::neighbours_of;
 use crate::scratch::Scratch;
-use crate::steps::steps_of;
 use common::emptied;
 use dissect::Boxes;
 use ortho_rep::{Point, Points};
@@ -62,19 +62,19 @@ fn list_corners(
     Ok((corners, starts))
 }
 
-/// Points for a plane that was cut into boxes: whole numbers from 0 to 65,535 that grow along the darts,
+/// Points for a plane that was cut into boxes: integers from 0 to 65,535 that grow along the darts,
 /// x growing to the east and y to the north, the least there are. Edges run along the axes between their
 /// ends and corners.
 ///
 /// The coordinates are the lengths of longest paths in the two constraint graphs of the dissection (Tamassia 1987).
 /// They are found segment by segment, a segment being the vertices that darts across the axis join, in time linear
-/// in the darts. Where that does not keep all constraints, as in a drawing too wide for the grid, the end of
-/// each constraint that is not kept is raised, in rounds. The points stand in one list.
+/// in the darts. Where that does not satisfy all constraints, as in a drawing too wide for the grid, the end of
+/// each constraint that is not satisfied is raised, in rounds. The points stand in one list.
 ///
 /// # Errors
 ///
 /// `Wide` where no coordinates that grow along the darts are all at most 65,535; `Memory` where there is
-/// none for the steps, the coordinates, the segments, the constraints or the points.
+/// none for the neighbours, the coordinates, the segments, the constraints or the points.
 pub fn compact(alloc: Global, boxes: &Boxes) -> Result<Points, CompactFault>
     ensures laid { IfOk result (AreLaidOut boxes.now) }
     ensures fault { IfErr result (IsCompactFault boxes.now) }
@@ -107,7 +107,7 @@ pub fn compact_in(
         corners,
         starts,
     } = mem::replace(scratch, Scratch::empty(alloc));
-    let Ok(around) = steps_of(boxes, around) else {
+    let Ok(around) = neighbours_of(boxes, around) else {
         return Err(CompactFault::Memory);
     };
     let (x, y) = match least_coordinates(boxes, &around, x, y, &mut by_axis, &mut constraints) {

@@ -18,7 +18,7 @@ pub record DartMap : Type 0 where
   pub direction : ℕ → ℕ
   -- the angle at its head, between it and the next dart, in right angles
   pub angle : ℕ → ℕ
-  -- the dart in front of it on the same edge of the plane, side of a rectangle or chord, or `no_dart`
+  -- the dart before it on the same edge of the plane, side of a rectangle or chord, or `no_dart`
   pub before : ℕ → ℕ
 
 -- stands where there is no dart
@@ -54,8 +54,8 @@ pub record IsMeeting (w : DartMap) : Type 0 where
 abbrev pub IsStraight : DartMap → Type 0
 IsStraight w = (a : ℕ) → a < w.darts → w.direction (w.reverse_dart a) ≡ (w.direction a + 2) % 4
 
--- The edge of the dart e is subdivided by a new vertex, w.vertices. The new dart w.darts leads there in front of
--- e, and w.darts + 1 in front of e's reverse; e and its reverse keep their heads and angles. The walk along e
+-- The edge of the dart e is subdivided by a new vertex, w.vertices. The new dart w.darts leads there before
+-- e, and w.darts + 1 before e's reverse; e and its reverse keep their heads and angles. The walk along e
 -- arrives at the new vertex in the direction `way`, and there the angles are `bend` and 4 - bend.
 pub record IsSubdivided (w : DartMap) (e way bend : ℕ) (new : DartMap) : Type 0 where
   pub darts : new.darts ≡ w.darts + 2
@@ -124,7 +124,7 @@ pub record IsChord (w : DartMap) (d f way : ℕ) (new : DartMap) : Type 0 where
   pub before_back : new.before (w.darts + 1) ≡ no_dart
   pub before_old : (a : ℕ) → a < w.darts → new.before a ≡ w.before a
 
--- the chord leaves each of its corners so that the angles that are left fit
+-- the chord leaves each of its corners so that the angles that remain are its own
 pub record HasChordAngles (w : DartMap) (d f way : ℕ) : Type 0 where
   pub d_in : d < w.darts
   pub f_in : f < w.darts

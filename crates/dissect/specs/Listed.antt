@@ -15,7 +15,7 @@ pub record AreListed (w : DartMap) (right : ℕ) (inner : List (List ℕ)) (oute
   pub turns_back : total (map w.angle outer) ≡ 2 * length outer + 4
   pub all : (a : ℕ) → a < w.darts → IsCorner w a → In a (concatenated inner ++ outer)
 
--- the corners that the connected face has beside those of the outer face, where the map had n darts: along the cut to
+-- the corners that the merged face has beside those of the outer face, where the map had n darts: along the cut to
 -- the side `side` of the rectangle, round its inside and back
 abbrev pub detour : ℕ → ℕ → List ℕ
 detour n side =
@@ -26,7 +26,7 @@ pub record AreFlat (corners counts : List ℕ) (faces : List (List ℕ)) : Type 
   pub flat : corners ≡ concatenated faces
   pub lengths : counts ≡ map (λ (r : List ℕ). length r) faces
 
--- what the connected face keeps of the outer face's corners, which are `front` and then `right`: all of them, or all
+-- what the merged face keeps of the outer face's corners, which are `front` and then `right`: all of them, or all
 -- but `right`, where that is straight after the bridge
 pub record AreKeptCorners (w : DartMap) (right : ℕ) (front kept : List ℕ) : Type 0 where
   pub straight : w.angle right ≡ 3 → kept ≡ front

@@ -3,7 +3,7 @@ use Rattle.std.specs.Prelude.{◌≡◌, ℕ, ◌+◌, ◌-◌, ◌%◌, ◌<◌
 use Rattle.dissect.specs.DartMaps.{DartMap, no_dart}
 use Rattle.dissect.specs.Faces.{last_of, Below}
 
--- each dart of the list has the one in front of it before it, the first one a, and sets out where that arrives
+-- each dart of the list has its predecessor before it, the first one a, and sets out where that arrives
 abbrev pub Follows : DartMap → ℕ → List ℕ → Type 0
 Follows w a [] = Unit {0}
 Follows w a (b ∷ bs) = (w.before b ≡ a) × (w.head (w.reverse_dart b) ≡ w.head a) × Follows w b bs

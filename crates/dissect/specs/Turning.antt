@@ -30,7 +30,7 @@ abbrev pub AreLefts : List ℕ → Type 0
 AreLefts [] = Unit {0}
 AreLefts (x ∷ xs) = (x ≡ 1) × AreLefts xs
 
--- the walk along these corners has turned left most in front of place m, and less in front of each place before it
+-- the walk along these corners has turned left most before place m, and less before each earlier place
 pub record IsPeak (xs : List ℕ) (m : ℕ) : Type 0 where
   pub within : m ≤ length xs
   pub first : (j : ℕ) → j < m → 2 * j + total (take m xs) + 1 ≤ 2 * m + total (take j xs)

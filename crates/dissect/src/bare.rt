@@ -90,7 +90,7 @@ fn put_directions(table: &mut DartTable, directions: &[u8])
 }
 
 /// Writes what the table holds of a dart beside its direction: its next, its reverse, its head and its angle, and
-/// that none is in front of it; and the dart as the previous one of its next.
+/// that none is before it; and the dart as the previous one of its next.
 fn write_dart(table: &mut DartTable, plane: &Plane, shape: &Shape, dart: u16)
     requires within { dart < darts plane.now }
     requires space { darts plane.now ≤ room table.old }

@@ -121,7 +121,7 @@ impl Boxes {
         Direction::from_quarters(self.table.direction[dart as usize])
     }
 
-    /// The dart in front of a dart on the same chain, which is an edge of the plane, a side of the rectangle,
+    /// The dart before a dart on the same chain, which is an edge of the plane, a side of the rectangle,
     /// its bridge or a cut; none where it is the first one.
     pub fn before(&self, dart: u32) -> Option<u32>
         requires { dart < self.now.darts }

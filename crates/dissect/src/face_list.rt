@@ -14,7 +14,7 @@ use std::alloc::{AllocError, Global};
 /// The corners of faces, those of each face in walking order, whose memory can be used again.
 #[derive(Drop)]
 pub struct Faces {
-    /// The corners of the inner faces, one face after another, and behind them those of the connected face
+    /// The corners of the inner faces, one face after another, and behind them those of the merged face
     /// once it is added.
     pub(crate) corners: Vec<u32>,
     /// How many corners each of these faces has.
@@ -59,7 +59,7 @@ pub fn list_faces(table: &DartTable, right: u32, faces: Faces) -> Result<Faces, 
     let mut seen = filled(faces.seen, darts, false)?;
     let mut outer = emptied(faces.outer, darts)?;
     walk(table, right, &mut seen, &mut outer)?;
-    // The connected face has the corners of the outer face, and seven more.
+    // The merged face has the corners of the outer face, and seven more.
     let mut corners = emptied(faces.corners, darts + 7)?;
     let mut counts = emptied(faces.counts, face_count(table))?;
     'darts: for start in 0..table.darts {

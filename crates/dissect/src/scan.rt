@@ -82,7 +82,7 @@ fn read_corner(table: &mut DartTable, ring: &mut [u32], height: usize, read: usi
     height
 }
 
-/// The place in front of which the walk along the corners has turned left most, the first of them.
+/// The place before which the walk along the corners has turned left most, the first of them.
 fn peak(angle: &[u8], ring: &[u32]) -> usize
     requires inside { All (λ a. a < length angle.now) ring.now }
     requires small { All (λ a. slice_index angle.now a ≤ 4) ring.now }
@@ -137,7 +137,7 @@ pub fn cut_face(table: &mut DartTable, ring: &mut [u32])
 }
 
 /// Cuts all faces into boxes, one after another: `corners` holds their corners, those of each face in
-/// walking order, and `counts` how many each face has. What is left in `corners` is of no use.
+/// walking order, and `counts` how many each face has. What remains in `corners` is of no use.
 /// Linear in the corners.
 pub fn cut_faces(table: &mut DartTable, corners: &mut [u32], counts: &[u32])
     requires sound { IsSound (dart_map_of table.old) }

@@ -25,7 +25,7 @@ pub struct DartTable {
     pub reverse_dart: Vec<u32>,
     /// The vertex that the dart goes to.
     pub head: Vec<u32>,
-    /// The dart in front of it on the same edge of the plane, side of a rectangle or chord, or `NO_DART`
+    /// The dart before it on the same edge of the plane, side of a rectangle or chord, or `NO_DART`
     /// where it is the first there.
     pub before: Vec<u32>,
     /// The direction in which it arrives.

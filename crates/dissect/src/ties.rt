@@ -1,8 +1,8 @@
-//! Writes to the lists of a table: what follows on a face, what stands in front on an edge, what is reverse.
+//! Writes to the lists of a table: what follows on a face, what stands before on an edge, what is reverse.
 
 ghost use Rattle.std.specs.Prelude.{◌≡◌, ◌<◌, vec_len, slice_index, slice_set};
 
-/// Puts the dart `new` in front of the dart `old` on its face.
+/// Puts the dart `new` before the dart `old` on its face.
 pub fn put_before(next: &mut Vec<u32>, prev: &mut Vec<u32>, new: u32, old: u32)
     requires new_next { new < vec_len next.old }
     requires new_prev { new < vec_len prev.old }
@@ -46,7 +46,7 @@ pub fn pair(reverse_dart: &mut Vec<u32>, a: u32, b: u32)
     reverse_dart[b as usize] = a;
 }
 
-/// Puts the dart `new` in front of the dart `old` on its edge.
+/// Puts the dart `new` before the dart `old` on its edge.
 pub fn take_over(before: &mut Vec<u32>, new: u32, old: u32)
     requires new_in { new < vec_len before.old }
     requires old_in { old < vec_len before.old }

@@ -1,4 +1,4 @@
--- The whole points that are met in walking along a path whose parts are parallel to the axes.
+-- The grid points that are met in walking along a path whose parts are parallel to the axes.
 use Rattle.std.specs.Prelude.{ℕ, ◌+◌, ◌-◌, ◌≢◌, List, [], ◌∷◌, ◌++◌, map, nat_lt, if◌then◌else◌, AllPairs}
 use Rattle.std.specs.List.{range_with_len}
 use Rattle.ortho_rep.specs.declared.points.Point.{Point}

@@ -15,13 +15,13 @@ pub record IsTable (n : ℕ) (f : ℕ → ℕ) (table : List ℕ) : Type 0 where
   pub size : length table ≡ n
   pub each : (d : ℕ) → d < n → slice_index table d ≡ f d
 
--- the ties of the first n darts: of each its reverse and the dart after it
+-- the rotation system of the first n darts: of each its reverse and the dart after it
 pub record IsRotation (g : List (List ℕ)) (n : ℕ) (rotation : List ℕ) : Type 0 where
   pub size : length rotation ≡ 2 * n
   pub reverses : (d : ℕ) → d < n → slice_index rotation (2 * d) ≡ reverse_of g d
   pub afters : (d : ℕ) → d < n → slice_index rotation (2 * d + 1) ≡ after_of g d
 
--- the lists g of a graph keep the first seven rules, and the tables are theirs: in one stand the ties, the faces of all
+-- the lists g of a graph keep the first seven rules, and the tables are theirs: in one stand the rotation, the faces of all
 -- darts, the degrees of so many faces and the starts
 pub record AreTables (g : List (List ℕ)) (ends : List ℕ) (count : ℕ) (table : List ℕ) : Type 0 where
   pub rules : KeepsBefore g 8

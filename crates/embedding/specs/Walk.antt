@@ -19,11 +19,11 @@ pub record IsTraced (n : ℕ) (next face : ℕ → ℕ) (c d : ℕ) : Type 0 whe
 abbrev pub at : List ℕ → ℕ → ℕ
 at xs d = slice_index xs d
 
--- the next dart of a dart's face: in the ties, the one after the dart's reverse
+-- the next dart of a dart's face: in the rotation, the one after the dart's reverse
 abbrev pub next_in : List ℕ → ℕ → ℕ
 next_in rotation d = slice_index rotation (2 * slice_index rotation (2 * d) + 1)
 
--- the ties lead from each of n darts to one of them, and from no two to one
+-- the rotation leads from each of n darts to one of them, and from no two to one
 pub record AreRotations (n : ℕ) (rotation : List ℕ) : Type 0 where
   pub size : length rotation ≡ 2 * n
   pub back : (d : ℕ) → d < n → slice_index rotation (2 * d) < n
@@ -35,7 +35,7 @@ pub record HasDegrees (front : List ℕ) (n : ℕ) (face : ℕ → ℕ) (count :
   pub prefix_is : take (length front) table ≡ front
   pub degrees_are : (k : ℕ) → k < count → slice_index table (length front + k) ≡ degree_in n face k
 
--- the ties stand in the table, behind them the faces of n darts, and behind these the degrees of so many faces
+-- the rotation stands in the table, behind it the faces of n darts, and behind these the degrees of so many faces
 pub record HasFaceTable (n : ℕ) (rotation : List ℕ) (count : ℕ) (table : List ℕ) : Type 0 where
   pub size : length table ≡ 3 * n + count
   pub rotation_is : (i : ℕ) → i < 2 * n → slice_index table i ≡ slice_index rotation i

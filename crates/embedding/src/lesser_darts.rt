@@ -9,7 +9,7 @@ use std::iter::FusedIterator;
 use std::marker::Model;
 
 /// The darts of a graph that are lesser than their reverses, in order: one of each edge. In
-/// contracts it is the list of those that are left.
+/// contracts it is the list of those that remain.
 ///
 /// It takes no memory; all its calls together are linear in the darts.
 #[derive(Debug, Drop)]

@@ -81,7 +81,7 @@ fn add_table(table: &mut Vec<u16>, faces: &[u16], count: u16) -> Result<(), Allo
     Ok(())
 }
 
-/// Puts the face of each dart and the degree of each face behind the ties, and says how many faces there are. They are
+/// Puts the face of each dart and the degree of each face behind the rotation, and says how many faces there are. They are
 /// numbered in this memory.
 fn add_on(table: &mut Vec<u16>, faces: &mut [u16]) -> Result<u16, AllocError>
     requires tied { AreRotations (length faces.old) table.old.items }

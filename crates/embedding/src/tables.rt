@@ -70,7 +70,7 @@ fn add_starts(table: &mut Vec<u16>, lists: &Lists<'_>) -> Result<(), AllocError>
     Ok(())
 }
 
-/// What a graph keeps: the heads of all darts, a table, and how many faces there are. In the table stand the ties of
+/// What a graph keeps: the heads of all darts, a table, and how many faces there are. In the table stand the rotation of
 /// all darts, their faces, the degrees of the faces, and where each list begins.
 #[derive(Drop)]
 pub(crate) struct DartTables {
@@ -79,7 +79,7 @@ pub(crate) struct DartTables {
     pub(crate) faces: u16,
 }
 
-/// What the graph of these lists keeps, in the memory of old lists where that is enough. In the ties stand of each dart
+/// What the graph of these lists keeps, in the memory of old lists where that is enough. In the rotation stand of each dart
 /// its reverse, and the dart after it, which is the next one, but of the last dart of a list its first one. The room is
 /// just what a plane needs.
 pub(crate) fn darts_in(

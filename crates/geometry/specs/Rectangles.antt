@@ -1,4 +1,4 @@
--- Rectangles of whole points, borders included.
+-- Rectangles of grid points, borders included.
 use Rattle.std.specs.Prelude.{ℕ, ◌≤◌}
 use Rattle.geometry.specs.declared.rectangles.Rectangle.{Rectangle}
 

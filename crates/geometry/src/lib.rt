@@ -1,4 +1,4 @@
-//! The four directions along the axes, and rectangles of whole points.
+//! The four directions along the axes, and rectangles of grid points.
 #![tactic(auto)]
 
 mod dictionary;

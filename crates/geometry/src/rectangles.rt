@@ -1,4 +1,4 @@
-//! Whether any two rectangles of whole points meet, by a sweep from left to right (Shamos and Hoey 1976).
+//! Whether any two rectangles of grid points meet, by a sweep from left to right (Shamos and Hoey 1976).
 //!
 //! Where all rectangles lie in few rows and columns, their points are flagged by bits in its place. Where the rectangles
 //! have few rows, the frontier of the sweep stands in a table by rows; else the rectangles that it still
@@ -13,7 +13,7 @@ ghost use Rattle.geometry.specs.Rectangles.{IsNonempty, AreApart};
 use crate::{dictionary, frontier, masks};
 use std::alloc::{AllocError, Global};
 
-/// The whole points (x, y) with `left <= x <= right` and `bottom <= y <= top`.
+/// The grid points (x, y) with `left <= x <= right` and `bottom <= y <= top`.
 #[derive(Clone, Copy)]
 pub struct Rectangle {
     pub left: u32,

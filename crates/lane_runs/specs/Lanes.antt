@@ -30,7 +30,7 @@ module _ {A : Type 0} where
     pub none_taken : taken taker ≡ []
 
 module _ {A M : Type 0} where
-  -- a seat of these tickets has drawn until none was left, and the messages are all that is told of the files it drew,
+  -- a seat of these tickets has drawn until none remained, and the messages are all that is told of the files it drew,
   -- under this choice
   pub record TellsSeat (about : A → About) (choice : Choice) (meaning : ℕ → Meaning) (tickets : Tickets) (seat : Seat) (gave : List (Message A M)) : Type 0 where
     pub seat_of : IsSeatOf tickets seat

@@ -57,7 +57,7 @@ module _ {E M : Type 0} where
   HaveRun about choice meaning tickets fan lane _ _ = ⊥
 
 -- What a run leaves of a consumer, and which seats it gives back: so many, all of these tickets, each of which has drawn until
--- none was left; then the consumer holds notes that tell all of each file that was drawn once.
+-- none remained; then the consumer holds notes that tell all of each file that was drawn once.
 abbrev pub HasEnded : {C F : Type 0} → (C → List Note → Type 0) → (C → F → Type 0) → Choice → (ℕ → Meaning) → Tickets → ℕ → C
     → Result (Vec Seat Global) (RunFault F) → Type 0
 HasEnded holds gave_up choice meaning tickets count consumer (Ok seats) =

@@ -23,7 +23,7 @@ pub struct Reading<A: Numbered, M: Drop + Send> {
 }
 
 impl<R: Wait, O: Opener, G: Gate, L: LaneKind> Shared<'_, R, O, G, L> {
-    /// Draws files until none is left, and reads each. Of each it gives its records and one end, and after
+    /// Draws files until none remains, and reads each. Of each it gives its records and one end, and after
     /// the last file one stop. It gives the end of its link and its seat back, or none where the other end was gone.
     pub fn read_stage(
         &self,

@@ -6,7 +6,7 @@ use Rattle.networks.specs.Flow.{net_outflow, IsWithinCap, IsResidual, start_of, 
 abbrev pub IsWithinCaps : NetworkModel → (ℕ → ℕ) → Type 0
 IsWithinCaps net x = (i : ℕ) → i < arc_count net → IsWithinCap (arc_at net i).cap (x i)
 
--- x leaves each node v the excess e v: above 0 it is left over there, below 0 it is wanting
+-- x leaves each node v the excess e v; below 0 it is a deficit
 pub record HasExcess (net : NetworkModel) (x : ℕ → ℕ) (e : ℕ → ℤ) : Type 0 where
   pub at_node : (v : ℕ) → v < node_count net → net_outflow net x v +ℤ e v ≡ supply_at net v
 
@@ -27,6 +27,6 @@ abbrev pub IsResidualPath : NetworkModel → (ℕ → ℕ) → ℕ → ℕ → �
 IsResidualPath net x u v zero = u ≡ v
 IsResidualPath net x u v (suc k) = (i : ℕ) × (back : Bool) × (i < arc_count net) × IsResidual net x i back × (end_of net i back ≡ v) × IsResidualPath net x u (start_of net i back) k
 
--- no residual path leads from a node where something is left over to one where something is wanting
+-- no residual path leads from a node with an excess to one with a deficit
 pub record HasNoAugmentingPath (net : NetworkModel) (x : ℕ → ℕ) (e : ℕ → ℤ) : Type 0 where
   pub apart : (u v k : ℕ) → u < node_count net → v < node_count net → pos 0 <ℤ e u → e v <ℤ pos 0 → IsResidualPath net x u v k → ⊥

@@ -1,4 +1,4 @@
--- When a network surely has a flow: what is left over can reach what is wanting along arcs that
+-- When a network surely has a flow: each excess can reach each deficit along arcs that
 -- carry any number of units.
 use Rattle.std.specs.Prelude.{ℕ, ◌<◌, ◌≡◌, ℤ, pos, ◌<ℤ◌, Bool, true}
 use Rattle.common.specs.Sums.{total_below}
@@ -9,8 +9,8 @@ use Rattle.networks.specs.Networks.{NetworkModel, node_count, arc_count, arc_at,
 pub record IsClosedAny (net : NetworkModel) (s : ℕ → Bool) : Type 0 where
   pub stays : (i : ℕ) → i < arc_count net → (arc_at net i).cap ≡ Any → s (arc_at net i).from ≡ true → s (arc_at net i).to ≡ true
 
--- each set that no unlimited arc leaves, and that has a node where something is left over, has
--- every node where something is wanting
+-- each set that no unlimited arc leaves, and that has a node with an excess, has
+-- every node with a deficit
 pub record HasUnlimitedPaths (net : NetworkModel) (e : ℕ → ℤ) : Type 0 where
   pub meets : (s : ℕ → Bool) → IsClosedAny net s → (u v : ℕ) → u < node_count net → v < node_count net → s u ≡ true → pos 0 <ℤ e u → e v <ℤ pos 0 → s v ≡ true
 

@@ -1,5 +1,5 @@
--- A path of unsaturated residual arcs of reduced cost 0, from a node where units are left over to one where
--- units are wanting.
+-- A path of unsaturated residual arcs of reduced cost 0, from a node with an excess to one with
+-- a deficit.
 use Rattle.std.specs.Prelude.{ℕ, zero, suc, ◌<◌, ◌≡◌, ℤ, pos, ◌+ℤ◌, ◌-ℤ◌, Bool, true, false, List}
 use Rattle.networks.specs.declared.residual.ResidualArc.{ResidualArc}
 use Rattle.networks.specs.declared.residual.ResidualCapacity.{ResidualCapacity}
@@ -13,7 +13,7 @@ pub record IsTight (first : List ℕ) (arcs : List ResidualArc) (p : ℕ → ℤ
   pub arrives : end_at arcs k ≡ v
   pub at_zero : cost_at arcs k +ℤ p u -ℤ p v ≡ pos 0
 
--- node v was entered along residual arc k, from a node of the set that has a lesser place
+-- node v was reached by residual arc k, from a node of the set that has a lesser place
 pub record IsAfter (first : List ℕ) (arcs : List ResidualArc) (p : ℕ → ℤ) (on : ℕ → Bool) (place : ℕ → ℕ) (v k : ℕ) : Type 0 where
   pub start : ℕ
   pub member : on start ≡ true
@@ -21,7 +21,7 @@ pub record IsAfter (first : List ℕ) (arcs : List ResidualArc) (p : ℕ → ℤ
   pub step : IsTight first arcs p start k v
 
 -- residual arc `found` leads from node `last` to a node off the path, and each node of the path was
--- entered along `predecessor`, back to the root at place 0
+-- reached by `predecessor`, back to the root at place 0
 pub record HasTightPath (n : ℕ) (first : List ℕ) (arcs : List ResidualArc) (p : ℕ → ℤ) (predecessor place : ℕ → ℕ) (root found : ℕ) : Type 0 where
   pub on : ℕ → Bool
   pub node : (v : ℕ) → on v ≡ true → v < n
@@ -45,7 +45,7 @@ pub record IsOnPath (next place : ℕ → ℕ) (v w : ℕ) : Type 0 where
   pub at : w ≡ path_node next v steps
   pub high : (i : ℕ) → i < steps → 0 < place (path_node next v i)
 
--- the start of the residual arc by which a node was entered, and what fits along it
+-- the start of the residual arc by which a node was reached, and what fits along it
 abbrev pub previous_of : List ResidualArc → List ResidualCapacity → (ℕ → ℕ) → ℕ → ℕ
 previous_of arcs capacities predecessor w = end_at arcs (reverse_at capacities (predecessor w))
 

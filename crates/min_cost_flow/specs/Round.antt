@@ -7,7 +7,7 @@ use Rattle.min_cost_flow.specs.declared.resume.TheConstants.{MAX_CARRIED}
 use Rattle.networks.specs.Flow.{Flow, HasPotentials}
 use Rattle.min_cost_flow.specs.Excess.{IsWithinCaps, HasExcess}
 
--- what is left to send
+-- what remains to be sent
 abbrev pub remaining_units : NetworkModel → (ℕ → ℤ) → ℕ
 remaining_units net e = sum_below (node_count net) (λ v. up (e v))
 
@@ -26,7 +26,7 @@ pub record IsRound (net : NetworkModel) (x : ℕ → ℕ) (p e : ℕ → ℤ) : 
 abbrev pub carrying : NetworkModel → (ℕ → ℕ) → ℕ
 carrying net x = sum_below (arc_count net) (λ i. if x i == 0 then 0 else 1)
 
--- what units that go from one node to another leave: nothing is left over anew, and less in all
+-- what units that go from one node to another leave: no excess anew, and less in all
 pub record IsLess (net : NetworkModel) (e e' : ℕ → ℤ) : Type 0 where
   pub less : remaining_units net e' < remaining_units net e
   pub done : (v : ℕ) → v < node_count net → e v ≤ℤ pos 0 → e' v ≤ℤ pos 0

@@ -15,7 +15,7 @@ use Rattle.min_cost_flow.specs.declared.state.Solver.{Solver}
 use Rattle.min_cost_flow.specs.Path.{HasTightPath, IsOnPath, previous_of, capacity_into}
 use Rattle.min_cost_flow.specs.Round.{IsRound, IsLess, IsWork, carrying}
 
--- what is left over at a node, or below 0 is wanting there
+-- the excess of a node; below 0 it is a deficit
 abbrev pub excess_at : Solver → ℕ → ℤ
 excess_at s = at_nodes s.nodes.excess.items
 
@@ -26,7 +26,7 @@ potential_at s = at_nodes s.nodes.potential.items
 abbrev pub flow_in : Solver → ℕ → ℕ
 flow_in s = flow_of s.residual
 
--- the residual arc on which the last search entered a node, and the place of the node in its order
+-- the residual arc by which the last search reached a node, and the place of the node in its order
 abbrev pub predecessors_in : Solver → ℕ → ℕ
 predecessors_in s = predecessor_at s.visits.items
 
@@ -42,7 +42,7 @@ pub record IsSized (net : NetworkModel) (s : Solver) : Type 0 where
   pub labels : length s.visits.items ≡ node_count net
   pub unlabelled : (v : ℕ) → v < node_count net → label_at s.visits.items v ≡ far
 
--- what holds between two searches, of the residual network, the potentials, what is left over at nodes and the visits
+-- what holds between two searches, of the residual network, the potentials, the excesses and the visits
 pub record IsReadyIn (net : NetworkModel) (r : Residual) (potential excess : List ℤ) (visits : List Visit) : Type 0 where
   pub network : IsNetwork net
   pub residual : IsResidualNetwork net r
@@ -80,7 +80,7 @@ pub record IsAugmented (net : NetworkModel) (s s' : Solver) : Type 0 where
   pub less : IsLess net (excess_at s) (excess_at s')
   pub carrying : carrying net (flow_in s') + s.looks ≤ carrying net (flow_in s) + s'.looks
 
--- nothing is left over at a node any more, nor anew at any other
+-- a node has no excess any more, and no other has one anew
 pub record HasSentFrom (net : NetworkModel) (s s' : Solver) (root : ℕ) : Type 0 where
   pub between_searches : IsBetweenSearches net s'
   pub here : excess_at s' root ≤ℤ pos 0
@@ -92,7 +92,7 @@ pub record HasSentFrom (net : NetworkModel) (s s' : Solver) (root : ℕ) : Type 
 abbrev pub last_node : Solver → ℕ
 last_node s = end_at s.residual.arcs.items (reverse_at s.residual.capacities.items s.found)
 
--- a search has found a path from a node where units are left over to one where units are wanting, whose last residual
+-- a search has found a path from a node with an excess to one with a deficit, whose last residual
 -- arc is `found`
 pub record CanAugmentIn (net : NetworkModel) (r : Residual) (potential excess : List ℤ) (visits : List Visit) (found from : ℕ) : Type 0 where
   pub ready : IsReadyIn net r potential excess visits
@@ -110,7 +110,7 @@ pub record IsSentAlong (net : NetworkModel) (s s' : Solver) : Type 0 where
   pub less : IsLess net (excess_at s) (excess_at s')
   pub carrying : carrying net (flow_in s') ≤ carrying net (flow_in s) + places_in s (last_node s) + 1
 
--- so many units fit along the path, are left over where it starts, and are wanting where it ends
+-- so many units fit along the path, and are within the excess where it starts and the deficit where it ends
 pub record IsFitting (s : Solver) (root amount : ℕ) : Type 0 where
   pub found : amount ≤ capacity_at s.residual.capacities.items s.found
   pub remaining : pos amount ≤ℤ excess_at s root

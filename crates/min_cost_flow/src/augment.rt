@@ -1,5 +1,5 @@
 //! Augmenting along the path that a search found (Ahuja, Magnanti and Orlin, Network Flows, 1993, section 9.7): as
-//! many units as fit along it, but no more than are left over where it starts or are wanting where it ends.
+//! many units as fit along it, but no more than the excess where it starts or the deficit where it ends.
 //!
 //! It goes over the residual arcs of the path twice, and takes no memory. Potentials stay: along the path reduced
 //! costs are 0, so the residual arcs back, which it gives capacity, have reduced costs of 0 too. Amounts are at
@@ -33,7 +33,7 @@ impl Solver {
         }
     }
 
-    /// How much can go along the path: as much as fits, is left over at the root and is wanting at the end.
+    /// How much can go along the path: as much as fits, at most the root's excess and the end's deficit.
     fn bottleneck(&self, root: usize) -> u32
         requires { (net : NetworkModel) × CanAugment net self.now root }
         ensures { IsBottleneck self.now root result }
@@ -52,7 +52,7 @@ impl Solver {
     }
 }
 
-/// How much can go from one node to another: as much as is left over at the one and wanting at the other.
+/// How much can go from one node to another: the lesser of the one's excess and the other's deficit.
 fn most_between(excess: &[i32], root: usize, target: usize) -> u32
     requires root { root < length excess.now }
     requires target { target < length excess.now }

@@ -12,14 +12,14 @@ pub fn potentials_show_least_cost()
     ensures { (net : NetworkModel) (x : ℕ → ℕ) (p : ℕ → ℤ) → HasEnds net → Flow net x → HasPotentials net x p → IsLeastCost net x }
 {}
 
-/// Where amounts leave some excess, and no residual path leads from what is left over to what is
-/// wanting, there is no flow.
+/// Where amounts leave some excess, and no residual path leads from a node with an excess to one with
+/// a deficit, there is no flow.
 pub fn no_path_shows_no_flow()
     ensures { (net : NetworkModel) (x : ℕ → ℕ) (e : ℕ → ℤ) (u : ℕ) → HasEnds net → HasExcess net x e → HasNoAugmentingPath net x e → u < node_count net → e u ≢ pos 0 → HasNoFlow net }
 {}
 
 /// Where supplies sum to 0, amounts within the capacities leave some excess, and paths of unlimited arcs
-/// lead from all that is left over to all that is wanting, there is a flow.
+/// lead from each node with an excess to each with a deficit, there is a flow.
 pub fn unlimited_arcs_give_a_flow()
     ensures { (net : NetworkModel) (x : ℕ → ℕ) (e : ℕ → ℤ) → HasEnds net → SuppliesSumToZero net → IsWithinCaps net x → HasExcess net x e → HasUnlimitedPaths net e → (y : ℕ → ℕ) × Flow net y }
 {}

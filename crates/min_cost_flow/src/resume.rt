@@ -44,7 +44,7 @@ impl Solver {
         self.resend(from as usize)
     }
 
-    /// Sends all that is left over at the one node where there is something.
+    /// Sends the whole excess of the one node that has any.
     fn resend(&mut self, root: usize) -> bool
         requires ready { (net : NetworkModel) × IsReady net self.old }
         requires root { root < length self.old.nodes.excess.items }

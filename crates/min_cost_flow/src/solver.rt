@@ -1,5 +1,5 @@
 //! Successive shortest paths (Ahuja, Magnanti and Orlin, Network Flows, 1993, section 9.7): initialise, and
-//! then, as long as units are left over at a node, search for a shortest path by reduced costs, update the
+//! then, as long as a node has an excess, search for a shortest path by reduced costs, update the
 //! potentials, and augment along the path.
 //!
 //! Networks have at most 1,024 nodes and 4,096 arcs of cost 0 or 1, and nodes supply or want at most 2,048
@@ -107,7 +107,7 @@ impl Solver {
         !has_deficit(&self.nodes.excess)
     }
 
-    /// Initialise: no arc carries anything, all potentials are 0, all that is supplied is left over, and no work
+    /// Initialise: no arc carries anything, all potentials are 0, all supplies are excesses, and no work
     /// was done.
     fn initialise(&mut self, network: &Network)
         requires { IsSized network.now self.old }
@@ -121,7 +121,7 @@ impl Solver {
         self.looks = 0;
     }
 
-    /// Sends all that is left over at a node to where it is wanting; whether that can be done.
+    /// Sends the whole excess of a node to nodes with a deficit; whether that can be done.
     fn send_all_from(&mut self, root: usize) -> bool
         requires between_searches { (net : NetworkModel) × IsBetweenSearches net self.old }
         requires root { root < length self.old.nodes.excess.items }
@@ -137,7 +137,7 @@ impl Solver {
         true
     }
 
-    /// Searches for a shortest path from a node where units are left over to one where units are wanting, updates
+    /// Searches for a shortest path from a node with an excess to one with a deficit, updates
     /// the potentials and augments along it; whether there is one.
     pub(crate) fn augment_once(&mut self, root: usize) -> bool
         requires ready { (net : NetworkModel) × IsReady net self.old }
@@ -164,9 +164,9 @@ impl Solver {
     }
 }
 
-/// Searches for a shortest path from a node where units are left over to the nearest one where units are wanting, and
-/// updates the potentials. It gives back the last residual arc of the path; each node before has the one on which it
-/// was entered. `None` where there is no such path.
+/// Searches for a shortest path from a node with an excess to the nearest one with a deficit, and
+/// updates the potentials. It gives back the last residual arc of the path; each node before has the one by which it
+/// was reached. `None` where there is no such path.
 pub(crate) fn find_path(
     residual: &Residual,
     nodes: &mut Nodes,
@@ -237,7 +237,7 @@ fn clear(search: &mut Search<'_>)
     }
 }
 
-/// Whether units are wanting at a node.
+/// Whether some node has a deficit.
 pub(crate) fn has_deficit(excess: &[i32]) -> bool
     ensures some { result ≡ true → (v : ℕ) × (v < length excess.now) × (at_nodes excess.now v <ℤ pos 0) }
     ensures none { result ≡ false → (v : ℕ) → v < length excess.now → pos 0 ≤ℤ at_nodes excess.now v }

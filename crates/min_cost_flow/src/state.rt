@@ -8,9 +8,9 @@ use std::alloc::{AllocError, Global};
 /// What is known of each node of a network.
 #[derive(Drop)]
 pub struct Nodes {
-    /// Under these no unsaturated residual arc has a reduced cost below 0, and where units are wanting they are 0.
+    /// Under these no unsaturated residual arc has a reduced cost below 0, and at a deficit they are 0.
     pub potential: Vec<i32>,
-    /// How many units are left over at a node, or, below 0, are wanting there.
+    /// How many units a node still has to send; below 0, its deficit.
     pub excess: Vec<i32>,
     /// Of nodes that are as near the one with the least score is taken.
     pub score: Vec<i32>,

@@ -7,15 +7,15 @@ use Rattle.networks.specs.Networks.{NetworkModel, node_count, arc_count, arc_at,
 
 -- ---- flows: amounts x i by the arc's number i
 
--- what leaves node v
+-- what arcs carry out of node v
 abbrev pub outflow : NetworkModel → (ℕ → ℕ) → ℕ → ℕ
 outflow net x v = sum_below (arc_count net) (λ i. if (arc_at net i).from == v then x i else 0)
 
--- what enters node v
+-- what arcs carry into node v
 abbrev pub inflow : NetworkModel → (ℕ → ℕ) → ℕ → ℕ
 inflow net x v = sum_below (arc_count net) (λ i. if (arc_at net i).to == v then x i else 0)
 
--- what leaves v less what enters it
+-- the outflow less the inflow
 abbrev pub net_outflow : NetworkModel → (ℕ → ℕ) → ℕ → ℤ
 net_outflow net x v = pos (outflow net x v) -ℤ pos (inflow net x v)
 

@@ -1,4 +1,4 @@
--- The search for the nearest node where units are wanting: labels, the order of nodes by their
+-- The search for the nearest node with a deficit: labels, the order of nodes by their
 -- distance, and what holds of them.
 use Rattle.std.specs.Prelude.{ℕ, ◌+◌, ◌-◌, ◌*◌, ◌<◌, ◌≤◌, ◌≡◌, ◌≢◌, ℤ, pos, negsuc, ◌+ℤ◌, ◌-ℤ◌, ◌≤ℤ◌, ◌<ℤ◌, ◌⊎◌, List, length, slice_index_or}
 use Rattle.networks.specs.declared.network.TheConstants.{MAX_NODES}
@@ -45,7 +45,7 @@ pub record AreFeasiblePotentials (n : ℕ) (first : List ℕ) (arcs : List Resid
   pub low : (v : ℕ) → v < n → (pos 0 ≤ℤ (p v +ℤ pos (2 * n))) × (p v ≤ℤ pos (2 * n))
   pub zero : (v : ℕ) → v < n → e v <ℤ pos 0 → p v ≡ pos 0
 
--- a whole number is at most k away from another
+-- an integer is at most k away from another
 abbrev pub IsNear : ℤ → ℕ → ℤ → Type 0
 IsNear z k a = (z ≤ℤ (a +ℤ pos k)) × (a ≤ℤ (z +ℤ pos k))
 
@@ -78,7 +78,7 @@ pub record IsReached (n : ℕ) (first : List ℕ) (arcs : List ResidualArc) (p e
   pub nonnegative : (v : ℕ) → v < n → q v <ℤ far → pos 0 ≤ℤ e v
   pub entered : (v : ℕ) → v < n → q v <ℤ far → v ≢ s → HasPredecessor n first arcs q place scanned v (predecessor v)
 
--- residual arc k leads from a scanned node to one where units are wanting, at distance `bound`
+-- residual arc k leads from a scanned node to one with a deficit, at distance `bound`
 pub record IsHit (n : ℕ) (first : List ℕ) (arcs : List ResidualArc) (p e : ℕ → ℤ) (s : ℕ) (q : ℕ → ℤ) (place : ℕ → ℕ) (scanned : ℕ) (bound : ℤ) (k : ℕ) : Type 0 where
   pub start : ℕ
   pub node : start < n
@@ -90,13 +90,13 @@ pub record IsHit (n : ℕ) (first : List ℕ) (arcs : List ResidualArc) (p e : �
   pub distance : bound ≡ q start +ℤ cost_at arcs k -ℤ p (end_at arcs k)
   pub near : IsNear (p s) scanned bound
 
--- the nearest node found so far where units are wanting is at distance `bound`, not below the radius
+-- the nearest node found so far with a deficit is at distance `bound`, not below the radius
 pub record IsNearest (n : ℕ) (first : List ℕ) (arcs : List ResidualArc) (p e : ℕ → ℤ) (s : ℕ) (q : ℕ → ℤ) (place : ℕ → ℕ) (scanned : ℕ) (radius bound : ℤ) (k : ℕ) : Type 0 where
   pub above : radius ≤ℤ bound
   pub most : bound ≤ℤ far
   pub hit : bound <ℤ far → IsHit n first arcs p e s q place scanned bound k
 
--- residual arc k from node u offers nothing more to its end
+-- residual arc k from node u gives no nearer label to its end
 abbrev pub IsFeasibleAt : List ResidualArc → (ℕ → ℤ) → (ℕ → ℤ) → ℤ → ℕ → ℕ → Type 0
 IsFeasibleAt arcs p q bound u k = HasResidualCapacity arcs k → (q u +ℤ cost_at arcs k -ℤ p (end_at arcs k)) <ℤ bound → q (end_at arcs k) ≤ℤ (q u +ℤ cost_at arcs k)
 
@@ -180,7 +180,7 @@ pub record IsSearchInput (g : SearchInput) : Type 0 where
   pub priced : AreFeasiblePotentials (nodes_of g) (first_of g) (arcs_of g) (potential_of g) (excess_of g)
   pub root : g.root < nodes_of g
 
--- a search can begin: units are left over at the root, and no node has a label
+-- a search can begin: the root has an excess, and no node has a label
 pub record IsUnlabelled (g : SearchInput) (visits : List Visit) : Type 0 where
   pub input : IsSearchInput g
   pub size : length visits ≡ nodes_of g
@@ -344,7 +344,7 @@ pub record IsSwapped (order place order' place' : ℕ → ℕ) (v from to : ℕ)
   pub instead : order to ≢ v → place' (order to) ≡ from
   pub stay : (w : ℕ) → w ≢ v → w ≢ order to → place' w ≡ place w
 
--- a node has got a label and the residual arc on which it was entered, and where it had no label a place behind
+-- a node has got a label and the residual arc by which it was reached, and where it had no label a place behind
 -- all others
 pub record IsLabelled (s s' : Search) (step : Candidate) : Type 0 where
   pub label : IsPut (labels s) (labels s') step.end step.label

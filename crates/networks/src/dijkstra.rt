@@ -1,7 +1,7 @@
-//! The search for the nearest node where units are wanting: Dijkstra's algorithm (1959) by reduced costs, which are
+//! The search for the nearest node with a deficit: Dijkstra's algorithm (1959) by reduced costs, which are
 //! at least 0 (Ahuja, Magnanti and Orlin, Network Flows, 1993, section 9.7), from one root, by growing distance.
 //!
-//! Networks have at most 1,024 nodes and 8,192 residual arcs of cost -1 to 1, so distances are small whole numbers.
+//! Networks have at most 1,024 nodes and 8,192 residual arcs of cost -1 to 1, so distances are small integers.
 //! Each residual arc is looked at once at most. Beside that the nodes that wait are gone over for each radius.
 ghost use Rattle.std.specs.Prelude.{◌≡◌, ◌⊎◌, ◌<◌, ◌≤◌, ◌+◌, ◌^◌, ℕ, length, pos, ◌≤ℤ◌, ◌<ℤ◌, ◌+ℤ◌, ◌-ℤ◌, true, false};
 ghost use Rattle.networks.specs.ResidualArcs.{StartsAt};
@@ -12,12 +12,12 @@ use crate::state::{Candidate, FAR, Search, SearchInput, Visit};
 
 impl<'a> Search<'a> {
     /// Labels the nodes round a root, in order of their distance by reduced costs, up to the nearest one
-    /// where units are wanting.
+    /// with a deficit.
     ///
     /// Then `bound` is the distance of that node, and `found` the last residual arc on the way there;
     /// where unsaturated residual arcs lead to no such node, `bound` is `FAR`. A node's label is the root's
     /// potential and the costs of the residual arcs on the way; less its own potential it is its distance.
-    /// Each node that was reached has the residual arc on which it was entered, and a place in the order,
+    /// Each node that was reached has the residual arc by which it was, and a place in the order,
     /// the root the first. Those at its first `scanned` places were scanned, and the others that were reached
     /// are no nearer than `bound`.
     ///

@@ -8,7 +8,7 @@ ghost use Rattle.networks.specs.Search.{far, potential_of, excess_of, labels, pr
 use crate::state::{Candidate, FAR, Search, SearchInput};
 
 impl Search<'_> {
-    /// Takes up what a residual arc offers to its end: where units are wanting there, it may be the nearest such
+    /// Takes up the candidate of a residual arc for its end: where that has a deficit, it may be the nearest such
     /// node now, and else it gets the label if that is nearer than the bound.
     pub(crate) fn reach(&mut self, input: SearchInput<'_>, step: Candidate)
         requires candidate { HasCandidate input self.old step }
@@ -26,7 +26,7 @@ impl Search<'_> {
         }
     }
 
-    /// Gives a node where no units are wanting a label, and puts it behind those that are ordered if it is at
+    /// Gives a node without a deficit a label, and puts it behind those that are ordered if it is at
     /// the radius.
     fn label_node(&mut self, input: SearchInput<'_>, step: Candidate)
         requires candidate { HasCandidate input self.old step }
@@ -40,7 +40,7 @@ impl Search<'_> {
         }
     }
 
-    /// Takes a node where units are wanting for the nearest one, if it is, or if it is as near and has a
+    /// Takes a node with a deficit for the nearest one, if it is, or if it is as near and has a
     /// lesser score.
     fn candidate(&mut self, input: SearchInput<'_>, number: usize, distance: i32)
         ensures same { SameBesideBound self.old self.new }

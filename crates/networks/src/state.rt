@@ -10,9 +10,9 @@ pub struct SearchInput<'a> {
     /// The residual arcs that start at node v have the numbers from `first[v]` up to `first[v + 1]`.
     pub first: &'a [u32],
     pub arcs: &'a [ResidualArc],
-    /// Under these no unsaturated residual arc has a reduced cost below 0, and where units are wanting they are 0.
+    /// Under these no unsaturated residual arc has a reduced cost below 0, and at a deficit they are 0.
     pub potential: &'a [i32],
-    /// How many units are left over at a node, or, below 0, are wanting there.
+    /// How many units a node still has to send; below 0, its deficit.
     pub excess: &'a [i32],
     /// Of nodes that are found at the same distance the one with the least score is taken.
     pub score: &'a [i32],
@@ -25,7 +25,7 @@ pub struct SearchInput<'a> {
 pub struct Visit {
     /// The root's potential and the costs of the residual arcs on the way to the node, or `FAR`.
     pub label: i16,
-    /// The residual arc on which the node was entered.
+    /// The residual arc by which the node was reached.
     pub predecessor: u16,
     /// The place of the node in the order.
     pub place: u16,
@@ -46,7 +46,7 @@ pub struct Search<'a> {
     pub reached: usize,
     /// The distance of the nodes that are scanned now.
     pub radius: i32,
-    /// The distance of the nearest node found where units are wanting, or `FAR` where none was found.
+    /// The distance of the nearest node found with a deficit, or `FAR` where none was found.
     pub bound: i32,
     /// The residual arc that leads to that node.
     pub found: usize,

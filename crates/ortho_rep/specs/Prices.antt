@@ -18,7 +18,7 @@ vertex_price t v = slice_index_or t.vertices (v - 1) (pos 0)
 abbrev pub face_price : PricesModel → ℕ → ℤ
 face_price t f = slice_index_or t.faces f (pos 0)
 
--- the prices of a dart's head, of its face and of the face across fit its angle and its turns: no unit that the
+-- the prices of a dart's head, of its face and of the face across agree with its angle and its turns: no unit that the
 -- angle could give up or take is worth moving, no unit across gains more than the bend costs, and a crossing arc
 -- that is used gains just that
 pub record IsPriced (angle : ℕ) (turns : List Turn) (vertex face across : ℤ) : Type 0 where
@@ -27,7 +27,7 @@ pub record IsPriced (angle : ℕ) (turns : List Turn) (vertex face across : ℤ)
   pub crossed : pos 0 ≤ℤ (pos 1 +ℤ face -ℤ across)
   pub tight : 0 < lefts turns → (pos 1 +ℤ face -ℤ across) ≡ pos 0
 
--- dart d of the representation (a, s) fits the vertex prices v and the face prices q
+-- dart d of the representation (a, s) agrees with the vertex prices v and the face prices q
 abbrev pub IsPricedAt : PlaneModel → (ℕ → ℕ) → (ℕ → List Turn) → (ℕ → ℤ) → (ℕ → ℤ) → ℕ → Type 0
 IsPricedAt p a s v q d = IsPriced (a d) (s d) (v (head p d)) (q (face_at p d)) (q (face_at p (reverse_dart p d)))
 

@@ -101,7 +101,7 @@ fn begin(alloc: Global, plane: &Plane) -> Result<Moving, AllocError>
     }
 }
 
-/// Goes on to another outer face: eight units less are wanting at the old one, and eight more at the
+/// Goes on to another outer face: the deficit of the old one is eight units less, and eight more at the
 /// new one. It takes no memory.
 fn turned(moving: Moving, plane: &Plane, face: u16) -> Moving
     requires moving { IsMoving plane.now moving }

@@ -14,7 +14,7 @@ use crate::turn::{Turn, count_lefts};
 use faces::Plane;
 
 /// Whether the prices prove the shape least: whether all four lists have the plane's lengths, and each
-/// dart's angle and turns fit the prices of its head, of its face and of the face across.
+/// dart's angle and turns agree with the prices of its head, of its face and of the face across.
 ///
 /// A shape that `is_shape` accepts too has the fewest bends (complementary slackness), whoever made it
 /// and its prices. No memory is taken; linear in the turns and the darts.
@@ -33,7 +33,7 @@ fn has_prices(plane: &Plane, prices: &Prices) -> bool
         && prices.face_count() == usize::from(plane.face_count())
 }
 
-/// Whether all darts fit the prices.
+/// Whether all darts agree with the prices.
 fn are_priced(plane: &Plane, shape: &Shape, prices: &Prices) -> bool
     requires darts { HasDarts plane.now shape.now }
     requires prices { HasPrices plane.now prices.now }
@@ -48,7 +48,7 @@ fn are_priced(plane: &Plane, shape: &Shape, prices: &Prices) -> bool
     true
 }
 
-/// Whether a dart fits the prices.
+/// Whether a dart agrees with the prices.
 fn is_priced_at(plane: &Plane, shape: &Shape, prices: &Prices, dart: u16) -> bool
     requires within { dart < darts plane.now }
     requires darts { HasDarts plane.now shape.now }
@@ -62,14 +62,14 @@ fn is_priced_at(plane: &Plane, shape: &Shape, prices: &Prices, dart: u16) -> boo
     is_priced(shape.angle(dart), shape.turns(dart), vertex, face, across)
 }
 
-/// Whether one dart's angle and turns fit the prices of its head, of its face and of the face across.
+/// Whether one dart's angle and turns agree with the prices of its head, of its face and of the face across.
 fn is_priced(angle: u8, turns: &[Turn], vertex: i32, face: i32, across: i32) -> bool
     ensures { IsTrue result ↔ IsPriced angle turns.now vertex face across }
 {
     angle_agrees(angle, vertex, face) && crossing_agrees(turns, face, across)
 }
 
-/// Whether an angle fits the prices at its corner.
+/// Whether an angle agrees with the prices at its corner.
 fn angle_agrees(angle: u8, vertex: i32, face: i32) -> bool
     ensures { IsTrue result ↔ ((angle < 4 → face ≤ℤ vertex) × (1 < angle → vertex ≤ℤ face)) }
 {
@@ -80,7 +80,7 @@ fn angle_agrees(angle: u8, vertex: i32, face: i32) -> bool
     }
 }
 
-/// Whether turns fit the prices on both sides of their dart.
+/// Whether turns agree with the prices on both sides of their dart.
 fn crossing_agrees(turns: &[Turn], face: i32, across: i32) -> bool
     ensures { IsTrue result ↔ ((pos 0 ≤ℤ (pos 1 +ℤ face -ℤ across)) × (0 < lefts turns.now → (pos 1 +ℤ face -ℤ across) ≡ pos 0)) }
 {

@@ -11,7 +11,7 @@ use std::marker::Model;
 /// The greatest coordinate of the grid; the least is 0.
 pub const MAX_COORDINATE: u32 = 65_535;
 
-/// A point with whole coordinates: x grows to the east, y to the north.
+/// A point with integer coordinates: x grows to the east, y to the north.
 #[derive(Clone, Copy, Debug, PartialEq, Eq)]
 pub struct Point {
     pub x: u32,

@@ -6,9 +6,9 @@ ghost use Rattle.ortho_rep.specs.Prices.{vertex_price, face_price};
 use crate::scratch::Scratch;
 use std::marker::Model;
 
-/// A whole number for each vertex and each face of a plane. In contracts it is the two lists.
+/// An integer for each vertex and each face of a plane. In contracts it is the two lists.
 ///
-/// Where they fit a representation, they prove it least: `certify` is the test. No accessor takes memory,
+/// Where they agree with a representation, they prove it least: `certify` is the test. No accessor takes memory,
 /// and each takes constant time.
 #[derive(Debug, Drop)]
 pub struct Prices {

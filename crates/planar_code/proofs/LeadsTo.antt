@@ -44,7 +44,7 @@ goes_nowhere p stream records s =
 adds_none : (records : List (List ℕ)) (stream : List ℕ) (p : FramerState) → StandsAt stream records p → StandsAt stream (records ++ []) p
 adds_none records stream p s = subst (λ z. StandsAt stream z p) (sym (append-nil records)) s
 
--- the open record goes on
+-- the partial record goes on
 pub goes_more : (count : ℕ) (rest text : List ℕ) → count ≢ MAX_RECORDS → IsUnfinished (rest ++ text) → Goes (After count rest) text [] (After count (rest ++ text))
 goes_more count rest text room unfinished stream records s = adds_none records (stream ++ text) (After count (rest ++ text)) (record {
   body = s.body ++ text;
@@ -55,7 +55,7 @@ goes_more count rest text room unfinished stream records s = adds_none records (
   full = λ e. absurd (room e);
 })
 
--- the open record is whole
+-- the partial record is whole
 pub goes_whole : (count : ℕ) (rest text bytes : List ℕ) → count < MAX_RECORDS → bytes ≡ rest ++ text → IsRecord bytes → Goes (After count rest) text (bytes ∷ []) (After (count + 1) [])
 goes_whole count rest text bytes room same whole stream records s =
     let n = length-append records (bytes ∷ []) in

@@ -54,7 +54,7 @@ step-header passed records rest (x ∷ text) new before some other = fails_heade
 pub step-many : (records : ℕ) (rest text : List ℕ) (new : FramerState) → records ≡ MAX_RECORDS → 0 < length text → FramerSteps (After records rest) text new (Err fault.Many)
 step-many records rest text new full some = fails_many records rest text full (some-text text some)
 
--- the text ends the open record
+-- the text ends the partial record
 pub step-whole : (records : ℕ) (rest text new bytes : List ℕ) (end : ℕ) → records < MAX_RECORDS → TakesFrom rest text new (Ok (Some (bytes, end))) → FramerSteps (After records rest) text (After (records + 1) new) (Ok (end, Some bytes))
 step-whole records rest text new bytes end room t = (
   t.1,
@@ -77,7 +77,7 @@ step-more records rest text new room some t = (
     take-all [] = refl
     take-all (x ∷ xs) = ap (λ z. x ∷ z) (take-all xs)
 
--- the open record has a fault
+-- the partial record has a fault
 pub step-fault : (records : ℕ) (rest text taken : List ℕ) (new : FramerState) (f : FeedFault) → records < MAX_RECORDS → TakesFrom rest text taken (Err f) → FramerSteps (After records rest) text new (Err f)
 step-fault records rest text taken new fault.Header room t = absurd t
 step-fault records rest text taken new fault.Large room t = fails_large records rest text (λ e. omega arith) t

@@ -8,7 +8,7 @@ use Rattle.planar_code.specs.Stream.{IsUnfinished}
 use Rattle.planar_code.specs.Split.{IsDivided, IsSplit, ending_of}
 
 -- all that a framer keeps of its stream: a beginning of the header; after the header how many records
--- there were and the bytes of the record that is open; or its fault
+-- there were and the bytes of the partial record; or its fault
 pub data FramerState : Type 0 where
   Early : List ℕ → FramerState
   After : ℕ → List ℕ → FramerState

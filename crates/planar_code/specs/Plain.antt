@@ -9,7 +9,7 @@ use Rattle.planar_code.specs.Stream.{IsRecord, IsUnfinished}
 use Rattle.planar_code.specs.Split.{IsDivided, EndsAs}
 use Rattle.planar_code.specs.Started.{IsStarted, IsOversize}
 
--- where the next list ends, after bytes of a record that has that many lists left
+-- where the next list ends, after bytes of a record of which that many lists remain
 abbrev pub EndsList : List ℕ → ℕ → List ℕ → End → Type 0
 EndsList before remaining bytes (end.After n) = (0 < n) × (n ≤ length bytes) × (1 < remaining → IsStarted (before ++ take n bytes) (remaining - 1) 0) × (remaining ≡ 1 → IsRecord (before ++ take n bytes))
 EndsList before remaining bytes end.Truncated = IsUnfinished (before ++ bytes)
@@ -27,7 +27,7 @@ pub record SplitsBody (body : List ℕ) (records : List (List ℕ)) (end : Endin
   pub divided : IsDivided body records rest
   pub ends : EndsAs (length records) rest end
 
--- the records so far, and the bytes that are left
+-- the records so far, and the bytes that remain
 pub record HasSplit (body : List ℕ) (records : List (List ℕ)) (rest : List ℕ) : Type 0 where
   pub concatenated : body ≡ concat records ++ rest
   pub each : All IsRecord records

@@ -16,7 +16,7 @@ Scans before text (Err fault.Large) = BeginsWithZero (before ++ text)
 Scans before text (Err fault.Oversize) = IsOversize (before ++ text)
 Scans before text (Err _) = ⊥
 
--- what an open record makes of a text: its end, if that comes, or the same record with the text
+-- what a partial record makes of a text: its end, if that comes, or the same record with the text
 abbrev pub TakesFrom : List ℕ → List ℕ → List ℕ → Result (Option (List ℕ × ℕ)) FeedFault → Type 0
 TakesFrom old text new (Ok None) = IsUnfinished new × (new ≡ old ++ text)
 TakesFrom old text new (Ok (Some (bytes, end))) = (new ≡ []) × (0 < end) × (end ≤ length text) × (bytes ≡ old ++ take end text) × IsRecord bytes

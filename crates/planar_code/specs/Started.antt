@@ -5,8 +5,8 @@ use Rattle.planar_code.specs.declared.TheConstants.{MAX_LIST}
 use Rattle.planar_code.specs.Stream.{IsEntry, IsList, ended, NoRecordFirst}
 use Rattle.planar_code.specs.Split.{BeginsWithZero}
 
--- the bytes begin a record: whole lists, and then some entries of the next. That many lists are left,
--- the open one among them, and the open one has that many entries
+-- the bytes begin a record: whole lists, and then some entries of the next. That many lists remain,
+-- the partial one among them, and the partial one has that many entries
 pub record IsStarted (bytes : List ℕ) (remaining entries : ℕ) : Type 0 where
   pub lists : List (List ℕ)
   pub current : List ℕ

@@ -11,7 +11,7 @@ FramerSteps old text new (Ok taken) = (0 < taken.0) × (taken.0 ≤ length text)
 FramerSteps old text new (Err fault.Memory) = LosesRecord old text []
 FramerSteps old text new (Err f) = Goes old text [] (Failed f)
 
--- several steps have taken the piece up to a text that is left, and have put the added records after
+-- several steps have taken the piece up to a text that remains, and have put the added records after
 -- those that the list had before
 pub record HasRead (old : FramerState) (piece text : List ℕ) (before after : List (List ℕ)) (new : FramerState) : Type 0 where
   pub taken : List ℕ

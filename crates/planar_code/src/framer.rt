@@ -29,7 +29,7 @@ enum Phase {
 /// Divides a stream that comes in pieces into records.
 ///
 /// It keeps the state that the stream has led to and nothing else of the past: of the header how far
-/// it has come, then how many records there were and the bytes of the open one, or its fault.
+/// it has come, then how many records there were and the bytes of the partial one, or its fault.
 #[derive(Debug, Drop)]
 pub struct Framer {
     phase: Phase,

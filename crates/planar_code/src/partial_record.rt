@@ -12,9 +12,9 @@ use std::marker::Model;
 /// How many bytes a record has at most: its first byte, and 255 lists of 254 entries and a 0.
 pub(crate) const MAX_BYTES: usize = 65_026;
 
-/// The bytes of the record that is open, with room for the longest record.
+/// The bytes of the partial record, with room for the longest record.
 ///
-/// Where there are some, `remaining` lists are not yet ended, the open one among them, which has
+/// Where there are some, `remaining` lists are not yet ended, the partial one among them, which has
 /// `entries` entries so far.
 #[derive(Debug, Drop)]
 pub struct PartialRecord {
@@ -67,7 +67,7 @@ impl PartialRecord {
         scan_lists(text, 1, order, 0)
     }
 
-    /// Takes in `text`, which leaves the record open.
+    /// Takes in `text`, which leaves the record partial.
     fn keep(&mut self, text: &[u8], remaining: u8, entries: u8)
         requires { IsStarted (self.old ++ text.now) remaining entries }
         ensures { self.new ≡ self.old ++ text.now }
@@ -93,7 +93,7 @@ impl PartialRecord {
     }
 
     /// Reads on to the record's end, or to the end of `text`: the record and how many bytes of
-    /// `text` end it, or nothing where it stays open.
+    /// `text` end it, or nothing where it stays partial.
     ///
     /// Want of memory is returned only where `text` ends the record.
     pub fn read(&mut self, alloc: Global, text: &[u8]) -> Result<Option<(Record, usize)>, FeedFault>

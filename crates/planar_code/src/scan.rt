@@ -12,13 +12,13 @@ use crate::fault::FeedFault;
 pub enum Scan {
     /// So many bytes end it.
     Whole(usize),
-    /// All of them leave it open, with so many lists to come and so many entries in the open list.
+    /// All of them leave it partial, with so many lists to come and so many entries in the partial list.
     Open { remaining: u8, entries: u8 },
 }
 
 /// Reads on, from a place of `text`, in a record that was begun.
 ///
-/// `remaining` lists are not yet ended, the open one among them, which has `entries` entries so far.
+/// `remaining` lists are not yet ended, the partial one among them, which has `entries` entries so far.
 pub fn scan_lists(
     text: &[u8],
     from: usize,

@@ -33,7 +33,7 @@ pub struct Printed<J: Told> {
     pub choice: Choice,
     /// The form of the line.
     pub form: Form,
-    /// The line, or none where memory was wanting for an answer or for its line.
+    /// The line, or none where memory ran out for an answer or for its line.
     pub line: Option<Line>,
     /// The record. Only proofs see it.
     pub rec: Snapshot<Record>,

@@ -66,7 +66,7 @@ impl<S> Texts<'_, S, Lines> {
 }
 
 impl<S: Sink> Texts<'_, S, Lines> {
-    /// Puts what is left into the sink, and returns the status of the run: 0 where each file ended complete
+    /// Puts what remains into the sink, and returns the status of the run: 0 where each file ended complete
     /// and no entry lacks an answer or its line, and else 3.
     ///
     /// # Errors

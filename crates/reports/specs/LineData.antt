@@ -24,7 +24,7 @@ use Rattle.entries.specs.CauseWords as causes
 abbrev pub natural : ℕ → Data
 natural n = number (unsigned n)
 
--- a whole number, which may be below 0
+-- an integer
 abbrev pub integer : ℤ → Data
 integer z = number (of_integer z)
 

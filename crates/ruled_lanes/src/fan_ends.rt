@@ -131,7 +131,7 @@ impl<T: Drop> Gatherer<T> {
         Gatherer { receiver, pass }
     }
 
-    // The item at the front of the channel, where there is one.
+    // The first item in the channel, where there is one.
     fn try_receive<R: Wait>(&mut self, rt: &R) -> Result<(u32, T), TryRecvError>
         ensures fan { TakesFromSameFan self.old self.new }
         ensures lane { IfOk result (λ item. item.0 < LANES) }
@@ -141,7 +141,7 @@ impl<T: Drop> Gatherer<T> {
         self.receiver.try_recv_as::<Takes, R>(rt, &mut self.pass)
     }
 
-    // The item at the front of the channel. While there is none, its thread sleeps until it is woken.
+    // The first item in the channel. While there is none, its thread sleeps until it is woken.
     fn wait_and_receive<R: Wait>(&mut self, rt: &R) -> Result<(u32, T), Closed<()>>
         ensures fan { TakesFromSameFan self.old self.new }
         ensures lane { IfOk result (λ item. item.0 < LANES) }
@@ -154,7 +154,7 @@ impl<T: Drop> Gatherer<T> {
         }
     }
 
-    /// The item at the front of the fan, with the number of its lane, taken in one step. It waits while
+    /// The first item in the fan, with the number of its lane, taken in one step. It waits while
     /// the fan is empty: at first it tries again for about a millisecond, then its thread sleeps until it
     /// is woken. It takes no memory.
     ///

@@ -105,7 +105,7 @@ impl<T: Drop> Taker<T> {
         Taker { receiver, pass }
     }
 
-    // The item at the front of the channel, where there is one.
+    // The first item in the channel, where there is one.
     fn try_receive<R: Wait>(&mut self, rt: &R) -> Result<T, TryRecvError>
         ensures link { TakesFromSame self.old self.new }
         ensures ok { IfOk result (λ item. taken self.new ≡ taken self.old ++ item ∷ []) }
@@ -114,7 +114,7 @@ impl<T: Drop> Taker<T> {
         self.receiver.try_recv_as::<Takes, R>(rt, &mut self.pass)
     }
 
-    // The item at the front of the channel. While there is none, its thread sleeps until it is woken.
+    // The first item in the channel. While there is none, its thread sleeps until it is woken.
     fn wait_and_receive<R: Wait>(&mut self, rt: &R) -> Result<T, Closed<()>>
         ensures link { TakesFromSame self.old self.new }
         ensures ok { IfOk result (λ item. taken self.new ≡ taken self.old ++ item ∷ []) }
@@ -126,7 +126,7 @@ impl<T: Drop> Taker<T> {
         }
     }
 
-    /// The item at the front of the link, taken in one step. It waits while the link is empty: at first
+    /// The first item in the link, taken in one step. It waits while the link is empty: at first
     /// it tries again for about a millisecond, then its thread sleeps until it is woken. It takes no memory.
     ///
     /// # Errors

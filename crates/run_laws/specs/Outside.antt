@@ -28,7 +28,7 @@ pub record AreRectangleCorners (x y : ℕ → ℕ) (c : RectangleCorners) : Type
 abbrev pub Between : (ℕ → ℕ) → ℕ → ℕ → ℕ → Type 0
 Between x u v t = (x u < x v) × (x v < x t)
 
--- the foot, a vertex on a side of the rectangle between two corners, lies straight in front of the vertex v: to its south, east, north or west
+-- the foot, a vertex on a side of the rectangle between two corners, lies straight to the south, east, north or west of the vertex v
 abbrev pub LiesBeside : (ℕ → ℕ) → (ℕ → ℕ) → RectangleCorners → ℕ → ℕ → Type 0
 LiesBeside x y c foot v =
     (Between x c.south_west foot c.south_east × (y foot ≡ y c.south_west) × (x foot ≡ x v) × (y foot < y v))
@@ -56,7 +56,7 @@ pub record LooksOut (p : PlaneModel) (shape : ShapeModel) (b : BoxesModel) : Typ
   pub inside : right < enclosed_map.darts
   pub turns : 2 < enclosed_map.angle right
   pub on_outer : IsOnOuterFace p enclosed_map right
-  -- in whatever coordinates, the corners are those of a rectangle, and the foot, on a side of it, lies straight in front of that turn
+  -- in whatever coordinates, the corners are those of a rectangle, and the foot, on a side of it, lies straight across from that turn
   pub corners : RectangleCorners
   pub foot : ℕ
   pub rectangle : (x y : ℕ → ℕ) → IsOrdered (dart_map b) x y → AreRectangleCorners x y corners

@@ -7,7 +7,7 @@ ghost use Rattle.dissect.specs.Boxed.{IsBoxed};
 ghost use Rattle.run_laws.specs.Outside.{LooksOut};
 
 /// The whole map stands in the boxes. Whatever numbers their vertices get that grow along the darts, four of them are the
-/// corners of a rectangle, and straight in front of a right turn of the plane's outer face lies a place on a side of it.
+/// corners of a rectangle, and straight across from a right turn of the plane's outer face lies a vertex on a side of it.
 pub fn outer_face_looks_out()
     ensures { (p : PlaneModel) (shape : ShapeModel) (b : BoxesModel) → IsBoxed p shape b → LooksOut p shape b }
 {}

@@ -16,7 +16,7 @@ use ortho_rep::{DartShape, Prices, Shape, Turn, count_lefts};
 use std::alloc::{AllocError, Global};
 
 /// The angle of each dart, and how often it turns to the left: a corner carries its angle less one, and a unit across
-/// an edge is a left turn. Once units were moved it may be no representation, but prices that proved it least fit it still.
+/// an edge is a left turn. Once units were moved it may be no representation, but prices that proved it least agree with it still.
 #[derive(Drop)]
 pub(crate) struct ShapeFlow {
     angles: [u8; MAX_DARTS],

@@ -36,7 +36,7 @@ pub(crate) struct FaceSearch {
     goals: [u16; MAX_FACES],
     gives: [u16; MAX_FACES],
     takes: [u16; MAX_FACES],
-    // the darts by which faces were entered, in the order in which they were; behind them no dart
+    // the darts by which faces were reached, in the order in which they were; behind them no dart
     queue: [u16; MAX_FACES],
     found: usize,
 }
@@ -165,7 +165,7 @@ impl FaceSearch {
         // Only the proof needs this: `graph` says that there are few faces.
         let _graph = plane.graph();
         let face = usize::from(plane.face_of(take));
-        // Each face is entered once, so there is always room.
+        // Each face is reached once, so there is always room.
         if self.goals[face] == step.goal || self.found >= MAX_FACES {
             return;
         }

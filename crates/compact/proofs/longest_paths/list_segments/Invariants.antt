@@ -1,5 +1,5 @@
 use Rattle.std.proofs.Common.{◌≡◌, ◌<◌, ◌≤◌, ℕ, length, slice_index}
-use Rattle.compact.specs.Steps.{AreVertices}
+use Rattle.compact.specs.Neighbours.{AreVertices}
 use Rattle.compact.proofs.longest_paths.list_segments.Given as goal
 
 abbrev pub invariant-loop-vertex : goal.invariant-loop-vertex

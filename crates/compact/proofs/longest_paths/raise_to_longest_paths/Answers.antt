@@ -1,5 +1,5 @@
 use Rattle.std.proofs.Common.{ℕ, List, length, ◌∙◌, sym, subst, refl}
-use Rattle.compact.specs.Steps.{step, AreEqualIn, AreSegments, AreUnder}
+use Rattle.compact.specs.Neighbours.{neighbour, AreEqualIn, AreSegments, AreUnder}
 use Rattle.compact.proofs.Stepping.{under_at}
 use Rattle.compact.proofs.longest_paths.raise_to_longest_paths.Goals as goal
 
@@ -7,12 +7,12 @@ pub loop-at-init : goal.loop-at-init
 loop-at-init c = record {
   under = λ y grow equal under. under;
   count = refl;
-  segments = subst (λ (segments : List ℕ). AreSegments (step c.args.steps.around.now c.args.steps.left) (length c.args.coordinates.now) segments) (sym c.as_slice-segments.ensures.value) c.requires.segments;
+  segments = subst (λ (segments : List ℕ). AreSegments (neighbour c.args.neighbours.around.now c.args.neighbours.left) (length c.args.coordinates.now) segments) (sym c.as_slice-segments.ensures.value) c.requires.segments;
 }
 
 pub loop-at-preserved : goal.loop-at-preserved
 loop-at-preserved c =
-    let ahead = step c.args.steps.around.now c.args.steps.ahead in
+    let ahead = neighbour c.args.neighbours.around.now c.args.neighbours.ahead in
     record {
       under = λ y grow equal under.
           under_at ahead _ _ _ _ _ c.loop-at.invariant.count c.leave_segment.ensures.under y grow (c.loop-at.invariant.segments.equal y equal) (c.loop-at.invariant.under y grow equal under);

@@ -1,5 +1,5 @@
 use Rattle.std.proofs.Common.{◌≡◌, ℕ, length}
-use Rattle.compact.specs.Steps.{AreEqualIn, AreUnder}
+use Rattle.compact.specs.Neighbours.{AreEqualIn, AreUnder}
 use Rattle.compact.proofs.longest_paths.spread.Given as goal
 
 abbrev pub invariant-loop-vertex : goal.invariant-loop-vertex

@@ -1,7 +1,7 @@
-//! Steps from each vertex to the next one in each direction.
+//! The neighbours of each vertex, one in each direction.
 
 ghost use Rattle.std.specs.Prelude.{◌≡◌, ℕ, ◌*◌, ◌<◌, length, IfOk};
-ghost use Rattle.compact.specs.Steps.{AreSteps, HasSteps};
+ghost use Rattle.compact.specs.Neighbours.{AreNeighbours, HasNeighbours};
 ghost use Rattle.dissect.specs.Boxes.{dart_map};
 
 use common::filled;
@@ -14,9 +14,9 @@ pub const NO_VERTEX: u32 = u32::MAX;
 /// For each vertex four vertices, those that the darts from it come to: to the east, north, west and
 /// south. `NO_VERTEX` stands where there is no such dart. They stand in the memory of the list that is
 /// lent. Linear in the darts.
-pub fn steps_of(boxes: &Boxes, around: Vec<u32>) -> Result<Vec<u32>, AllocError>
-    ensures steps { IfOk result (λ around. AreSteps (dart_map boxes.now) around.items boxes.now.vertices) }
-    ensures all_steps { IfOk result (λ around. HasSteps (dart_map boxes.now) around.items boxes.now.darts) }
+pub fn neighbours_of(boxes: &Boxes, around: Vec<u32>) -> Result<Vec<u32>, AllocError>
+    ensures neighbours { IfOk result (λ around. AreNeighbours (dart_map boxes.now) around.items boxes.now.vertices) }
+    ensures all_neighbours { IfOk result (λ around. HasNeighbours (dart_map boxes.now) around.items boxes.now.darts) }
     ensures count { IfOk result (λ around. length around.items ≡ 4 * boxes.now.vertices) }
 {
     let mut around = filled(around, 4 * boxes.vertices() as usize, NO_VERTEX)?;
