@@ -344,7 +344,7 @@ zero_cost c z a b a' b' h e f g = omega (arith, ints)
 
 pub tight_arc_of : (net : NetworkModel) (first : List ℕ) (reverse : ℕ → ℕ) (forward : List ℕ) (capacity : ℕ → ℕ) (arcs : List ResidualArc) (p : ℕ → ℤ) (u k v : ℕ) → IsNetwork net → HasResidualArcs net first reverse forward → AreResidualArcs net reverse forward capacity arcs → u < node_count net → IsTight first arcs p u k v → IsTightArc net reverse forward capacity p u k v
 tight_arc_of net first reverse forward capacity arcs p u k v n l f b t =
-    let o = l.stem_from_arcs u k b t.outflow in
+    let o = l.stem_from_arcs u k b t.leaves in
     let z = unit_cost net o.arc o.back in
     let cost : cost_at arcs k ≡ coded z (capacity k) = subst (λ (q : ℕ). cost_at arcs q ≡ coded z (capacity q)) o.place (code_is net reverse forward capacity arcs o.arc o.back f o.inside) in
     let some : 0 < capacity k = some_coded z (cost_at arcs k) (capacity k) (unit_cost_least net o.arc o.back n.costs o.inside) cost t.has_capacity in
@@ -512,7 +512,7 @@ sent_all net x y e e' e'' u v k node over want remaining short caps carries ther
       node = node;
       root = over;
       caps = caps;
-      outflow = carried_leaves net y e' e'' u k carries here others';
+      leaves = carried_leaves net y e' e'' u k carries here others';
       here = here_all;
       remaining = remaining_there (e u) (e'' u) k here_all remaining;
       deficit = λ w b h. elim (cases_eq w v) [
@@ -536,19 +536,19 @@ pub record IsStep (net : NetworkModel) (first : List ℕ) (reverse : ℕ → ℕ
   pub node : end_at arcs (reverse k) < node_count net
   pub member : on (end_at arcs (reverse k)) ≡ true
   pub before : place (end_at arcs (reverse k)) < place v
-  pub outflow : StartsAt first (end_at arcs (reverse k)) k
+  pub leaves : StartsAt first (end_at arcs (reverse k)) k
   pub tight_arc : IsTightArc net reverse forward capacity p (end_at arcs (reverse k)) k v
 
 pub path_step : (net : NetworkModel) (first : List ℕ) (reverse : ℕ → ℕ) (forward : List ℕ) (capacity : ℕ → ℕ) (arcs : List ResidualArc) (p : ℕ → ℤ) (predecessor place : ℕ → ℕ) (root found : ℕ) → IsNetwork net → HasResidualArcs net first reverse forward → AreResidualArcs net reverse forward capacity arcs → (h : HasTightPath (node_count net) first arcs p predecessor place root found) → (v : ℕ) → h.on v ≡ true → 0 < place v → IsStep net first reverse forward capacity arcs p h.on place v (predecessor v)
 path_step net first reverse forward capacity arcs p predecessor place root found n l f h v on some =
     let a = h.after v on some in
     let b : a.start < node_count net = h.node a.start a.member in
-    let s : end_at arcs (reverse (predecessor v)) ≡ a.start = start_is net first reverse forward capacity arcs a.start (predecessor v) l f b a.step.outflow in
+    let s : end_at arcs (reverse (predecessor v)) ≡ a.start = start_is net first reverse forward capacity arcs a.start (predecessor v) l f b a.step.leaves in
     record {
       node = subst (λ (t : ℕ). t < node_count net) (sym s) b;
       member = ap h.on s ∙ a.member;
       before = subst (λ (t : ℕ). place t < place v) (sym s) a.before;
-      outflow = subst (λ (t : ℕ). StartsAt first t (predecessor v)) (sym s) a.step.outflow;
+      leaves = subst (λ (t : ℕ). StartsAt first t (predecessor v)) (sym s) a.step.leaves;
       tight_arc = subst (λ (t : ℕ). IsTightArc net reverse forward capacity p t (predecessor v) v) (sym s) (tight_arc_of net first reverse forward capacity arcs p a.start (predecessor v) v n l f b a.step);
     }
 
@@ -556,17 +556,17 @@ path_step net first reverse forward capacity arcs p predecessor place root found
 pub record IsLast (net : NetworkModel) (first : List ℕ) (reverse : ℕ → ℕ) (forward : List ℕ) (capacity : ℕ → ℕ) (arcs : List ResidualArc) (p : ℕ → ℤ) (on : ℕ → Bool) (k : ℕ) : Type 0 where
   pub node : end_at arcs (reverse k) < node_count net
   pub member : on (end_at arcs (reverse k)) ≡ true
-  pub outflow : StartsAt first (end_at arcs (reverse k)) k
+  pub leaves : StartsAt first (end_at arcs (reverse k)) k
   pub tight_arc : IsTightArc net reverse forward capacity p (end_at arcs (reverse k)) k (end_at arcs k)
 
 pub path_last : (net : NetworkModel) (first : List ℕ) (reverse : ℕ → ℕ) (forward : List ℕ) (capacity : ℕ → ℕ) (arcs : List ResidualArc) (p : ℕ → ℤ) (predecessor place : ℕ → ℕ) (root found : ℕ) → IsNetwork net → HasResidualArcs net first reverse forward → AreResidualArcs net reverse forward capacity arcs → (h : HasTightPath (node_count net) first arcs p predecessor place root found) → IsLast net first reverse forward capacity arcs p h.on found
 path_last net first reverse forward capacity arcs p predecessor place root found n l f h =
     let b : h.last < node_count net = h.node h.last h.member in
-    let s : end_at arcs (reverse found) ≡ h.last = start_is net first reverse forward capacity arcs h.last found l f b h.step.outflow in
+    let s : end_at arcs (reverse found) ≡ h.last = start_is net first reverse forward capacity arcs h.last found l f b h.step.leaves in
     record {
       node = subst (λ (t : ℕ). t < node_count net) (sym s) b;
       member = ap h.on s ∙ h.member;
-      outflow = subst (λ (t : ℕ). StartsAt first t found) (sym s) h.step.outflow;
+      leaves = subst (λ (t : ℕ). StartsAt first t found) (sym s) h.step.leaves;
       tight_arc = subst (λ (t : ℕ). IsTightArc net reverse forward capacity p t found (end_at arcs found)) (sym s) (tight_arc_of net first reverse forward capacity arcs p h.last found (end_at arcs found) n l f b h.step);
     }
 
@@ -586,10 +586,10 @@ pub own_end : (net : NetworkModel) (s : Solver) (root : ℕ) → CanAugment net 
 own_end net s root h = tight_arc_end net (reverse_at s.residual.capacities.items) s.residual.forward.items (capacity_at s.residual.capacities.items) (potential_at s) (end_at s.residual.arcs.items (reverse_at s.residual.capacities.items s.found)) s.found (end_at s.residual.arcs.items s.found) h.ready.network (own_last net s root h).tight_arc
 
 pub last_pair : (net : NetworkModel) (s : Solver) (root : ℕ) → CanAugment net s root → IsPaired s.residual s.found
-last_pair net s root h = let l = own_last net s root h in is_paired net s.residual (end_at s.residual.arcs.items (reverse_at s.residual.capacities.items s.found)) s.found h.ready.network h.ready.residual l.node l.outflow
+last_pair net s root h = let l = own_last net s root h in is_paired net s.residual (end_at s.residual.arcs.items (reverse_at s.residual.capacities.items s.found)) s.found h.ready.network h.ready.residual l.node l.leaves
 
 pub step_pair : (net : NetworkModel) (s : Solver) (root v : ℕ) → (h : CanAugment net s root) → h.path.on v ≡ true → 0 < places_in s v → IsPaired s.residual (predecessors_in s v)
-step_pair net s root v h on some = let l = own_step net s root h v on some in is_paired net s.residual (end_at s.residual.arcs.items (reverse_at s.residual.capacities.items (predecessors_in s v))) (predecessors_in s v) h.ready.network h.ready.residual l.node l.outflow
+step_pair net s root v h on some = let l = own_step net s root h v on some in is_paired net s.residual (end_at s.residual.arcs.items (reverse_at s.residual.capacities.items (predecessors_in s v))) (predecessors_in s v) h.ready.network h.ready.residual l.node l.leaves
 
 -- ---- the least of what fits
 

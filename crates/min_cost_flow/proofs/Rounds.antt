@@ -51,7 +51,7 @@ pub record IsSent (net : NetworkModel) (x y : ℕ → ℕ) (e e' : ℕ → ℤ) 
   pub node : u < node_count net
   pub root : pos 0 <ℤ e u
   pub caps : IsWithinCaps net y
-  pub outflow : HasExcess net y e'
+  pub leaves : HasExcess net y e'
   pub here : e' u ≡ e u -ℤ pos k
   pub remaining : pos 0 ≤ℤ e' u
   pub deficit : (v : ℕ) → v < node_count net → e v ≤ℤ pos 0 → (e v ≤ℤ e' v) × (e' v ≤ℤ pos 0)
@@ -127,7 +127,7 @@ pub sent_round : (net : NetworkModel) (x y : ℕ → ℕ) (p e e' : ℕ → ℤ)
 sent_round net x y p e e' u k s priced r =
     let fall : remaining_units net e' + k ≡ remaining_units net e = remaining_falls net x y e e' u k s in
     record {
-      outflow = s.outflow;
+      leaves = s.leaves;
       caps = s.caps;
       priced = priced;
       low = r.low;
@@ -172,7 +172,7 @@ first_round net x p e k none flat full =
     let in_range : (v : ℕ) → v < node_count net → (negsuc 2047 ≤ℤ e v) × (e v ≤ℤ pos 2048) = λ v b. let P : ℤ → Type 0 = λ z. (negsuc 2047 ≤ℤ z) × (z ≤ℤ pos 2048) in subst P (sym (full v)) (k.supplies v b) in
     let few : remaining_units net e ≤ 2097152 = first_remaining net e k.small.0 (λ v b. (in_range v b).1) in
     record {
-      outflow = record {
+      leaves = record {
         at_node = λ v b. at_start (outflow net x v) (inflow net x v) (e v) (supply_at net v)
             (sum_below-none m (λ i. cond (eqb (arc_at net i).from v) (x i) 0) (λ i c. nothing (eqb (arc_at net i).from v) (x i) (none i c)))
             (sum_below-none m (λ i. cond (eqb (arc_at net i).to v) (x i) 0) (λ i c. nothing (eqb (arc_at net i).to v) (x i) (none i c)))
@@ -230,7 +230,7 @@ nothing_remaining e a b = omega (arith, ints)
 -- where nothing is left over and nothing wanting, all is done
 pub done_at : (net : NetworkModel) (x : ℕ → ℕ) (p e : ℕ → ℤ) (s l : ℕ) → IsRound net x p e → IsWork net x e s l → ((v : ℕ) → v < node_count net → e v ≤ℤ pos 0) → ((v : ℕ) → v < node_count net → pos 0 ≤ℤ e v) → IsRoundDone net x p s l
 done_at net x p e s l r w none full = record {
-  flow = flow_at net x e r.caps r.outflow none full;
+  flow = flow_at net x e r.caps r.leaves none full;
   potentials = r.priced;
   in_bounds = r.low;
   few = omega (arith, w.few);
