@@ -11,8 +11,8 @@ use Rattle.reports.specs.declared.style.Style.{Style}
 use Rattle.command_line.specs.Naming.{is_input}
 use Rattle.command_line.specs.declared.reading.Role.{Role}
 use Rattle.command_line.specs.declared.reading.Role.TheVariants.{Command, Any, Lanes, Waiting, Outer, Drawing, File}
-use Rattle.command_line.specs.declared.reading.Flag.{Flag}
-use Rattle.command_line.specs.declared.reading.Flag.TheVariants as flag
+use Rattle.command_line.specs.declared.reading.Keyword.{Keyword}
+use Rattle.command_line.specs.declared.reading.Keyword.TheVariants as keyword
 use Rattle.command_line.specs.declared.request.Request.{Request}
 use Rattle.command_line.specs.declared.request.Request.TheVariants.{Frames, Layout}
 
@@ -43,24 +43,24 @@ is_file File word = true
 is_file _ word = false
 
 -- the word asks for this
-abbrev pub asks : Flag → Role → List ℕ → Bool
-asks flag.Version Command word = bytes_eq word (codes "--version")
-asks flag.Frames Command word = bytes_eq word (codes "frames")
-asks flag.Layout Command word = bytes_eq word (codes "layout")
-asks flag.Json Any word = bytes_eq word (codes "--json")
-asks flag.BestOuter Any word = bytes_eq word (codes "--outer=best")
-asks flag.BestOuter Outer word = bytes_eq word (codes "best")
-asks flag.ShortDrawing Any word = bytes_eq word (codes "--drawing=short")
-asks flag.ShortDrawing Drawing word = bytes_eq word (codes "short")
-asks flag.QuickDrawing Any word = bytes_eq word (codes "--drawing=quick")
-asks flag.QuickDrawing Drawing word = bytes_eq word (codes "quick")
-asks flag.Help File word = false
-asks flag.Help Command word = bytes_eq word (codes "help") || is_help word
-asks flag.Help _ word = is_help word
+abbrev pub asks : Keyword → Role → List ℕ → Bool
+asks keyword.Version Command word = bytes_eq word (codes "--version")
+asks keyword.Frames Command word = bytes_eq word (codes "frames")
+asks keyword.Layout Command word = bytes_eq word (codes "layout")
+asks keyword.Json Any word = bytes_eq word (codes "--json")
+asks keyword.BestOuter Any word = bytes_eq word (codes "--outer=best")
+asks keyword.BestOuter Outer word = bytes_eq word (codes "best")
+asks keyword.ShortDrawing Any word = bytes_eq word (codes "--drawing=short")
+asks keyword.ShortDrawing Drawing word = bytes_eq word (codes "short")
+asks keyword.QuickDrawing Any word = bytes_eq word (codes "--drawing=quick")
+asks keyword.QuickDrawing Drawing word = bytes_eq word (codes "quick")
+asks keyword.Help File word = false
+asks keyword.Help Command word = bytes_eq word (codes "help") || is_help word
+asks keyword.Help _ word = is_help word
 asks _ _ word = false
 
 -- one of these words asks for this, the first of which has this role
-abbrev pub asks_from : Flag → Role → List (String Global) → Bool
+abbrev pub asks_from : Keyword → Role → List (String Global) → Bool
 asks_from w role [] = false
 asks_from w role (word ∷ words) =
     if asks w role (string_bytes word) then true else asks_from w (role_after role (string_bytes word)) words
@@ -73,7 +73,7 @@ files_from role (word ∷ words) =
     else files_from (role_after role (string_bytes word)) words
 
 -- one of the words of a command line asks for this
-abbrev pub asks_in : Flag → List (String Global) → Bool
+abbrev pub asks_in : Keyword → List (String Global) → Bool
 asks_in w words = asks_from w Command words
 
 -- the files that a command line names, in their order: what is neither the command nor an option nor the value of one, and all behind '--'
@@ -87,24 +87,24 @@ inputs_in words = count_by is_input (files_in words)
 -- the drawing that a command line asks for: where it names none, a short one in JSON lines and a quick one in the report
 abbrev pub drawing_in : List (String Global) → DrawingKind
 drawing_in words =
-    if asks_in flag.ShortDrawing words then Short
-    else if asks_in flag.QuickDrawing words then Quick
-    else if asks_in flag.Json words then Short
+    if asks_in keyword.ShortDrawing words then Short
+    else if asks_in keyword.QuickDrawing words then Quick
+    else if asks_in keyword.Json words then Short
     else Quick
 
 -- the words ask for a layout of these files, of which one at most is standard input, under this choice and in this style
 pub record AsksLayout (words : List (String Global)) (names : Vec (Bor (List ℕ)) Global) (choice : Choice) (style : Style) : Type 0 where
-  pub command : asks_in flag.Layout words ≡ true
+  pub command : asks_in keyword.Layout words ≡ true
   pub files : map (λ name. name.now) names.items ≡ files_in words
   pub some : 0 < vec_len names
   pub once : inputs_in words ≤ 1
-  pub best : (choice ≡ Choice.Best) ↔ (asks_in flag.BestOuter words ≡ true)
-  pub json : (style.form ≡ Form.Json) ↔ (asks_in flag.Json words ≡ true)
+  pub best : (choice ≡ Choice.Best) ↔ (asks_in keyword.BestOuter words ≡ true)
+  pub json : (style.form ≡ Form.Json) ↔ (asks_in keyword.Json words ≡ true)
   pub drawing : style.drawing ≡ drawing_in words
 
 -- the words ask for the records of this file
 pub record AsksFrames (words : List (String Global)) (name : List ℕ) : Type 0 where
-  pub command : asks_in flag.Frames words ≡ true
+  pub command : asks_in keyword.Frames words ≡ true
   pub file : files_in words ≡ name ∷ []
 
 -- the request is what the words ask for

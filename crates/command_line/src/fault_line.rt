@@ -44,7 +44,7 @@ impl fmt::Write for ShortLine {
     }
 }
 
-/// Writes `planarbend: ` and the fault's message. That this may fail changes nothing.
+/// Writes `planarbend: ` and the text of the fault. That this may fail changes nothing.
 pub fn write_fault<E: Sink>(fault: Fault, err: &mut E)
     requires { E.failed err.old ≡ false }
 {

@@ -19,7 +19,7 @@ pub use file_opener::FileOpener;
 pub use named_files::{FilesAndInput, NamedFiles, SystemFiles};
 pub use progress::{Console, ErrorConsole, Meter, Progress};
 pub use read_tap::ReadTap;
-pub use reading::{Flag, asks};
+pub use reading::{Keyword, asks};
 pub use request::{LayoutRequest, Request, parse};
 pub use source::{FileSource, NamedSource, open_fault, open_source};
 pub use standard_input::{INPUT, StandardInput, is_input};

@@ -10,7 +10,7 @@ use std::rt::Clock;
 use std::sync::atomic::{AtomicU64, Ordering};
 
 /// How many milliseconds lie between two lines at least. The last one waits for none.
-const PAUSE: u64 = 250;
+const INTERVAL: u64 = 250;
 
 /// Where it is written how far a run is.
 #[derive(Clone, Copy, Debug, PartialEq, Eq)]
@@ -143,7 +143,7 @@ impl<'c, C: Console> Meter<'c, C> {
     fn tell_in_time(&self) {
         let last_told = self.last_told.load(Ordering::SeqCst);
         let time = self.time();
-        if time < last_told.saturating_add(PAUSE) {
+        if time < last_told.saturating_add(INTERVAL) {
             return;
         }
         let stored_time = self

@@ -28,7 +28,7 @@ pub enum Role {
 
 /// What words can ask for, beside files, numbers and lines of progress.
 #[derive(Clone, Copy)]
-pub enum Flag {
+pub enum Keyword {
     Version,
     Help,
     Frames,
@@ -67,23 +67,23 @@ impl Role {
     }
 
     /// Whether a word in this role asks for this.
-    fn asks(self, flag: Flag, word: &str) -> bool
-        ensures { result ≡ asks flag self word.now }
+    fn asks(self, keyword: Keyword, word: &str) -> bool
+        ensures { result ≡ asks keyword self word.now }
     {
-        match (flag, self) {
-            (Flag::Version, Role::Command) => word == "--version",
-            (Flag::Frames, Role::Command) => word == "frames",
-            (Flag::Layout, Role::Command) => word == "layout",
-            (Flag::Json, Role::Any) => word == "--json",
-            (Flag::BestOuter, Role::Any) => word == "--outer=best",
-            (Flag::BestOuter, Role::Outer) => word == "best",
-            (Flag::ShortDrawing, Role::Any) => word == "--drawing=short",
-            (Flag::ShortDrawing, Role::Drawing) => word == "short",
-            (Flag::QuickDrawing, Role::Any) => word == "--drawing=quick",
-            (Flag::QuickDrawing, Role::Drawing) => word == "quick",
-            (Flag::Help, Role::File) => false,
-            (Flag::Help, Role::Command) => word == "help" || is_help(word),
-            (Flag::Help, _) => is_help(word),
+        match (keyword, self) {
+            (Keyword::Version, Role::Command) => word == "--version",
+            (Keyword::Frames, Role::Command) => word == "frames",
+            (Keyword::Layout, Role::Command) => word == "layout",
+            (Keyword::Json, Role::Any) => word == "--json",
+            (Keyword::BestOuter, Role::Any) => word == "--outer=best",
+            (Keyword::BestOuter, Role::Outer) => word == "best",
+            (Keyword::ShortDrawing, Role::Any) => word == "--drawing=short",
+            (Keyword::ShortDrawing, Role::Drawing) => word == "short",
+            (Keyword::QuickDrawing, Role::Any) => word == "--drawing=quick",
+            (Keyword::QuickDrawing, Role::Drawing) => word == "quick",
+            (Keyword::Help, Role::File) => false,
+            (Keyword::Help, Role::Command) => word == "help" || is_help(word),
+            (Keyword::Help, _) => is_help(word),
             _ => false,
         }
     }
@@ -107,13 +107,13 @@ fn has_prefix(word: &str, first: u8, second: u8) -> bool
 }
 
 /// Whether some word asks for this.
-pub fn asks(flag: Flag, words: &[String]) -> bool
-    ensures { result ≡ asks_in flag words.now }
+pub fn asks(keyword: Keyword, words: &[String]) -> bool
+    ensures { result ≡ asks_in keyword words.now }
 {
     let mut role = Role::Command;
     for word in words {
         let text = word.as_str();
-        if role.asks(flag, text) {
+        if role.asks(keyword, text) {
             return true;
         }
         role = role.role_after(text);

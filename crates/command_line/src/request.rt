@@ -2,11 +2,11 @@
 ghost use Rattle.std.specs.Prelude.{◌≡◌, ◌≢◌, ◌≤◌, ◌↔◌, ◌∷◌, [], IfOk, IfNone, IfSome, length, map, true};
 ghost use Rattle.common.specs.declared.choice.Choice.{Choice};
 ghost use Rattle.reports.specs.declared.form.Form.{Form};
-ghost use Rattle.command_line.specs.declared.reading.Flag.{Flag};
+ghost use Rattle.command_line.specs.declared.reading.Keyword.{Keyword};
 ghost use Rattle.command_line.specs.Requests.{IsAskedBy, asks_in, drawing_in, files_in, inputs_in};
 
 use crate::progress::Progress;
-use crate::reading::{Flag, asks, files_of, inputs_among};
+use crate::reading::{Keyword, asks, files_of, inputs_among};
 use clap::error::ErrorKind;
 use clap::{Arg, ArgAction, ArgMatches, Command, Error, value_parser};
 use common::{Choice, DrawingKind};
@@ -72,11 +72,11 @@ fn request_of<'a>(
     requires once { inputs_in words.now ≤ 1 }
     ensures { IfSome result (IsAskedBy words.now) }
 {
-    if asks(Flag::Frames, words) {
+    if asks(Keyword::Frames, words) {
         let name = only_file(files.as_slice())?;
         return Some(Request::Frames { name });
     }
-    if files.is_empty() || !asks(Flag::Layout, words) {
+    if files.is_empty() || !asks(Keyword::Layout, words) {
         return None;
     }
     Some(Request::Layout(LayoutRequest {
@@ -129,9 +129,9 @@ fn progress_of(matches: &ArgMatches) -> Progress {
 
 /// The choice of the outer face that the words ask for.
 fn choice_of(words: &[String]) -> Choice
-    ensures { (result ≡ Choice.Best) ↔ (asks_in Flag.BestOuter words.now ≡ true) }
+    ensures { (result ≡ Choice.Best) ↔ (asks_in Keyword.BestOuter words.now ≡ true) }
 {
-    if asks(Flag::BestOuter, words) {
+    if asks(Keyword::BestOuter, words) {
         Choice::Best
     } else {
         Choice::First
@@ -140,9 +140,9 @@ fn choice_of(words: &[String]) -> Choice
 
 /// The form that the words ask for.
 fn form_of(words: &[String]) -> Form
-    ensures { (result ≡ Form.Json) ↔ (asks_in Flag.Json words.now ≡ true) }
+    ensures { (result ≡ Form.Json) ↔ (asks_in Keyword.Json words.now ≡ true) }
 {
-    if asks(Flag::Json, words) {
+    if asks(Keyword::Json, words) {
         Form::Json
     } else {
         Form::Report
@@ -153,11 +153,11 @@ fn form_of(words: &[String]) -> Form
 fn drawing_of(words: &[String]) -> DrawingKind
     ensures { result ≡ drawing_in words.now }
 {
-    if asks(Flag::ShortDrawing, words) {
+    if asks(Keyword::ShortDrawing, words) {
         DrawingKind::Short
-    } else if asks(Flag::QuickDrawing, words) {
+    } else if asks(Keyword::QuickDrawing, words) {
         DrawingKind::Quick
-    } else if asks(Flag::Json, words) {
+    } else if asks(Keyword::Json, words) {
         DrawingKind::Short
     } else {
         DrawingKind::Quick

@@ -12,7 +12,7 @@ use common::{Choice, DrawingKind};
 use lane_runs::{LaneKind, LaneScratch};
 use lanes::Numbered;
 use planar_code::Record;
-use printing::{KnownEnd, Printed, Told, known_end};
+use printing::{KnownEnd, Meant, Printed, known_end};
 use reports::{Form, Style};
 use std::alloc::{AllocError, Global};
 use std::marker::PhantomData;
@@ -20,13 +20,13 @@ use streams::SourceEnd;
 
 /// Lanes that answer records and print their lines, in one form and with drawings of one kind.
 #[derive(Drop)]
-pub struct LineLanes<J: Told> {
+pub struct LineLanes<J: Meant> {
     pub form: Form,
     pub drawing: DrawingKind,
-    pub told: PhantomData<J>,
+    pub meant: PhantomData<J>,
 }
 
-impl<J: Told> LineLanes<J> {
+impl<J: Meant> LineLanes<J> {
     /// Lanes that print lines in this style. A report has no points, so it is of quick drawings, whatever kind is
     /// asked for.
     pub fn new(style: Style) -> LineLanes<J>
@@ -41,12 +41,12 @@ impl<J: Told> LineLanes<J> {
         LineLanes {
             form: style.form,
             drawing,
-            told: PhantomData,
+            meant: PhantomData,
         }
     }
 }
 
-impl<J: Told + Send + Sync> LaneKind for LineLanes<J> {
+impl<J: Meant + Send + Sync> LaneKind for LineLanes<J> {
     type Framed = Framed<Worded<J>>;
 
     type Embedded = Embedded<Worded<J>>;

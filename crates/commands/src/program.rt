@@ -8,7 +8,7 @@ ghost use Rattle.command_line.specs.Refusals.{IsRefusal};
 ghost use Rattle.command_line.specs.Naming.{meaning_of, meanings};
 ghost use Rattle.clap.specs.Words.{kind_of};
 ghost use Rattle.clap.specs.declared.error.kind.ErrorKind.{ErrorKind};
-ghost use Rattle.command_line.specs.declared.reading.Flag.{Flag};
+ghost use Rattle.command_line.specs.declared.reading.Keyword.{Keyword};
 ghost use Rattle.command_line.specs.declared.request.Request.{Request};
 ghost use Rattle.commands.specs.Statuses.{IsReported, IsLaidOut, IsDone, IsBegunToReport, IsBegunToBeDone, IsNoReport, IsPrinted, version_text};
 ghost use Rattle.command_line.specs.Requests.{IsAskedBy, asks_in};
@@ -19,7 +19,7 @@ use crate::version::VERSION;
 use clap::Error;
 use clap::error::ErrorKind;
 use command_line::{
-    Console, Fault, FilesAndInput, Flag, Meter, Request, SystemFiles, asks, open_source, parse,
+    Console, Fault, FilesAndInput, Keyword, Meter, Request, SystemFiles, asks, open_source, parse,
     write_fault,
 };
 use lanes::Opener;
@@ -65,21 +65,21 @@ where
         (S.taken out.old) (S.taken out.new) (S.failed out.new) 3) }
 
     // Where the first word is `--version`, the version is printed.
-    ensures version { asks_in Flag.Version words.now ≡ true
+    ensures version { asks_in Keyword.Version words.now ≡ true
         → IsPrinted version_text (S.taken out.old) (S.taken out.new) (S.failed out.new) result }
 
     // With status 0 and 3 there is the version, or help, which begins with a capital letter and as no report does, or the
     // report of all files that the words name, as they ask for it. The file named `-` has what standard input tells.
     ensures done { (result ≡ 0) ⊎ (result ≡ 3)
-        → ((result ≡ 0) × (asks_in Flag.Version words.now ≡ true))
-        ⊎ ((result ≡ 0) × (asks_in Flag.Help words.now ≡ true)
+        → ((result ≡ 0) × (asks_in Keyword.Version words.now ≡ true))
+        ⊎ ((result ≡ 0) × (asks_in Keyword.Help words.now ≡ true)
         × ((text : List ℕ) × IsNoReport text × Appends (S.taken out.old) (S.taken out.new) text))
         ⊎ ((request : Request) × IsAskedBy words.now request
         × IsDone (I.meaning input.now 0) request (S.taken out.old) (S.taken out.new) (S.failed out.new) result) }
 
     // With status 1, where neither the version nor help is asked for, nothing is written, or a beginning of the
     // report of what the words ask for.
-    ensures begun { result ≡ 1 → asks_in Flag.Version words.now ≡ false → asks_in Flag.Help words.now ≡ false
+    ensures begun { result ≡ 1 → asks_in Keyword.Version words.now ≡ false → asks_in Keyword.Help words.now ≡ false
         → (out.new ≡ out.old)
         ⊎ ((request : Request) × IsAskedBy words.now request
         × IsBegunToBeDone (I.meaning input.now 0) request (S.taken out.old) (S.taken out.new)) }
@@ -87,15 +87,15 @@ where
     // Whatever the status, what is written tells of no graph without a drawing, as the line `drawn=no` of a report would. Of help,
     // where that is asked for, it is known that it begins with a capital letter, and as no report does.
     ensures drawn { AddsNoneUndrawn (S.taken out.old) (S.taken out.new)
-        ⊎ ((asks_in Flag.Help words.now ≡ true)
+        ⊎ ((asks_in Keyword.Help words.now ≡ true)
         × ((text : List ℕ) × IsNoReport text × Appends (S.taken out.old) (S.taken out.new) text)) }
 {
-    if asks(Flag::Version, words) {
+    if asks(Keyword::Version, words) {
         return show_version(out, err);
     }
     match parse(rt.alloc(), words) {
         Ok(request) => perform(rt, request, input, console, out, err),
-        Err(error) if error.use_stderr() || !asks(Flag::Help, words) => {
+        Err(error) if error.use_stderr() || !asks(Keyword::Help, words) => {
             refuse(rt.alloc(), &error, err)
         }
         Err(error) => show_help(rt.alloc(), &error, out, err),

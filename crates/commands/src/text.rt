@@ -15,7 +15,7 @@ use common::Choice;
 use entries::MAX_FILES;
 use lane_runs::{LaneKind, Run, RunFault, run_lanes};
 use lanes::{Consumer, Gate, Opener, Pauses, PausingOpener};
-use printing::{Lines, Pace, Refusal, Texts, Told};
+use printing::{Lines, Meant, Pace, Refusal, Texts};
 use reports::Style;
 use ruled_lanes::LANES;
 use std::alloc::Global;
@@ -109,7 +109,7 @@ pub fn write_batch<R: Threads + Wait + Sync, O: Opener, G: Gate, S: Sink>(
 }
 
 /// Writes the text of a run in this style and at this pace. The type `J` stands for what the files mean.
-fn write_files<J: Told + Send + Sync, R: Threads + Wait + Sync, O: Opener, G: Gate, S: Sink>(
+fn write_files<J: Meant + Send + Sync, R: Threads + Wait + Sync, O: Opener, G: Gate, S: Sink>(
     run: &Run<'_, R, O, G>,
     style: Style,
     pace: Pace<'_>,

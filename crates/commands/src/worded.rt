@@ -9,7 +9,7 @@ use answers::{DrawScratch, Purpose, Task};
 use entries::Answer;
 use lanes::Numbered;
 use planar_code::Record;
-use printing::{Printed, Told, answered_line};
+use printing::{Meant, Printed, answered_line};
 use reports::Form;
 use std::alloc::Global;
 use std::marker::PhantomData;
@@ -18,24 +18,24 @@ use std::snapshot::Snapshot;
 /// The form in which lines are wanted. Records are known to have their places in what their files mean, and nothing is
 /// carried of them once their graphs are read.
 #[derive(Drop)]
-pub struct Worded<J: Told> {
+pub struct Worded<J: Meant> {
     pub form: Form,
-    pub told: PhantomData<J>,
+    pub meant: PhantomData<J>,
 }
 
-impl<J: Told> Worded<J> {
+impl<J: Meant> Worded<J> {
     /// Lines in this form.
     pub(crate) fn new(form: Form) -> Worded<J>
         ensures { result.form ≡ form }
     {
         Worded {
             form,
-            told: PhantomData,
+            meant: PhantomData,
         }
     }
 }
 
-impl<J: Told + Send + Sync> Purpose for Worded<J> {
+impl<J: Meant + Send + Sync> Purpose for Worded<J> {
     type Carried = Snapshot<Record>;
 
     type Entry = Printed<J>;
@@ -66,7 +66,7 @@ impl<J: Told + Send + Sync> Purpose for Worded<J> {
             line,
             rec,
             answer: Snapshot::of(&answer),
-            told: PhantomData,
+            meant: PhantomData,
         };
         scratch.take_back(alloc, answer);
         printed

@@ -1,7 +1,7 @@
 -- Splits, chords, cuts and a rectangle keep the chains of darts.
 use Rattle.std.proofs.Common.{◌≡◌, ◌≢◌, ℕ, ◌+◌, ◌<◌, ◌≤◌, ◌==◌, if◌then◌else◌, ◌⊎◌, ◌∙◌, arith, subst, sym, ap, refl, inl, inr, eqb}
 use Rattle.std.proofs.lemmas.Bool.{cases_eq, cases_lt, eq-eqb, ne_eqb, cond-true, cond-false}
-use Rattle.dissect.specs.DartMaps.{DartMap, no_dart, IsTied, IsSubdivided, IsChord, IsCut, Grows, same, further}
+use Rattle.dissect.specs.DartMaps.{DartMap, no_dart, IsTied, IsSubdivided, IsChord, IsCut, IsCutUp, same, further}
 use Rattle.dissect.specs.Surrounds.{IsSurrounded, IsEnclosed}
 use Rattle.dissect.proofs.Splitting.{by_age, by_place, split_tied}
 use Rattle.dissect.specs.Chains.{AreChains}
@@ -251,7 +251,7 @@ cut_chains v w d e way new has cut =
     (split_chains v w e (w.direction e) 2 cut.middle has cut.e_in cut.subdivide) cut.fits.d_in cut.fits.f_in
     (cut_tied w d e way new has.tied cut) cut.chord
 
-pub grows_chains : (v : ℕ) (w new : DartMap) → HasChains v w → Grows w new → HasChains v new
+pub grows_chains : (v : ℕ) (w new : DartMap) → HasChains v w → IsCutUp w new → HasChains v new
 grows_chains v w new has same = has
 grows_chains v w new has (further mid last d e way grows cut) = cut_chains v mid d e way last (grows_chains v w mid has grows) cut
 

@@ -1,7 +1,7 @@
 -- Chords, cuts and a rectangle round the map keep the paths of all edges.
 use Rattle.std.proofs.Common.{◌≡◌, ℕ, ◌<◌, ◌≤◌, ◌⊎◌, ◌∙◌, List, [], ◌∷◌, arith, ap, inl, inr}
 use Rattle.std.proofs.lemmas.Bool.{cases_lt}
-use Rattle.dissect.specs.DartMaps.{DartMap, no_dart, IsTied, IsChord, IsCut, Grows, same, further}
+use Rattle.dissect.specs.DartMaps.{DartMap, no_dart, IsTied, IsChord, IsCut, IsCutUp, same, further}
 use Rattle.dissect.specs.Faces.{Below}
 use Rattle.dissect.specs.Paths.{Follows, HasPath, HasPaths, bends}
 use Rattle.dissect.proofs.Splitting.{by_age, split_tied}
@@ -90,12 +90,12 @@ cut_quarters w d e way new quarters cut a l =
     (omega (arith, chord.direction_there, cut.fits.direction_quarter)) (omega (arith, chord.direction_back))
     a (omega (arith, chord.darts))
 
-pub grows_quarters : (w new : DartMap) → AreQuarters w → Grows w new → AreQuarters new
+pub grows_quarters : (w new : DartMap) → AreQuarters w → IsCutUp w new → AreQuarters new
 grows_quarters w new quarters same = quarters
 grows_quarters w new quarters (further mid last d e way grows cut) =
     cut_quarters mid d e way last (grows_quarters w mid quarters grows) cut
 
-pub grows_paths : (w new : DartMap) (n : ℕ) (reverse_dart : ℕ → ℕ) (quarters : ℕ → List ℕ) → IsTied w → AreQuarters w → Grows w new →
+pub grows_paths : (w new : DartMap) (n : ℕ) (reverse_dart : ℕ → ℕ) (quarters : ℕ → List ℕ) → IsTied w → AreQuarters w → IsCutUp w new →
     HasPaths w n reverse_dart quarters → HasPaths new n reverse_dart quarters
 grows_paths w new n reverse_dart quarters tied four same has = has
 grows_paths w new n reverse_dart quarters tied four (further mid last d e way grows cut) has =

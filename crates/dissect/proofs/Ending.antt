@@ -76,7 +76,7 @@ module _ (p : PlaneModel) (a h : ℕ → ℕ) (total : ℕ) (w : DartMap) (face_
           cond-false {A = ℕ} (eqb f p.outer) 4 0 test,
           cond-false {A = ℕ} (eqb f p.outer) 0 4 test,
         );
-    outside =
+    outer_turns =
         let test = eq-eqb p.outer p.outer refl in
         omega (
           arith,

@@ -2,7 +2,7 @@
 use Rattle.std.proofs.Common.{◌≡◌, ℕ, suc, ◌+◌, ◌*◌, ◌<◌, ◌∙◌, List, [], ◌∷◌, ◌++◌, length, length-append, map, append-nil, arith, subst, sym, ap, refl, inl, inr}
 use Rattle.dissect.specs.Turning.{total, HasNoHook, AreCornerAngles, AreLefts}
 use Rattle.dissect.specs.DartMaps.{DartMap, IsSound}
-use Rattle.dissect.specs.Faces.{IsCorner, Trail, last_of, Ring, IsRectangle, In, concatenated, AreWaiting}
+use Rattle.dissect.specs.Faces.{IsCorner, Trail, last_of, Ring, HasFourCorners, In, concatenated, AreWaiting}
 use Rattle.dissect.specs.Scan.{down, IsScan}
 use Rattle.dissect.proofs.Stretching.{Stretches-corner}
 use Rattle.dissect.proofs.Rings.{ring_turned, four_turned}
@@ -54,7 +54,7 @@ pub four_done : (w : DartMap) (a b c d : ℕ) (o : ℕ) (rs : List (List ℕ)) �
     AreWaiting w o ((a ∷ b ∷ c ∷ d ∷ []) ∷ rs) → AreWaiting w o rs
 four_done w a b c d o rs left_a left_b left_c left_d waiting =
     let ring = waiting.rings.0.0 in
-    let box1 : IsRectangle w 1 a = record {
+    let box1 : HasFourCorners w 1 a = record {
       second = b;
       third = c;
       fourth = d;
@@ -67,9 +67,9 @@ four_done w a b c d o rs left_a left_b left_c left_d waiting =
       angle_third = left_c;
       angle_fourth = left_d;
     } in
-    let box2 : IsRectangle w 1 b = four_turned w 1 a box1 in
-    let box3 : IsRectangle w 1 c = four_turned w 1 b box2 in
-    let box4 : IsRectangle w 1 d = four_turned w 1 c box3 in
+    let box2 : HasFourCorners w 1 b = four_turned w 1 a box1 in
+    let box3 : HasFourCorners w 1 c = four_turned w 1 b box2 in
+    let box4 : HasFourCorners w 1 d = four_turned w 1 c box3 in
     record {
       rings = waiting.rings.1;
       distinct = waiting.distinct.1.1.1.1;
@@ -79,13 +79,13 @@ four_done w a b c d o rs left_a left_b left_c left_d waiting =
       placed = λ k l corner.
           elim (waiting.placed k l corner) [
             | inl listed ↦ elim listed [
-              | inl e ↦ inr (inl (subst (λ (z : ℕ). IsRectangle w 1 z) (sym e) box1))
+              | inl e ↦ inr (inl (subst (λ (z : ℕ). HasFourCorners w 1 z) (sym e) box1))
               | inr l1 ↦ elim l1 [
-                | inl e ↦ inr (inl (subst (λ (z : ℕ). IsRectangle w 1 z) (sym e) box2))
+                | inl e ↦ inr (inl (subst (λ (z : ℕ). HasFourCorners w 1 z) (sym e) box2))
                 | inr l2 ↦ elim l2 [
-                  | inl e ↦ inr (inl (subst (λ (z : ℕ). IsRectangle w 1 z) (sym e) box3))
+                  | inl e ↦ inr (inl (subst (λ (z : ℕ). HasFourCorners w 1 z) (sym e) box3))
                   | inr l3 ↦ elim l3 [
-                    | inl e ↦ inr (inl (subst (λ (z : ℕ). IsRectangle w 1 z) (sym e) box4))
+                    | inl e ↦ inr (inl (subst (λ (z : ℕ). HasFourCorners w 1 z) (sym e) box4))
                     | inr others ↦ inl others
                   ]
                 ]

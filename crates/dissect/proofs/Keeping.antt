@@ -1,6 +1,6 @@
 -- What a rectangle and cuts keep of the darts that were there before.
 use Rattle.std.proofs.Common.{◌≡◌, ℕ, ◌+◌, ◌<◌, ◌≤◌, ◌∙◌, refl, arith}
-use Rattle.dissect.specs.DartMaps.{DartMap, IsCut, Grows, same, further}
+use Rattle.dissect.specs.DartMaps.{DartMap, IsCut, IsCutUp, same, further}
 use Rattle.dissect.specs.Surrounds.{IsSurrounded, IsEnclosed}
 
 -- a dart that was there keeps its head and its direction
@@ -26,7 +26,7 @@ keeps_on w mid new one two = record {
   direction = λ a a_in. two.direction a (omega (arith, a_in, one.more)) ∙ one.direction a a_in;
 }
 
-pub grows_keeps : (w new : DartMap) → Grows w new → Keeps w new
+pub grows_keeps : (w new : DartMap) → IsCutUp w new → Keeps w new
 grows_keeps w _ same = record {
   more = omega (arith);
   more_vertices = omega (arith);

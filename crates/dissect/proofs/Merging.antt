@@ -3,7 +3,7 @@ use Rattle.std.proofs.Common.{◌≡◌, ◌≢◌, ◌⊎◌, ℕ, ◌+◌, ◌
 use Rattle.std.proofs.lemmas.Bool.{cases_eq, cases_lt}
 use Rattle.dissect.specs.DartMaps.{DartMap}
 use Rattle.dissect.specs.Turning.{total}
-use Rattle.dissect.specs.Faces.{IsCorner, Stretches, Trail, last_of, Ring, IsRectangle, IsOutside, In, Distinct, Below, concatenated, TurnsOnce, AreWaiting}
+use Rattle.dissect.specs.Faces.{IsCorner, Stretches, Trail, last_of, Ring, HasFourCorners, IsOutside, In, Distinct, Below, concatenated, TurnsOnce, AreWaiting}
 use Rattle.dissect.proofs.Stretching.{stretch_direct, chord_stretch_to, chord_stretch_there, chord_stretch_back, Stretches-corner}
 use Rattle.dissect.proofs.Rings.{Clear, trail_front, trail_rest, trail_append, last_of-append, split_ring, chord_trail, clear_last, trail_corner, corner_not_f}
 use Rattle.dissect.proofs.Waiting.{clear_of, total-append}
@@ -245,11 +245,11 @@ pub bridge_places : (w surrounded : DartMap) (right side way : ℕ) (new : DartM
     (inner : List (List ℕ)) (outer front kept : List ℕ) → outer ≡ front ++ (right ∷ []) →
     ((a : ℕ) → a < w.darts → IsCorner w a → In a (concatenated inner ++ outer)) → AreKeptCorners w right front kept →
     (a : ℕ) → a < w.darts + 12 → IsCorner new a →
-    In a (concatenated inner ++ (kept ++ detour w.darts side)) ⊎ (IsRectangle new 1 a ⊎ IsOutside new (w.darts + 4 + o) a)
+    In a (concatenated inner ++ (kept ++ detour w.darts side)) ⊎ (HasFourCorners new 1 a ⊎ IsOutside new (w.darts + 4 + o) a)
 bridge_places w surrounded right side way new j o o_in inner outer front kept ends all is a l corner =
     let n : ℕ = w.darts in
     let Placed : ℕ → Type 0 = λ a. IsCorner new a →
-    In a (concatenated inner ++ (kept ++ detour n side)) ⊎ (IsRectangle new 1 a ⊎ IsOutside new (n + 4 + o) a) in
+    In a (concatenated inner ++ (kept ++ detour n side)) ⊎ (HasFourCorners new 1 a ⊎ IsOutside new (n + 4 + o) a) in
     let in_kept : (a : ℕ) → In a kept → In a (concatenated inner ++ (kept ++ detour n side)) =
     λ a h. in_right a (concatenated inner) (kept ++ detour n side) (in_left a kept (detour n side) h) in
     let in_detour : (a : ℕ) → In a (detour n side) → In a (concatenated inner ++ (kept ++ detour n side)) =
@@ -345,6 +345,6 @@ bridge_waits w surrounded right side way new j o o_in inner outer kept listed mo
       inside = omega (arith, count);
       outside = (outside_four w surrounded right side way new j o o_in o o_in).four;
       placed = λ a l corner.
-          subst (λ (xs : List ℕ). In a xs ⊎ (IsRectangle new 1 a ⊎ IsOutside new (n + 4 + o) a)) (sym (concatenated_more inner big))
+          subst (λ (xs : List ℕ). In a xs ⊎ (HasFourCorners new 1 a ⊎ IsOutside new (n + 4 + o) a)) (sym (concatenated_more inner big))
           (bridge_places w surrounded right side way new j o o_in inner outer front kept listed.ends listed.all is a (omega (arith, count, l)) corner);
     }

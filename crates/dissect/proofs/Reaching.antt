@@ -1,7 +1,7 @@
 -- Cuts keep that each dart comes to a corner, and the number of vertices together with what goes beyond straight.
 use Rattle.std.proofs.Common.{◌≡◌, ◌≢◌, ℕ, zero, suc, ◌+◌, ◌<◌, ◌∙◌, arith, sym, ap, inl, inr, refl}
 use Rattle.std.proofs.lemmas.Bool.{cases_eq}
-use Rattle.dissect.specs.DartMaps.{DartMap, IsTied, IsSubdivided, IsChord, IsSound, IsCut, Grows, same, further, reflex_turns}
+use Rattle.dissect.specs.DartMaps.{DartMap, IsTied, IsSubdivided, IsChord, IsSound, IsCut, IsCutUp, same, further, reflex_turns}
 use Rattle.dissect.specs.Faces.{StretchesIn, Stretches, ReachesCorners}
 use Rattle.dissect.proofs.Splitting.{split_tied, by_age}
 use Rattle.dissect.proofs.Stretching.{stretch_more, stretch_direct, split_stretches}
@@ -68,11 +68,11 @@ cut_reaches w d e way new tied cut reaches =
     cut.fits.d_in cut.fits.f_in cut.chord
     (split_reaches w e (w.direction e) cut.middle cut.subdivide tied cut.e_in reaches)
 
-pub grows_sound : (w last : DartMap) → IsSound w → Grows w last → IsSound last
+pub grows_sound : (w last : DartMap) → IsSound w → IsCutUp w last → IsSound last
 grows_sound w last sound same = sound
 grows_sound w last sound (further mid new d e way more cut) = cut_sound mid d e way new (grows_sound w mid sound more) cut
 
-pub grows_reaches : (w last : DartMap) → IsSound w → Grows w last → ReachesCorners w → ReachesCorners last
+pub grows_reaches : (w last : DartMap) → IsSound w → IsCutUp w last → ReachesCorners w → ReachesCorners last
 grows_reaches w last sound same reaches = reaches
 grows_reaches w last sound (further mid new d e way more cut) reaches =
     cut_reaches mid d e way new (grows_sound w mid sound more).tied cut (grows_reaches w mid sound more reaches)
@@ -81,7 +81,7 @@ grows_reaches w last sound (further mid new d e way more cut) reaches =
 pub cut_vertices : (w : DartMap) (d e way : ℕ) (new : DartMap) → IsCut w d e way new → new.vertices + reflex_turns new ≡ w.vertices + reflex_turns w
 cut_vertices w d e way new cut = omega (arith, cut_reflex_turns w d e way new cut, cut.chord.vertices, cut.subdivide.vertices)
 
-pub grows_vertices : (w last : DartMap) → Grows w last → last.vertices + reflex_turns last ≡ w.vertices + reflex_turns w
+pub grows_vertices : (w last : DartMap) → IsCutUp w last → last.vertices + reflex_turns last ≡ w.vertices + reflex_turns w
 grows_vertices w last same = refl
 grows_vertices w last (further mid new d e way more cut) =
     cut_vertices mid d e way new cut ∙ grows_vertices w mid more

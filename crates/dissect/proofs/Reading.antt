@@ -5,7 +5,7 @@ use borrow.Rule.Slice.PartMut.{put_mid, mid_of}
 use Rattle.std.proofs.lemmas.List.Elements.{All-cons}
 use Rattle.std.proofs.Math.ListN.{length-set}
 use Rattle.dissect.specs.Turning.{Rising, HasNoHook, IsPeak}
-use Rattle.dissect.specs.DartMaps.{DartMap, IsSound, Grows, same, further}
+use Rattle.dissect.specs.DartMaps.{DartMap, IsSound, IsCutUp, same, further}
 use Rattle.std.proofs.lemmas.List.Sums.{sum_by-cons}
 use Rattle.dissect.specs.Faces.{Below, AreWaiting, slices_of}
 use Rattle.dissect.specs.Scan.{down, tops, IsScan, HasRoom, IsReading}
@@ -15,7 +15,7 @@ use Rattle.dissect.proofs.Stacks.{IsTop, tops_put, tops_set}
 use Rattle.dissect.proofs.Finishing.{scan_done, turned_waiting, length-map_angle}
 use Rattle.dissect.proofs.Rotating.{rising_turned}
 
-pub grows_on : (a b c : DartMap) → Grows a b → Grows b c → Grows a c
+pub grows_on : (a b c : DartMap) → IsCutUp a b → IsCutUp b c → IsCutUp a c
 grows_on a b c first same = first
 grows_on a b c first (further mid new d e way more cut) = further mid new d e way (grows_on a b mid first more) cut
 

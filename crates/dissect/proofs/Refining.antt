@@ -5,12 +5,12 @@ use Rattle.std.proofs.lemmas.List.Sums.{sum_by-cons}
 use Rattle.common.specs.Sums.{sum_below}
 use Rattle.common.proofs.Sums.{sum_below-le}
 use Rattle.dissect.specs.declared.table.TheConstants.{RECTANGLE_ROOM}
-use Rattle.dissect.specs.DartMaps.{DartMap, IsTied, IsSound, IsCut, Grows, reflex_turns}
+use Rattle.dissect.specs.DartMaps.{DartMap, IsTied, IsSound, IsCut, IsCutUp, reflex_turns}
 use Rattle.dissect.specs.Surrounds.{IsSurrounded, IsEnclosed}
 use Rattle.dissect.specs.FaceNumbers.{AreFaceNumbers, HasTurns}
 use Rattle.dissect.specs.Scan.{CanCut, HasRoom}
 use Rattle.dissect.specs.Turning.{total}
-use Rattle.dissect.specs.Faces.{Stretches, IsRectangle, In, Distinct, Below, concatenated, AreWaiting, ReachesCorners, slices_of}
+use Rattle.dissect.specs.Faces.{Stretches, HasFourCorners, In, Distinct, Below, concatenated, AreWaiting, ReachesCorners, slices_of}
 use Rattle.dissect.proofs.Stretching.{stretch_direct, Stretches-inside}
 use Rattle.dissect.proofs.Scanning.{stretch_direction, cut_sound, cut_reflex_turns}
 use Rattle.dissect.proofs.Reaching.{cut_reaches, grows_sound, grows_reaches, cut_vertices, grows_vertices}
@@ -62,7 +62,7 @@ flat_ready w o corners counts faces flat waiting =
     (subst (λ (ns : List ℕ). AreReady w o (concatenated faces) ns) (sym flat.lengths) ready)
 
 -- a face of four rights has four different corners
-four_distinct : (w : DartMap) (o : ℕ) → IsSound w → o < w.darts → (four : IsRectangle w 3 o) →
+four_distinct : (w : DartMap) (o : ℕ) → IsSound w → o < w.darts → (four : HasFourCorners w 3 o) →
     Distinct (o ∷ four.second ∷ four.third ∷ four.fourth ∷ []) × Below w.darts (o ∷ four.second ∷ four.third ∷ four.fourth ∷ [])
 four_distinct w o sound l four =
     let l2 : four.second < w.darts = Stretches-inside w o four.second sound.tied l four.to_second in
@@ -100,7 +100,7 @@ four_distinct w o sound l four =
     out3 : (a b c d : ℕ) → a ≢ b → a ≢ c → a ≢ d → In a (b ∷ c ∷ d ∷ []) → ⊥
     out3 a b c d nb nc nd here = elim here [ inl e ↦ nb e | inr later ↦ out2 a c d nc nd later ]
 
-pub four_reflex_turns : (w : DartMap) (o : ℕ) → IsSound w → o < w.darts → IsRectangle w 3 o → 4 ≤ reflex_turns w
+pub four_reflex_turns : (w : DartMap) (o : ℕ) → IsSound w → o < w.darts → HasFourCorners w 3 o → 4 ≤ reflex_turns w
 four_reflex_turns w o sound l four =
     let xs : List ℕ = o ∷ four.second ∷ four.third ∷ four.fourth ∷ [] in
     let f : ℕ → ℕ = λ a. w.angle a - 2 in
@@ -187,7 +187,7 @@ bridge_ready w surrounded right side way new sound j inner outer corners counts 
     (bridge_waits w surrounded right side way new j k k_in inner outer made.kept listed (sound.meeting.most right j.right_in) made.is_kept)
 
 pub enclosed_by : (w : DartMap) (outside : ℕ) (surrounded : DartMap) (right side way : ℕ) (new last : DartMap) →
-    ((face_number : ℕ → ℕ) → AreFaceNumbers w face_number → face_number right ≡ face_number outside) → IsConnecting w surrounded right side way new → Grows new last →
+    ((face_number : ℕ → ℕ) → AreFaceNumbers w face_number → face_number right ≡ face_number outside) → IsConnecting w surrounded right side way new → IsCutUp new last →
     IsEnclosed w outside last
 enclosed_by w outside surrounded right side way new last same_face j grows = record {
   surrounded = surrounded;
@@ -204,13 +204,13 @@ enclosed_by w outside surrounded right side way new last same_face j grows = rec
 }
 
 pub enclosed_reaches : (w surrounded : DartMap) (right side way : ℕ) (new last : DartMap) (face_number : ℕ → ℕ) (outer : ℕ) → IsSound w → HasTurns w face_number outer →
-    IsConnecting w surrounded right side way new → Grows new last → ReachesCorners last
+    IsConnecting w surrounded right side way new → IsCutUp new last → ReachesCorners last
 enclosed_reaches w surrounded right side way new last face_number outer sound turns j grows =
     grows_reaches new last (bridge_sound w surrounded right side way new sound j) grows
     (cut_reaches surrounded right (w.darts + side) way new (surround_tied w surrounded j.surround sound.tied) j.bridge
     (surround_reaches w surrounded j.surround sound.tied (turns_reach w face_number outer sound.tied turns)))
 
-pub enclosed_few : (w surrounded : DartMap) (right side way : ℕ) (new last : DartMap) → IsSound w → IsConnecting w surrounded right side way new → Grows new last →
+pub enclosed_few : (w surrounded : DartMap) (right side way : ℕ) (new last : DartMap) → IsSound w → IsConnecting w surrounded right side way new → IsCutUp new last →
     AreWaiting last (w.darts + 4) [] → last.vertices ≤ w.vertices + reflex_turns w + 4
 enclosed_few w surrounded right side way new last sound j grows done =
     let last_sound = grows_sound new last (bridge_sound w surrounded right side way new sound j) grows in

@@ -1,7 +1,7 @@
 -- Faces told by their corners, and what one cut makes of them.
 use Rattle.std.proofs.Common.{◌≡◌, ◌≢◌, ℕ, zero, suc, ◌+◌, ◌<◌, ◌∙◌, List, [], ◌∷◌, ◌++◌, arith, subst, sym, ap, refl}
 use Rattle.dissect.specs.DartMaps.{DartMap, IsTied, IsSubdivided, IsChord}
-use Rattle.dissect.specs.Faces.{IsCorner, StretchesIn, Stretches, Trail, last_of, Ring, IsRectangle, IsOutside}
+use Rattle.dissect.specs.Faces.{IsCorner, StretchesIn, Stretches, Trail, last_of, Ring, HasFourCorners, IsOutside}
 use Rattle.dissect.proofs.Stretching.{IsCutting, split_stretches, chord_stretch, chord_stretch_there, chord_stretch_to, chord_stretch_there_to, chord_stretch_back, stretch_direct, Stretches-one, Stretches-from_one, Stretches-inside, Stretches-corner}
 
 -- each of the darts is below n, and none is d or c
@@ -50,7 +50,7 @@ split_ring w e way new s tied e_in [] l ring = ring
 split_ring w e way new s tied e_in (c ∷ cs) l ring = split_trail w e way new s tied e_in (last_of c cs) (c ∷ cs) l ring
 
 pub split_four : (w : DartMap) (e way angle a : ℕ) (new : DartMap) → IsSubdivided w e way 2 new → IsTied w → e < w.darts →
-    a < w.darts → IsRectangle w angle a → IsRectangle new angle a
+    a < w.darts → HasFourCorners w angle a → HasFourCorners new angle a
 split_four w e way angle a new s tied e_in l four =
     let l2 : four.second < w.darts = Stretches-inside w a four.second tied l four.to_second in
     let l3 : four.third < w.darts = Stretches-inside w four.second four.third tied l2 four.to_third in
@@ -176,7 +176,7 @@ cut_ring_within w d c1 c f way (b ∷ bs) rs new s tied hook clear_before clear 
 
 -- what is cut off: c1, c, the straight place that became a corner, and the chord's way back
 pub cut_four : (w : DartMap) (d c1 c f way : ℕ) (new : DartMap) → IsChord w d f way new → IsTied w → IsHook w d c1 c f →
-    d ≢ c → IsRectangle new 1 c1
+    d ≢ c → HasFourCorners new 1 c1
 cut_four w d c1 c f way new s tied hook dc =
     let here = hook.cutting in
     let c1d : c1 ≢ d = λ h. omega (arith, ap w.angle h, here.right, hook.left) in
@@ -199,7 +199,7 @@ cut_four w d c1 c f way new s tied hook dc =
     }
 
 -- a face of four can be read from its second corner on
-abbrev pub four_turned : (w : DartMap) (g a : ℕ) (four : IsRectangle w g a) → IsRectangle w g four.second
+abbrev pub four_turned : (w : DartMap) (g a : ℕ) (four : HasFourCorners w g a) → HasFourCorners w g four.second
 four_turned w g a four = record {
   second = four.third;
   third = four.fourth;
@@ -215,7 +215,7 @@ four_turned w g a four = record {
 }
 
 -- the corners of a box are not the cut's
-pub box_clear : (w : DartMap) (d c1 c f a : ℕ) → IsTied w → IsHook w d c1 c f → a < w.darts → IsRectangle w 1 a → (a ≢ d) × (a ≢ c)
+pub box_clear : (w : DartMap) (d c1 c f a : ℕ) → IsTied w → IsHook w d c1 c f → a < w.darts → HasFourCorners w 1 a → (a ≢ d) × (a ≢ c)
 box_clear w d c1 c f a tied hook l four =
     let l2 : four.second < w.darts = Stretches-inside w a four.second tied l four.to_second in
     let l3 : four.third < w.darts = Stretches-inside w four.second four.third tied l2 four.to_third in
@@ -232,7 +232,7 @@ box_clear w d c1 c f a tied hook l four =
     )
 
 -- the corners of a face of four rights are not the cut's
-pub surround_clear : (w : DartMap) (d c1 c f a : ℕ) → IsHook w d c1 c f → IsRectangle w 3 a → (a ≢ d) × (a ≢ c)
+pub surround_clear : (w : DartMap) (d c1 c f a : ℕ) → IsHook w d c1 c f → HasFourCorners w 3 a → (a ≢ d) × (a ≢ c)
 surround_clear w d c1 c f a hook four = (
   λ h.
       let from_d : Stretches w d four.second = subst (λ (b : ℕ). Stretches w b four.second) h four.to_second in
@@ -242,8 +242,8 @@ surround_clear w d c1 c f a hook four = (
 )
 
 pub chord_four : (w : DartMap) (d c f way g a : ℕ) (new : DartMap) → IsChord w d f way new → IsTied w → IsCutting w d c f →
-    a < w.darts → g ≢ 2 → (four : IsRectangle w g a) → (a ≢ d) × (a ≢ c) → (four.second ≢ d) × (four.second ≢ c) →
-    (four.third ≢ d) × (four.third ≢ c) → (four.fourth ≢ d) × (four.fourth ≢ c) → IsRectangle new g a
+    a < w.darts → g ≢ 2 → (four : HasFourCorners w g a) → (a ≢ d) × (a ≢ c) → (four.second ≢ d) × (four.second ≢ c) →
+    (four.third ≢ d) × (four.third ≢ c) → (four.fourth ≢ d) × (four.fourth ≢ c) → HasFourCorners new g a
 chord_four w d c f way g a new s tied here l turns four clear1 clear2 clear3 clear4 =
     let l2 : four.second < w.darts = Stretches-inside w a four.second tied l four.to_second in
     let l3 : four.third < w.darts = Stretches-inside w four.second four.third tied l2 four.to_third in
@@ -268,7 +268,7 @@ chord_four w d c f way g a new s tied here l turns four clear1 clear2 clear3 cle
 
 -- a box stays one
 pub cut_box : (w : DartMap) (d c1 c f way a : ℕ) (new : DartMap) → IsChord w d f way new → IsTied w → IsHook w d c1 c f →
-    a < w.darts → IsRectangle w 1 a → IsRectangle new 1 a
+    a < w.darts → HasFourCorners w 1 a → HasFourCorners new 1 a
 cut_box w d c1 c f way a new s tied hook l four =
     let l2 : four.second < w.darts = Stretches-inside w a four.second tied l four.to_second in
     let l3 : four.third < w.darts = Stretches-inside w four.second four.third tied l2 four.to_third in
@@ -303,11 +303,11 @@ cut_outside w o d c1 c f way a new s tied hook l outside =
 
 -- the four corners of what is cut off
 pub cut_boxes : (w : DartMap) (d c1 c f way : ℕ) (new : DartMap) → IsChord w d f way new → IsTied w → IsHook w d c1 c f →
-    d ≢ c → IsRectangle new 1 c1 × IsRectangle new 1 c × IsRectangle new 1 f × IsRectangle new 1 (w.darts + 1)
+    d ≢ c → HasFourCorners new 1 c1 × HasFourCorners new 1 c × HasFourCorners new 1 f × HasFourCorners new 1 (w.darts + 1)
 unfolding cut_four
 cut_boxes w d c1 c f way new s tied hook dc =
-    let box1 : IsRectangle new 1 c1 = cut_four w d c1 c f way new s tied hook dc in
-    let box2 : IsRectangle new 1 c = four_turned new 1 c1 box1 in
-    let box3 : IsRectangle new 1 f = four_turned new 1 c box2 in
-    let box4 : IsRectangle new 1 (w.darts + 1) = four_turned new 1 f box3 in
+    let box1 : HasFourCorners new 1 c1 = cut_four w d c1 c f way new s tied hook dc in
+    let box2 : HasFourCorners new 1 c = four_turned new 1 c1 box1 in
+    let box3 : HasFourCorners new 1 f = four_turned new 1 c box2 in
+    let box4 : HasFourCorners new 1 (w.darts + 1) = four_turned new 1 f box3 in
     (box1, box2, box3, box4)

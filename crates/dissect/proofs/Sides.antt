@@ -2,7 +2,7 @@
 -- turns and the darts on it.
 use Rattle.std.proofs.Common.{ℕ, ◌+◌, ◌<◌, List, ◌∷◌, arith, subst, sym, refl, inl, inr}
 use Rattle.std.proofs.lemmas.Bool.{cases_eq}
-use Rattle.dissect.specs.DartMaps.{DartMap, IsTied, IsSubdivided, IsCut, Grows, same, further}
+use Rattle.dissect.specs.DartMaps.{DartMap, IsTied, IsSubdivided, IsCut, IsCutUp, same, further}
 use Rattle.dissect.specs.Faces.{In}
 use Rattle.dissect.specs.Paths.{HasPath, bends}
 use Rattle.dissect.proofs.Splitting.{split_tied}
@@ -64,7 +64,7 @@ cut_chain w d e way new end reverse_dart held turns tied quarter cut old =
     (chord_beside cut.middle d w.darts way new (split_tied w e (w.direction e) 2 cut.middle tied cut.e_in cut.subdivide) cut.chord)
     (split_chain w e (w.direction e) cut.middle end reverse_dart held turns tied cut.e_in quarter cut.subdivide old)
 
-pub grows_chain : (w new : DartMap) (end reverse_dart held : ℕ) (turns : List ℕ) → IsTied w → AreQuarters w → Grows w new →
+pub grows_chain : (w new : DartMap) (end reverse_dart held : ℕ) (turns : List ℕ) → IsTied w → AreQuarters w → IsCutUp w new →
     HasChain w end reverse_dart held turns → HasChain new end reverse_dart held turns
 grows_chain w new end reverse_dart held turns tied four same old = old
 grows_chain w new end reverse_dart held turns tied four (further mid last d e way grows cut) old =

@@ -1,7 +1,7 @@
 -- Splits, chords and cuts leave a connected map connected.
 use Rattle.std.proofs.Common.{◌≡◌, ℕ, ◌+◌, ◌<◌, ◌∙◌, Bool, true, arith, subst, sym, ap, inl, inr}
 use Rattle.std.proofs.lemmas.Bool.{cases_eq}
-use Rattle.dissect.specs.DartMaps.{DartMap, IsTied, IsSubdivided, IsChord, HasChordAngles, IsCut, Grows, same, further}
+use Rattle.dissect.specs.DartMaps.{DartMap, IsTied, IsSubdivided, IsChord, HasChordAngles, IsCut, IsCutUp, same, further}
 use Rattle.dissect.specs.Paths.{IsConnected}
 use Rattle.dissect.proofs.Splitting.{by_age, split_tied}
 use Rattle.dissect.proofs.Chords.{chord_tied}
@@ -140,12 +140,12 @@ cut_extended w d e way new tied cut =
     (chord_extended cut.middle d w.darts way new
     (split_tied w e (w.direction e) 2 cut.middle tied cut.e_in cut.subdivide) cut.fits cut.chord)
 
-pub grows_tied : (w new : DartMap) → IsTied w → Grows w new → IsTied new
+pub grows_tied : (w new : DartMap) → IsTied w → IsCutUp w new → IsTied new
 grows_tied w new tied same = tied
 grows_tied w new tied (further mid last d e way grows cut) =
     cut_tied mid d e way last (grows_tied w mid tied grows) cut
 
-pub grows_extended : (w new : DartMap) → IsTied w → Grows w new → IsExtended w new
+pub grows_extended : (w new : DartMap) → IsTied w → IsCutUp w new → IsExtended w new
 grows_extended w new tied same = extended_same w
 grows_extended w new tied (further mid last d e way grows cut) =
     extended_on w mid last (grows_extended w mid tied grows)

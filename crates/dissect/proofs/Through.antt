@@ -1,7 +1,7 @@
 -- The path of an edge goes through the darts that it was made of, in their order, whatever is cut.
 use Rattle.std.proofs.Common.{◌≡◌, ℕ, ◌+◌, ◌<◌, ◌≤◌, ◌⊎◌, ◌∙◌, List, [], ◌∷◌, arith, subst, sym, refl, inl, inr}
 use Rattle.std.proofs.lemmas.Bool.{cases_eq}
-use Rattle.dissect.specs.DartMaps.{DartMap, no_dart, IsTied, IsSubdivided, IsCut, Grows, same, further}
+use Rattle.dissect.specs.DartMaps.{DartMap, no_dart, IsTied, IsSubdivided, IsCut, IsCutUp, same, further}
 use Rattle.dissect.specs.Faces.{last_of, Below}
 use Rattle.dissect.specs.Paths.{Follows, IsPath}
 use Rattle.dissect.specs.Surrounds.{IsEnclosed}
@@ -129,7 +129,7 @@ cut_through w d e way new end held tied quarter cut old =
     step_through cut.middle new end held (beside_step cut.middle new (chord_beside cut.middle d w.darts way new tied_middle cut.chord))
     (step_through w cut.middle end held (split_step w e (w.direction e) cut.middle tied cut.e_in quarter cut.subdivide) old)
 
-grows_through : (w new : DartMap) (end : ℕ) (held : List ℕ) → IsTied w → AreQuarters w → Grows w new → GoesThrough w end held →
+grows_through : (w new : DartMap) (end : ℕ) (held : List ℕ) → IsTied w → AreQuarters w → IsCutUp w new → GoesThrough w end held →
     GoesThrough new end held
 grows_through w new end held tied four same old = old
 grows_through w new end held tied four (further mid last d e way grows cut) old =

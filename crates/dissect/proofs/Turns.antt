@@ -120,7 +120,7 @@ orbit_outside w face_number a p tied turns l period =
       turning_total w (path w a p),
       orbit_angles w face_number a p tied turns.face_numbers l period,
       orbit_darts w face_number a p tied turns.face_numbers l period,
-      turns.outside,
+      turns.outer_turns,
     )
 
 -- where angles are no more than straight, they do not turn to the right

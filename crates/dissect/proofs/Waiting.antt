@@ -3,7 +3,7 @@ use Rattle.std.proofs.Common.{◌≡◌, ◌≢◌, ◌⊎◌, ℕ, ◌+◌, ◌
 use Rattle.std.proofs.lemmas.Bool.{cases_eq}
 use Rattle.dissect.specs.Turning.{total}
 use Rattle.dissect.specs.DartMaps.{DartMap, IsTied, IsCut}
-use Rattle.dissect.specs.Faces.{IsCorner, Stretches, last_of, Ring, IsRectangle, IsOutside, In, Distinct, Below, concatenated, TurnsOnce, AreRings, AreWaiting}
+use Rattle.dissect.specs.Faces.{IsCorner, Stretches, last_of, Ring, HasFourCorners, IsOutside, In, Distinct, Below, concatenated, TurnsOnce, AreRings, AreWaiting}
 use Rattle.dissect.proofs.Splitting.{split_tied, by_age}
 use Rattle.dissect.proofs.Stretching.{split_stretches}
 use Rattle.dissect.proofs.Rings.{Clear, IsHook, split_ring, split_four, chord_ring, cut_ring_within, split_outside, cut_boxes, cut_box, cut_outside}
@@ -117,10 +117,10 @@ other_rings w d c1 c e way new bite (r ∷ rs) below out_d out_c rings =
 -- each corner after the cut is of a list that has the chord's way there, d if it still turns, and what stays
 -- of the corners before; or it is of a box or of the outside of the rectangle
 pub bite_places : (w : DartMap) (o d c1 c e way : ℕ) (new : DartMap) (before tail list : List ℕ) → IsBite w d c1 c e way new →
-    ((a : ℕ) → a < w.darts → IsCorner w a → In a (before ++ (d ∷ c1 ∷ c ∷ tail)) ⊎ (IsRectangle w 1 a ⊎ IsOutside w o a)) →
+    ((a : ℕ) → a < w.darts → IsCorner w a → In a (before ++ (d ∷ c1 ∷ c ∷ tail)) ⊎ (HasFourCorners w 1 a ⊎ IsOutside w o a)) →
     In (w.darts + 2) list → (IsCorner new d → In d list) → ((a : ℕ) → In a before → In a list) →
     ((a : ℕ) → In a tail → In a list) →
-    (a : ℕ) → a < new.darts → IsCorner new a → In a list ⊎ (IsRectangle new 1 a ⊎ IsOutside new o a)
+    (a : ℕ) → a < new.darts → IsCorner new a → In a list ⊎ (HasFourCorners new 1 a ⊎ IsOutside new o a)
 bite_places w o d c1 c e way new before tail list bite placed x_in d_stays before_in tail_in a l corner =
     let cut = bite.cut in
     let s = cut.subdivide in
@@ -132,13 +132,13 @@ bite_places w o d c1 c e way new before tail list bite placed x_in d_stays befor
     let g_straight : new.angle (w.darts + 1) ≡ 2 =
     t.angle_other (w.darts + 1) (omega (arith, s.darts)) (λ h. omega (arith, h, cut.d_in)) (λ h. omega (arith, h))
     ∙ s.angle_second in
-    let old : (a : ℕ) → a < w.darts → IsCorner new a → In a list ⊎ (IsRectangle new 1 a ⊎ IsOutside new o a) = λ a l corner.
+    let old : (a : ℕ) → a < w.darts → IsCorner new a → In a list ⊎ (HasFourCorners new 1 a ⊎ IsOutside new o a) = λ a l corner.
     elim (cases_eq a d) [
       | inl is_d ↦ inl (subst (λ (k : ℕ). In k list) (sym is_d) (d_stays (subst (λ (k : ℕ). IsCorner new k) is_d corner)))
       | inr nd ↦ elim (cases_eq a c1) [
-        | inl is_c1 ↦ inr (inl (subst (λ (k : ℕ). IsRectangle new 1 k) (sym is_c1) boxes.0))
+        | inl is_c1 ↦ inr (inl (subst (λ (k : ℕ). HasFourCorners new 1 k) (sym is_c1) boxes.0))
         | inr nc1 ↦ elim (cases_eq a c) [
-          | inl is_c ↦ inr (inl (subst (λ (k : ℕ). IsRectangle new 1 k) (sym is_c) boxes.1))
+          | inl is_c ↦ inr (inl (subst (λ (k : ℕ). HasFourCorners new 1 k) (sym is_c) boxes.1))
           | inr nc ↦
               let was : IsCorner w a = λ h. corner (bite_angle w d c1 c e way a new bite l nd ∙ h) in
               let l_mid : a < cut.middle.darts = omega (arith, s.darts, l) in
@@ -157,18 +157,18 @@ bite_places w o d c1 c e way new before tail list bite placed x_in d_stays befor
         ]
       ]
     ] in
-    let middle : (a : ℕ) → a < w.darts + 2 → IsCorner new a → In a list ⊎ (IsRectangle new 1 a ⊎ IsOutside new o a) =
-    by_age w.darts (λ a. IsCorner new a → In a list ⊎ (IsRectangle new 1 a ⊎ IsOutside new o a)) old
+    let middle : (a : ℕ) → a < w.darts + 2 → IsCorner new a → In a list ⊎ (HasFourCorners new 1 a ⊎ IsOutside new o a) =
+    by_age w.darts (λ a. IsCorner new a → In a list ⊎ (HasFourCorners new 1 a ⊎ IsOutside new o a)) old
     (λ _. inr (inl boxes.2)) (λ corner. absurd (corner g_straight)) in
     let two : cut.middle.darts ≡ w.darts + 2 = s.darts in
-    by_age cut.middle.darts (λ a. IsCorner new a → In a list ⊎ (IsRectangle new 1 a ⊎ IsOutside new o a))
+    by_age cut.middle.darts (λ a. IsCorner new a → In a list ⊎ (HasFourCorners new 1 a ⊎ IsOutside new o a))
     (λ a l. middle a (omega (arith, two, l)))
     (λ _. inl (subst (λ (k : ℕ). In k list) (sym two) x_in))
     (λ _. inr (inl boxes.3))
     a (omega (arith, t.darts, l)) corner
 
 -- the outside of the rectangle stays
-pub bite_outside : (w : DartMap) (o d c1 c e way : ℕ) (new : DartMap) → IsBite w d c1 c e way new → o < w.darts → IsRectangle w 3 o → IsRectangle new 3 o
+pub bite_outside : (w : DartMap) (o d c1 c e way : ℕ) (new : DartMap) → IsBite w d c1 c e way new → o < w.darts → HasFourCorners w 3 o → HasFourCorners new 3 o
 bite_outside w o d c1 c e way new bite l four =
     let cut = bite.cut in
     let s = cut.subdivide in
@@ -322,9 +322,9 @@ kept_waiting w d c1 c e way new before rest o rs bite corner waiting =
           (kept_below w.darts new.darts d c1 c (w.darts + 2) before (rest ++ concatenated rs) (omega (arith, t.darts, two)) more below);
       inside = omega (arith, t.darts, two, waiting.inside);
       outside = bite_outside w o d c1 c e way new bite waiting.inside waiting.outside;
-      placed = λ a l turn. subst (λ (zs : List ℕ). In a zs ⊎ (IsRectangle new 1 a ⊎ IsOutside new o a)) (sym new_flat)
+      placed = λ a l turn. subst (λ (zs : List ℕ). In a zs ⊎ (HasFourCorners new 1 a ⊎ IsOutside new o a)) (sym new_flat)
           (bite_places w o d c1 c e way new before (rest ++ concatenated rs) (before ++ (d ∷ (w.darts + 2) ∷ (rest ++ concatenated rs))) bite
-          (λ a l turn. subst (λ (zs : List ℕ). In a zs ⊎ (IsRectangle w 1 a ⊎ IsOutside w o a)) old_flat (waiting.placed a l turn))
+          (λ a l turn. subst (λ (zs : List ℕ). In a zs ⊎ (HasFourCorners w 1 a ⊎ IsOutside w o a)) old_flat (waiting.placed a l turn))
           (in_right (w.darts + 2) before (d ∷ (w.darts + 2) ∷ (rest ++ concatenated rs)) (inr (inl refl)))
           (λ _. in_right d before (d ∷ (w.darts + 2) ∷ (rest ++ concatenated rs)) (inl refl))
           (λ a h. in_left a before (d ∷ (w.darts + 2) ∷ (rest ++ concatenated rs)) h)
@@ -363,9 +363,9 @@ gone_waiting w d c1 c e way new before rest o rs bite straight waiting =
           (gone_below w.darts new.darts d c1 c (w.darts + 2) before (rest ++ concatenated rs) (omega (arith, t.darts, two)) more below);
       inside = omega (arith, t.darts, two, waiting.inside);
       outside = bite_outside w o d c1 c e way new bite waiting.inside waiting.outside;
-      placed = λ a l turn. subst (λ (zs : List ℕ). In a zs ⊎ (IsRectangle new 1 a ⊎ IsOutside new o a)) (sym new_flat)
+      placed = λ a l turn. subst (λ (zs : List ℕ). In a zs ⊎ (HasFourCorners new 1 a ⊎ IsOutside new o a)) (sym new_flat)
           (bite_places w o d c1 c e way new before (rest ++ concatenated rs) (before ++ ((w.darts + 2) ∷ (rest ++ concatenated rs))) bite
-          (λ a l turn. subst (λ (zs : List ℕ). In a zs ⊎ (IsRectangle w 1 a ⊎ IsOutside w o a)) old_flat (waiting.placed a l turn))
+          (λ a l turn. subst (λ (zs : List ℕ). In a zs ⊎ (HasFourCorners w 1 a ⊎ IsOutside w o a)) old_flat (waiting.placed a l turn))
           (in_right (w.darts + 2) before ((w.darts + 2) ∷ (rest ++ concatenated rs)) (inl refl))
           (λ turn. absurd (turn straight))
           (λ a h. in_left a before ((w.darts + 2) ∷ (rest ++ concatenated rs)) h)

@@ -46,7 +46,7 @@ seek_fails w face_number a k dart tied turns l all seek =
       flat_total w.angle (path w a p) flat,
       orbit_angles w face_number a p tied turns.face_numbers l period.1,
       orbit_darts w face_number a p tied turns.face_numbers l period.1,
-      turns.outside,
+      turns.outer_turns,
     )
 
 -- k steps from `start` are walked, and none was back there

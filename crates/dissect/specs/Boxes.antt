@@ -3,7 +3,7 @@ use Rattle.std.specs.Prelude.{◌≡◌, ℕ, ◌<◌, ◌≤◌, ◌⊎◌, Lis
 use Rattle.embedding.specs.declared.graphs.TheConstants.{MAX_EDGES}
 use Rattle.dissect.specs.declared.table.DartTable.{DartTable}
 use Rattle.dissect.specs.DartMaps.{DartMap, IsSound, no_dart}
-use Rattle.dissect.specs.Faces.{IsCorner, IsRectangle, IsOutside, ReachesCorners}
+use Rattle.dissect.specs.Faces.{IsCorner, HasFourCorners, IsOutside, ReachesCorners}
 use Rattle.dissect.specs.Paths.{IsPath, IsConnected}
 
 pub record BoxesModel : Type 0 where
@@ -73,8 +73,8 @@ pub record IsCutUp (w : DartMap) : Type 0 where
   -- a dart of the outside
   pub outside : ℕ
   pub outside_in : outside < w.darts
-  pub around : IsRectangle w 3 outside
-  pub corners : (a : ℕ) → a < w.darts → IsCorner w a → IsRectangle w 1 a ⊎ IsOutside w outside a
+  pub around : HasFourCorners w 3 outside
+  pub corners : (a : ℕ) → a < w.darts → IsCorner w a → HasFourCorners w 1 a ⊎ IsOutside w outside a
 
 -- what is kept of all boxes: edges run straight in four directions and meet at vertices; the parts of the plane are there
 pub record AreBoxes (b : BoxesModel) : Type 0 where

@@ -56,8 +56,8 @@ IsStraight w = (a : ℕ) → a < w.darts → w.direction (w.reverse_dart a) ≡ 
 
 -- The edge of the dart e is subdivided by a new vertex, w.vertices. The new dart w.darts leads there before
 -- e, and w.darts + 1 before e's reverse; e and its reverse keep their heads and angles. The walk along e
--- arrives at the new vertex in the direction `way`, and there the angles are `bend` and 4 - bend.
-pub record IsSubdivided (w : DartMap) (e way bend : ℕ) (new : DartMap) : Type 0 where
+-- arrives at the new vertex in the direction `way`, and there the angles are `left_angle` and 4 - bend.
+pub record IsSubdivided (w : DartMap) (e way left_angle : ℕ) (new : DartMap) : Type 0 where
   pub darts : new.darts ≡ w.darts + 2
   pub vertices : new.vertices ≡ w.vertices + 1
   pub next_before : new.next (w.prev e) ≡ w.darts
@@ -80,18 +80,18 @@ pub record IsSubdivided (w : DartMap) (e way bend : ℕ) (new : DartMap) : Type 
   pub head_second : new.head (w.darts + 1) ≡ w.vertices
   pub direction_old : (a : ℕ) → a < w.darts → new.direction a ≡ w.direction a
   pub direction_first : new.direction w.darts ≡ way
-  pub direction_second : new.direction (w.darts + 1) ≡ (way + 4 - bend) % 4
+  pub direction_second : new.direction (w.darts + 1) ≡ (way + 4 - left_angle) % 4
   pub angle_old : (a : ℕ) → a < w.darts → new.angle a ≡ w.angle a
-  pub angle_first : new.angle w.darts ≡ bend
-  pub angle_second : new.angle (w.darts + 1) ≡ 4 - bend
+  pub angle_first : new.angle w.darts ≡ left_angle
+  pub angle_second : new.angle (w.darts + 1) ≡ 4 - left_angle
   pub before_e : new.before e ≡ w.darts
   pub before_first : new.before w.darts ≡ w.before e
   pub before_reverse_dart : new.before (w.reverse_dart e) ≡ w.darts + 1
   pub before_second : new.before (w.darts + 1) ≡ w.before (w.reverse_dart e)
   pub before_other : (a : ℕ) → a < w.darts → a ≢ e → a ≢ w.reverse_dart e → new.before a ≡ w.before a
 
--- A new edge connects the corner at the head of d with the corner at the head of f: the new dart w.darts goes on
--- from d in the direction `way`, and w.darts + 1 comes back from f. Each corner gives up one right angle,
+-- A new edge connects the angle at the head of d with the angle at the head of f: the new dart w.darts goes on
+-- from d in the direction `way`, and w.darts + 1 comes back from f. Each angle gives up one right angle,
 -- which the new edge then has on its left.
 pub record IsChord (w : DartMap) (d f way : ℕ) (new : DartMap) : Type 0 where
   pub darts : new.darts ≡ w.darts + 2
@@ -124,7 +124,7 @@ pub record IsChord (w : DartMap) (d f way : ℕ) (new : DartMap) : Type 0 where
   pub before_back : new.before (w.darts + 1) ≡ no_dart
   pub before_old : (a : ℕ) → a < w.darts → new.before a ≡ w.before a
 
--- the chord leaves each of its corners so that the angles that remain are its own
+-- the chord leaves angles of more than one right angle, in directions that fit
 pub record HasChordAngles (w : DartMap) (d f way : ℕ) : Type 0 where
   pub d_in : d < w.darts
   pub f_in : f < w.darts
@@ -141,8 +141,8 @@ pub record IsSound (w : DartMap) : Type 0 where
   pub meeting : IsMeeting w
   pub straight : IsStraight w
 
--- One cut: the edge of the dart e is subdivided without a turn, and a chord connects the corner at the head of d, which
--- is a right turn or two, with the new place on e.
+-- One cut: the edge of the dart e is subdivided without a turn, and a chord connects the angle at the head of d, which
+-- is a right turn or two, with the new vertex on e.
 pub record IsCut (w : DartMap) (d e way : ℕ) (new : DartMap) : Type 0 where
   pub middle : DartMap
   pub e_in : e < w.darts
@@ -153,9 +153,9 @@ pub record IsCut (w : DartMap) (d e way : ℕ) (new : DartMap) : Type 0 where
   pub chord : IsChord middle d w.darts way new
 
 -- cuts, one after another
-pub data Grows (w : DartMap) : DartMap → Type 0 where
-  same : Grows w w
-  further : (mid new : DartMap) (d e way : ℕ) → Grows w mid → IsCut mid d e way new → Grows w new
+pub data IsCutUp (w : DartMap) : DartMap → Type 0 where
+  same : IsCutUp w w
+  further : (mid new : DartMap) (d e way : ℕ) → IsCutUp w mid → IsCut mid d e way new → IsCutUp w new
 
 -- the right turns of a map: how far its angles go beyond straight
 abbrev pub reflex_turns : DartMap → ℕ

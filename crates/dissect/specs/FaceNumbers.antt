@@ -22,4 +22,4 @@ angles_around_face w face_number f = sum_below w.darts (λ a. if face_number a =
 pub record HasTurns (w : DartMap) (face_number : ℕ → ℕ) (outer : ℕ) : Type 0 where
   pub face_numbers : AreFaceNumbers w face_number
   pub inner : (a : ℕ) → a < w.darts → face_number a ≢ outer → angles_around_face w face_number (face_number a) + 4 ≡ 2 * darts_around_face w face_number (face_number a)
-  pub outside : angles_around_face w face_number outer ≡ 2 * darts_around_face w face_number outer + 4
+  pub outer_turns : angles_around_face w face_number outer ≡ 2 * darts_around_face w face_number outer + 4

@@ -38,7 +38,7 @@ In a [] = ⊥
 In a (b ∷ bs) = (a ≡ b) ⊎ In a bs
 
 -- a face with four corners, each of the same angle, and c one of them
-pub record IsRectangle (w : DartMap) (angle c : ℕ) : Type 0 where
+pub record HasFourCorners (w : DartMap) (angle c : ℕ) : Type 0 where
   pub second : ℕ
   pub third : ℕ
   pub fourth : ℕ
@@ -53,7 +53,7 @@ pub record IsRectangle (w : DartMap) (angle c : ℕ) : Type 0 where
 
 -- the corner a is one of four right turns of one face, and so is o
 pub record IsOutside (w : DartMap) (o a : ℕ) : Type 0 where
-  pub four : IsRectangle w 3 a
+  pub four : HasFourCorners w 3 a
   pub holds : In o (a ∷ four.second ∷ four.third ∷ four.fourth ∷ [])
 
 -- each dart of the map comes to a corner
@@ -91,8 +91,8 @@ pub record AreWaiting (w : DartMap) (o : ℕ) (faces : List (List ℕ)) : Type 0
   pub distinct : Distinct (concatenated faces)
   pub below : Below w.darts (concatenated faces)
   pub inside : o < w.darts
-  pub outside : IsRectangle w 3 o
-  pub placed : (a : ℕ) → a < w.darts → IsCorner w a → In a (concatenated faces) ⊎ (IsRectangle w 1 a ⊎ IsOutside w o a)
+  pub outside : HasFourCorners w 3 o
+  pub placed : (a : ℕ) → a < w.darts → IsCorner w a → In a (concatenated faces) ⊎ (HasFourCorners w 1 a ⊎ IsOutside w o a)
 
 -- the list cut up into pieces of these lengths
 abbrev pub slices_of : List ℕ → List ℕ → List (List ℕ)

@@ -1,6 +1,6 @@
 -- One face while it is cut: corners that were read stand on a stack, top first, and the others wait.
 use Rattle.std.specs.Prelude.{◌≡◌, ℕ, zero, suc, ◌+◌, ◌*◌, ◌%◌, ◌<◌, ◌≤◌, List, [], ◌∷◌, length, map, slice_index, drop, All}
-use Rattle.dissect.specs.DartMaps.{DartMap, IsSound, Grows, reflex_turns}
+use Rattle.dissect.specs.DartMaps.{DartMap, IsSound, IsCutUp, reflex_turns}
 use Rattle.dissect.specs.Faces.{AreWaiting}
 use Rattle.dissect.specs.Turning.{total, Rising, Hopeful, HasNoHook}
 
@@ -18,7 +18,7 @@ tops xs (suc h) = slice_index xs h ∷ tops xs h
 -- the rest are those of the face
 pub record IsScan (w0 : DartMap) (face : List ℕ) (w : DartMap) (st rest : List ℕ) : Type 0 where
   pub sound : IsSound w
-  pub grows : Grows w0 w
+  pub grows : IsCutUp w0 w
   pub waiting : (o : ℕ) (rs : List (List ℕ)) → AreWaiting w0 o (face ∷ rs) → AreWaiting w o (down st rest ∷ rs)
   pub hopeful : Hopeful (total (map w.angle rest)) (length rest) (map w.angle st)
   pub rising : Rising (map w.angle rest)

@@ -1,6 +1,6 @@
 -- A rectangle round a map, and its bridge.
 use Rattle.std.specs.Prelude.{◌≡◌, ℕ, ◌+◌, ◌%◌, ◌<◌}
-use Rattle.dissect.specs.DartMaps.{DartMap, no_dart, IsCut, Grows}
+use Rattle.dissect.specs.DartMaps.{DartMap, no_dart, IsCut, IsCutUp}
 use Rattle.dissect.specs.FaceNumbers.{AreFaceNumbers}
 
 -- A rectangle beside the map: the darts w.darts + 0 .. 3 go round its inside to the east, north, west and south,
@@ -31,8 +31,8 @@ pub record IsSurrounded (w new : DartMap) : Type 0 where
   pub before_outside : (k : ℕ) → k < 4 → new.before (w.darts + 4 + k) ≡ no_dart
 
 -- a map in its rectangle, with which it is connected by a cut from a right turn of its own, on the face of the dart
--- `outside`, to a side of the rectangle, and then cut up further
-pub record IsEnclosed (w : DartMap) (outside : ℕ) (new : DartMap) : Type 0 where
+-- `outer`, to a side of the rectangle, and then cut up further
+pub record IsEnclosed (w : DartMap) (outer : ℕ) (new : DartMap) : Type 0 where
   pub surrounded : DartMap
   pub surround : IsSurrounded w surrounded
   pub bridged : DartMap
@@ -40,7 +40,7 @@ pub record IsEnclosed (w : DartMap) (outside : ℕ) (new : DartMap) : Type 0 whe
   pub side : ℕ
   pub direction : ℕ
   pub right_in : right < w.darts
-  pub same_face : (face_number : ℕ → ℕ) → AreFaceNumbers w face_number → face_number right ≡ face_number outside
+  pub same_face : (face_number : ℕ → ℕ) → AreFaceNumbers w face_number → face_number right ≡ face_number outer
   pub side_in : side < 4
   pub bridge : IsCut surrounded right (w.darts + side) direction bridged
-  pub grows : Grows bridged new
+  pub grows : IsCutUp bridged new

@@ -2,19 +2,19 @@
 
 ghost use Rattle.std.specs.Prelude.{◌≡◌, ◌+◌};
 ghost use Rattle.dissect.specs.Faces.{ReachesCorners};
-ghost use Rattle.dissect.specs.DartMaps.{Grows, IsSound, DartMap, reflex_turns};
+ghost use Rattle.dissect.specs.DartMaps.{IsCutUp, IsSound, DartMap, reflex_turns};
 
 /// Cuts keep the map sound.
 pub fn cuts_stay_sound()
-    ensures { (w new : DartMap) → IsSound w → Grows w new → IsSound new }
+    ensures { (w new : DartMap) → IsSound w → IsCutUp w new → IsSound new }
 {}
 
 /// Where each dart comes to a corner, it still does after cuts.
 pub fn cuts_reach_corners()
-    ensures { (w new : DartMap) → IsSound w → Grows w new → ReachesCorners w → ReachesCorners new }
+    ensures { (w new : DartMap) → IsSound w → IsCutUp w new → ReachesCorners w → ReachesCorners new }
 {}
 
 /// Each cut adds one vertex, and takes one from the right turns.
 pub fn cuts_use_right_turns()
-    ensures { (w new : DartMap) → Grows w new → new.vertices + reflex_turns new ≡ w.vertices + reflex_turns w }
+    ensures { (w new : DartMap) → IsCutUp w new → new.vertices + reflex_turns new ≡ w.vertices + reflex_turns w }
 {}

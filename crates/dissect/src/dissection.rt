@@ -83,8 +83,8 @@ pub fn dissect_along(
     } = mem::replace(scratch, Scratch::empty(alloc));
     let edges = lesser_darts_of(plane, edges)?;
     let mut table = normalize_into(table, plane, shape, directions, &edges)?;
-    let outside = plane.least_dart(plane.outer());
-    let faces = refine_in(&mut table, u32::from(outside), faces)?;
+    let outer = plane.least_dart(plane.outer());
+    let faces = refine_in(&mut table, u32::from(outer), faces)?;
     let old = plane.graph().vertices();
     let paths = paths_of(&table, &edges, darts, starts)?;
     scratch.search = search;

@@ -1,7 +1,7 @@
 //! Laws of the definitions, each as the contract of a function that does nothing.
 
 ghost use Rattle.std.specs.Prelude.{◌≡◌, ◌≢◌, ◌<◌, ◌≤◌, ◌⊎◌, ◌+◌, ◌-◌, ◌%◌, ◌++◌, ℕ, List, [], ◌∷◌, length};
-ghost use Rattle.dissect.specs.DartMaps.{DartMap, IsTied, IsSound, IsSubdivided, IsCut, Grows, no_dart};
+ghost use Rattle.dissect.specs.DartMaps.{DartMap, IsTied, IsSound, IsSubdivided, IsCut, IsCutUp, no_dart};
 ghost use Rattle.dissect.specs.Faces.{Distinct};
 ghost use Rattle.dissect.specs.Paths.{HasPaths, IsConnected, IsPath, turn_to};
 ghost use Rattle.dissect.specs.Surrounds.{IsEnclosed};
@@ -24,42 +24,42 @@ pub fn subdivisions_keep_paths()
 /// A subdivision that turns gives the edge of `e` a last turn, the way back the opposite one as its first, and the
 /// other edges none.
 pub fn bends_turn_paths()
-    ensures { (w : DartMap) (e way bend : ℕ) (new : DartMap) (n : ℕ) (reverse_dart : ℕ → ℕ) (quarters turned : ℕ → List ℕ)
-        → IsTied w → e < n → w.darts ≤ no_dart → way < 4 → (bend ≡ 1) ⊎ (bend ≡ 3) → IsSubdivided w e way bend new
+    ensures { (w : DartMap) (e way left_angle : ℕ) (new : DartMap) (n : ℕ) (reverse_dart : ℕ → ℕ) (quarters turned : ℕ → List ℕ)
+        → IsTied w → e < n → w.darts ≤ no_dart → way < 4 → (left_angle ≡ 1) ⊎ (left_angle ≡ 3) → IsSubdivided w e way left_angle new
         → ((d : ℕ) → d < n → reverse_dart d < n) → ((d : ℕ) → d < n → reverse_dart (reverse_dart d) ≡ d) → reverse_dart e ≢ e
-        → turned e ≡ quarters e ++ (bend ∷ [])
-        → turned (reverse_dart e) ≡ (4 - bend) ∷ quarters (reverse_dart e)
+        → turned e ≡ quarters e ++ (left_angle ∷ [])
+        → turned (reverse_dart e) ≡ (4 - left_angle) ∷ quarters (reverse_dart e)
         → ((d : ℕ) → d < n → d ≢ e → d ≢ reverse_dart e → turned d ≡ quarters d)
         → HasPaths w n reverse_dart quarters → HasPaths new n reverse_dart turned }
 {}
 
 /// Cuts keep the turns of each edge.
 pub fn cuts_keep_paths()
-    ensures { (w new : DartMap) (n : ℕ) (reverse_dart : ℕ → ℕ) (quarters : ℕ → List ℕ) → IsSound w → Grows w new
+    ensures { (w new : DartMap) (n : ℕ) (reverse_dart : ℕ → ℕ) (quarters : ℕ → List ℕ) → IsSound w → IsCutUp w new
         → HasPaths w n reverse_dart quarters → HasPaths new n reverse_dart quarters }
 {}
 
 /// A rectangle round the map, its bridge and the cuts after it keep the turns of each edge.
 pub fn rectangles_keep_paths()
-    ensures { (w : DartMap) (outside : ℕ) (new : DartMap) (n : ℕ) (reverse_dart : ℕ → ℕ) (quarters : ℕ → List ℕ) → IsSound w
-        → IsEnclosed w outside new
+    ensures { (w : DartMap) (outer : ℕ) (new : DartMap) (n : ℕ) (reverse_dart : ℕ → ℕ) (quarters : ℕ → List ℕ) → IsSound w
+        → IsEnclosed w outer new
         → HasPaths w n reverse_dart quarters → HasPaths new n reverse_dart quarters }
 {}
 
 /// A subdivision of an edge leaves a connected map connected.
 pub fn subdivisions_stay_connected()
-    ensures { (w : DartMap) (e way bend : ℕ) (new : DartMap) → IsTied w → e < w.darts → IsSubdivided w e way bend new
+    ensures { (w : DartMap) (e way left_angle : ℕ) (new : DartMap) → IsTied w → e < w.darts → IsSubdivided w e way left_angle new
         → IsConnected w → IsConnected new }
 {}
 
 /// Cuts leave a connected map connected.
 pub fn cuts_stay_connected()
-    ensures { (w new : DartMap) → IsSound w → Grows w new → IsConnected w → IsConnected new }
+    ensures { (w new : DartMap) → IsSound w → IsCutUp w new → IsConnected w → IsConnected new }
 {}
 
 /// A connected map stays connected in its rectangle.
 pub fn rectangles_stay_connected()
-    ensures { (w : DartMap) (outside : ℕ) (new : DartMap) → IsSound w → IsEnclosed w outside new → IsConnected w → IsConnected new }
+    ensures { (w : DartMap) (outer : ℕ) (new : DartMap) → IsSound w → IsEnclosed w outer new → IsConnected w → IsConnected new }
 {}
 
 /// There is one path to a dart, no dart is on it twice, and it has no more darts than the map.

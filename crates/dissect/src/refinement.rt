@@ -31,7 +31,7 @@ fn cut_side(table: &DartTable, right: u32) -> u32
 }
 
 /// Puts a rectangle round the map, connects it to a right turn of the outer face, which is that of
-/// the dart `outside`, and cuts all faces into boxes. The table needs room for four darts for each
+/// the dart `outer`, and cuts all faces into boxes. The table needs room for four darts for each
 /// right turn, and for `RECTANGLE_ROOM` more. Linear in the darts. Faces are listed in the memory that is
 /// lent, which is given back.
 ///
@@ -39,20 +39,20 @@ fn cut_side(table: &DartTable, right: u32) -> u32
 ///
 /// `AllocError` where there is no memory for the lists of faces; the table is then as it was, and the memory
 /// that was lent is gone.
-pub fn refine_in(table: &mut DartTable, outside: u32, faces: Faces) -> Result<Faces, AllocError>
+pub fn refine_in(table: &mut DartTable, outer: u32, faces: Faces) -> Result<Faces, AllocError>
     requires sound { IsSound (dart_map_of table.old) }
-    requires turns { (face_number : ℕ → ℕ) × HasTurns (dart_map_of table.old) face_number (face_number outside) }
-    requires inside { outside < table.old.darts }
+    requires turns { (face_number : ℕ → ℕ) × HasTurns (dart_map_of table.old) face_number (face_number outer) }
+    requires inside { outer < table.old.darts }
     requires space { table.old.darts + 4 * reflex_turns (dart_map_of table.old) + RECTANGLE_ROOM ≤ room table.old }
     ensures sound { OnOk result (IsSound (dart_map_of table.new)) }
-    ensures enclosed { OnOk result (IsEnclosed (dart_map_of table.old) outside (dart_map_of table.new)) }
+    ensures enclosed { OnOk result (IsEnclosed (dart_map_of table.old) outer (dart_map_of table.new)) }
     ensures done { OnOk result ((k : ℕ) → k < 4 → AreWaiting (dart_map_of table.new) (table.old.darts + 4 + k) []) }
     ensures reaches { OnOk result (ReachesCorners (dart_map_of table.new)) }
     ensures few { OnOk result (table.new.vertices ≤ table.old.vertices + reflex_turns (dart_map_of table.old) + 4) }
     ensures unchanged { OnErr result (dart_map_of table.new ≡ dart_map_of table.old) }
     ensures room { room table.new ≡ room table.old }
 {
-    let right = find_right(table, outside);
+    let right = find_right(table, outer);
     let mut faces = list_faces(table, right, faces)?;
     let side = cut_side(table, right);
     add_merged_face(table, right, side, &mut faces)?;

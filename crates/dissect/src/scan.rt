@@ -1,4 +1,4 @@
-//! Cuts the faces of a map in four directions into boxes, by Tamassia's compaction (1987), with one scan a
+//! Cuts the faces of a map in four directions into boxes, by Tamassia's refinement (1987), with one scan a
 //! face. Boxes turn left four times and are else straight: the core of a dissection.
 //!
 //! A map is a table of darts whose edges run along the axes. A face is given by its corners, in
@@ -7,7 +7,7 @@
 //! turn to the edge behind the second left turn cuts a box off. Four left turns are left at the end.
 
 ghost use Rattle.std.specs.Prelude.{◌≡◌, ◌≢◌, ℕ, ◌+◌, ◌-◌, ◌*◌, ◌^◌, ◌<◌, ◌≤◌, ◌↔◌, List, [], ◌∷◌, length, map, drop, take, ◌++◌, sum, slice_index, true, All};
-ghost use Rattle.dissect.specs.DartMaps.{IsSound, IsCut, Grows};
+ghost use Rattle.dissect.specs.DartMaps.{IsSound, IsCut, IsCutUp};
 ghost use Rattle.dissect.specs.Tables.{dart_map_of, room};
 ghost use Rattle.dissect.specs.Faces.{AreWaiting, slices_of};
 ghost use Rattle.dissect.specs.Turning.{AreCornerAngles, HasNoHook, IsPeak};
@@ -103,7 +103,7 @@ fn peak(angle: &[u8], ring: &[u32]) -> usize
     best
 }
 
-/// Turns a ring so that it starts at another place. (`rotate_left` clears 4 KB at each call.)
+/// Rotates a ring so that it starts at another place. (`rotate_left` clears 4 KB at each call.)
 fn start_at(ring: &mut [u32], start: usize)
     requires { start ≤ length ring.old }
     ensures after { ring.new ≡ drop start ring.old ++ take start ring.old }
@@ -120,7 +120,7 @@ pub fn cut_face(table: &mut DartTable, ring: &mut [u32])
     requires space { HasRoom (dart_map_of table.old) (room table.old) }
     requires few { length ring.old < 2 ^ 32 }
     ensures sound { IsSound (dart_map_of table.new) }
-    ensures grows { Grows (dart_map_of table.old) (dart_map_of table.new) }
+    ensures grows { IsCutUp (dart_map_of table.old) (dart_map_of table.new) }
     ensures waiting { (o : ℕ) (rs : List (List ℕ)) → AreWaiting (dart_map_of table.old) o (ring.old ∷ rs) → AreWaiting (dart_map_of table.new) o rs }
     ensures space { HasRoom (dart_map_of table.new) (room table.new) }
     ensures room { room table.new ≡ room table.old }
@@ -146,7 +146,7 @@ pub fn cut_faces(table: &mut DartTable, corners: &mut [u32], counts: &[u32])
     requires all { sum counts.now ≡ length corners.old }
     requires few { length corners.old < 2 ^ 32 }
     ensures sound { IsSound (dart_map_of table.new) }
-    ensures grows { Grows (dart_map_of table.old) (dart_map_of table.new) }
+    ensures grows { IsCutUp (dart_map_of table.old) (dart_map_of table.new) }
     ensures done { (o : ℕ) → AreWaiting (dart_map_of table.old) o (slices_of corners.old counts.now) → AreWaiting (dart_map_of table.new) o [] }
     ensures space { HasRoom (dart_map_of table.new) (room table.new) }
     ensures room { room table.new ≡ room table.old }

@@ -67,14 +67,14 @@ impl DartTable {
     }
 
     /// Subdivides the edge of the dart `e` by a new vertex, at which the walk along `e` arrives in the
-    /// direction `way` and has the angle `bend` on its left.
-    pub fn subdivide(&mut self, e: u32, way: u8, bend: u8)
+    /// direction `way` and has the angle `left_angle` on its left.
+    pub fn subdivide(&mut self, e: u32, way: u8, left_angle: u8)
         requires tied { IsTied (dart_map_of self.old) }
         requires e_in { e < self.old.darts }
         requires space { self.old.darts + 2 ≤ room self.old }
         requires quarter { way < 4 }
-        requires short { bend ≤ 4 }
-        ensures subdivide { IsSubdivided (dart_map_of self.old) e way bend (dart_map_of self.new) }
+        requires short { left_angle ≤ 4 }
+        ensures subdivide { IsSubdivided (dart_map_of self.old) e way left_angle (dart_map_of self.new) }
         ensures room { room self.new ≡ room self.old }
     {
         let first = self.darts;
@@ -90,14 +90,14 @@ impl DartTable {
         self.head[first as usize] = vertex;
         self.head[second as usize] = vertex;
         self.direction[first as usize] = way;
-        self.direction[second as usize] = (way + 4 - bend) % 4;
-        self.angle[first as usize] = bend;
-        self.angle[second as usize] = 4 - bend;
+        self.direction[second as usize] = (way + 4 - left_angle) % 4;
+        self.angle[first as usize] = left_angle;
+        self.angle[second as usize] = 4 - left_angle;
         self.darts += 2;
         self.vertices += 1;
     }
 
-    /// Connects the corner at the head of the dart `d` with the corner at the head of the dart `f` by an
+    /// Connects the angle at the head of the dart `d` with the angle at the head of the dart `f` by an
     /// edge that leaves in the direction `way`.
     pub fn chord(&mut self, d: u32, f: u32, way: u8)
         requires tied { IsTied (dart_map_of self.old) }

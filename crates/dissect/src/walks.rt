@@ -9,17 +9,17 @@ ghost use Rattle.dissect.specs.Walks.{IsWalked};
 use crate::table::DartTable;
 use std::alloc::AllocError;
 
-/// The first right turn on the walk from `outside` on, round a face whose walk turns to the right.
+/// The first right turn on the walk from `outer` on, round a face whose walk turns to the right.
 /// Linear in the darts of the face.
-pub fn find_right(table: &DartTable, outside: u32) -> u32
+pub fn find_right(table: &DartTable, outer: u32) -> u32
     requires tied { IsTied (dart_map_of table.now) }
-    requires inside { outside < table.now.darts }
-    requires turns { (face_number : ℕ → ℕ) × HasTurns (dart_map_of table.now) face_number (face_number outside) }
+    requires inside { outer < table.now.darts }
+    requires turns { (face_number : ℕ → ℕ) × HasTurns (dart_map_of table.now) face_number (face_number outer) }
     ensures inside { result < table.now.darts }
     ensures right { 2 < (dart_map_of table.now).angle result }
-    ensures same { (face_number : ℕ → ℕ) → AreFaceNumbers (dart_map_of table.now) face_number → face_number result ≡ face_number outside }
+    ensures same { (face_number : ℕ → ℕ) → AreFaceNumbers (dart_map_of table.now) face_number → face_number result ≡ face_number outer }
 {
-    let mut dart = outside;
+    let mut dart = outer;
     'steps: for _ in 0..table.darts {
         if table.angle[dart as usize] > 2 {
             return dart;

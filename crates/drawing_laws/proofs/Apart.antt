@@ -1,5 +1,5 @@
 -- The drawing of a map that is cut into boxes is plane: its vertices lie apart, none lies inside a dart, and no two edges cross.
--- Whatever passes a point sees the cell to the upper right of it, and one face alone has that cell.
+-- Whatever passes a point touches the cell to the upper right of it, and one face alone has that cell.
 use Rattle.std.proofs.Common.{◌≡◌, ℕ, zero, suc, ◌+◌, ◌-◌, ◌%◌, ◌<◌, ◌≤◌, ◌⊎◌, ◌∙◌, arith, subst, sym, ap, refl, inl, inr}
 use Rattle.std.proofs.lemmas.Bool.{cases_eq, cases_lt}
 use Rattle.dissect.specs.DartMaps.{DartMap, IsSound}
@@ -7,25 +7,25 @@ use Rattle.dissect.specs.Faces.{IsCorner}
 use Rattle.dissect.specs.Ordered.{IsOrdered, tail}
 use Rattle.drawing_laws.proofs.Sides.{Goes, Spans, Keeps, IsOn, on_one, keeps_way, keeps_leads, next_tail, tail_back, dart_goes, goes_on, side_wide, side_once, side_leads}
 use Rattle.drawing_laws.proofs.Rounds.{IsRound, AreFaces}
-use Rattle.drawing_laws.proofs.Rows.{Crosses, Chain, Covers, IsStep, round_corner, round_goes, box_upright, chain_crosses, chain_one, chain_east, chain_of, chain_within, step_west, cover_step, cover_one}
+use Rattle.drawing_laws.proofs.Rows.{Crosses, DartsAcross, Covers, IsStep, round_corner, round_goes, box_upright, chain_crosses, chain_one, chain_east, chain_of, chain_within, step_west, cover_step, cover_one}
 
 -- the dart a has the cell to the upper right of the point on its left: it goes past it to the south, or to the east, or it
 -- arrives there with an angle that is wide enough
-abbrev pub SeesCell : DartMap → (ℕ → ℕ) → (ℕ → ℕ) → ℕ → ℕ → ℕ → Type 0
-SeesCell w x y px py a =
+abbrev pub TouchesCell : DartMap → (ℕ → ℕ) → (ℕ → ℕ) → ℕ → ℕ → ℕ → Type 0
+TouchesCell w x y px py a =
     ((w.direction a ≡ 3) × (px ≡ x (w.head a)) × (y (w.head a) ≤ py) × (py < y (tail w a)))
     ⊎ (((w.direction a ≡ 0) × (py ≡ y (w.head a)) × (x (tail w a) < px) × (px < x (w.head a)))
     ⊎ ((px ≡ x (w.head a)) × (py ≡ y (w.head a)) × ((w.direction a + 1) % 4 < w.angle a)))
 
--- how a dart on a box's sides sees it
-abbrev BoxSees : DartMap → (ℕ → ℕ) → (ℕ → ℕ) → ℕ → ℕ → (ℕ → ℕ) → ℕ → Type 0
-BoxSees w x y px py corner a =
+-- how a dart on a box's sides touches it
+abbrev BoxTouches : DartMap → (ℕ → ℕ) → (ℕ → ℕ) → ℕ → ℕ → (ℕ → ℕ) → ℕ → Type 0
+BoxTouches w x y px py corner a =
     (IsOn w a (corner 3) × (px ≡ x (w.head (corner 3))) × Spans 3 x y py (tail w a) (w.head a))
     ⊎ (IsOn w a (corner 0) × (x (w.head (corner 3)) < px) × Spans 0 x y px (tail w a) (w.head a))
 
--- how a dart of the outside sees it
-abbrev OutsideSees : DartMap → (ℕ → ℕ) → (ℕ → ℕ) → ℕ → ℕ → (ℕ → ℕ) → ℕ → Type 0
-OutsideSees w x y px py around a =
+-- how a dart of the outside touches it
+abbrev OutsideTouches : DartMap → (ℕ → ℕ) → (ℕ → ℕ) → ℕ → ℕ → (ℕ → ℕ) → ℕ → Type 0
+OutsideTouches w x y px py around a =
     (IsOn w a (around 3) × (px ≡ x (w.head (around 3))) × Spans 3 x y py (tail w a) (w.head a) × (py < y (w.head (around 0))))
     ⊎ ((IsOn w a (around 0) × (py ≡ y (w.head (around 0))) × Spans 0 x y px (tail w a) (w.head a) × (x (w.head (around 1)) < px))
     ⊎ ((a ≡ around 1) × (px ≡ x (w.head (around 1))) × (py ≡ y (w.head (around 1)))))
@@ -67,7 +67,7 @@ module _ (w : DartMap) (sound : IsSound w) (x y : ℕ → ℕ) (ordered : IsOrde
 
   module _ (corner : ℕ → ℕ) (round : IsRound w 3 1 corner) where
     box_south : (px py a : ℕ) → a < w.darts → IsOn w a (corner 3) → px ≡ x (w.head a) → y (w.head a) ≤ py → py < y (tail w a)
-        → Covers w x y corner px py × BoxSees w x y px py corner a
+        → Covers w x y corner px py × BoxTouches w x y px py corner a
     box_south px py a a_in on line low high =
         let up = box_upright w sound x y ordered corner round in
         let wide = side_wide w sound x y ordered 3 (corner 2) a (corner 3) py (round.inside 2 (omega arith)) a_in
@@ -83,7 +83,7 @@ module _ (w : DartMap) (sound : IsSound w) (x y : ℕ → ℕ) (ordered : IsOrde
         )
 
     box_east : (px py a : ℕ) → a < w.darts → IsOn w a (corner 0) → py ≡ y (w.head a) → x (tail w a) < px → px ≤ x (w.head a) → px < x (w.head (corner 0))
-        → Covers w x y corner px py × BoxSees w x y px py corner a
+        → Covers w x y corner px py × BoxTouches w x y px py corner a
     box_east px py a a_in on line low high less =
         let up = box_upright w sound x y ordered corner round in
         let wide = side_wide w sound x y ordered 0 (corner 3) a (corner 0) px (round.inside 3 (omega arith)) a_in
@@ -106,32 +106,32 @@ module _ (w : DartMap) (sound : IsSound w) (x y : ℕ → ℕ) (ordered : IsOrde
           | inr straight ↦ omega (arith, straight)
         ]
 
-    box_sees : (k px py a : ℕ) → k < 4 → a < w.darts → w.direction a ≡ k → IsOn w a (corner k) → SeesCell w x y px py a
-        → Covers w x y corner px py × BoxSees w x y px py corner a
-    box_sees k px py a few a_in way on (inl (south, line, low, high)) =
+    box_touches : (k px py a : ℕ) → k < 4 → a < w.darts → w.direction a ≡ k → IsOn w a (corner k) → TouchesCell w x y px py a
+        → Covers w x y corner px py × BoxTouches w x y px py corner a
+    box_touches k px py a few a_in way on (inl (south, line, low, high)) =
         box_south px py a a_in (subst (λ (m : ℕ). IsOn w a (corner m)) (sym way ∙ south) on) line low high
-    box_sees k px py a few a_in way on (inr (inl (east, line, low, high))) =
+    box_touches k px py a few a_in way on (inr (inl (east, line, low, high))) =
         let here : IsOn w a (corner 0) = subst (λ (m : ℕ). IsOn w a (corner m)) (sym way ∙ east) on in
         let side = (side_leads w sound x y ordered 0 a (corner 0) a_in (round.ways 0 (omega arith)) here).0 in
         box_east px py a a_in here line low (omega (arith, high)) (omega (arith, high, side))
-    box_sees zero px py a few a_in way on (inr (inr (column, row, angle))) =
+    box_touches zero px py a few a_in way on (inr (inr (column, row, angle))) =
         let goes = (dart_goes w sound x y ordered 0 a a_in way).0 in
         let wide : 1 < w.angle a = omega (arith, angle, way) in
         let other : a ≡ corner 0 → ⊥ = λ at. omega (arith, wide, ap w.angle at, round.angles 0 (omega arith)) in
         let less = (keeps_goes 0 on.places a (corner 0) a_in (round.ways 0 (omega arith)) on.keeps other).0 in
         box_east px py a a_in on row (omega (arith, goes, column)) (omega (arith, column)) (omega (arith, column, less))
-    box_sees (suc zero) px py a few a_in way on (inr (inr (column, row, angle))) =
+    box_touches (suc zero) px py a few a_in way on (inr (inr (column, row, angle))) =
         absurd (omega (arith, angle, way, box_angle 1 a few on))
-    box_sees (suc (suc zero)) px py a few a_in way on (inr (inr (column, row, angle))) =
+    box_touches (suc (suc zero)) px py a few a_in way on (inr (inr (column, row, angle))) =
         absurd (omega (arith, angle, way, box_angle 2 a few on))
-    box_sees (suc (suc (suc zero))) px py a few a_in way on (inr (inr (column, row, angle))) =
+    box_touches (suc (suc (suc zero))) px py a few a_in way on (inr (inr (column, row, angle))) =
         let goes = (dart_goes w sound x y ordered 3 a a_in way).0 in
         box_south px py a a_in on column (omega (arith, row)) (omega (arith, row, goes))
-    box_sees (suc (suc (suc (suc k)))) px py a few a_in way on (inr (inr seen)) = absurd (omega (arith, few))
+    box_touches (suc (suc (suc (suc k)))) px py a few a_in way on (inr (inr seen)) = absurd (omega (arith, few))
 
   -- two that see one box's cell are one
   box_once : (one two : ℕ → ℕ) → IsRound w 3 1 one → IsRound w 3 1 two → ((k : ℕ) → k < 4 → one k ≡ two k) → (px py a b : ℕ) → a < w.darts → b < w.darts
-      → BoxSees w x y px py one a → BoxSees w x y px py two b → a ≡ b
+      → BoxTouches w x y px py one a → BoxTouches w x y px py two b → a ≡ b
   box_once one two first second same px py a b a_in b_in (inl (on, line, spans)) (inl (on', line', spans')) =
       side_once w sound x y ordered 3 a b (one 3) py a_in b_in
       (round_corner w sound x y ordered 3 1 one first (λ e. omega (arith, e)) 3 (omega arith)) (first.ways 3 (omega arith)) on
@@ -159,7 +159,7 @@ module _ (w : DartMap) (sound : IsSound w) (x y : ℕ → ℕ) (ordered : IsOrde
     outside_corner k few = round_corner w sound x y ordered 1 3 faces.around faces.outside (λ e. omega (arith, e)) k few
 
     outside_south : (px py a : ℕ) → a < w.darts → IsOn w a (faces.around 3) → px ≡ x (w.head a) → y (w.head a) ≤ py → py < y (tail w a)
-        → OutsideSees w x y px py faces.around a
+        → OutsideTouches w x y px py faces.around a
     outside_south px py a a_in on line low high =
         let around = faces.around in
         let round = faces.outside in
@@ -169,7 +169,7 @@ module _ (w : DartMap) (sound : IsSound w) (x y : ℕ → ℕ) (ordered : IsOrde
         inl (on, line ∙ side, (low, high), wide.1)
 
     outside_east : (px py a : ℕ) → a < w.darts → IsOn w a (faces.around 0) → py ≡ y (w.head a) → x (tail w a) < px → px ≤ x (w.head a)
-        → OutsideSees w x y px py faces.around a
+        → OutsideTouches w x y px py faces.around a
     outside_east px py a a_in on line low high =
         let around = faces.around in
         let round = faces.outside in
@@ -178,32 +178,32 @@ module _ (w : DartMap) (sound : IsSound w) (x y : ℕ → ℕ) (ordered : IsOrde
         let side = (side_leads w sound x y ordered 0 a (around 0) a_in (round.ways 0 (omega arith)) on).1 in
         inr (inl (on, line ∙ side, (low, high), wide.0))
 
-    outside_sees : (k px py a : ℕ) → k < 4 → a < w.darts → w.direction a ≡ k → IsOn w a (faces.around k) → SeesCell w x y px py a
-        → OutsideSees w x y px py faces.around a
-    outside_sees k px py a few a_in way on (inl (south, line, low, high)) =
+    outside_touches : (k px py a : ℕ) → k < 4 → a < w.darts → w.direction a ≡ k → IsOn w a (faces.around k) → TouchesCell w x y px py a
+        → OutsideTouches w x y px py faces.around a
+    outside_touches k px py a few a_in way on (inl (south, line, low, high)) =
         outside_south px py a a_in (subst (λ (m : ℕ). IsOn w a (faces.around m)) (sym way ∙ south) on) line low high
-    outside_sees k px py a few a_in way on (inr (inl (east, line, low, high))) =
+    outside_touches k px py a few a_in way on (inr (inl (east, line, low, high))) =
         outside_east px py a a_in (subst (λ (m : ℕ). IsOn w a (faces.around m)) (sym way ∙ east) on) line low (omega (arith, high))
-    outside_sees zero px py a few a_in way on (inr (inr (column, row, angle))) =
+    outside_touches zero px py a few a_in way on (inr (inr (column, row, angle))) =
         let goes = (dart_goes w sound x y ordered 0 a a_in way).0 in
         outside_east px py a a_in on row (omega (arith, goes, column)) (omega (arith, column))
-    outside_sees (suc zero) px py a few a_in way on (inr (inr (column, row, angle))) =
+    outside_touches (suc zero) px py a few a_in way on (inr (inr (column, row, angle))) =
         elim (on_straight w a (faces.around 1) on) [
           | inl at ↦ inr (inr (at, column ∙ ap (λ (c : ℕ). x (w.head c)) at, row ∙ ap (λ (c : ℕ). y (w.head c)) at))
           | inr straight ↦ absurd (omega (arith, angle, way, straight))
         ]
-    outside_sees (suc (suc zero)) px py a few a_in way on (inr (inr (column, row, angle))) =
+    outside_touches (suc (suc zero)) px py a few a_in way on (inr (inr (column, row, angle))) =
         elim (on_straight w a (faces.around 2) on) [
           | inl at ↦ absurd (omega (arith, angle, way, ap w.angle at, faces.outside.angles 2 few))
           | inr straight ↦ absurd (omega (arith, angle, way, straight))
         ]
-    outside_sees (suc (suc (suc zero))) px py a few a_in way on (inr (inr (column, row, angle))) =
+    outside_touches (suc (suc (suc zero))) px py a few a_in way on (inr (inr (column, row, angle))) =
         let goes = (dart_goes w sound x y ordered 3 a a_in way).0 in
         outside_south px py a a_in on column (omega (arith, row)) (omega (arith, row, goes))
-    outside_sees (suc (suc (suc (suc k)))) px py a few a_in way on (inr (inr seen)) = absurd (omega (arith, few))
+    outside_touches (suc (suc (suc (suc k)))) px py a few a_in way on (inr (inr seen)) = absurd (omega (arith, few))
 
     -- two that see one cell from the outside are one
-    outside_once : (px py a b : ℕ) → a < w.darts → b < w.darts → OutsideSees w x y px py faces.around a → OutsideSees w x y px py faces.around b → a ≡ b
+    outside_once : (px py a b : ℕ) → a < w.darts → b < w.darts → OutsideTouches w x y px py faces.around a → OutsideTouches w x y px py faces.around b → a ≡ b
     outside_once px py a b a_in b_in (inl (on, line, spans, low)) (inl (on', line', spans', low')) =
         side_once w sound x y ordered 3 a b (faces.around 3) py a_in b_in (outside_corner 3 (omega arith)) (faces.outside.ways 3 (omega arith)) on on' spans spans'
     outside_once px py a b a_in b_in (inl (on, line, spans, low)) (inr (inl (on', line', spans', right))) = absurd (omega (arith, low, line'))
@@ -219,7 +219,7 @@ module _ (w : DartMap) (sound : IsSound w) (x y : ℕ → ℕ) (ordered : IsOrde
     -- ---- a box does not cover what the outside sees
 
     -- each chain begins on the outside's left side
-    chain_rows : (j k a : ℕ) → Chain w y faces.around j k a → j < y (w.head (faces.around 1))
+    chain_rows : (j k a : ℕ) → DartsAcross w y faces.around j k a → j < y (w.head (faces.around 1))
     chain_rows j zero a (crosses, on) =
         let wide = side_wide w sound x y ordered 1 (faces.around 2) a (faces.around 1) (j + 1) (faces.outside.inside 2 (omega arith)) crosses.inside
         (outside_corner 2 (omega arith)) (faces.outside.ways 1 (omega arith)) (faces.outside.sides 1 (omega arith)) on (omega (arith, crosses.low), omega (arith, crosses.high)) in
@@ -227,20 +227,20 @@ module _ (w : DartMap) (sound : IsSound w) (x y : ℕ → ℕ) (ordered : IsOrde
     chain_rows j (suc k) a (b, crosses, step, rest) = chain_rows j k b rest
 
     -- a longer chain ends truly further to the east
-    chain_less : (j k m a b : ℕ) → Chain w y faces.around j k a → Chain w y faces.around j m b → k < m → x (w.head a) < x (w.head b)
+    chain_less : (j k m a b : ℕ) → DartsAcross w y faces.around j k a → DartsAcross w y faces.around j m b → k < m → x (w.head a) < x (w.head b)
     chain_less j k zero a b one two less = absurd (omega (arith, less))
     chain_less j k (suc m) a b one (c, crosses, step, rest) less =
         let more : m ≡ k + (m - k) = omega (arith, less) in
-        let before = chain_east w sound x y ordered faces j k (m - k) a c one (subst (λ (n : ℕ). Chain w y faces.around j n c) more rest) in
+        let before = chain_east w sound x y ordered faces j k (m - k) a c one (subst (λ (n : ℕ). DartsAcross w y faces.around j n c) more rest) in
         omega (arith, before, step_west w sound x y ordered j b c crosses (chain_crosses w sound x y ordered faces j m c rest) step)
 
     -- on the left of a cell that a box covers stands the box's left side alone
-    one_place : (px py k m e c b : ℕ) → Crosses w y py c → IsStep w c b → px < x (w.head c) → x (w.head b) ≤ px → Chain w y faces.around py m b
-        → Chain w y faces.around py k e → x (w.head e) ≡ px → e ≡ b
+    one_place : (px py k m e c b : ℕ) → Crosses w y py c → IsStep w c b → px < x (w.head c) → x (w.head b) ≤ px → DartsAcross w y faces.around py m b
+        → DartsAcross w y faces.around py k e → x (w.head e) ≡ px → e ≡ b
     one_place px py k m e c b crosses step right left near far place =
         let few = chain_within w sound x y ordered faces px py k m e c b crosses step right near far (omega (arith, place)) in
         elim (cases_eq k m) [
-          | inl same ↦ chain_one w sound x y ordered faces py m e b (subst (λ (n : ℕ). Chain w y faces.around py n e) same far) near
+          | inl same ↦ chain_one w sound x y ordered faces py m e b (subst (λ (n : ℕ). DartsAcross w y faces.around py n e) same far) near
           | inr other ↦ absurd (omega (arith, chain_less py k m e b far near (omega (arith, few, other)), place, left))
         ]
 
@@ -271,7 +271,7 @@ module _ (w : DartMap) (sound : IsSound w) (x y : ℕ → ℕ) (ordered : IsOrde
         (subst (λ (d : ℕ). IsOn w d (corner 3)) back left) on in
         omega (arith, round.angles 3 (omega arith), round'.angles 3 (omega arith), ap w.angle corners)
 
-    not_both : (corner : ℕ → ℕ) (px py a : ℕ) → a < w.darts → IsRound w 3 1 corner → Covers w x y corner px py → OutsideSees w x y px py faces.around a → ⊥
+    not_both : (corner : ℕ → ℕ) (px py a : ℕ) → a < w.darts → IsRound w 3 1 corner → Covers w x y corner px py → OutsideTouches w x y px py faces.around a → ⊥
     not_both corner px py a a_in round covers sees =
         let (c, b, c_crosses, c_on, b_crosses, step, c_right, b_left, left) = cover_step w sound x y ordered faces corner px py round covers in
         let (m, chain) = chain_of w sound x y ordered faces py (x (w.head b) + 1) b (omega arith) b_crosses in
@@ -286,9 +286,9 @@ module _ (w : DartMap) (sound : IsSound w) (x y : ℕ → ℕ) (ordered : IsOrde
 
     -- ---- the cell has one face
 
-    -- whatever sees the cell does so from a box that covers it, or from the outside
-    seen_from : (px py a : ℕ) → a < w.darts → SeesCell w x y px py a
-        → ((corner : ℕ → ℕ) × IsRound w 3 1 corner × Covers w x y corner px py × BoxSees w x y px py corner a) ⊎ OutsideSees w x y px py faces.around a
+    -- whatever touches the cell does so from a box that covers it, or from the outside
+    seen_from : (px py a : ℕ) → a < w.darts → TouchesCell w x y px py a
+        → ((corner : ℕ → ℕ) × IsRound w 3 1 corner × Covers w x y corner px py × BoxTouches w x y px py corner a) ⊎ OutsideTouches w x y px py faces.around a
     seen_from px py a a_in sees =
         let (c, c_in, corner, on) = faces.ends a a_in in
         let k : ℕ = w.direction a in
@@ -297,16 +297,16 @@ module _ (w : DartMap) (sound : IsSound w) (x y : ℕ → ℕ) (ordered : IsOrde
         elim (faces.each c c_in corner) [
           | inl (box, round, at) ↦
               let here : IsOn w a (box k) = subst (λ (e : ℕ). IsOn w a e) (sym (ap box (sym way) ∙ at)) on in
-              let (covers, seen) = box_sees box round k px py a few a_in refl here sees in
+              let (covers, seen) = box_touches box round k px py a few a_in refl here sees in
               inl (box, round, covers, seen)
           | inr at ↦
               let here : IsOn w a (faces.around k) = subst (λ (e : ℕ). IsOn w a e) (sym (ap faces.around (sym way) ∙ at)) on in
-              inr (outside_sees k px py a few a_in refl here sees)
+              inr (outside_touches k px py a few a_in refl here sees)
         ]
 
     -- so one dart alone sees it
-    pub sees_one : (px py a b : ℕ) → a < w.darts → b < w.darts → SeesCell w x y px py a → SeesCell w x y px py b → a ≡ b
-    sees_one px py a b a_in b_in one two =
+    pub touches_one : (px py a b : ℕ) → a < w.darts → b < w.darts → TouchesCell w x y px py a → TouchesCell w x y px py b → a ≡ b
+    touches_one px py a b a_in b_in one two =
         elim (seen_from px py a a_in one) [
           | inl (box, round, covers, seen) ↦ elim (seen_from px py b b_in two) [
             | inl (box', round', covers', seen') ↦
@@ -321,11 +321,11 @@ module _ (w : DartMap) (sound : IsSound w) (x y : ℕ → ℕ) (ordered : IsOrde
 
     -- ---- vertices and darts
 
-    -- of the darts that arrive at a vertex one sees the cell to the upper right
-    vertex_sees : (n a : ℕ) → a < w.darts → (w.direction a + 1) % 4 < n
+    -- of the darts that arrive at a vertex one touches the cell to the upper right
+    vertex_touches : (n a : ℕ) → a < w.darts → (w.direction a + 1) % 4 < n
         → (c : ℕ) × (c < w.darts) × (w.head c ≡ w.head a) × ((w.direction c + 1) % 4 < w.angle c)
-    vertex_sees zero a a_in less = absurd (omega (arith, less))
-    vertex_sees (suc n) a a_in less =
+    vertex_touches zero a a_in less = absurd (omega (arith, less))
+    vertex_touches (suc n) a a_in less =
         elim (cases_lt ((w.direction a + 1) % 4) (w.angle a)) [
           | inl wide ↦ (a, a_in, refl, wide)
           | inr narrow ↦
@@ -334,13 +334,13 @@ module _ (w : DartMap) (sound : IsSound w) (x y : ℕ → ℕ) (ordered : IsOrde
               let turns = sound.meeting.turns a a_in in
               let q = sound.meeting.quarter in
               let (c, c_in, there, wide) =
-              vertex_sees n b b_in (omega (arith, turns, narrow, less, q a a_in, q b b_in, sound.meeting.some a a_in)) in
+              vertex_touches n b b_in (omega (arith, turns, narrow, less, q a a_in, q b b_in, sound.meeting.some a a_in)) in
               (c, c_in, there ∙ sound.meeting.meets a a_in, wide)
         ]
 
-    vertex_seen : (a : ℕ) → a < w.darts → (c : ℕ) × (c < w.darts) × (w.head c ≡ w.head a) × SeesCell w x y (x (w.head a)) (y (w.head a)) c
+    vertex_seen : (a : ℕ) → a < w.darts → (c : ℕ) × (c < w.darts) × (w.head c ≡ w.head a) × TouchesCell w x y (x (w.head a)) (y (w.head a)) c
     vertex_seen a a_in =
-        let (c, c_in, there, wide) = vertex_sees 4 a a_in (omega arith) in
+        let (c, c_in, there, wide) = vertex_touches 4 a a_in (omega arith) in
         (c, c_in, there, inr (inr (ap x (sym there), ap y (sym there), wide)))
 
     -- no two vertices have one point
@@ -348,13 +348,13 @@ module _ (w : DartMap) (sound : IsSound w) (x y : ℕ → ℕ) (ordered : IsOrde
     vertices_apart a b a_in b_in column row =
         let (c, c_in, there, sees) = vertex_seen a a_in in
         let (d, d_in, there', sees') = vertex_seen b b_in in
-        let same : c ≡ d = sees_one (x (w.head b)) (y (w.head b)) c d c_in d_in
-        (subst (λ (r : ℕ). SeesCell w x y (x (w.head b)) r c) row (subst (λ (k : ℕ). SeesCell w x y k (y (w.head a)) c) column sees)) sees' in
+        let same : c ≡ d = touches_one (x (w.head b)) (y (w.head b)) c d c_in d_in
+        (subst (λ (r : ℕ). TouchesCell w x y (x (w.head b)) r c) row (subst (λ (k : ℕ). TouchesCell w x y k (y (w.head a)) c) column sees)) sees' in
         sym there ∙ ap w.head same ∙ there'
 
-    -- a dart that a point lies inside sees the cell, or its reverse does
+    -- a dart that a point lies inside touches the cell, or its reverse does
     holds_seen : (k px py a : ℕ) → a < w.darts → w.direction a ≡ k → Holds k x y px py (tail w a) (w.head a)
-        → (c : ℕ) × (c < w.darts) × ((c ≡ a) ⊎ (c ≡ w.reverse_dart a)) × SeesCell w x y px py c × ((px ≡ x (w.head c)) → (py ≡ y (w.head c)) → ⊥)
+        → (c : ℕ) × (c < w.darts) × ((c ≡ a) ⊎ (c ≡ w.reverse_dart a)) × TouchesCell w x y px py c × ((px ≡ x (w.head c)) → (py ≡ y (w.head c)) → ⊥)
     holds_seen zero px py a a_in way (line, low, high) =
         (a, a_in, inl refl, inr (inl (way, sym line, low, high)), λ e f. omega (arith, e, high))
     holds_seen (suc zero) px py a a_in way (line, low, high) =
@@ -386,7 +386,7 @@ module _ (w : DartMap) (sound : IsSound w) (x y : ℕ → ℕ) (ordered : IsOrde
     vertex_outside a b a_in b_in holds =
         let (c, c_in, is, sees, away) = holds_seen (w.direction a) (x (w.head b)) (y (w.head b)) a a_in refl holds in
         let (d, d_in, there, sees') = vertex_seen b b_in in
-        let same : d ≡ c = sees_one (x (w.head b)) (y (w.head b)) d c d_in c_in sees' sees in
+        let same : d ≡ c = touches_one (x (w.head b)) (y (w.head b)) d c d_in c_in sees' sees in
         let at : w.head b ≡ w.head c = sym there ∙ ap w.head same in
         away (ap x at) (ap y at)
 
@@ -396,7 +396,7 @@ module _ (w : DartMap) (sound : IsSound w) (x y : ℕ → ℕ) (ordered : IsOrde
     darts_apart px py a b a_in b_in one two =
         let (c, c_in, is, sees, away) = holds_seen (w.direction a) px py a a_in refl one in
         let (d, d_in, is', sees', away') = holds_seen (w.direction b) px py b b_in refl two in
-        let same : c ≡ d = sees_one px py c d c_in d_in sees sees' in
+        let same : c ≡ d = touches_one px py c d c_in d_in sees sees' in
         let back = sound.tied.reverse_dart_back in
         elim is [
           | inl at ↦ elim is' [

@@ -1,7 +1,7 @@
 -- A map whose directions are all turned by so many quarters is one of the same kind.
 use Rattle.std.proofs.Common.{ℕ, zero, suc, ◌+◌, ◌%◌, arith, inl, inr}
 use Rattle.dissect.specs.DartMaps.{DartMap, IsSound}
-use Rattle.dissect.specs.Faces.{StretchesIn, Stretches, IsRectangle}
+use Rattle.dissect.specs.Faces.{StretchesIn, Stretches, HasFourCorners}
 use Rattle.dissect.specs.Boxes.{IsCutUp}
 
 abbrev pub rotated : DartMap → ℕ → DartMap
@@ -47,7 +47,7 @@ stretch w r (suc k) a c is = (is.0, stretch w r k (w.next a) c is.1)
 pub stretches : (w : DartMap) (r a c : ℕ) → Stretches w a c → Stretches (rotated w r) a c
 stretches w r a c is = record { places = is.places; stretch = stretch w r is.places a c is.stretch }
 
-abbrev pub rectangle : (w : DartMap) (r g a : ℕ) → IsRectangle w g a → IsRectangle (rotated w r) g a
+abbrev pub rectangle : (w : DartMap) (r g a : ℕ) → HasFourCorners w g a → HasFourCorners (rotated w r) g a
 rectangle w r g a is = record {
   second = is.second;
   third = is.third;

@@ -2,7 +2,7 @@
 use Rattle.std.proofs.Common.{◌≡◌, ℕ, zero, suc, ◌+◌, ◌%◌, ◌<◌, ◌⊎◌, ◌∙◌, [], ◌∷◌, arith, subst, sym, ap, refl, inl, inr}
 use Rattle.std.proofs.lemmas.Bool.{cases_eq}
 use Rattle.dissect.specs.DartMaps.{DartMap, IsSound}
-use Rattle.dissect.specs.Faces.{In, IsCorner, Stretches, IsRectangle, ReachesCorners}
+use Rattle.dissect.specs.Faces.{In, IsCorner, Stretches, HasFourCorners, ReachesCorners}
 use Rattle.dissect.proofs.Stretching.{Stretches-one, Stretches-inside, Stretches-corner}
 use Rattle.dissect.specs.Boxes.{IsCutUp}
 use Rattle.drawing_laws.proofs.Sides.{IsOn, on_itself, stretch_keeps, stretch_way}
@@ -29,7 +29,7 @@ four_of a b c d (suc (suc zero)) = c
 four_of a b c d (suc (suc (suc k))) = d
 
 -- the corners of a box that arrive in the directions 0 to 3, where a arrives to the north
-abbrev pub corners_of : (w : DartMap) (a : ℕ) → IsRectangle w 1 a → ℕ → ℕ
+abbrev pub corners_of : (w : DartMap) (a : ℕ) → HasFourCorners w 1 a → ℕ → ℕ
 corners_of w a r = four_of r.fourth a r.second r.third
 
 pub by_four : (P : ℕ → Type 0) → P 0 → P 1 → P 2 → P 3 → (k : ℕ) → k < 4 → P k
@@ -40,7 +40,7 @@ by_four P a b c d (suc (suc (suc zero))) few = d
 by_four P a b c d (suc (suc (suc (suc k)))) few = absurd (omega (arith, few))
 
 -- the same face from its next corner on
-abbrev rect_next : (w : DartMap) (g a : ℕ) (r : IsRectangle w g a) → IsRectangle w g r.second
+abbrev rect_next : (w : DartMap) (g a : ℕ) (r : HasFourCorners w g a) → HasFourCorners w g r.second
 rect_next w g a r = record {
   second = r.third;
   third = r.fourth;
@@ -63,13 +63,13 @@ in_next o a b c d (inr (inr (inr (inl at)))) = inr (inr (inl at))
 in_next o a b c d (inr (inr (inr (inr none)))) = absurd none
 
 -- the corners of the outside, a among them, with each of four its place
-abbrev HoldsAll : (w : DartMap) → ℕ → (a : ℕ) → IsRectangle w 3 a → Type 0
+abbrev HoldsAll : (w : DartMap) → ℕ → (a : ℕ) → HasFourCorners w 3 a → Type 0
 HoldsAll w d a r =
     (corner : ℕ → ℕ) × IsRound w 1 3 corner × (corner d ≡ a)
     × ((o : ℕ) → In o (a ∷ r.second ∷ r.third ∷ r.fourth ∷ []) → (k : ℕ) × (k < 4) × (corner k ≡ o))
 
 module _ (w : DartMap) (sound : IsSound w) where
-  seconds : (g a : ℕ) → a < w.darts → (r : IsRectangle w g a) → (r.second < w.darts) × ((w.direction r.second + 2 + g) % 4 ≡ w.direction a)
+  seconds : (g a : ℕ) → a < w.darts → (r : HasFourCorners w g a) → (r.second < w.darts) × ((w.direction r.second + 2 + g) % 4 ≡ w.direction a)
   seconds g a a_in r = (
     Stretches-inside w a r.second sound.tied a_in r.to_second,
     (let way = stretch_way w sound a r.second a_in r.to_second in omega (arith, way, r.angle_first)),
@@ -77,7 +77,7 @@ module _ (w : DartMap) (sound : IsSound w) where
 
   -- ---- a box
 
-  pub left_round : (a : ℕ) → a < w.darts → (r : IsRectangle w 1 a) → w.direction a ≡ 1 → IsRound w 3 1 (corners_of w a r)
+  pub left_round : (a : ℕ) → a < w.darts → (r : HasFourCorners w 1 a) → w.direction a ≡ 1 → IsRound w 3 1 (corners_of w a r)
   left_round a a_in r way =
       let r1 = rect_next w 1 a r in
       let r2 = rect_next w 1 r.second r1 in
@@ -97,7 +97,7 @@ module _ (w : DartMap) (sound : IsSound w) where
             r.to_fourth r.back r.to_second r.to_third;
       }
 
-  pub box_round : (d a : ℕ) → a < w.darts → IsRectangle w 1 a → w.direction a ≡ d → (corner : ℕ → ℕ) × IsRound w 3 1 corner × (corner d ≡ a)
+  pub box_round : (d a : ℕ) → a < w.darts → HasFourCorners w 1 a → w.direction a ≡ d → (corner : ℕ → ℕ) × IsRound w 3 1 corner × (corner d ≡ a)
   box_round zero a a_in r way =
       let r1 = rect_next w 1 a r in
       let two = seconds 1 a a_in r in
@@ -129,7 +129,7 @@ module _ (w : DartMap) (sound : IsSound w) where
 
   -- ---- the outside
 
-  right_round : (a : ℕ) → a < w.darts → (r : IsRectangle w 3 a) → w.direction a ≡ 1 → IsRound w 1 3 (four_of r.second a r.fourth r.third)
+  right_round : (a : ℕ) → a < w.darts → (r : HasFourCorners w 3 a) → w.direction a ≡ 1 → IsRound w 1 3 (four_of r.second a r.fourth r.third)
   right_round a a_in r way =
       let r1 = rect_next w 3 a r in
       let r2 = rect_next w 3 r.second r1 in
@@ -149,7 +149,7 @@ module _ (w : DartMap) (sound : IsSound w) where
             r.to_second r.back r.to_fourth r.to_third;
       }
 
-  right_holds : (a : ℕ) (r : IsRectangle w 3 a) (o : ℕ) → In o (a ∷ r.second ∷ r.third ∷ r.fourth ∷ [])
+  right_holds : (a : ℕ) (r : HasFourCorners w 3 a) (o : ℕ) → In o (a ∷ r.second ∷ r.third ∷ r.fourth ∷ [])
       → (k : ℕ) × (k < 4) × (four_of r.second a r.fourth r.third k ≡ o)
   right_holds a r o (inl at) = (1, omega arith, sym at)
   right_holds a r o (inr (inl at)) = (0, omega arith, sym at)
@@ -157,7 +157,7 @@ module _ (w : DartMap) (sound : IsSound w) where
   right_holds a r o (inr (inr (inr (inl at)))) = (2, omega arith, sym at)
   right_holds a r o (inr (inr (inr (inr none)))) = absurd none
 
-  outside_round : (d a : ℕ) → a < w.darts → (r : IsRectangle w 3 a) → w.direction a ≡ d → HoldsAll w d a r
+  outside_round : (d a : ℕ) → a < w.darts → (r : HasFourCorners w 3 a) → w.direction a ≡ d → HoldsAll w d a r
   outside_round zero a a_in r way =
       let r1 = rect_next w 3 a r in
       let r2 = rect_next w 3 r.second r1 in

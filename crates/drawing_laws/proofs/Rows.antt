@@ -1,4 +1,4 @@
--- The darts to the north that cross one row of cells stand in one chain, box beside box, from west to east. So the boxes of the row
+-- The darts to the north that cross one row of cells stand in one sequence, box beside box, from west to east. So the boxes of the row
 -- lie apart, and leave no gap.
 use Rattle.std.proofs.Common.{◌≡◌, ◌≢◌, ℕ, zero, suc, ◌+◌, ◌-◌, ◌%◌, ◌<◌, ◌≤◌, ◌∙◌, arith, subst, sym, ap, inl, inr}
 use Rattle.std.proofs.lemmas.Bool.{cases_lt}
@@ -23,9 +23,9 @@ pub record IsStep (w : DartMap) (a b : ℕ) : Type 0 where
   pub left : IsOn w (w.reverse_dart b) (corner 3)
 
 -- so many boxes lie between the outside and the dart a, which crosses row j
-abbrev pub Chain : (w : DartMap) (y around : ℕ → ℕ) → ℕ → ℕ → ℕ → Type 0
-Chain w y around j zero a = Crosses w y j a × IsOn w a (around 1)
-Chain w y around j (suc k) a = (b : ℕ) × Crosses w y j a × IsStep w a b × Chain w y around j k b
+abbrev pub DartsAcross : (w : DartMap) (y around : ℕ → ℕ) → ℕ → ℕ → ℕ → Type 0
+DartsAcross w y around j zero a = Crosses w y j a × IsOn w a (around 1)
+DartsAcross w y around j (suc k) a = (b : ℕ) × Crosses w y j a × IsStep w a b × DartsAcross w y around j k b
 
 -- the box with these corners covers the cell
 pub record Covers (w : DartMap) (x y : ℕ → ℕ) (corner : ℕ → ℕ) (i j : ℕ) : Type 0 where
@@ -156,34 +156,34 @@ module _ (w : DartMap) (sound : IsSound w) (x y : ℕ → ℕ) (ordered : IsOrde
       box_same w first.corner second.corner first.box second.box 3 1 (omega arith) (omega arith) left in
       crossing_once 3 1 second.corner j a c second.box (λ e. omega (arith, e)) one two (subst (λ (k : ℕ). IsOn w a k) right first.right) second.right
 
-  -- ---- chains
+  -- ---- sequences of darts
 
   module _ (faces : AreFaces w) where
-    pub chain_crosses : (j k a : ℕ) → Chain w y faces.around j k a → Crosses w y j a
+    pub chain_crosses : (j k a : ℕ) → DartsAcross w y faces.around j k a → Crosses w y j a
     chain_crosses j zero a chain = chain.0
     chain_crosses j (suc k) a (b, crosses, step, rest) = crosses
 
     -- the darts of one length are one
-    pub chain_one : (j k a b : ℕ) → Chain w y faces.around j k a → Chain w y faces.around j k b → a ≡ b
+    pub chain_one : (j k a b : ℕ) → DartsAcross w y faces.around j k a → DartsAcross w y faces.around j k b → a ≡ b
     chain_one j zero a b one two = crossing_once 1 3 faces.around j a b faces.outside (λ e. omega (arith, e)) one.0 two.0 one.1 two.1
     chain_one j (suc k) a c (b, crosses, step, rest) (d, crosses', step', rest') =
         let same : b ≡ d = chain_one j k b d rest rest' in
         step_from_one j a c d crosses crosses' (subst (λ (e : ℕ). IsStep w a e) same step) step'
 
-    -- a longer chain ends further to the east
-    pub chain_east : (j k d a b : ℕ) → Chain w y faces.around j k a → Chain w y faces.around j (k + d) b → x (w.head a) ≤ x (w.head b)
+    -- a longer sequence ends further to the east
+    pub chain_east : (j k d a b : ℕ) → DartsAcross w y faces.around j k a → DartsAcross w y faces.around j (k + d) b → x (w.head a) ≤ x (w.head b)
     chain_east j k zero a b one two =
         let same : k + zero ≡ k = omega arith in
-        let e : a ≡ b = chain_one j k a b one (subst (λ (n : ℕ). Chain w y faces.around j n b) same two) in
+        let e : a ≡ b = chain_one j k a b one (subst (λ (n : ℕ). DartsAcross w y faces.around j n b) same two) in
         omega (arith, ap (λ (c : ℕ). x (w.head c)) e)
     chain_east j k (suc d) a b one two =
         let more : k + suc d ≡ suc (k + d) = omega arith in
-        let (c, crosses, step, rest) = subst (λ (n : ℕ). Chain w y faces.around j n b) more two in
+        let (c, crosses, step, rest) = subst (λ (n : ℕ). DartsAcross w y faces.around j n b) more two in
         let less = step_west j b c crosses (chain_crosses j (k + d) c rest) step in
         omega (arith, less, chain_east j k d a c one rest)
 
-    -- from each dart a chain leads to the outside
-    pub chain_of : (j n a : ℕ) → x (w.head a) < n → Crosses w y j a → (k : ℕ) × Chain w y faces.around j k a
+    -- from each dart a sequence leads to the outside
+    pub chain_of : (j n a : ℕ) → x (w.head a) < n → Crosses w y j a → (k : ℕ) × DartsAcross w y faces.around j k a
     chain_of j zero a less crosses = absurd (omega (arith, less))
     chain_of j (suc n) a less crosses =
         let (c, c_in, corner, on) = faces.ends a crosses.inside in
@@ -220,26 +220,26 @@ module _ (w : DartMap) (sound : IsSound w) (x y : ℕ → ℕ) (ordered : IsOrde
           left,
         )
 
-    -- a dart to the west of the cell has no longer a chain than the left side of a box that covers it
-    pub chain_within : (i j k m e c b : ℕ) → Crosses w y j c → IsStep w c b → i < x (w.head c) → Chain w y faces.around j m b
-        → Chain w y faces.around j k e → x (w.head e) ≤ i → k ≤ m
+    -- a dart to the west of the cell has no longer a sequence than the left side of a box that covers it
+    pub chain_within : (i j k m e c b : ℕ) → Crosses w y j c → IsStep w c b → i < x (w.head c) → DartsAcross w y faces.around j m b
+        → DartsAcross w y faces.around j k e → x (w.head e) ≤ i → k ≤ m
     chain_within i j k m e c b crosses step right near far west =
         elim (cases_lt m k) [
           | inl less ↦
               let more : k ≡ suc m + (k - suc m) = omega (arith, less) in
-              let east = chain_east j (suc m) (k - suc m) c e (b, crosses, step, near) (subst (λ (n : ℕ). Chain w y faces.around j n e) more far) in
+              let east = chain_east j (suc m) (k - suc m) c e (b, crosses, step, near) (subst (λ (n : ℕ). DartsAcross w y faces.around j n e) more far) in
               absurd (omega (arith, east, right, west))
           | inr few ↦ omega (arith, few)
         ]
 
     -- so two boxes that cover it have one right side there
-    step_one : (i j m n a b c d : ℕ) → Crosses w y j a → IsStep w a b → i < x (w.head a) → x (w.head b) ≤ i → Chain w y faces.around j m b
-        → Crosses w y j c → IsStep w c d → i < x (w.head c) → x (w.head d) ≤ i → Chain w y faces.around j n d → a ≡ c
+    step_one : (i j m n a b c d : ℕ) → Crosses w y j a → IsStep w a b → i < x (w.head a) → x (w.head b) ≤ i → DartsAcross w y faces.around j m b
+        → Crosses w y j c → IsStep w c d → i < x (w.head c) → x (w.head d) ≤ i → DartsAcross w y faces.around j n d → a ≡ c
     step_one i j m n a b c d a_crosses first a_right b_left near c_crosses second c_right d_left far =
         let one = chain_within i j m n b c d c_crosses second c_right far near b_left in
         let two = chain_within i j n m d a b a_crosses first a_right near far d_left in
         let size : m ≡ n = omega (arith, one, two) in
-        let same : b ≡ d = chain_one j n b d (subst (λ (k : ℕ). Chain w y faces.around j k b) size near) far in
+        let same : b ≡ d = chain_one j n b d (subst (λ (k : ℕ). DartsAcross w y faces.around j k b) size near) far in
         step_from_one j a c d a_crosses c_crosses (subst (λ (e : ℕ). IsStep w a e) same first) second
 
     -- no two boxes cover one cell

@@ -2,13 +2,13 @@
 -- and j and j + 1 of y.
 use Rattle.std.specs.Prelude.{◌≡◌, ℕ, ◌<◌, ◌≤◌}
 use Rattle.dissect.specs.DartMaps.{DartMap}
-use Rattle.dissect.specs.Faces.{IsRectangle}
+use Rattle.dissect.specs.Faces.{HasFourCorners}
 
 -- a face with four left turns: c arrives to the north, at its upper right corner
 pub record IsBoxAt (w : DartMap) (c : ℕ) : Type 0 where
   pub inside : c < w.darts
   pub north : w.direction c ≡ 1
-  pub four : IsRectangle w 1 c
+  pub four : HasFourCorners w 1 c
 
 -- the box with the upper right corner c covers the cell: the corners behind it are the upper left, the lower left and the lower right one
 pub record CoversCell (w : DartMap) (x y : ℕ → ℕ) (c i j : ℕ) : Type 0 where

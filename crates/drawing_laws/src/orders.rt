@@ -2,7 +2,7 @@
 //!
 //! Take a nonempty set of boxes that has, with each box, all boxes directly above it, and suppose that it avoids the outside. Take in what the
 //! outside does not reach without crossing it, so that the rest is connected. Count the edges that touch the rest. At each vertex the
-//! corner over the north-west belongs to the rest, or one dart at most to the east or north runs along the set's border with the set
+//! angle over the north-west belongs to the rest, or one dart at most to the east or north runs along the set's border with the set
 //! on its left: so there are fewer of these edges than vertices on them and boxes off the set, taken together. But a tree on the faces
 //! of the rest, with the whole set as one more node, and a tree on the vertices of these edges have no edge in common, and as many at
 //! least. So **the set has the outside**, and likewise in the other three directions.

@@ -7,12 +7,12 @@
 //!     outside |  box  |     box     | box | outside
 //!             a <---- b <---------- c <-- d
 //!
-//! The coordinates fall from step to step, so each dart's chain ends at the outside; no two steps lead to one dart, so the darts of the
-//! row are one chain. Hence exactly one box covers each cell of the rectangle round all of them.
+//! The coordinates fall from step to step, so from each dart they lead to the outside; no two steps lead to one dart, so the darts of the
+//! row are one sequence. Hence exactly one box covers each cell of the rectangle round all of them.
 //!
-//! At a point look at the cell to its upper right. A dart sees it that goes past the point to the south, or to the east, or arrives
-//! there with an angle that reaches so far to the right. What sees the cell is of the face that covers it, the outside where no box
-//! does; and of one face one dart alone sees it. But at each vertex some dart sees its cell, and of an edge that a point lies inside
+//! At a point look at the cell to its upper right. A dart touches it that goes past the point to the south, or to the east, or arrives
+//! there with an angle that reaches so far to the right. What touches the cell is of the face that covers it, the outside where no box
+//! does; and of one face one dart alone touches it. But at each vertex some dart touches its cell, and of an edge that a point lies inside
 //! one of the two darts. So two vertices at one point are one, no vertex lies inside an edge, and no two edges cross or overlap.
 
 ghost use Rattle.std.specs.Prelude.{◌≡◌, ℕ};

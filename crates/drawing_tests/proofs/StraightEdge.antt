@@ -75,7 +75,7 @@ edge_turns N P T H D A B e =
             ];
       };
       inner = λ a l ne. absurd (ne refl);
-      outside = omega (arith, e.angle_0, e.angle_1);
+      outer_turns = omega (arith, e.angle_0, e.angle_1);
     }
   where
     reach : (a b : ℕ) → a < 2 → b < 2 → a ≢ b → get_or N a 0 ≡ b

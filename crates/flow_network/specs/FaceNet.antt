@@ -20,7 +20,7 @@ pub record IsFaceNet (p : PlaneModel) (net : NetworkModel) : Type 0 where
   pub corner : (d : ℕ) → d < darts p → arc_at net d ≡ record { from = head p d - 1; to = vertices p + face_at p d; cap = AtMost 3; cost = 0 }
   -- its crossing arc carries the left turns along it
   pub crossing : (d : ℕ) → d < darts p → arc_at net (darts p + d) ≡ record { from = vertices p + face_at p d; to = vertices p + face_at p (reverse_dart p d); cap = Any; cost = 1 }
-  -- four right angles round a vertex, of which each corner has one without any flow
+  -- four right angles round a vertex, of which each angle has one without any flow
   pub at_vertex : (v : ℕ) → 1 ≤ v → v ≤ vertices p → supply_at net (v - 1) ≡ pos 4 -ℤ pos (vertex_degree p v)
   -- an inner face turns once to the left, the outer face once to the right
   pub at_face : (f : ℕ) → f < p.faces → supply_at net (vertices p + f) ≡ (if f == p.outer then negsuc 3 else pos 4) -ℤ pos (degree p f)

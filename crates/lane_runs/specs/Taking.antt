@@ -8,6 +8,6 @@ pub record TakesFiles (takes : ℕ → ℕ → List ℕ → Type 0) (ends : ℕ 
   pub records : (file place : ℕ) (bytes : List ℕ) → IsPlacedAt (meaning file) place bytes → takes file place bytes
   pub marks : (file count : ℕ) (mark : Mark) → IsEndAt (meaning file) count mark → ends file count mark
 
--- the same as one word, into which only the first stage looks
+-- the same under one name, which the first stage alone unfolds
 unfoldable pub TakesAll : (ℕ → ℕ → List ℕ → Type 0) → (ℕ → ℕ → Mark → Type 0) → (ℕ → Meaning) → Type 0
 TakesAll takes ends meaning = TakesFiles takes ends meaning

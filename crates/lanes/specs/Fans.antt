@@ -8,7 +8,7 @@ use Rattle.lanes.specs.Notes.{About, Note, notes, Stop}
 abbrev pub HasStop : List Note → Type 0
 HasStop ns = (front : List Note) × (rest : List Note) × (ns ≡ front ++ Stop ∷ rest)
 
--- the items of all lanes, in order
+-- the messages of all lanes, in order
 abbrev pub untagged : {T : Type 0} → List (ℕ × T) → List T
 untagged {T} items = map (λ (x : ℕ × T). x.1) items
 

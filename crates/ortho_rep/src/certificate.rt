@@ -69,7 +69,7 @@ fn is_priced(angle: u8, turns: &[Turn], vertex: i32, face: i32, across: i32) -> 
     angle_agrees(angle, vertex, face) && crossing_agrees(turns, face, across)
 }
 
-/// Whether an angle agrees with the prices at its corner.
+/// Whether an angle agrees with the prices of its vertex and its face.
 fn angle_agrees(angle: u8, vertex: i32, face: i32) -> bool
     ensures { IsTrue result ↔ ((angle < 4 → face ≤ℤ vertex) × (1 < angle → vertex ≤ℤ face)) }
 {

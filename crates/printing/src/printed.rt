@@ -11,7 +11,7 @@ ghost use Rattle.printing.specs.Spelt.{IsSpelt};
 
 use crate::line::Line;
 use crate::lines::answer_line;
-use crate::told::Told;
+use crate::meant::Meant;
 use common::Choice;
 use entries::Answer;
 use lanes::Numbered;
@@ -24,7 +24,7 @@ use std::snapshot::Snapshot;
 /// A record of a file, and the line of what is answered to it. Its type keeps that the record has its place in what
 /// the file means.
 #[derive(Drop)]
-pub struct Printed<J: Told> {
+pub struct Printed<J: Meant> {
     /// The file, from 0.
     pub file: u32,
     /// The record's place in its file, from 0.
@@ -39,14 +39,14 @@ pub struct Printed<J: Told> {
     pub rec: Snapshot<Record>,
     /// What is answered to it. Only proofs see it.
     pub answer: Snapshot<Answer>,
-    pub told: PhantomData<J>,
+    pub meant: PhantomData<J>,
     pub ghost answers: { ∥ Answers choice rec.value answer.value ∥₁ },
     pub ghost rec_is: { IsSpelt rec.value } by { Prim.hlevel props },
     pub ghost line_is: { IsLineOf form (entry_of file ordinal rec.value choice answer.value answers) line } by { Prim.hlevel props },
     pub ghost placed: { ∥ IsPlacedAt (J.meaning file) ordinal rec.value ∥₁ } by { Prim.hlevel props },
 }
 
-impl<J: Told + Send + Sync> Numbered for Printed<J> {
+impl<J: Meant + Send + Sync> Numbered for Printed<J> {
     ghost about = { λ p. record { file = p.file; ordinal = p.ordinal; bytes = p.rec.value; choice = p.choice } };
 
     fn file(&self) -> u32 {

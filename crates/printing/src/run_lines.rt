@@ -15,9 +15,9 @@ ghost use Rattle.printing.specs.Holding.{form_of, choice_of, files_of, LinesWrit
 ghost use Rattle.printing.specs.Whole.{HaveFiles, IsAllWritten};
 
 use crate::lines::{lacking_text, preamble_text};
+use crate::meant::{KnownEnd, Meant};
 use crate::printed::Printed;
 use crate::refusal::Refusal;
-use crate::told::{KnownEnd, Told};
 use crate::waiting::{Waiting, count_one, keep_line, keep_mark, none_come, take_lines};
 use crate::writing::{put, put_end, put_preamble};
 use common::Choice;
@@ -101,7 +101,7 @@ impl Lines {
     ///
     /// `Write` exactly where the sink has then failed; `Memory` where there was no memory for a line that has to
     /// wait or that tells of a lack of memory; `Astray` where no lane gives such a message.
-    pub(crate) fn line<S: Sink, J: Told>(
+    pub(crate) fn line<S: Sink, J: Meant>(
         &mut self,
         alloc: Global,
         sink: &mut S,
@@ -124,7 +124,7 @@ impl Lines {
             line,
             rec: _,
             answer: _,
-            told: _,
+            meant: _,
         } = printed;
         if form != self.form || choice != self.choice || !self.is_next(file, ordinal) {
             return Err(Refusal::Astray);
@@ -141,7 +141,7 @@ impl Lines {
     ///
     /// `Write` exactly where the sink has then failed; `Memory` where there was no memory for a line; `Astray`
     /// where no lane gives such a message.
-    pub(crate) fn end<S: Sink, J: Told>(
+    pub(crate) fn end<S: Sink, J: Meant>(
         &mut self,
         alloc: Global,
         sink: &mut S,

@@ -9,11 +9,11 @@ ghost use Rattle.printing.specs.Stops.{held_stop};
 ghost use Rattle.printing.specs.Holding.{form_of, files_of, LinesHold, LinesBreakOff, AreLinesOf};
 ghost use Rattle.printing.specs.Whole.{HaveFiles, IsAllWritten};
 
+use crate::meant::{KnownEnd, Meant};
 use crate::pace::Pace;
 use crate::printed::Printed;
 use crate::refusal::Refusal;
 use crate::run_lines::Lines;
-use crate::told::{KnownEnd, Told};
 use lanes::Consumer;
 use std::alloc::Global;
 use std::snapshot::Snapshot;
@@ -90,7 +90,7 @@ impl<S: Sink> Texts<'_, S, Lines> {
     }
 }
 
-impl<S: Sink, J: Told + Send + Sync> Consumer<Printed<J>, KnownEnd<J>> for Texts<'_, S, Lines> {
+impl<S: Sink, J: Meant + Send + Sync> Consumer<Printed<J>, KnownEnd<J>> for Texts<'_, S, Lines> {
     type Refusal = Refusal;
 
     ghost holds = { λ t ns. (S.failed t.sink.now ≡ false) × LinesHold J.meaning (S.taken t.start.value) (S.taken t.sink.now) t.lines ns };

@@ -11,24 +11,24 @@ use std::time::Duration;
 /// woken.
 pub(crate) const TRIES: u32 = 13;
 
-/// After each of the first so many tries the thread pauses, and after each later one it naps.
+/// After each of the first so many tries the thread spins, and after each later one it naps.
 const SPINS: u32 = 8;
 
-/// How many pauses of the processor follow each of the first tries. Each takes 10 to 40 ns.
-const PAUSES: u32 = 2;
+/// How many spin-loop hints follow each of the first tries. Each takes 10 to 40 ns.
+const HINTS: u32 = 2;
 
 /// How long the first nap takes, in microseconds. Each takes twice as long as the one before, so the five
 /// take 30 to 480.
 const NAP: u64 = 30;
 
-/// Lets a moment pass after the try of this number, from 0: pauses after each of the first tries, and after
+/// Lets a moment pass after the try of this number, from 0: spins after each of the first tries, and after
 /// each later one, the last one too, a nap from which the thread wakes by itself, so that the other end need
 /// not wake it. It takes no memory.
 pub(crate) fn back_off<R: Wait>(rt: &R, tried: u32)
     requires tried { tried < TRIES }
 {
     if tried < SPINS {
-        for _ in 0..PAUSES {
+        for _ in 0..HINTS {
             hint::spin_loop();
         }
     } else {

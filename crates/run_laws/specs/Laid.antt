@@ -89,7 +89,7 @@ pub record ProveLeast (plane : PlaneModel) (shape : ShapeModel) (prices : Prices
   pub greater : (d : ℕ) → d < darts plane → angle_at shape d < 4 → face_price prices (face_at plane d) ≤ℤ vertex_price prices (head plane d)
   -- where it could be less, the vertex is no dearer than the face
   pub less : (d : ℕ) → d < darts plane → 1 < angle_at shape d → vertex_price prices (head plane d) ≤ℤ face_price prices (face_at plane d)
-  -- the face across is dearer by at most 1, the price of a bend
+  -- the face across is dearer by at most 1, the cost of a bend
   pub across : (d : ℕ) → d < darts plane
       → pos 0 ≤ℤ (pos 1 +ℤ face_price prices (face_at plane d) -ℤ face_price prices (face_at plane (reverse_dart plane d)))
   -- and where the dart turns left, by just that

@@ -15,7 +15,7 @@ use faces::Plane;
 use ortho_rep::{DartShape, Prices, Shape, Turn, count_lefts};
 use std::alloc::{AllocError, Global};
 
-/// The angle of each dart, and how often it turns to the left: a corner carries its angle less one, and a unit across
+/// The angle of each dart, and how often it turns to the left: a corner arc carries its angle less one, and a unit across
 /// an edge is a left turn. Once units were moved it may be no representation, but prices that proved it least agree with it still.
 #[derive(Drop)]
 pub(crate) struct ShapeFlow {
@@ -60,7 +60,7 @@ impl ShapeFlow {
         self.lefts[usize::from(dart)]
     }
 
-    /// Moves a unit from the corner of a dart to the corner of another one, or across the edge where that is its reverse,
+    /// Moves a unit from the angle of a dart to the angle of another one, or across the edge where that is its reverse,
     /// if the prices stay a proof; else nothing is done.
     pub(crate) fn send(&mut self, plane: &Plane, prices: &Prices, give: u16, take: u16)
         requires prices { HasPrices plane.now prices.now }
@@ -142,7 +142,7 @@ pub(crate) fn clockwise(plane: &Plane, dart: u16) -> u16
     plane.graph().reverse(plane.next(dart))
 }
 
-/// Whether a unit may leave the corner of a dart, or come to it, while the prices stay a proof.
+/// Whether a unit may leave the angle of a dart, or come to it, while the prices stay a proof.
 pub(crate) fn is_tight_angle(plane: &Plane, prices: &Prices, dart: u16) -> bool
     requires prices { HasPrices plane.now prices.now }
     requires within { dart < darts plane.now }

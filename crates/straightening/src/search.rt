@@ -127,7 +127,7 @@ impl FaceSearch {
         }
     }
 
-    /// Takes each step from the corner of a dart to others at the same vertex, where that is tight and no vertex of degree
+    /// Takes each step from the angle of a dart to others at the same vertex, where that is tight and no vertex of degree
     /// 2 begins to turn.
     fn step_at_vertex(&mut self, plane: &Plane, prices: &Prices, flow: &ShapeFlow, step: FaceStep)
         requires prices { HasPrices plane.now prices.now }
@@ -144,12 +144,12 @@ impl FaceSearch {
         if angle == 2 && third == step.dart {
             return;
         }
-        self.step_to_corner(plane, prices, step, second);
-        self.step_to_corner(plane, prices, step, third);
+        self.step_to_angle(plane, prices, step, second);
+        self.step_to_angle(plane, prices, step, third);
     }
 
-    /// Takes the step from the corner of its dart to this one, where that is another one and tight.
-    fn step_to_corner(&mut self, plane: &Plane, prices: &Prices, step: FaceStep, take: u16)
+    /// Takes the step from the angle of its dart to this one, where that is another one and tight.
+    fn step_to_angle(&mut self, plane: &Plane, prices: &Prices, step: FaceStep, take: u16)
         requires prices { HasPrices plane.now prices.now }
         requires take { take < darts plane.now }
     {

@@ -38,9 +38,9 @@ const REFLEX: u8 = 3;
 
 /// A shape with as many bends as the given one, in which few vertices of degree 2 turn. The same prices prove it least.
 ///
-/// At a vertex of degree 2 that turns, one corner has three right angles and the other has one. Such vertices are
-/// made straight one after another: a unit goes from the reflex corner to the right angle, and back from the face of
-/// the right angle to that of the reflex corner, where there is a path of residual arcs whose reduced cost is 0 by the
+/// At a vertex of degree 2 that turns, one angle is of three right angles and the other of one. Such vertices are
+/// made straight one after another: a unit goes from the reflex angle to the right angle, and back from the face of
+/// the right angle to that of the reflex angle, where there is a path of residual arcs whose reduced cost is 0 by the
 /// prices (a flow of least cost stays one along a cycle of such arcs, by complementary slackness). On that path no
 /// vertex of degree 2 begins to turn. Each unit is moved only where the prices
 /// stay a proof. What comes of these moves is handed out only where it has fewer reflex angles and is tested to be a
@@ -83,7 +83,7 @@ pub fn straighten_in(
     }
 }
 
-/// The first dart whose head turns and may give a unit from its reflex corner to its right angle.
+/// The first dart whose head turns and may give a unit from its reflex angle to its right angle.
 fn first_movable(plane: &Plane, shape: &Shape, prices: &Prices) -> Option<u16>
     requires darts { HasDarts plane.now shape.now }
     requires prices { HasPrices plane.now prices.now }
@@ -132,7 +132,7 @@ fn straighten_from(
     moved
 }
 
-/// Makes the vertex with this reflex corner straight where a path leads back, and returns whether it did.
+/// Makes the vertex with this reflex angle straight where a path leads back, and returns whether it did.
 fn straighten_one(
     flow: &mut ShapeFlow,
     search: &mut FaceSearch,
@@ -160,7 +160,7 @@ fn straighten_one(
     true
 }
 
-/// Whether a unit may go from the reflex corner of a vertex of degree 2 to its right angle while the prices stay a
+/// Whether a unit may go from the reflex angle of a vertex of degree 2 to its right angle while the prices stay a
 /// proof.
 fn is_movable(plane: &Plane, prices: &Prices, reflex: u16) -> bool
     requires prices { HasPrices plane.now prices.now }

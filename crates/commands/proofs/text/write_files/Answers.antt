@@ -19,12 +19,12 @@ returns-in-Ok-finish-clause-written g c =
     let texts = c.run_into-texts.result in
     let stays = c.run_into-texts.ensures.stays in
     let told = subst (λ r. OnOk r ((ns : List Note)
-    × ((g.S.Sink.failed texts.sink.now ≡ false) × LinesHold g.J.Told.meaning (taken texts.start.value) (taken texts.sink.now) texts.lines ns)
+    × ((g.S.Sink.failed texts.sink.now ≡ false) × LinesHold g.J.Meant.meaning (taken texts.start.value) (taken texts.sink.now) texts.lines ns)
     × AreToldWhole c.args.run.now.choice meaning c.args.run.now.files ns)) c.in-Ok-ran.is c.run_into-texts.ensures.told in
     let form : form_of texts.lines ≡ c.args.style.form = stays.2.form ∙ ap form_of c.new-texts.ensures.lines ∙ c.in-Ok.ensures.form in
     let files : files_of texts.lines ≡ c.args.run.now.files = stays.2.files ∙ ap files_of c.new-texts.ensures.lines ∙ c.in-Ok.ensures.files in
     let start : texts.start.value ≡ c.args.sink.now = sym stays.1 ∙ c.new-texts.ensures.start in
-    let all = c.in-Ok-finish.ensures.written c.args.run.now.choice g.J.Told.meaning meaning told.0 told.1.1 (λ file below. told.2 file (omega (arith, below, files))) in
+    let all = c.in-Ok-finish.ensures.written c.args.run.now.choice g.J.Meant.meaning meaning told.0 told.1.1 (λ file below. told.2 file (omega (arith, below, files))) in
     subst (λ s. IsAllWritten c.args.run.now.choice meaning c.args.style.form c.args.run.now.files (taken c.args.sink.now) (taken s) c.in-Ok-finish.status) (search rules)
     (subst (λ b. IsAllWritten c.args.run.now.choice meaning c.args.style.form c.args.run.now.files (taken b) (taken c.finish.new.self.0) c.in-Ok-finish.status) start
     (subst (λ n. IsAllWritten c.args.run.now.choice meaning c.args.style.form n (taken texts.start.value) (taken c.finish.new.self.0) c.in-Ok-finish.status) files
@@ -40,38 +40,38 @@ returns-in-Err-finish-clause-begun g c =
     let texts = c.run_into-texts.result in
     let stays = c.run_into-texts.ensures.stays in
     let told = subst (λ r. OnOk r ((ns : List Note)
-    × ((g.S.Sink.failed texts.sink.now ≡ false) × LinesHold g.J.Told.meaning (taken texts.start.value) (taken texts.sink.now) texts.lines ns)
+    × ((g.S.Sink.failed texts.sink.now ≡ false) × LinesHold g.J.Meant.meaning (taken texts.start.value) (taken texts.sink.now) texts.lines ns)
     × AreToldWhole c.args.run.now.choice meaning c.args.run.now.files ns)) c.in-Ok-ran.is c.run_into-texts.ensures.told in
     let choice : choice_of texts.lines ≡ c.args.run.now.choice = stays.2.choice ∙ ap choice_of c.new-texts.ensures.lines ∙ c.in-Ok.ensures.choice in
     let form : form_of texts.lines ≡ c.args.style.form = stays.2.form ∙ ap form_of c.new-texts.ensures.lines ∙ c.in-Ok.ensures.form in
     let files : files_of texts.lines ≡ c.args.run.now.files = stays.2.files ∙ ap files_of c.new-texts.ensures.lines ∙ c.in-Ok.ensures.files in
     let start : texts.start.value ≡ c.args.sink.now = sym stays.1 ∙ c.new-texts.ensures.start in
-    let left = c.in-Err-finish.ensures.broken g.J.Told.meaning told.0 told.1.1 in
+    let left = c.in-Err-finish.ensures.broken g.J.Meant.meaning told.0 told.1.1 in
     subst (λ s. ∥ IsBegun c.args.run.now.choice (g.O.Opener.meaning c.args.run.now.opener.now) c.args.style.form c.args.run.now.files (taken c.args.sink.now) (taken s) ∥₁) (search rules)
     (subst (λ b. ∥ IsBegun c.args.run.now.choice (g.O.Opener.meaning c.args.run.now.opener.now) c.args.style.form c.args.run.now.files (taken b) (taken c.finish.new.self.0) ∥₁) start
     (subst (λ m. ∥ IsBegun c.args.run.now.choice m c.args.style.form c.args.run.now.files (taken texts.start.value) (taken c.finish.new.self.0) ∥₁) c.requires.told
-    (begun_lines c.args.run.now.choice g.J.Told.meaning c.args.style.form c.args.run.now.files (taken texts.start.value) (taken c.finish.new.self.0) texts.lines choice form files told.0 left)))
+    (begun_lines c.args.run.now.choice g.J.Meant.meaning c.args.style.form c.args.run.now.files (taken texts.start.value) (taken c.finish.new.self.0) texts.lines choice form files told.0 left)))
 
 pub returns-in-Err-clause-begun : goal.returns-in-Err-clause-begun
 returns-in-Err-clause-begun g c =
     let taken = g.S.Sink.taken in
     let texts = c.run_into-texts.result in
     let stays = c.run_into-texts.ensures.stays in
-    let Left : Type 0 = (ns : List Note) × LinesBreakOff g.J.Told.meaning (taken texts.start.value) (taken texts.sink.now) texts.lines ns in
+    let Left : Type 0 = (ns : List Note) × LinesBreakOff g.J.Meant.meaning (taken texts.start.value) (taken texts.sink.now) texts.lines ns in
     let gave_up : Refusal → Type 0 = λ refusal. GivesUp (g.S.Sink.failed texts.sink.now) refusal × Left in
-    let holds : List Note → Type 0 = λ ns. (g.S.Sink.failed texts.sink.now ≡ false) × LinesHold g.J.Told.meaning (taken texts.start.value) (taken texts.sink.now) texts.lines ns in
+    let holds : List Note → Type 0 = λ ns. (g.S.Sink.failed texts.sink.now ≡ false) × LinesHold g.J.Meant.meaning (taken texts.start.value) (taken texts.sink.now) texts.lines ns in
     let ended = subst (λ r. IfErr r (EndsRun gave_up holds)) c.in-Err.is c.run_into-texts.ensures.ended in
     let choice : choice_of texts.lines ≡ c.args.run.now.choice = stays.2.choice ∙ ap choice_of c.new-texts.ensures.lines ∙ c.in-Ok.ensures.choice in
     let form : form_of texts.lines ≡ c.args.style.form = stays.2.form ∙ ap form_of c.new-texts.ensures.lines ∙ c.in-Ok.ensures.form in
     let files : files_of texts.lines ≡ c.args.run.now.files = stays.2.files ∙ ap files_of c.new-texts.ensures.lines ∙ c.in-Ok.ensures.files in
     let start : texts.start.value ≡ c.args.sink.now = sym stays.1 ∙ c.new-texts.ensures.start in
     let left : Left =
-    ended_with gave_up holds c.in-Err.fault (λ refusal gave. gave.1) (λ ns held. (ns, left_off_held g.J.Told.meaning (taken texts.start.value) (taken texts.sink.now) texts.lines ns held.1)) ended in
+    ended_with gave_up holds c.in-Err.fault (λ refusal gave. gave.1) (λ ns held. (ns, left_off_held g.J.Meant.meaning (taken texts.start.value) (taken texts.sink.now) texts.lines ns held.1)) ended in
     subst (λ s. ∥ IsBegun c.args.run.now.choice (g.O.Opener.meaning c.args.run.now.opener.now) c.args.style.form c.args.run.now.files (taken c.args.sink.now) (taken s) ∥₁) (search rules)
     (subst (λ s. ∥ IsBegun c.args.run.now.choice (g.O.Opener.meaning c.args.run.now.opener.now) c.args.style.form c.args.run.now.files (taken c.args.sink.now) (taken s) ∥₁) (sym c.let_go.ensures)
     (subst (λ b. ∥ IsBegun c.args.run.now.choice (g.O.Opener.meaning c.args.run.now.opener.now) c.args.style.form c.args.run.now.files (taken b) (taken texts.sink.now) ∥₁) start
     (subst (λ m. ∥ IsBegun c.args.run.now.choice m c.args.style.form c.args.run.now.files (taken texts.start.value) (taken texts.sink.now) ∥₁) c.requires.told
-    (begun_lines c.args.run.now.choice g.J.Told.meaning c.args.style.form c.args.run.now.files (taken texts.start.value) (taken texts.sink.now) texts.lines choice form files left.0 left.1))))
+    (begun_lines c.args.run.now.choice g.J.Meant.meaning c.args.style.form c.args.run.now.files (taken texts.start.value) (taken texts.sink.now) texts.lines choice form files left.0 left.1))))
 
 pub run_into-texts-requires-clause-takes : goal.run_into-texts-requires-clause-takes
 run_into-texts-requires-clause-takes g c κs within = takes_known _ _ c.requires.told

@@ -87,7 +87,7 @@ returns-clause-enclosed c =
     let j = bridging_of (dart_map_of c.args.table.now) (dart_map_of c.surround.new.table) c.find_right-right.result c.cut_side-side.result
     c.cut_across.ensures.cut.0 (dart_map_of c.cut_across.new.table) c.requires.sound c.surround.ensures.surrounded c.find_right-right.ensures.inside
     c.cut_side-side.ensures.side c.cut_across.ensures.cut.1 in
-    enclosed_by (dart_map_of c.args.table.now) c.args.outside (dart_map_of c.surround.new.table) c.find_right-right.result c.cut_side-side.result
+    enclosed_by (dart_map_of c.args.table.now) c.args.outer (dart_map_of c.surround.new.table) c.find_right-right.result c.cut_side-side.result
     c.cut_across.ensures.cut.0 (dart_map_of c.cut_across.new.table) (dart_map_of c.cut_faces.new.table) c.find_right-right.ensures.same j c.cut_faces.ensures.grows
 
 pub returns-clause-done : goal.returns-clause-done
@@ -114,7 +114,7 @@ returns-clause-reaches c =
     c.cut_side-side.ensures.side c.cut_across.ensures.cut.1 in
     enclosed_reaches (dart_map_of c.args.table.now) (dart_map_of c.surround.new.table) c.find_right-right.result c.cut_side-side.result
     c.cut_across.ensures.cut.0 (dart_map_of c.cut_across.new.table) (dart_map_of c.cut_faces.new.table) c.requires.turns.0
-    (c.requires.turns.0 c.args.outside) c.requires.sound c.requires.turns.1 j c.cut_faces.ensures.grows
+    (c.requires.turns.0 c.args.outer) c.requires.sound c.requires.turns.1 j c.cut_faces.ensures.grows
 
 pub returns-clause-few : goal.returns-clause-few
 returns-clause-few c =

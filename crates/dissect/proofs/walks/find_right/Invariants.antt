@@ -3,4 +3,4 @@ use Rattle.dissect.proofs.Walking.{IsSeeking}
 use Rattle.dissect.proofs.walks.find_right.Given as goal
 
 abbrev pub invariant-steps : goal.invariant-steps
-invariant-steps l = IsSeeking (dart_map_of l.table) l.outside l.counter l.dart
+invariant-steps l = IsSeeking (dart_map_of l.table) l.outer l.counter l.dart

@@ -6,7 +6,7 @@ use Rattle.dissect.proofs.table.DartTable.subdivide.Goals as goal
 pub returns-clause-subdivide : goal.returns-clause-subdivide
 returns-clause-subdivide c =
     let s = c.args.self.now in
-    split_made s.darts s.vertices c.args.e c.index-reverse_dart.result.now c.args.way c.args.bend
+    split_made s.darts s.vertices c.args.e c.index-reverse_dart.result.now c.args.way c.args.left_angle
     s.next.items c.put_before.new.next.items c.put_before-2.new.next.items
     s.prev.items c.put_before.new.prev.items c.put_before-2.new.prev.items
     s.reverse_dart.items c.pair.new.reverse_dart.items c.pair-2.new.reverse_dart.items

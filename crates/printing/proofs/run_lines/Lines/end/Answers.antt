@@ -26,8 +26,8 @@ returns-clause-held g c =
     let file_is : c.args.known.file ≡ file = search rules in
     let mark_is : c.args.known.mark ≡ c.args.mark = search rules in
     ok_both c.advance.result c.advance.ensures.written c.advance.ensures.unended (λ moves unended start ns held.
-    held_end g.J.Told.meaning start old (g.S.Sink.taken c.advance.new.sink) before mid after ns file c.args.mark c.advance.ensures.same (record { form = refl; choice = refl; files = kept.count })
-    below (λ other. (kept.here other).unmarked) (λ other. end_as g.J.Told.meaning c.args.known.file file _ c.args.known.count c.args.known.mark c.args.mark file_is (kept.here other).counted mark_is c.args.known.is_end) from c.is_whole_with-self.ensures c.advance.ensures.whole
+    held_end g.J.Meant.meaning start old (g.S.Sink.taken c.advance.new.sink) before mid after ns file c.args.mark c.advance.ensures.same (record { form = refl; choice = refl; files = kept.count })
+    below (λ other. (kept.here other).unmarked) (λ other. end_as g.J.Meant.meaning c.args.known.file file _ c.args.known.count c.args.known.mark c.args.mark file_is (kept.here other).counted mark_is c.args.known.is_end) from c.is_whole_with-self.ensures c.advance.ensures.whole
     (λ came next more was. written_marked before.form start old before.buffer file before.current before.waiting.items waiting.items came next c.args.known.count c.args.mark below from more kept was)
     (moves start) unended held)
 
@@ -45,8 +45,8 @@ returns-clause-broken g c =
     let file_is : c.args.known.file ≡ file = search rules in
     let mark_is : c.args.known.mark ≡ c.args.mark = search rules in
     err_then c.advance.result c.advance.ensures.broken (λ broken start ns held.
-    left_off_end g.J.Told.meaning start old (g.S.Sink.taken c.advance.new.sink) before mid after ns file c.args.mark c.advance.ensures.same (record { form = refl; choice = refl; files = kept.count })
-    below (λ other. end_as g.J.Told.meaning c.args.known.file file _ c.args.known.count c.args.known.mark c.args.mark file_is (kept.here other).counted mark_is c.args.known.is_end) from
+    left_off_end g.J.Meant.meaning start old (g.S.Sink.taken c.advance.new.sink) before mid after ns file c.args.mark c.advance.ensures.same (record { form = refl; choice = refl; files = kept.count })
+    below (λ other. end_as g.J.Meant.meaning c.args.known.file file _ c.args.known.count c.args.known.mark c.args.mark file_is (kept.here other).counted mark_is c.args.known.is_end) from
     (λ came next more was. written_marked before.form start old before.buffer file before.current before.waiting.items waiting.items came next c.args.known.count c.args.mark below from more kept was)
     (broken start) held)
 
@@ -54,13 +54,13 @@ pub returns-then-not-is_open-clause-broken : goal.returns-then-not-is_open-claus
 returns-then-not-is_open-clause-broken g c = λ start ns held.
     let before = c.args.self.now in
     let now = g.S.Sink.taken c.args.sink.now in
-    let here = left_off_held g.J.Told.meaning start now before ns held in
+    let here = left_off_held g.J.Meant.meaning start now before ns held in
     elim c.then-not-is_open.branch [
-      | then-not-is_open-via-then-not-is_open w ↦ inl (subst (λ l. LinesBreakOff g.J.Told.meaning start now l ns) (sym w.self-is) here)
+      | then-not-is_open-via-then-not-is_open w ↦ inl (subst (λ l. LinesBreakOff g.J.Meant.meaning start now l ns) (sym w.self-is) here)
       | then-not-is_open-via-else-not-is_open+then-not-keep_mark w ↦
           let mid : Lines = record { form = before.form; choice = before.choice; buffer = before.buffer; current = before.current; waiting = w.keep_mark.new.waiting; held = before.held; whole = before.whole } in
-          inl (subst (λ l. LinesBreakOff g.J.Told.meaning start now l ns) (sym w.self-is) (left_off_as g.J.Told.meaning start now before mid ns (record { form = refl; choice = refl; files = w.keep_mark.ensures.count }) here))
+          inl (subst (λ l. LinesBreakOff g.J.Meant.meaning start now l ns) (sym w.self-is) (left_off_as g.J.Meant.meaning start now before mid ns (record { form = refl; choice = refl; files = w.keep_mark.ensures.count }) here))
     ]
 
 pub returns-then-known-file-clause-broken : goal.returns-then-known-file-clause-broken
-returns-then-known-file-clause-broken g c = λ start ns held. inl (left_off_held g.J.Told.meaning start (g.S.Sink.taken c.args.sink.now) c.args.self.now ns held)
+returns-then-known-file-clause-broken g c = λ start ns held. inl (left_off_held g.J.Meant.meaning start (g.S.Sink.taken c.args.sink.now) c.args.self.now ns held)

@@ -21,10 +21,10 @@ returns-in-Some-clause-held g c =
     let line : line_in before.form entry ≡ c.as_slice.result.now = ap (λ f. line_in f entry) (sym form) ∙ sym has.1 ∙ sym c.as_slice.ensures.value in
     let from : before.current ≤ file = search rules in
     let choice : c.args.printed.choice ≡ before.choice = search rules in
-    let comes = comes_next before.choice c.args.printed.choice (g.J.Told.meaning file) file c.args.printed.ordinal before.waiting.items entry refl refl refl choice
+    let comes = comes_next before.choice c.args.printed.choice (g.J.Meant.meaning file) file c.args.printed.ordinal before.waiting.items entry refl refl refl choice
     c.args.printed.rec_is c.args.printed.placed (c.is_next.ensures.next (search rules)) in
     ok_then c.add.result c.add.ensures.added (λ added start ns held.
-    held_item g.J.Told.meaning start (g.S.Sink.taken c.args.sink.now) (g.S.Sink.taken c.add.new.sink) before after ns file entry c.add.ensures.same.same c.add.ensures.same.current below from comes
+    held_item g.J.Meant.meaning start (g.S.Sink.taken c.args.sink.now) (g.S.Sink.taken c.add.new.sink) before after ns file entry c.add.ensures.same.same c.add.ensures.same.current below from comes
     (λ came next more was. added start came next entry line more was)
     (λ came next more was. subst (λ b. (b ≡ true) ↔ ((k : ℕ) → k < length before.waiting.items → IsWholeSoFar (next k))) (sym c.add.ensures.same.whole) (whole_item (length before.waiting.items) file entry came next before.whole below has.0 more was))
     held)
@@ -38,10 +38,10 @@ returns-clause-held g c =
     let below : file < length before.waiting.items = search rules in
     let from : before.current ≤ file = search rules in
     let choice : c.args.printed.choice ≡ before.choice = search rules in
-    let comes = comes_next before.choice c.args.printed.choice (g.J.Told.meaning file) file c.args.printed.ordinal before.waiting.items entry refl refl refl choice
+    let comes = comes_next before.choice c.args.printed.choice (g.J.Meant.meaning file) file c.args.printed.ordinal before.waiting.items entry refl refl refl choice
     c.args.printed.rec_is c.args.printed.placed (c.is_next.ensures.next (search rules)) in
     ok_both c.add_lacking.result c.add_lacking.ensures.added c.add_lacking.ensures.lacking (λ added lacks start ns held.
-    held_item g.J.Told.meaning start (g.S.Sink.taken c.args.sink.now) (g.S.Sink.taken c.add_lacking.new.sink) before after ns file entry c.add_lacking.ensures.same c.add_lacking.ensures.current below from comes
+    held_item g.J.Meant.meaning start (g.S.Sink.taken c.args.sink.now) (g.S.Sink.taken c.add_lacking.new.sink) before after ns file entry c.add_lacking.ensures.same c.add_lacking.ensures.current below from comes
     (λ came next more was. added start came next entry refl refl refl more was)
     (λ came next more was. subst (λ b. (b ≡ true) ↔ ((k : ℕ) → k < length before.waiting.items → IsWholeSoFar (next k))) (sym lacks) (whole_lacking (length before.waiting.items) file entry came next below refl more))
     held)
@@ -58,10 +58,10 @@ returns-in-Some-clause-broken g c =
     let line : line_in before.form entry ≡ c.as_slice.result.now = ap (λ f. line_in f entry) (sym form) ∙ sym has.1 ∙ sym c.as_slice.ensures.value in
     let from : before.current ≤ file = search rules in
     let choice : c.args.printed.choice ≡ before.choice = search rules in
-    let comes = comes_next before.choice c.args.printed.choice (g.J.Told.meaning file) file c.args.printed.ordinal before.waiting.items entry refl refl refl choice
+    let comes = comes_next before.choice c.args.printed.choice (g.J.Meant.meaning file) file c.args.printed.ordinal before.waiting.items entry refl refl refl choice
     c.args.printed.rec_is c.args.printed.placed (c.is_next.ensures.next (search rules)) in
     err_then c.add.result c.add.ensures.broken (λ broken start ns held.
-    left_off_item g.J.Told.meaning start (g.S.Sink.taken c.args.sink.now) (g.S.Sink.taken c.add.new.sink) before after ns file entry c.add.ensures.same.same below from comes
+    left_off_item g.J.Meant.meaning start (g.S.Sink.taken c.args.sink.now) (g.S.Sink.taken c.add.new.sink) before after ns file entry c.add.ensures.same.same below from comes
     (λ came next more was. broken start came next entry line more was) held)
 
 pub returns-clause-broken : goal.returns-clause-broken
@@ -73,11 +73,11 @@ returns-clause-broken g c =
     let below : file < length before.waiting.items = search rules in
     let from : before.current ≤ file = search rules in
     let choice : c.args.printed.choice ≡ before.choice = search rules in
-    let comes = comes_next before.choice c.args.printed.choice (g.J.Told.meaning file) file c.args.printed.ordinal before.waiting.items entry refl refl refl choice
+    let comes = comes_next before.choice c.args.printed.choice (g.J.Meant.meaning file) file c.args.printed.ordinal before.waiting.items entry refl refl refl choice
     c.args.printed.rec_is c.args.printed.placed (c.is_next.ensures.next (search rules)) in
     err_then c.add_lacking.result c.add_lacking.ensures.broken (λ broken start ns held.
-    left_off_item g.J.Told.meaning start (g.S.Sink.taken c.args.sink.now) (g.S.Sink.taken c.add_lacking.new.sink) before after ns file entry c.add_lacking.ensures.same below from comes
+    left_off_item g.J.Meant.meaning start (g.S.Sink.taken c.args.sink.now) (g.S.Sink.taken c.add_lacking.new.sink) before after ns file entry c.add_lacking.ensures.same below from comes
     (λ came next more was. broken start came next entry refl refl refl more was) held)
 
 pub returns-then-ne-clause-broken : goal.returns-then-ne-clause-broken
-returns-then-ne-clause-broken g c = λ start ns held. inl (left_off_held g.J.Told.meaning start (g.S.Sink.taken c.args.sink.now) c.args.self.now ns held)
+returns-then-ne-clause-broken g c = λ start ns held. inl (left_off_held g.J.Meant.meaning start (g.S.Sink.taken c.args.sink.now) c.args.self.now ns held)
