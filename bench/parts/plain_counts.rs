@@ -15,7 +15,7 @@ fn main() {
         points: compact::Scratch::empty(Global),
         check: drawing_check::Scratch::empty(Global),
     };
-    let mut search = Some(dissect::HeadingSearch::empty(Global));
+    let mut search = Some(dissect::DirectionSearch::empty(Global));
     for record in &records {
         let graph = embedding::Graph::read(Global, record).expect("a graph");
         let mut plane = faces::Plane::trace(Global, graph).ok().expect("a plane");
@@ -24,8 +24,8 @@ fn main() {
         } else {
             ortho_rep::least_shape_in(Global, &mut shapes_in, &plane).expect("memory")
         };
-        let found = dissect::headings_in(&plane, &shape, search.take().unwrap()).expect("memory");
-        black_box(room.drawn(&plane, &shape, &found.headings));
+        let found = dissect::directions_in(&plane, &shape, search.take().unwrap()).expect("memory");
+        black_box(room.drawn(&plane, &shape, &found.directions));
         search = Some(found);
     }
 }
@@ -44,10 +44,10 @@ impl Room {
         &mut self,
         plane: &faces::Plane,
         shape: &ortho_rep::Shape,
-        headings: &[u8],
+        directions: &[u8],
     ) -> drawing_check::Drawing {
         let boxes =
-            dissect::dissect_along(Global, &mut self.boxes, plane, shape, headings).expect("memory");
+            dissect::dissect_along(Global, &mut self.boxes, plane, shape, directions).expect("memory");
         let points = compact::compact_in(Global, &mut self.points, &boxes)
             .ok()
             .expect("a place for each vertex");

@@ -39,7 +39,7 @@ fn round(records: &[planar_code::Record]) -> [u64; STAGES + 1] {
     let mut boxes_in = compact::BoxesScratch::empty(Global);
     let mut points_in = compact::Scratch::empty(Global);
     let mut check_in = drawing_check::Scratch::empty(Global);
-    let mut search = Some(dissect::HeadingSearch::empty(Global));
+    let mut search = Some(dissect::DirectionSearch::empty(Global));
     for chunk in records.chunks(64) {
         lap(REST, &mut taken);
         let planes: Vec<_> = chunk.iter().map(plane_of).collect();
@@ -48,16 +48,16 @@ fn round(records: &[planar_code::Record]) -> [u64; STAGES + 1] {
             .map(|plane| ortho_rep::least_shape_in(Global, &mut shapes_in, plane).expect("memory"))
             .collect();
         lap(1, &mut taken);
-        let mut headings = Vec::new();
+        let mut directions = Vec::new();
         for (plane, (shape, _)) in planes.iter().zip(&shapes) {
-            let found = dissect::headings_in(plane, shape, search.take().unwrap()).expect("memory");
-            headings.push(found.headings.to_plain_vec(Global).expect("memory"));
+            let found = dissect::directions_in(plane, shape, search.take().unwrap()).expect("memory");
+            directions.push(found.directions.to_plain_vec(Global).expect("memory"));
             search = Some(found);
         }
         lap(2, &mut taken);
-        for ((plane, (shape, _)), headings) in planes.iter().zip(&shapes).zip(&headings) {
+        for ((plane, (shape, _)), directions) in planes.iter().zip(&shapes).zip(&directions) {
             lap(REST, &mut taken);
-            let boxes = dissect::dissect_along(Global, &mut boxes_in, plane, shape, headings)
+            let boxes = dissect::dissect_along(Global, &mut boxes_in, plane, shape, directions)
                 .expect("memory");
             lap(3, &mut taken);
             let points = compact::compact_in(Global, &mut points_in, &boxes)

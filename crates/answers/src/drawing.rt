@@ -8,7 +8,7 @@ ghost use Rattle.drawing_check.specs.Draws.{Draws};
 ghost use Rattle.entries.specs.Drawn.{HasPoints, IsDrawn};
 
 use crate::fault::ShapeFault;
-use crate::held::{Holder, Shell};
+use crate::holder::{Holder, Shell};
 use crate::shaped_plane::{ShapedPlane, SpentShapedPlane};
 use crate::spent::ReturnQueue;
 use common::DrawingKind;

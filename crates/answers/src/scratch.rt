@@ -4,7 +4,7 @@ ghost use Rattle.answers.specs.Steps.{IsEmbedded};
 
 use crate::drawing::DrawScratch;
 use crate::fault::ShapeFault;
-use crate::held::{Holder, Shell};
+use crate::holder::{Holder, Shell};
 use crate::shaping::{Passages, ShapeScratch};
 use crate::spent::ReturnQueue;
 use faces::Plane;

@@ -8,7 +8,7 @@ ghost use Rattle.answers.specs.Steps.{IsTracedPlane, IsPlaneOf, IsShaped};
 ghost use Rattle.common.specs.declared.choice.Choice.{Choice};
 
 use crate::fault::ShapeFault;
-use crate::held::{Holder, Shell};
+use crate::holder::{Holder, Shell};
 use crate::shaped_plane::{ShapedPlane, SpentShapedPlane};
 use crate::spent::ReturnQueue;
 use common::{Choice, DrawingKind};

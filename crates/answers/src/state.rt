@@ -4,7 +4,7 @@ ghost use Rattle.lanes.specs.Notes.{About};
 ghost use Rattle.answers.specs.Steps.{IsEmbedded, IsShaped};
 
 use crate::fault::ShapeFault;
-use crate::held::Holder;
+use crate::holder::Holder;
 use crate::shaped_plane::{ShapedPlane, SpentShapedPlane};
 use faces::Plane;
 
