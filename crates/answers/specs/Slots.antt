@@ -1,8 +1,8 @@
 -- What a holder holds.
 use Rattle.std.specs.Prelude.{◌≡◌, Bool, true, false}
 use mathlib.Core.Bool.{false≢true}
-use Rattle.answers.specs.declared.held.Slot.{Slot}
-use Rattle.answers.specs.declared.held.Slot.TheVariants.{Empty, Full, Spent}
+use Rattle.answers.specs.declared.holder.Slot.{Slot}
+use Rattle.answers.specs.declared.holder.Slot.TheVariants.{Empty, Full, Spent}
 
 -- whether it is a value that goes on to the next stage
 abbrev pub is_full : {T S : Type 0} → Slot T S → Bool
