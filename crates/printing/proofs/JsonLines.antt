@@ -23,7 +23,7 @@ use Rattle.entries.specs.declared.cause.Cause.{Cause}
 use Rattle.entries.specs.declared.answer.Answer.{Answer}
 use Rattle.entries.specs.declared.answer.Answer.TheVariants.{Laid, Refused, NoMemory}
 use Rattle.entries.specs.declared.entry.Entry.{Entry}
-use Rattle.reports.specs.LineData.{natural, whole, array_of, members_of, object_of, letter_of, turns_data, prices_data, point_data, corners_data, points_data, drawn_data, laid_data, answer_data, end_data, line_of}
+use Rattle.reports.specs.LineData.{natural, integer, array_of, members_of, object_of, letter_of, turns_data, prices_data, point_data, corners_data, points_data, drawn_data, laid_data, answer_data, end_data, line_of}
 use Rattle.reports.specs.Json.{entry_json, end_json}
 use Rattle.drawing_laws.specs.Drawings.{HasDrawing, IsDrawnIfLaid}
 use Rattle.printing.proofs.Apart.{IsApart, concatenated}
@@ -60,8 +60,8 @@ turns_apart turns = quoted_apart (map letter_of turns) (letters_apart turns)
 prices_apart : (prices : PricesModel) → IsApartValue (prices_data prices)
 unfolding escape_byte
 prices_apart prices =
-    made_apart ((codes "faces", array_of whole prices.faces) ∷ (codes "vertices", array_of whole prices.vertices) ∷ [])
-    ((refl, array_apart whole whole_apart prices.faces), ((refl, array_apart whole whole_apart prices.vertices), tt))
+    made_apart ((codes "faces", array_of integer prices.faces) ∷ (codes "vertices", array_of integer prices.vertices) ∷ [])
+    ((refl, array_apart integer whole_apart prices.faces), ((refl, array_apart integer whole_apart prices.vertices), tt))
 
 point_apart : (point : Point) → IsApartValue (point_data point)
 point_apart point = array_apart natural natural_apart (point.x ∷ point.y ∷ [])

@@ -2,7 +2,7 @@ use Rattle.std.proofs.Common.{rules, FitsSigned, ◌≡◌, ◌+◌, ◌-◌, �
 use Rattle.std.proofs.lemmas.Int.{to_z-of_z}
 use Rattle.std.proofs.lemmas.List.{map_more, take_all}
 use Rattle.std.proofs.lemmas.Result.{on_ok_weaker}
-use Rattle.reports.specs.LineData.{whole}
+use Rattle.reports.specs.LineData.{integer}
 use Rattle.reports.proofs.Steps.{none_yet, one_more, some_taken, whole_array}
 use Rattle.reports.proofs.json_arrays.put_vertex_prices.Goals as goal
 
@@ -16,13 +16,13 @@ loop-place-preserved c =
     let end : c.vertices-place-end.result ≡ length vertices = c.vertices-place-end.ensures.count ∙ ap length c.graph.ensures.value ∙ sym c.requires.vertices in
     let at : place + 1 - 1 ≡ place = omega arith in
     let fits : FitsSigned w32 c.vertex.result = search rules in
-    one_more c.bytes.new.out.items c.loop-place.out.items c.whole.new.out.items (map whole (take place vertices)) _ _ (nat_lt 0 place) c.loop-place.invariant c.in_ok-whole.ensures (some_taken whole place vertices (omega arith)) (
-    ap (λ (price : ℤ). map whole (take place vertices) ++ whole price ∷ []) (to_z-of_z w32 c.vertex.result fits ∙ c.vertex.ensures ∙ ap (λ (k : ℕ). slice_index_or vertices k (pos 0)) at)
-    ∙ sym (map_more whole vertices place (pos 0) (omega arith)))
+    one_more c.bytes.new.out.items c.loop-place.out.items c.integer.new.out.items (map integer (take place vertices)) _ _ (nat_lt 0 place) c.loop-place.invariant c.in_ok-integer.ensures (some_taken integer place vertices (omega arith)) (
+    ap (λ (price : ℤ). map integer (take place vertices) ++ integer price ∷ []) (to_z-of_z w32 c.vertex.result fits ∙ c.vertex.ensures ∙ ap (λ (k : ℕ). slice_index_or vertices k (pos 0)) at)
+    ∙ sym (map_more integer vertices place (pos 0) (omega arith)))
 
 pub returns : goal.returns
 returns c =
     let vertices = c.args.prices.now.vertices in
     let end : c.vertices-place-end.result ≡ length vertices = c.vertices-place-end.ensures.count ∙ ap length c.graph.ensures.value ∙ sym c.requires.vertices in
-    on_ok_weaker c.bytes-2.result (λ last. whole_array whole vertices (take c.loop-place.place vertices) c.args.out.now.items c.bytes.new.out.items c.loop-place.out.items c.bytes-2.new.out.items c.in_ok-bytes.ensures c.loop-place.invariant
+    on_ok_weaker c.bytes-2.result (λ last. whole_array integer vertices (take c.loop-place.place vertices) c.args.out.now.items c.bytes.new.out.items c.loop-place.out.items c.bytes-2.new.out.items c.in_ok-bytes.ensures c.loop-place.invariant
     (take_all c.loop-place.place vertices (omega arith)) last) c.bytes-2.ensures

@@ -5,15 +5,15 @@ use Rattle.std.proofs.lemmas.Result.{on_ok_weaker}
 use Rattle.std.specs.Int.Signed.{le_z}
 use Rattle.std.specs.Prelude.{unsigned_abs}
 use Rattle.serde_json.specs.Written.{comma_if, compact_text}
-use Rattle.reports.specs.LineData.{whole}
-use Rattle.reports.proofs.json_text.whole.Goals as goal
+use Rattle.reports.specs.LineData.{integer}
+use Rattle.reports.proofs.json_text.integer.Goals as goal
 
 not_both : (b : Bool) → b ≡ true → b ≡ false → ⊥
 not_both true h k = cc
 not_both false h k = cc
 
 -- the text of a number below 0
-negative_text : (z : ℤ) → le_z (pos 0) z ≡ false → 45 ∷ decimal (unsigned_abs z) ≡ compact_text (whole z)
+negative_text : (z : ℤ) → le_z (pos 0) z ≡ false → 45 ∷ decimal (unsigned_abs z) ≡ compact_text (integer z)
 negative_text (pos n) below = absurd (not_both _ (le-leb 0 n (omega arith)) below)
 negative_text (negsuc n) below = refl
 
