@@ -189,7 +189,7 @@ chord_meeting w d f way new tied meeting fits s =
           ))
           a (omega (arith, s.darts));
       some = λ a l. by_place n d f (λ a. 1 ≤ new.angle a)
-          (omega (arith, s.angle_d, fits.subdivides_d)) (omega (arith, s.angle_f, fits.subdivides_f))
+          (omega (arith, s.angle_d, fits.divides_d)) (omega (arith, s.angle_f, fits.divides_f))
           (λ a l nd nf. omega (arith, s.angle_other a l nd nf, meeting.some a l))
           (omega (arith, s.angle_there)) (omega (arith, s.angle_back))
           a (omega (arith, s.darts));

@@ -168,8 +168,8 @@ chord_made n v d f way N N1 N2 N3 N4 P P1 P2 P3 P4 T T1 H H1 H2 D D2 A A4 B B2 n
       direction_old = λ a l. two_D.other a (not_new a l).0 (not_new a l).1;
       direction_there = two_D.first;
       direction_back = two_D.second;
-      angle_d = omega (arith, more_A.first, fits.subdivides_d);
-      angle_f = omega (arith, more_A.second, fits.subdivides_f);
+      angle_d = omega (arith, more_A.first, fits.divides_d);
+      angle_f = omega (arith, more_A.second, fits.divides_f);
       angle_there = more_A.other n (λ h. (not_new d d_in).0 (sym h)) (λ h. (not_new f f_in).0 (sym h)) ∙ two_A.first;
       angle_back = more_A.other (n + 1) (λ h. (not_new d d_in).1 (sym h)) (λ h. (not_new f f_in).1 (sym h)) ∙ two_A.second;
       angle_other = λ a l nd nf. more_A.other a nd nf ∙ two_A.other a (not_new a l).0 (not_new a l).1;

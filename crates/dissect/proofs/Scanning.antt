@@ -75,8 +75,8 @@ chord_fits w d c way mid sound can way_is s =
       direction_quarter = omega (arith, way_is);
       from_d = omega (arith, way_is, s.angle_old d can.d_in, s.direction_old d can.d_in, most, q);
       to_f = omega (arith, way_is, s.angle_first, s.direction_first, can.faces, most, q, qe);
-      subdivides_d = omega (arith, s.angle_old d can.d_in, can.right);
-      subdivides_f = omega (arith, s.angle_first);
+      divides_d = omega (arith, s.angle_old d can.d_in, can.right);
+      divides_f = omega (arith, s.angle_first);
     }
 
 pub cut_sound : (w : DartMap) (d e way : ℕ) (new : DartMap) → IsSound w → IsCut w d e way new → IsSound new

@@ -56,7 +56,7 @@ IsStraight w = (a : ℕ) → a < w.darts → w.direction (w.reverse_dart a) ≡ 
 
 -- The edge of the dart e is subdivided by a new vertex, w.vertices. The new dart w.darts leads there before
 -- e, and w.darts + 1 before e's reverse; e and its reverse keep their heads and angles. The walk along e
--- arrives at the new vertex in the direction `way`, and there the angles are `left_angle` and 4 - bend.
+-- arrives at the new vertex in the direction `way`, and there the angles are `left_angle` and 4 less that.
 pub record IsSubdivided (w : DartMap) (e way left_angle : ℕ) (new : DartMap) : Type 0 where
   pub darts : new.darts ≡ w.darts + 2
   pub vertices : new.vertices ≡ w.vertices + 1
@@ -132,8 +132,8 @@ pub record HasChordAngles (w : DartMap) (d f way : ℕ) : Type 0 where
   pub direction_quarter : way < 4
   pub from_d : (way + 1 + w.angle d) % 4 ≡ w.direction d
   pub to_f : (way + w.angle f) % 4 ≡ (w.direction f + 1) % 4
-  pub subdivides_d : 1 < w.angle d
-  pub subdivides_f : 1 < w.angle f
+  pub divides_d : 1 < w.angle d
+  pub divides_f : 1 < w.angle f
 
 -- a map whose edges are straight
 pub record IsSound (w : DartMap) : Type 0 where

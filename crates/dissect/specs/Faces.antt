@@ -94,7 +94,7 @@ pub record AreWaiting (w : DartMap) (o : ℕ) (faces : List (List ℕ)) : Type 0
   pub outside : HasFourCorners w 3 o
   pub placed : (a : ℕ) → a < w.darts → IsCorner w a → In a (concatenated faces) ⊎ (HasFourCorners w 1 a ⊎ IsOutside w o a)
 
--- the list cut up into pieces of these lengths
+-- the list divided into pieces of these lengths
 abbrev pub slices_of : List ℕ → List ℕ → List (List ℕ)
 slices_of xs [] = []
 slices_of xs (n ∷ ns) = take n xs ∷ slices_of (drop n xs) ns

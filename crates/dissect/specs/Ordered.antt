@@ -34,7 +34,7 @@ pub record AreTaken (b : BoxesModel) (x y : ℕ → ℕ) (points : PointsModel) 
   pub corners : (e : ℕ) → e < length b.edges → (edge : HasEdge b e)
       → corners_at points e ≡ map (point_at x y) (turning_vertices (dart_map b) edge.first edge.rest)
 
--- the points are taken from some numbers in order, within the grid
+-- the points are taken from some numbers that grow along the darts, within the grid
 pub record AreLaidOut (b : BoxesModel) (points : PointsModel) : Type 0 where
   pub x : ℕ → ℕ
   pub y : ℕ → ℕ
@@ -46,7 +46,7 @@ pub record AreLaidOut (b : BoxesModel) (points : PointsModel) : Type 0 where
   pub y_within : AreWithin b.vertices y
   pub taken : AreTaken b x y points
 
--- no numbers in order are all within the grid
+-- no numbers that grow along the darts are all within the grid
 abbrev pub FitsNoGrid : BoxesModel → Type 0
 FitsNoGrid b = (x y : ℕ → ℕ) → IsOrdered (dart_map b) x y
     → (v : ℕ) × (v < b.vertices) × ((MAX_COORDINATE < x v) ⊎ (MAX_COORDINATE < y v))

@@ -1,6 +1,6 @@
 //! Refinement into boxes (Tamassia 1987): a rectangle is put round a map and connected to it, and every face is cut.
 //!
-//! A cut leads from a right turn of the outer face to the side of the rectangle that it faces, so that
+//! A cut leads from a right turn of the outer face to the side of the rectangle straight across, so that
 //! the outer face and the inside of the rectangle become one face. Each face but the outside of the
 //! rectangle then turns once to the left, and is cut into boxes.
 

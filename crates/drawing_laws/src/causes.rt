@@ -25,8 +25,8 @@ pub fn layouts_are_in_grid()
         → IsBoxed plane shape b → ¬ ShowsCause plane shape b Cause.OutOfGrid }
 {}
 
-/// What boxes may show that have at most as many vertices as the grid has columns: `Wide` only where no coordinates at all are in
-/// their order. The boxes of a shape with the fewest bends have so few, so the same holds of each cause that stands in place of
+/// What boxes may show that have at most as many vertices as the grid has columns: `Wide` only where no coordinates at all grow
+/// along their darts. The boxes of a shape with the fewest bends have so few, so the same holds of each cause that stands in place of
 /// points in a laid answer.
 pub fn remaining_causes()
     ensures vertices { (plane : PlaneModel) (shape : ShapeModel) (b : BoxesModel) (cause : Cause)

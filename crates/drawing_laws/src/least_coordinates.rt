@@ -7,7 +7,7 @@ ghost use Rattle.dissect.specs.Ordered.{IsOrdered, AreLaidOut};
 ghost use Rattle.drawing_laws.specs.Least.{AreLeast, AreBelow, HasLeast, HasNoGap};
 
 /// The least coordinates that grow along the darts of boxes have no gap: if no vertex had some coordinate below that of another,
-/// all coordinates above it could be lowered by one and still be in order. So each is less than the number of
+/// all coordinates above it could be lowered by one and still grow so. So each is less than the number of
 /// vertices.
 pub fn least_coordinates_have_no_gap()
     ensures x { (b : BoxesModel) (x y : ℕ → ℕ) → AreBoxes b → AreLeast b x y → HasNoGap b.vertices x }

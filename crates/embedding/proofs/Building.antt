@@ -30,7 +30,7 @@ table_push n f table x m next is t =
       ];
     }
 
--- ---- links
+-- ---- the rotation
 
 pub ties_none : (g : List (List ℕ)) (n : ℕ) (rotation : List ℕ) → n ≡ 0 → rotation ≡ [] → IsRotation g n rotation
 ties_none g n rotation none empty =

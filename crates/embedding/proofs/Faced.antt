@@ -1,4 +1,4 @@
--- A table of links, faces and degrees, and what it says of a graph.
+-- A table of the rotation, faces and degrees, and what it says of a graph.
 use Rattle.std.proofs.Common.{◌≡◌, ℕ, ◌+◌, ◌*◌, ◌<◌, ◌≤◌, ◌==◌, cond, true, List, ◌++◌, length, get_or, replicate, take, drop, refl, sym, ap, ◌∙◌, subst, arith}
 use Rattle.std.proofs.lemmas.List.{length-append, get_or-append-add, get_or_append_left, get_or-take, get_or-drop, length-take, length-drop}
 use Rattle.std.proofs.lemmas.List.Elements.{All-take, All-replicate}
@@ -29,7 +29,7 @@ same_faces n next other_next face other f inside steps is h =
 pub same_degree : (n : ℕ) (face other : ℕ → ℕ) (k : ℕ) → ((d : ℕ) → d < n → other d ≡ face d) → degree_in n other k ≡ degree_in n face k
 same_degree n face other k is = sum_below-same n (λ d. cond (other d == k) 1 0) (λ d. cond (face d == k) 1 0) (λ d b. ap (λ (x : ℕ). cond (x == k) 1 0) (is d b))
 
--- faces and degrees stand behind the links
+-- faces and degrees stand behind the rotation
 pub faced : (rotation faces table : List ℕ) (n count : ℕ) → AreRotations n rotation → length faces ≡ n → HasDegrees (rotation ++ faces) (length faces) (at faces) count table → HasFaces n (next_in rotation) (at faces) count → HasFaceTable n rotation count table
 faced rotation faces table n count tied all behind numbered =
     let front = rotation ++ faces in
@@ -48,7 +48,7 @@ faced rotation faces table n count tied all behind numbered =
           ∙ sym (same_degree n (at faces) (λ d. get_or table (2 * n + d) 0) k face_is);
     }
 
--- what the links lead to is what the graph's darts lead to
+-- what the rotation leads to is what the graph's darts lead to
 pub next_is : (g : List (List ℕ)) → KeepsBefore g 8 → (rotation : List ℕ) → IsRotation g (dart_count g) rotation → (d : ℕ) → d < dart_count g → next_in rotation d ≡ next_of g d
 next_is g rules rotation l d below =
     let inside = (reverse_is g rules d below).inside in

@@ -42,7 +42,7 @@ table_read n f table is d i x below at read =
     let inside : i < length table = omega (arith, is.size) in
     get_or_read table i x inside read 0 ∙ ap (λ (k : ℕ). get_or table k 0) at ∙ is.each d below
 
--- what is read from a link
+-- what is read from the rotation
 pub tie_read : (table : List ℕ) (i x value : ℕ) → i < length table → get_or table i 0 ≡ value → x ≡ get_or table i x → x ≡ value
 tie_read table i x value inside is read = get_or_read table i x inside read 0 ∙ is
 

@@ -55,7 +55,7 @@ part_between g ends k from to same below is-from is-to =
           ∙ part_of-heads g k below;
     }
 
--- a start, read behind the links
+-- a start, read behind the rotation
 start_read : (g : List (List ℕ)) {ends table : List ℕ} {count : ℕ} → AreTables g ends count table → (k j x : ℕ) → k ≤ length g → j ≡ 3 * length ends + count + k → x ≡ get_or table j x → x ≡ first_dart g k
 start_read g {ends} {table} {count} kept k j x within at read =
     let inside : j < length table = omega (arith, kept.size, ap length kept.heads_are) in
@@ -82,7 +82,7 @@ parts_whole g starts ends table same =
     get_or-map-range_with_len part 0 n k k [] inside (omega arith)
     ∙ (part_between g ends k (get_or starts k 0) (get_or starts (k + 1) 0) same (omega (arith, count)) (table.each k (omega (arith, count))) (table.each (k + 1) (omega (arith, count)))).part)
 
--- the table in which links, faces and degrees stand before the starts
+-- the table in which the rotation, faces and degrees stand before the starts
 pub kept_whole : (g : List (List ℕ)) (ends rotation front starts table : List ℕ) (count : ℕ) → KeepsBefore g 8 → length g < 256 → ends ≡ heads g
     → IsRotation g (dart_count g) rotation → HasFaceTable (dart_count g) rotation count front → IsTable (length g + 1) (first_dart g) starts → table ≡ front ++ starts
     → (slices_at (drop (3 * length ends + count) table) ends ≡ g) × AreTables g ends count table

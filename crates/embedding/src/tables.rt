@@ -23,7 +23,7 @@ fn reverse_between(lists: &Lists<'_>, tail: u8, head: u8) -> u16
     lists.first_dart(head - 1) + lists.place_in(head - 1, tail)
 }
 
-/// The dart after one that `next` follows by number, in a list whose first dart is `first` and whose darts end
+/// The dart after the one whose number is `next` less one, in a list whose first dart is `first` and whose darts end
 /// before `end`.
 fn after_in(next: u16, first: u16, end: u16) -> u16
     ensures inside { next < end → result ≡ next }

@@ -1,6 +1,6 @@
 //! Whether any two rectangles of grid points meet, by a sweep from left to right (Shamos and Hoey 1976).
 //!
-//! Where all rectangles lie in few rows and columns, their points are flagged by bits in its place. Where the rectangles
+//! Where all rectangles lie in few rows and columns, their points are flagged by bits instead. Where the rectangles
 //! have few rows, the frontier of the sweep stands in a table by rows; else the rectangles that it still
 //! meets stand in a dictionary.
 

@@ -45,7 +45,7 @@ module _ {A M : Type 0} where
     pub none_given : given giver ≡ []
     pub room_for : room ≡ PIECE
 
-  -- what a lane starts with: a seat of these tickets that has drawn nothing, and the end of a lane to which nothing was given
+  -- what a lane starts with: a seat of these tickets that has drawn nothing, and an end of the fan, to which nothing was given
   pub record StartsLane (tickets : Tickets) (seat : Seat) (giver : LaneGiver (Message A M)) : Type 0 where
     pub seat_of : IsSeatOf tickets seat
     pub unused : IsUnused seat
@@ -56,7 +56,7 @@ module _ {A M : Type 0} where
     pub to_same : GivesToSame giver after
     pub tells : TellsSeat about choice meaning tickets seat (given after)
 
-  -- what a lane gives back: the end of its own lane, where one stop came last, whatever the lane met, or none where a give of the
+  -- what a lane gives back: the end of the fan at its own number, where one stop came last, whatever the lane met, or none where a give of the
   -- stop was refused; and where it was not, its seat if nothing was lost
   pub record EndsLane {R : Type 0} (about : A → About) (choice : Choice) (meaning : ℕ → Meaning) (tickets : Tickets) (giver after : LaneGiver (Message A M)) (stop : Result R (Closed (Message A M))) (seat : Result Seat LaneFault) : Type 0 where
     pub to_same : GivesToSameLane giver after

@@ -17,6 +17,6 @@ module _ {T M : Type 0} where
   abbrev pub HaveStopped : (T → About) → ℕ → List (ℕ × Message T M) → Type 0
   HaveStopped about lanes items = (lane : ℕ) → lane < lanes → HasStop (notes about (of_lane lane items))
 
-  -- the lanes of which this is noted have stopped
+  -- the lanes that are flagged have stopped
   abbrev pub AreStops : (T → About) → List (ℕ × Message T M) → List Bool → Type 0
   AreStops about items stops = (lane : ℕ) → slice_index_or stops lane false ≡ true → HasStop (notes about (of_lane lane items))

@@ -24,7 +24,7 @@ pub enum GatherFault<F: Drop> {
     Refused(F),
 }
 
-/// Notes that a lane has stopped.
+/// Flags a lane as stopped.
 fn set_stopped(stops: &mut Vec<bool>, lane: u32)
     ensures count { vec_len stops.new ≡ vec_len stops.old }
     ensures noted { (k : ℕ) → slice_index_or stops.new.items k false ≡ true

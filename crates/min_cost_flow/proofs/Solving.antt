@@ -76,7 +76,7 @@ unit_cost_open net reverse forward capacity arcs i back k f b o =
       | inr h ↦ (h.1, subst (λ (z : ℤ). z ≤ℤ pos 1) (sym h.1) (unit_cost_low net i back k.costs b).1)
     ]
 
--- and an open one fits
+-- and along an unsaturated one something fits
 pub open_unit_cost : (net : NetworkModel) (reverse : ℕ → ℕ) (forward : List ℕ) (capacity : ℕ → ℕ) (arcs : List ResidualArc) (i : ℕ) (back : Bool) → IsNetwork net → AreResidualArcs net reverse forward capacity arcs → i < arc_count net → HasResidualCapacity arcs (number_of reverse forward i back) → (0 < capacity (number_of reverse forward i back)) × (cost_at arcs (number_of reverse forward i back) ≡ unit_cost net i back)
 open_unit_cost net reverse forward capacity arcs i back k f b o =
     elim (code_cases net reverse forward capacity arcs i back k f b) [

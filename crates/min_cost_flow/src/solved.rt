@@ -1,3 +1,4 @@
+//! Solutions: a flow of least cost and potentials that show it.
 ghost use Rattle.std.specs.Prelude.{◌≡◌, ◌<◌, length, slice_index};
 ghost use Rattle.networks.specs.Flow.{SolvedModel, at_nodes};
 

@@ -225,7 +225,7 @@ fn write_potential(potential: &mut [i32], node: usize, label: i16, bound: i32)
     potential[node] = i32::from(label) - bound;
 }
 
-/// Takes the labels of the nodes that were reached away.
+/// Takes away the labels of the nodes that were reached.
 fn clear(search: &mut Search<'_>)
     requires { HasReachedOrder search.old }
     ensures cleared { IsCleared search.old search.new }

@@ -1,3 +1,5 @@
+//! Arcs of a flow network, with their capacities and costs.
+
 /// How much an arc may carry.
 #[derive(Clone, Copy, Debug, PartialEq, Eq)]
 pub enum Cap {

@@ -1,3 +1,4 @@
+//! Why supplies and arcs make no flow network.
 ghost use Rattle.std.specs.Prelude.{◌≡◌, [], true, false};
 ghost use Rattle.networks.specs.Fault.{HasFault};
 ghost use Rattle.networks.specs.Networks.{net_of, HasEnds, HasSuppliesInRange, HasUnitCosts};

@@ -1,3 +1,4 @@
+//! Flow networks: nodes with supplies, and arcs with capacities and costs (Ahuja, Magnanti and Orlin, 1993, section 1.2).
 ghost use Rattle.std.specs.Prelude.{◌≡◌, ◌<◌, ◌≤◌, IfOk, IfErr};
 ghost use Rattle.networks.specs.declared.fault.TheConstants.{MAX_SUPPLY};
 ghost use Rattle.networks.specs.Networks.{NetworkModel, net_of, node_count, arc_count, arc_at, supply_at, shifted, HasSuppliesInRange, IsNetwork};

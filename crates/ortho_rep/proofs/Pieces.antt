@@ -1,4 +1,4 @@
--- A list pieces_at at places, piece by piece.
+-- A list cut at places, piece by piece.
 use Rattle.std.proofs.Common.{◌≡◌, ◌<◌, ℕ, zero, suc, ◌+◌, List, [], ◌∷◌, length, get_or, refl, ap, add-one, arith}
 use Rattle.std.specs.Prelude.{slice_range}
 use Rattle.ortho_rep.specs.Storage.{slices_at, slices_from}

@@ -98,7 +98,7 @@ concatenated-two {A} starts starts' items middle items' one two n m piece_at is 
     concatenated-pushed starts starts' items items' (one ++ two) n m (λ k slice_of. slice_of ≡ piece_at k) is all
     (λ slice_of h. all ∙ ap (λ (z : List A). items ++ z) (this ∙ sym h)) long longer
 
--- so the list can be pieces_at there
+-- so the list can be cut there
 pub concatenated-AreStarts : {A : Type 0} (starts : List ℕ) (items : List A) (n : ℕ) (IsPiece : ℕ → List A → Type 0) → IsConcatenated starts items n IsPiece → AreStarts starts items
 concatenated-AreStarts starts items n IsPiece is = record {
   some = omega (arith, is.count);

@@ -9,7 +9,7 @@ use Rattle.ortho_rep.specs.declared.turn.Turn.{Turn}
 abbrev pub lists_in : {A : Type 0} → List (Vec A Global) → List (List A)
 lists_in vectors = map (λ v. v.items) vectors
 
--- the pieces of a list from place `start` on, pieces_at at each of the further places
+-- the pieces of a list from place `start` on, cut at each of the further places
 abbrev pub slices_from : {A : Type 0} → ℕ → List ℕ → List A → List (List A)
 slices_from start [] items = []
 slices_from start (end ∷ ends) items = slice_range items start end ∷ slices_from end ends items

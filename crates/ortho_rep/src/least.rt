@@ -1,4 +1,4 @@
-//! Least shapes, by a flow of least cost in the network of a plane (Tamassia 1987).
+//! Orthogonal representations with the fewest bends (least shapes), by a flow of least cost (Tamassia 1987).
 
 ghost use Rattle.std.specs.Prelude.{◌≡◌, ◌+◌, ◌<◌, ◌≤◌, ◌++◌, [], ℕ, OnOk, IfOk, length, map, replicate, slice_index, slice_index_or, vec_len, ◌^◌};
 ghost use Rattle.std.specs.List.{range_with_len};

@@ -48,7 +48,7 @@ pub(crate) fn mirrors(turns: &[Turn], reverse: &[Turn]) -> bool
         return false;
     }
     for (i, turn) in turns.iter().enumerate() {
-        // A turn is the opposite of each turn that is another.
+        // Of two turns that differ each is the opposite of the other.
         if *turn == reverse[reverse.len() - 1 - i] {
             return false;
         }

@@ -128,9 +128,9 @@ module _ (old new : FramerState) (piece : List ℕ) (before after : List (List �
   -- a framer answers Ok exactly where the bytes so far are open
   pub open-feeds : (result : Result Unit FeedFault) → Feeds old piece before after new result → (stream : List ℕ) (records : List (List ℕ)) → StandsAt stream records old → result ≢ Err fault.Memory → IsOk result ↔ MayGoOn (stream ++ piece)
   open-feeds (Ok u) h stream records s other =
-      ((λ ok. open-running new (stream ++ piece) (records ++ h.added) h.reads.0 (h.reads.1 stream records s)), (λ is_open. refl))
+      ((λ ok. open-running new (stream ++ piece) (records ++ h.added) h.reads.0 (h.reads.1 stream records s)), (λ may_go_on. refl))
   open-feeds (Err f) h stream records s other =
-      ((λ ok. absurd (false≢true ok)), (λ is_open. absurd (failed-closed f (stream ++ piece) (records ++ h.added) (stands-failed h.added stream records s f (λ e. other (ap Err e)) h.reads) is_open)))
+      ((λ ok. absurd (false≢true ok)), (λ may_go_on. absurd (failed-closed f (stream ++ piece) (records ++ h.added) (stands-failed h.added stream records s f (λ e. other (ap Err e)) h.reads) may_go_on)))
 
   -- a fault is that of the ending of the bytes so far
   pub fault-feeds : (result : Result Unit FeedFault) → Feeds old piece before after new result → (stream : List ℕ) (records : List (List ℕ)) (f : FeedFault) → StandsAt stream records old → result ≡ Err f → f ≢ fault.Memory → IsSplit (stream ++ piece) (records ++ beyond before after) (ending_of f)

@@ -1,3 +1,5 @@
+//! How a stream of planar_code ends.
+
 /// How a stream ends. If any bytes follow the millionth record, it is `Many`.
 #[derive(Clone, Copy, Debug, PartialEq, Eq, Hash)]
 pub enum Ending {

@@ -1,3 +1,4 @@
+//! Why a framer reads no further.
 use crate::ending::Ending;
 use thiserror::Error;
 

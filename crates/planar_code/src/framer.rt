@@ -157,8 +157,8 @@ impl Framer {
         // The records that are added are those that the stream so far has beyond the earlier ones.
         ensures feeds { Feeds self.old piece.now out.old.items out.new.items self.new result }
 
-        // Ok exactly where the bytes so far are open, and else the fault of their ending.
-        ensures ok_where_open { (stream : List ℕ) (records : List (List ℕ))
+        // Ok exactly where more bytes may come, and else the fault of their ending.
+        ensures ok_where_more_may_come { (stream : List ℕ) (records : List (List ℕ))
             → StandsAt stream records self.old
             → result ≢ Err FeedFault.Memory
             → (IsOk result ↔ MayGoOn (stream ++ piece.now)) }

@@ -65,8 +65,8 @@ pub fn records_begin()
         → (later : List (List ℕ)) × (all ≡ records ++ later) }
 {}
 
-/// Where a framer has not failed, its stream is open.
-pub fn running_is_open()
+/// Where a framer has not failed, more bytes of its stream may come.
+pub fn running_may_go_on()
     ensures { (state : FramerState) (stream : List ℕ) (records : List (List ℕ))
         → HasNotFailed state
         → StandsAt stream records state

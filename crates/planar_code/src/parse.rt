@@ -1,3 +1,4 @@
+//! One record of planar_code from just its bytes.
 ghost use Rattle.std.specs.Prelude.{◌≡◌, ◌≢◌, IfOk, IfErr, IsOk, Err, ◌↔◌};
 ghost use Rattle.planar_code.specs.declared.parse.ParseFault.{ParseFault};
 ghost use Rattle.planar_code.specs.Stream.{IsRecord};

@@ -1,3 +1,4 @@
+//! The record that a stream has begun and not ended.
 ghost use Rattle.std.specs.Prelude.{◌≡◌, ℕ, ◌<◌, List, [], ◌++◌, length, IsTrue, ◌↔◌, IfOk, OnOk, OnErr};
 ghost use Rattle.planar_code.specs.Stream.{IsRecord};
 ghost use Rattle.planar_code.specs.Started.{IsStarted};

@@ -1,3 +1,4 @@
+//! Records of planar_code: a number of vertices and their neighbour lists.
 ghost use Rattle.std.specs.Prelude.{◌≡◌, ℕ, ◌<◌, List, ◌∷◌, length, slice_index, All, IfOk};
 ghost use Rattle.std.specs.List.{flat_map};
 ghost use Rattle.planar_code.specs.Stream.{IsRecord, IsList, ended, lists_of};

@@ -1,4 +1,4 @@
--- What is added to known bytes tells of no graph without a drawing where a text does not that it is a beginning of.
+-- What is added to known bytes, a beginning of some text, tells of no graph without a drawing where that text tells of none.
 use Rattle.std.proofs.Common.{◌≡◌, ℕ, List, ◌++◌, Option, None, Some, [], refl, sym, subst, ap, ◌∙◌, append_assoc, append-nil}
 use Rattle.std.proofs.Math.Logic.{∥∥₁_elim}
 use Rattle.std.proofs.Props.{props}

@@ -24,8 +24,8 @@ pub fn texts_tell_none_undrawn()
     ensures { (form : Form) (books : List BookModel) → AreDrawnBooks books → TellsNoneUndrawn (text_in form books) }
 {}
 
-/// It would tell: no text tells of none that says of a graph, in either form, what is said where a cause stands in place
-/// of a drawing, whatever stands before and behind.
+/// It would tell: a text that says of a graph, in either form, what is said where a cause stands in place
+/// of a drawing, is none that tells of none, whatever stands before and behind.
 pub fn undrawn_is_told()
     ensures report { (answer : Answer) (before behind : List ℕ) → IsUndrawn answer
         → TellsNoneUndrawn (before ++ answer_text answer ++ behind) → ⊥ }

@@ -161,7 +161,7 @@ impl Lines {
         if known.file != file || known.mark != mark {
             return Err(Refusal::Astray);
         }
-        if !self.is_open(file) || !keep_mark(&mut self.waiting, file, known.count, mark) {
+        if !self.is_to_come(file) || !keep_mark(&mut self.waiting, file, known.count, mark) {
             return Err(Refusal::Astray);
         }
         self.whole = is_whole_with(self.whole, mark);
@@ -190,7 +190,7 @@ impl Lines {
     }
 
     /// Whether a file is one of the run and its last line is not on its way yet.
-    fn is_open(&self, file: u32) -> bool
+    fn is_to_come(&self, file: u32) -> bool
         ensures { IsTrue result ↔ ((self.now.current ≤ file) × (file < length self.now.waiting.items)) }
     {
         self.current <= file && (file as usize) < self.waiting.len()
@@ -203,7 +203,7 @@ impl Lines {
         ensures due { self.now.current ≤ file → file < length self.now.waiting.items
             → ((other : Waiting) → IsNext ordinal (slice_index_or self.now.waiting.items file other)) → IsTrue result }
     {
-        if !self.is_open(file) {
+        if !self.is_to_come(file) {
             return false;
         }
         let here = &self.waiting[file as usize];

@@ -23,8 +23,8 @@ fed-in-Err c = feeds-err c.args.self.now c.read.new.self c.args.piece.now c.args
 pub returns-in-Failed-clause-feeds : goal.returns-in-Failed-clause-feeds
 returns-in-Failed-clause-feeds c = fed-in-Failed c
 
-pub returns-in-Failed-clause-ok_where_open : goal.returns-in-Failed-clause-ok_where_open
-returns-in-Failed-clause-ok_where_open c = open-feeds c.args.self.now c.args.self.now c.args.piece.now c.args.out.now.items c.args.out.now.items (Err c.in-Failed.fault) (fed-in-Failed c)
+pub returns-in-Failed-clause-ok_where_more_may_come : goal.returns-in-Failed-clause-ok_where_more_may_come
+returns-in-Failed-clause-ok_where_more_may_come c = open-feeds c.args.self.now c.args.self.now c.args.piece.now c.args.out.now.items c.args.out.now.items (Err c.in-Failed.fault) (fed-in-Failed c)
 
 pub returns-in-Failed-clause-fault_of_ending : goal.returns-in-Failed-clause-fault_of_ending
 returns-in-Failed-clause-fault_of_ending c = fault-feeds c.args.self.now c.args.self.now c.args.piece.now c.args.out.now.items c.args.out.now.items (Err c.in-Failed.fault) (fed-in-Failed c)
@@ -38,8 +38,8 @@ returns-in-Failed-clause-few c = few-feeds c.args.self.now c.args.self.now c.arg
 pub returns-in-Ok-clause-feeds : goal.returns-in-Ok-clause-feeds
 returns-in-Ok-clause-feeds c = fed-in-Ok c
 
-pub returns-in-Ok-clause-ok_where_open : goal.returns-in-Ok-clause-ok_where_open
-returns-in-Ok-clause-ok_where_open c = open-feeds c.args.self.now c.read.new.self c.args.piece.now c.args.out.now.items c.read.new.out.items (Ok tt) (fed-in-Ok c)
+pub returns-in-Ok-clause-ok_where_more_may_come : goal.returns-in-Ok-clause-ok_where_more_may_come
+returns-in-Ok-clause-ok_where_more_may_come c = open-feeds c.args.self.now c.read.new.self c.args.piece.now c.args.out.now.items c.read.new.out.items (Ok tt) (fed-in-Ok c)
 
 pub returns-in-Ok-clause-fault_of_ending : goal.returns-in-Ok-clause-fault_of_ending
 returns-in-Ok-clause-fault_of_ending c = fault-feeds c.args.self.now c.read.new.self c.args.piece.now c.args.out.now.items c.read.new.out.items (Ok tt) (fed-in-Ok c)
@@ -53,8 +53,8 @@ returns-in-Ok-clause-few c = few-feeds c.args.self.now c.read.new.self c.args.pi
 pub returns-in-Err-clause-feeds : goal.returns-in-Err-clause-feeds
 returns-in-Err-clause-feeds c = fed-in-Err (goal.at.returns-in-Err-clause-feeds c).In-Err
 
-pub returns-in-Err-clause-ok_where_open : goal.returns-in-Err-clause-ok_where_open
-returns-in-Err-clause-ok_where_open c = open-feeds c.args.self.now (Failed c.in-Err.fault) c.args.piece.now c.args.out.now.items c.read.new.out.items (Err c.in-Err.fault) (fed-in-Err (goal.at.returns-in-Err-clause-ok_where_open c).In-Err)
+pub returns-in-Err-clause-ok_where_more_may_come : goal.returns-in-Err-clause-ok_where_more_may_come
+returns-in-Err-clause-ok_where_more_may_come c = open-feeds c.args.self.now (Failed c.in-Err.fault) c.args.piece.now c.args.out.now.items c.read.new.out.items (Err c.in-Err.fault) (fed-in-Err (goal.at.returns-in-Err-clause-ok_where_more_may_come c).In-Err)
 
 pub returns-in-Err-clause-fault_of_ending : goal.returns-in-Err-clause-fault_of_ending
 returns-in-Err-clause-fault_of_ending c = fault-feeds c.args.self.now (Failed c.in-Err.fault) c.args.piece.now c.args.out.now.items c.read.new.out.items (Err c.in-Err.fault) (fed-in-Err (goal.at.returns-in-Err-clause-fault_of_ending c).In-Err)

@@ -10,7 +10,7 @@ use Rattle.std.proofs.Common.{sym, subst, inl}
 use Rattle.printing.specs.Holding.{LinesBreakOff}
 use Rattle.printing.proofs.Held.{left_off_held, left_off_as}
 use Rattle.printing.proofs.run_lines.Lines.end.Goals as goal
-use Rattle.printing.proofs.run_lines.Lines.end.Goals.{then-not-is_open-via-then-not-is_open, then-not-is_open-via-else-not-is_open+then-not-keep_mark}
+use Rattle.printing.proofs.run_lines.Lines.end.Goals.{then-not-is_to_come-via-then-not-is_to_come, then-not-is_to_come-via-else-not-is_to_come+then-not-keep_mark}
 
 pub returns-clause-held : goal.returns-clause-held
 returns-clause-held g c =
@@ -50,14 +50,14 @@ returns-clause-broken g c =
     (λ came next more was. written_marked before.form start old before.buffer file before.current before.waiting.items waiting.items came next c.args.known.count c.args.mark below from more kept was)
     (broken start) held)
 
-pub returns-then-not-is_open-clause-broken : goal.returns-then-not-is_open-clause-broken
-returns-then-not-is_open-clause-broken g c = λ start ns held.
+pub returns-then-not-is_to_come-clause-broken : goal.returns-then-not-is_to_come-clause-broken
+returns-then-not-is_to_come-clause-broken g c = λ start ns held.
     let before = c.args.self.now in
     let now = g.S.Sink.taken c.args.sink.now in
     let here = left_off_held g.J.Meant.meaning start now before ns held in
-    elim c.then-not-is_open.branch [
-      | then-not-is_open-via-then-not-is_open w ↦ inl (subst (λ l. LinesBreakOff g.J.Meant.meaning start now l ns) (sym w.self-is) here)
-      | then-not-is_open-via-else-not-is_open+then-not-keep_mark w ↦
+    elim c.then-not-is_to_come.branch [
+      | then-not-is_to_come-via-then-not-is_to_come w ↦ inl (subst (λ l. LinesBreakOff g.J.Meant.meaning start now l ns) (sym w.self-is) here)
+      | then-not-is_to_come-via-else-not-is_to_come+then-not-keep_mark w ↦
           let mid : Lines = record { form = before.form; choice = before.choice; buffer = before.buffer; current = before.current; waiting = w.keep_mark.new.waiting; held = before.held; whole = before.whole } in
           inl (subst (λ l. LinesBreakOff g.J.Meant.meaning start now l ns) (sym w.self-is) (left_off_as g.J.Meant.meaning start now before mid ns (record { form = refl; choice = refl; files = w.keep_mark.ensures.count }) here))
     ]
