@@ -1,4 +1,4 @@
--- A split that turns puts the turn at the end of the path of its edge, and the opposite one at the start of the way back.
+-- A subdivision that turns puts the turn at the end of the path of its edge, and the opposite one at the start of the way back.
 use Rattle.std.proofs.Common.{◌≡◌, ◌≢◌, ℕ, ◌+◌, ◌-◌, ◌%◌, ◌<◌, ◌≤◌, ◌⊎◌, ◌∙◌, List, [], ◌∷◌, ◌++◌, arith, subst, sym, ap, refl, inl, inr}
 use Rattle.std.proofs.lemmas.Bool.{cases_eq}
 use Rattle.dissect.specs.DartMaps.{DartMap, no_dart, IsTied, IsSubdivided}

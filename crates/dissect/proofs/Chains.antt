@@ -23,7 +23,7 @@ module _ (v : ℕ) (w : DartMap) (e way bend : ℕ) (new : DartMap) (has : HasCh
   t_in : t < w.darts
   t_in = has.tied.reverse_dart_in e e_in
 
-  -- the dart of the split map that stands where the dart a stood: a new one in place of e and of its reverse
+  -- the dart of the subdivided map that stands where the dart a stood: a new one in place of e and of its reverse
   abbrev stands : ℕ → ℕ
   stands a = if a == e then w.darts else (if a == w.reverse_dart e then w.darts + 1 else a)
 
@@ -39,7 +39,7 @@ module _ (v : ℕ) (w : DartMap) (e way bend : ℕ) (new : DartMap) (has : HasCh
   stands_other a not_e not_t =
       cond-false {A = ℕ} (eqb a e) _ _ (ne_eqb a e not_e) ∙ cond-false {A = ℕ} (eqb a t) (w.darts + 1) a (ne_eqb a t not_t)
 
-  -- a fact at each dart of the split map
+  -- a fact at each dart of the subdivided map
   by_stand : (P : ℕ → Type 0) → P e → P t → ((a : ℕ) → a < w.darts → P (stands a)) → (a : ℕ) → a < new.darts → P a
   by_stand P at_e at_t old a l =
       by_place w.darts e t P at_e at_t
@@ -158,7 +158,7 @@ module _ (v : ℕ) (w : DartMap) (e way bend : ℕ) (new : DartMap) (has : HasCh
       b b_in)
       a a_in
 
-  -- a split keeps the chains
+  -- a subdivision keeps the chains
   pub split_chains : HasChains v new
   split_chains = record {
     tied = split_tied w e way bend new has.tied e_in subdivide;

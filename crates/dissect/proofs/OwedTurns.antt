@@ -1,4 +1,4 @@
--- A map some of whose edges still have to get turns: what each split keeps.
+-- A map some of whose edges still have to get turns: what each subdivision keeps.
 use Rattle.std.proofs.Common.{◌≡◌, ◌≢◌, ℕ, ◌+◌, ◌*◌, ◌%◌, ◌<◌, ◌≤◌, ◌==◌, if◌then◌else◌, cond, eqb, true, List, [], length, ◌∙◌, arith, subst, sym, ap, inl, inr, refl}
 use Rattle.std.proofs.lemmas.Bool.{cases_eq, eq-eqb, ne_eqb, cond-true, cond-false}
 use Rattle.common.specs.Sums.{sum_below}
@@ -95,7 +95,7 @@ numbered_next w e face_number =
       },
     )
 
--- the numbers of a map stay numbers under a split
+-- the numbers of a map stay numbers under a subdivision
 pub split_face_numbers : (w : DartMap) (e way bend : ℕ) (new : DartMap) (face_number next : ℕ → ℕ) → IsTied w → e < w.darts →
     IsSubdivided w e way bend new → IsNumberedNext w e face_number next → AreFaceNumbers w face_number → AreFaceNumbers new next
 split_face_numbers w e way bend new face_number next tied e_in s named face_numbers =

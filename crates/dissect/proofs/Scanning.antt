@@ -61,7 +61,7 @@ hook_faces w d c1 c sound d_in c1_in c_in to_first to_second left_first left =
       sound.meeting.quarter (w.next c) n_in,
     )
 
--- after the split, the chord fits
+-- after the subdivision, the chord fits
 pub chord_fits : (w : DartMap) (d c way : ℕ) (mid : DartMap) → IsSound w → CanCut w d c → way ≡ (w.direction d + 7 - w.angle d) % 4 →
     IsSubdivided w (w.next c) (w.direction (w.next c)) 2 mid → HasChordAngles mid d w.darts way
 chord_fits w d c way mid sound can way_is s =

@@ -1,4 +1,4 @@
--- A split leaves each edge its path, with a turn more in the paths that go through the new vertex where it turns.
+-- A subdivision leaves each edge its path, with a turn more in the paths that go through the new vertex where it turns.
 use Rattle.std.proofs.Common.{◌≡◌, ◌≢◌, ℕ, ◌+◌, ◌-◌, ◌%◌, ◌<◌, ◌≤◌, ◌⊎◌, ◌∙◌, List, [], ◌∷◌, arith, subst, sym, ap, refl, inl, inr}
 use Rattle.std.proofs.lemmas.Bool.{cases_eq}
 use Rattle.dissect.specs.DartMaps.{DartMap, no_dart, IsTied, IsSubdivided}
@@ -72,7 +72,7 @@ split_ends w n e way bend new few e_in tied subdivide ends a l =
     as_before a b same (inl none) = inl (same ∙ none)
     as_before a b same (inr inside) = inr (omega (arith, same, inside.0), omega (arith, same, inside.1, subdivide.darts))
 
--- where the split does not turn, the rest of a path has the turns that it had
+-- where the subdivision does not turn, the rest of a path has the turns that it had
 pub split_longer : (w : DartMap) (e way : ℕ) (new : DartMap) → IsTied w → e < w.darts → way < 4 → IsSubdivided w e way 2 new →
     (a : ℕ) (rest : List ℕ) → a < w.darts → Below w.darts rest → Follows w a rest → IsLonger w new a rest (bends w a rest)
 split_longer w e way new tied e_in quarter subdivide a [] a_in below follows = longer_end w new a
@@ -92,7 +92,7 @@ split_longer w e way new tied e_in quarter subdivide a (b ∷ bs) a_in below fol
       ]
     ]
 
--- a split that does not turn keeps all paths
+-- a subdivision that does not turn keeps all paths
 pub split_paths : (w : DartMap) (e way : ℕ) (new : DartMap) (n : ℕ) (reverse_dart : ℕ → ℕ) (quarters : ℕ → List ℕ) → IsTied w → e < w.darts →
     way < 4 → IsSubdivided w e way 2 new → HasPaths w n reverse_dart quarters → HasPaths new n reverse_dart quarters
 split_paths w e way new n reverse_dart quarters tied e_in quarter subdivide has = record {

@@ -1,4 +1,4 @@
--- What a split edge keeps.
+-- What a subdivision edge keeps.
 use Rattle.std.proofs.Common.{◌≡◌, ◌≢◌, ℕ, ◌+◌, ◌%◌, ◌<◌, ◌≤◌, ◌==◌, if◌then◌else◌, ◌∙◌, arith, subst, sym, ap, inl, inr, eqb}
 use Rattle.common.specs.Sums.{sum_below}
 use Rattle.common.proofs.Sums.{sum_below-more, sum_below-same, sum_below-none}
@@ -219,7 +219,7 @@ split_meeting w e way bend new tied meeting e_in quarter some most s =
       whole = split_whole w e way bend new meeting (omega arith) s;
     }
 
--- a split that does not turn keeps a straight edge straight
+-- a subdivision that does not turn keeps a straight edge straight
 pub split_straight : (w : DartMap) (e : ℕ) (new : DartMap) → IsTied w → IsMeeting w → e < w.darts → IsStraight w →
     IsSubdivided w e (w.direction e) 2 new → IsStraight new
 split_straight w e new tied meeting e_in straight s a l =

@@ -1,4 +1,4 @@
--- Stretches from corner to corner, and what a straight split and a chord make of them.
+-- Stretches from corner to corner, and what a straight subdivision and a chord make of them.
 use Rattle.std.proofs.Common.{◌≡◌, ◌≢◌, ◌⊎◌, ℕ, zero, suc, ◌+◌, ◌<◌, ◌∙◌, arith, subst, sym, ap, inl, inr}
 use Rattle.std.proofs.lemmas.Bool.{cases_eq, cases_order}
 use Rattle.dissect.specs.DartMaps.{DartMap, IsTied, IsSubdivided, IsChord}
@@ -75,7 +75,7 @@ Stretches-inside w a c tied l r = stretch_inside w tied r.places a c l r.stretch
 pub Stretches-corner : (w : DartMap) (a c : ℕ) → Stretches w a c → IsCorner w c
 Stretches-corner w a c r = stretch_ends w r.places a c r.stretch
 
--- a straight split keeps each stretch between old darts
+-- a straight subdivision keeps each stretch between old darts
 pub split_step : (w : DartMap) (e way : ℕ) (new : DartMap) → IsSubdivided w e way 2 new → IsTied w → e < w.darts →
     (a : ℕ) → a < w.darts →
     (new.next a ≡ w.next a) ⊎ ((m : ℕ) × (new.next a ≡ m) × (new.angle m ≡ 2) × (new.next m ≡ w.next a))
