@@ -1,7 +1,7 @@
 //! What a run's lanes do.
 ghost use Rattle.std.specs.Prelude.{⊤};
 
-use answers::{DrawScratch, EmbedScratch, Embedded, Framed, Keeping, LayScratch, Shaped, Task};
+use answers::{DrawScratch, EmbedScratch, Embedded, Framed, Keeping, ShapeScratch, Shaped, Task};
 use common::{Choice, DrawingKind};
 use entries::Entry;
 use lane_runs::{LaneKind, LaneScratch};
@@ -49,10 +49,10 @@ impl LaneKind for Answering {
         &self,
         alloc: Global,
         _capacity: u32,
-    ) -> Result<LaneScratch<EmbedScratch, LayScratch, DrawScratch>, AllocError> {
+    ) -> Result<LaneScratch<EmbedScratch, ShapeScratch, DrawScratch>, AllocError> {
         Ok(LaneScratch {
             embed: EmbedScratch::empty(alloc),
-            shape: LayScratch::empty(alloc),
+            shape: ShapeScratch::empty(alloc),
             draw: DrawScratch::empty(alloc),
         })
     }

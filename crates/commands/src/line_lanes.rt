@@ -6,7 +6,7 @@ ghost use Rattle.printing.specs.Spelt.{IsSpelt};
 
 use crate::worded::Worded;
 use answers::{
-    DrawScratch, EmbedScratch, Embedded, Framed, LayScratch, Shaped, StageScratch, Task,
+    DrawScratch, EmbedScratch, Embedded, Framed, ShapeScratch, Shaped, StageScratch, Task,
 };
 use common::{Choice, DrawingKind};
 use lane_runs::{LaneKind, LaneScratch};
@@ -91,7 +91,7 @@ impl<J: Meant + Send + Sync> LaneKind for LineLanes<J> {
         &self,
         alloc: Global,
         capacity: u32,
-    ) -> Result<LaneScratch<EmbedScratch, LayScratch, DrawScratch>, AllocError> {
+    ) -> Result<LaneScratch<EmbedScratch, ShapeScratch, DrawScratch>, AllocError> {
         let StageScratch { embed, shape, draw } = StageScratch::new(alloc, capacity)?;
         Ok(LaneScratch { embed, shape, draw })
     }
