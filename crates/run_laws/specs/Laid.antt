@@ -47,7 +47,7 @@ pub record Represents (plane : PlaneModel) (angle : ℕ → ℕ) (turns : ℕ �
   -- the angles at each vertex are four right angles together
   pub around : (v : ℕ) → 1 ≤ v → v ≤ vertices plane → angle_sum plane angle v ≡ 4
   -- the walk round each inner face turns once to the left, that round the outer face once to the right
-  pub interior : (f : ℕ) → f < plane.faces → f ≢ plane.outer → turning plane angle turns f ≡ pos 4
+  pub inner : (f : ℕ) → f < plane.faces → f ≢ plane.outer → turning plane angle turns f ≡ pos 4
   pub outer : (f : ℕ) → f < plane.faces → f ≡ plane.outer → turning plane angle turns f ≡ negsuc 3
 
 -- the bends of strings of turns: half the sum of their lengths, since a dart and its reverse bend at the same places
