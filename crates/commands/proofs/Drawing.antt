@@ -22,7 +22,7 @@ use Rattle.printing.proofs.Added.{text_added, front_added, none_added, from_some
 use Rattle.commands.proofs.TextDrawing.{all_drawn, begun_drawn}
 use Rattle.command_line.specs.declared.request.Request.{Request}
 use Rattle.command_line.specs.declared.request.Request.TheVariants.{Frames, Layout}
-use Rattle.commands.specs.Statuses.{IsReported, IsLaidOut, IsBegunToReport, IsBegunToLayOut, IsDone, IsBegunToBeDone, IsNoReport, IsPrinted, version_text}
+use Rattle.commands.specs.Statuses.{IsTextOfRecords, IsTextOfBooks, IsBegunToReport, IsBegunTextOfBooks, IsDone, IsBegunToBeDone, IsNoReport, IsPrinted, version_text}
 use Rattle.commands.proofs.NoReport.{no_report}
 
 -- ---- records and how they end

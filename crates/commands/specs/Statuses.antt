@@ -13,7 +13,7 @@ use Rattle.entries.specs.Books.{BookModel}
 use Rattle.entries.specs.AllBooks.{AreAllBooks}
 use Rattle.reports.specs.declared.form.Form.{Form}
 use Rattle.reports.specs.Forms.{text_in}
-use Rattle.reports.specs.Wholes.{IsWholeBook}
+use Rattle.reports.specs.FlawlessBooks.{IsFlawlessBook}
 use Rattle.commands.specs.TextRuns.{IsBegun}
 use Rattle.command_line.specs.Naming.{meaning_of, meanings}
 use Rattle.command_line.specs.declared.request.Request.{Request}
@@ -41,7 +41,7 @@ IsComplete found = found.mark ≡ Mark.Ended Ending.Complete
 
 -- The whole report of a file that means this was added to the output, and the status tells how the file ended. The records and the
 -- mark are those of some bytes, after which it ends or fails, and where the file tells its bytes, of these.
-pub record IsReported (meaning : Meaning) (old new : Option (List ℕ)) (failed : Bool) (status : ℕ) : Type 0 where
+pub record IsTextOfRecords (meaning : Meaning) (old new : Option (List ℕ)) (failed : Bool) (status : ℕ) : Type 0 where
   pub found : FramesModel
   pub bytes : List ℕ
   pub fails : Bool
@@ -53,19 +53,19 @@ pub record IsReported (meaning : Meaning) (old new : Option (List ℕ)) (failed 
   pub other : status ≢ 0 → status ≡ 3
 
 -- The whole text of the books of so many files, which mean this, under this choice and in this form, was added to the output, and the
--- status tells whether each book is whole.
-pub record IsLaidOut (choice : Choice) (form : Form) (meaning : ℕ → Meaning) (files : ℕ) (old new : Option (List ℕ)) (failed : Bool) (status : ℕ) : Type 0 where
+-- status tells whether each book is flawless.
+pub record IsTextOfBooks (choice : Choice) (form : Form) (meaning : ℕ → Meaning) (files : ℕ) (old new : Option (List ℕ)) (failed : Bool) (status : ℕ) : Type 0 where
   pub books : List BookModel
   pub of_files : AreAllBooks choice meaning files books
   pub text : Appends old new (text_in form books)
   pub written : failed ≡ false
-  pub whole : All IsWholeBook books ↔ (status ≡ 0)
+  pub whole : All IsFlawlessBook books ↔ (status ≡ 0)
   pub other : status ≢ 0 → status ≡ 3
 
 -- A beginning of the text of the books of the first of so many files, which mean this, was added to the output, or of it and the lines of the next
 -- one, which has no last line, under this choice and in this form.
-abbrev pub IsBegunToLayOut : Choice → Form → (ℕ → Meaning) → ℕ → Option (List ℕ) → Option (List ℕ) → Type 0
-IsBegunToLayOut choice form meaning files old new = ∥ IsBegun choice meaning form files old new ∥₁
+abbrev pub IsBegunTextOfBooks : Choice → Form → (ℕ → Meaning) → ℕ → Option (List ℕ) → Option (List ℕ) → Type 0
+IsBegunTextOfBooks choice form meaning files old new = ∥ IsBegun choice meaning form files old new ∥₁
 
 -- A beginning of the report of a file that means this was added to the output. The records and the mark are those of some bytes, as in a whole
 -- report.
@@ -79,12 +79,12 @@ pub record IsBegunToReport (meaning : Meaning) (old new : Option (List ℕ)) : T
 
 -- the whole report that a request asks for, where standard input means `input`, was added to the output, with this status
 abbrev pub IsDone : Meaning → Request → Option (List ℕ) → Option (List ℕ) → Bool → ℕ → Type 0
-IsDone input (Frames name) old new failed status = IsReported (meaning_of input name.now) old new failed status
+IsDone input (Frames name) old new failed status = IsTextOfRecords (meaning_of input name.now) old new failed status
 IsDone input (Layout asked) old new failed status =
-    IsLaidOut asked.choice asked.style.form (meanings input asked.names.items) (vec_len asked.names) old new failed status
+    IsTextOfBooks asked.choice asked.style.form (meanings input asked.names.items) (vec_len asked.names) old new failed status
 
 -- a beginning of the report that a request asks for, where standard input means `input`, was added to the output
 abbrev pub IsBegunToBeDone : Meaning → Request → Option (List ℕ) → Option (List ℕ) → Type 0
 IsBegunToBeDone input (Frames name) old new = IsBegunToReport (meaning_of input name.now) old new
 IsBegunToBeDone input (Layout asked) old new =
-    IsBegunToLayOut asked.choice asked.style.form (meanings input asked.names.items) (vec_len asked.names) old new
+    IsBegunTextOfBooks asked.choice asked.style.form (meanings input asked.names.items) (vec_len asked.names) old new

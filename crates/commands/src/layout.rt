@@ -4,7 +4,7 @@ ghost use Rattle.command_line.specs.Refusals.{IsRefusal};
 ghost use Rattle.ruled_lanes.specs.declared.limits.TheConstants.{LANES};
 ghost use Rattle.entries.specs.declared.limits.TheConstants.{MAX_FILES};
 ghost use Rattle.command_line.specs.Naming.{meanings};
-ghost use Rattle.commands.specs.Statuses.{IsLaidOut, IsBegunToLayOut};
+ghost use Rattle.commands.specs.Statuses.{IsTextOfBooks, IsBegunTextOfBooks};
 
 use crate::text::{TextFault, write_batch};
 use command_line::{Console, Fault, FileOpener, FilesAndInput, LayoutRequest, Meter, SystemFiles};
@@ -47,9 +47,9 @@ where
     R::File: Send,
     R::Dir: Send,
     requires { S.failed out.old ≡ false }
-    ensures reported { IfOk result (IsLaidOut asked.now.choice asked.now.style.form (meanings (I.meaning input.now 0) asked.now.names.items)
+    ensures reported { IfOk result (IsTextOfBooks asked.now.choice asked.now.style.form (meanings (I.meaning input.now 0) asked.now.names.items)
         (vec_len asked.now.names) (S.taken out.old) (S.taken out.new) (S.failed out.new)) }
-    ensures begun { OnErr result (IsBegunToLayOut asked.now.choice asked.now.style.form (meanings (I.meaning input.now 0) asked.now.names.items)
+    ensures begun { OnErr result (IsBegunTextOfBooks asked.now.choice asked.now.style.form (meanings (I.meaning input.now 0) asked.now.names.items)
         (vec_len asked.now.names) (S.taken out.old) (S.taken out.new)) }
     ensures too_many { (MAX_FILES < vec_len asked.now.names) ↔ (result ≡ Err (Fault.Run BatchFault.TooManyFiles)) }
     ensures bad_lanes { (((asked.now.lanes ≡ 0) ⊎ (LANES < asked.now.lanes)) × (vec_len asked.now.names ≤ MAX_FILES))

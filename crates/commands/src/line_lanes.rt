@@ -27,7 +27,7 @@ pub struct LineLanes<J: Meant> {
 }
 
 impl<J: Meant> LineLanes<J> {
-    /// Lanes that print lines in this style. A report has no points, so it is of quick drawings, whatever kind is
+    /// Lanes that print lines in this style. The report form has no points, so it is of quick drawings, whatever kind is
     /// asked for.
     pub fn new(style: Style) -> LineLanes<J>
         ensures form { result.form ≡ style.form }

@@ -10,7 +10,7 @@ ghost use Rattle.clap.specs.Words.{kind_of};
 ghost use Rattle.clap.specs.declared.error.kind.ErrorKind.{ErrorKind};
 ghost use Rattle.command_line.specs.declared.reading.Keyword.{Keyword};
 ghost use Rattle.command_line.specs.declared.request.Request.{Request};
-ghost use Rattle.commands.specs.Statuses.{IsReported, IsLaidOut, IsDone, IsBegunToReport, IsBegunToBeDone, IsNoReport, IsPrinted, version_text};
+ghost use Rattle.commands.specs.Statuses.{IsTextOfRecords, IsTextOfBooks, IsDone, IsBegunToReport, IsBegunToBeDone, IsNoReport, IsPrinted, version_text};
 ghost use Rattle.command_line.specs.Requests.{IsAskedBy, asks_in};
 ghost use Rattle.printing.specs.Telling.{AddsNoneUndrawn};
 
@@ -59,9 +59,9 @@ where
     // one does not or lacks an answer for want of memory.
     ensures reported { result ≡ 3
         → ((name : List ℕ)
-        × IsReported (meaning_of (I.meaning input.now 0) name) (S.taken out.old) (S.taken out.new) (S.failed out.new) 3)
+        × IsTextOfRecords (meaning_of (I.meaning input.now 0) name) (S.taken out.old) (S.taken out.new) (S.failed out.new) 3)
         ⊎ ((choice : Choice) × (form : Form) × (names : List (Bor (List ℕ)))
-        × IsLaidOut choice form (meanings (I.meaning input.now 0) names) (length names)
+        × IsTextOfBooks choice form (meanings (I.meaning input.now 0) names) (length names)
         (S.taken out.old) (S.taken out.new) (S.failed out.new) 3) }
 
     // Where the first word is `--version`, the version is printed.
@@ -161,7 +161,7 @@ where
     R::File: Send,
     R::Dir: Send,
     requires { S.failed out.old ≡ false }
-    ensures reported { IfOk result (IsReported (meaning_of (I.meaning input.now 0) name.now)
+    ensures reported { IfOk result (IsTextOfRecords (meaning_of (I.meaning input.now 0) name.now)
         (S.taken out.old) (S.taken out.new) (S.failed out.new)) }
     ensures failed { IfErr result (λ fault. ¬ IsRefusal fault) }
     ensures begun { OnErr result ((out.new ≡ out.old)

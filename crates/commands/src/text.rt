@@ -35,7 +35,7 @@ pub enum TextFault {
 
 /// Reads the first `files` files of the opener, answers each record under this choice of the outer face, and
 /// writes the text of their books in the form of this style, as `Form::write` writes books, while they are
-/// read. JSON lines have drawings of the style's kind; a report has no points, and is of quick ones. It returns the
+/// read. JSON lines have drawings of the style's kind; the report form has no points, and is of quick ones. It returns the
 /// status of the whole text: 0 where each file ended complete and no record lacks its answer or its line for want of
 /// memory, and else 3.
 ///

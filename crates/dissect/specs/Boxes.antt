@@ -68,7 +68,7 @@ pub record IsEdgePath (b : BoxesModel) (e : ℕ) (darts : List ℕ) : Type 0 whe
   pub listed : darts ≡ edge.first ∷ edge.rest
 
 -- each face is a box, with four left turns, but for the outside of the whole, which has four right turns
-pub record IsCutUp (w : DartMap) : Type 0 where
+pub record HasBoxFaces (w : DartMap) : Type 0 where
   pub reaches : ReachesCorners w
   -- a dart of the outside
   pub outside : ℕ
@@ -80,7 +80,7 @@ pub record IsCutUp (w : DartMap) : Type 0 where
 pub record AreBoxes (b : BoxesModel) : Type 0 where
   pub sound : IsSound (dart_map b)
   pub connected : IsConnected (dart_map b)
-  pub faces : IsCutUp (dart_map b)
+  pub faces : HasBoxFaces (dart_map b)
   pub few_darts : b.darts ≤ no_dart
   pub old_in : b.old ≤ b.vertices
   pub old_few : b.old ≤ 255

@@ -6,7 +6,7 @@ use Rattle.std.proofs.lemmas.Bool.{both_ways, cases_eq, cases_lt, ltb-true, le-l
 use Rattle.std.proofs.lemmas.List.{get_or-set_same, get_or-set_other, length-set, get_or-reverse}
 use Rattle.geometry.specs.declared.direction.Direction.{Direction}
 use Rattle.geometry.specs.declared.direction.Direction.TheVariants.{East}
-use Rattle.geometry.specs.Directions.{lefts}
+use Rattle.geometry.specs.Directions.{left_quarters}
 use Rattle.faces.specs.Planes.{PlaneModel, HasEnds, darts, reverse_dart, next}
 use Rattle.ortho_rep.specs.declared.points.Point.{Point}
 use Rattle.ortho_rep.specs.Shapes.{ShapeModel, angle_at, turns_at}
@@ -151,12 +151,12 @@ turns_as_said p shape points said turning out ends edges is both = (
     edges = edges.0 (both.0 h).0;
     heads = λ d inside.
         sym (is (reverse_dart p d) (ends.reverse_dart_in_range d inside)) ∙ (both.0 h).1 d inside
-        ∙ ap (lefts (angle_at shape d)) (is (next p d) (ends.next_one.inside d inside));
+        ∙ ap (left_quarters (angle_at shape d)) (is (next p d) (ends.next_one.inside d inside));
   },
   λ turns. both.1 (
     edges.1 turns.edges,
     λ d inside.
         is (reverse_dart p d) (ends.reverse_dart_in_range d inside) ∙ turns.heads d inside
-        ∙ sym (ap (lefts (angle_at shape d)) (is (next p d) (ends.next_one.inside d inside))),
+        ∙ sym (ap (left_quarters (angle_at shape d)) (is (next p d) (ends.next_one.inside d inside))),
   ),
 )

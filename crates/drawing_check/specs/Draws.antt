@@ -4,7 +4,7 @@ use Rattle.std.specs.List.{flat_map}
 use Rattle.ortho_rep.specs.declared.points.TheConstants.{MAX_COORDINATE}
 use Rattle.geometry.specs.declared.direction.Direction.{Direction}
 use Rattle.geometry.specs.declared.direction.Direction.TheVariants.{East, North, West, South}
-use Rattle.geometry.specs.Directions.{left_of, right_of, lefts}
+use Rattle.geometry.specs.Directions.{left_of, right_of, left_quarters}
 use Rattle.faces.specs.Planes.{PlaneModel, darts, reverse_dart, next}
 use Rattle.ortho_rep.specs.declared.turn.Turn.{Turn}
 use Rattle.ortho_rep.specs.declared.turn.Turn.TheVariants.{Left, Right}
@@ -66,7 +66,7 @@ leaving p points d = direction_of (dart_path p points d) 0
 pub record TurnAsSaid (p : PlaneModel) (shape : ShapeModel) (points : PointsModel) : Type 0 where
   pub edges : All (λ d. IsTurning (path_along p points d) (turns_at shape d)) (lesser_darts p)
   pub heads : (d : ℕ) → d < darts p
-      → leaving p points (reverse_dart p d) ≡ lefts (angle_at shape d) (leaving p points (next p d))
+      → leaving p points (reverse_dart p d) ≡ left_quarters (angle_at shape d) (leaving p points (next p d))
 
 -- ---- 4. the list of all vertex points and of all points met between the ends of paths has no repeat
 

@@ -2,7 +2,7 @@
 use Rattle.std.specs.Prelude.{◌≡◌, ℕ, ◌<◌, List, [], ◌∷◌, ◌++◌, slice_index_or}
 use Rattle.geometry.specs.declared.direction.Direction.{Direction}
 use Rattle.geometry.specs.declared.direction.Direction.TheVariants.{East}
-use Rattle.geometry.specs.Directions.{lefts}
+use Rattle.geometry.specs.Directions.{left_quarters}
 use Rattle.faces.specs.Planes.{PlaneModel, darts, reverse_dart, next}
 use Rattle.ortho_rep.specs.Shapes.{ShapeModel, angle_at}
 use Rattle.ortho_rep.specs.declared.points.Point.{Point}
@@ -19,4 +19,4 @@ direction_at directions d = slice_index_or directions d East
 abbrev pub HeadsTurn : PlaneModel → ShapeModel → List Direction → Type 0
 HeadsTurn p shape directions =
     (d : ℕ) → d < darts p
-    → direction_at directions (reverse_dart p d) ≡ lefts (angle_at shape d) (direction_at directions (next p d))
+    → direction_at directions (reverse_dart p d) ≡ left_quarters (angle_at shape d) (direction_at directions (next p d))

@@ -57,7 +57,7 @@ fn heads_turn(plane: &Plane, shape: &Shape, directions: &[Direction]) -> bool
     for dart in 0..graph.darts() {
         let back = directions[usize::from(graph.reverse(dart))];
         let onward = directions[usize::from(plane.next(dart))];
-        if back != onward.lefts(shape.angle(dart)) {
+        if back != onward.left_quarters(shape.angle(dart)) {
             return false;
         }
     }

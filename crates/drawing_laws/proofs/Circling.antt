@@ -3,7 +3,7 @@ use Rattle.std.proofs.Common.{◌≡◌, ℕ, ◌+◌, ◌<◌, ◌≤◌, ◌�
 use Rattle.std.proofs.lemmas.Bool.{cases_Bool, lt-ltb, ltb-true, ltb-false, cond-false, both_ways}
 use Rattle.dissect.specs.DartMaps.{DartMap, IsSound}
 use Rattle.dissect.specs.Paths.{IsConnected}
-use Rattle.dissect.specs.Boxes.{IsCutUp}
+use Rattle.dissect.specs.Boxes.{HasBoxFaces}
 use Rattle.dissect.proofs.Reordered.{sum_at, sum_at-add, sum_at-same}
 use Rattle.dissect.proofs.Trees.{Connections}
 use Rattle.dissect.proofs.Peeling.{IsPaired}
@@ -21,7 +21,7 @@ nobody a = false
 abbrev pub rest : (w : DartMap) (o : ℕ) (faces : FaceNumbering w o) → Growth (outer_connections w o faces nobody) → ℕ → Bool
 rest w o faces g0 = filled w o faces nobody g0
 
-module _ (w : DartMap) (sound : IsSound w) (connected : IsConnected w) (cut : IsCutUp w) (o : ℕ) (faces : FaceNumbering w o)
+module _ (w : DartMap) (sound : IsSound w) (connected : IsConnected w) (cut : HasBoxFaces w) (o : ℕ) (faces : FaceNumbering w o)
     (outer : (s : ℕ → Bool) → OfFaces w s → s cut.outside ≡ s faces.out) where
   abbrev upward0 : (a : ℕ) → a < w.darts → w.direction a ≡ 0 → nobody (w.reverse_dart a) ≡ true → nobody a ≡ true
   upward0 a a_in east on = on

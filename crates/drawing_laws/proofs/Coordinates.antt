@@ -5,7 +5,7 @@ use Rattle.common.specs.Sums.{sum_below}
 use Rattle.common.proofs.Sums.{sum_below-same, sum_below-lt, sum_below-one}
 use Rattle.dissect.specs.DartMaps.{DartMap, IsSound}
 use Rattle.dissect.specs.Paths.{IsConnected}
-use Rattle.dissect.specs.Boxes.{IsCutUp, BoxesModel, AreBoxes, dart_map}
+use Rattle.dissect.specs.Boxes.{HasBoxFaces, BoxesModel, AreBoxes, dart_map}
 use Rattle.dissect.specs.Ordered.{IsOrdered}
 use Rattle.dissect.proofs.Reordered.{sum_at, sum_at-add, sum_at-same}
 use Rattle.dissect.proofs.Trees.{Connections}
@@ -35,7 +35,7 @@ forward w e = record {
 abbrev delta : ℕ → ℕ → ℕ
 delta a d = cond (eqb a d) 1 0
 
-module _ (w : DartMap) (sound : IsSound w) (connected : IsConnected w) (cut : IsCutUp w) where
+module _ (w : DartMap) (sound : IsSound w) (connected : IsConnected w) (cut : HasBoxFaces w) where
   delta_at : (a u : ℕ) → a < w.darts → sum_at w.darts w.head u (delta a) ≡ cond (eqb (w.head a) u) 1 0
   delta_at a u a_in =
       sum_below-same w.darts (λ d. cond (eqb (w.head d) u) (delta a d) 0) (λ d. cond (eqb a d) (cond (eqb (w.head d) u) 1 0) 0) (λ d d_in. swap (eqb (w.head d) u) (eqb a d))
@@ -184,7 +184,7 @@ module _ (w : DartMap) (sound : IsSound w) (connected : IsConnected w) (cut : Is
       let g : (e : ℕ) → Growth (forward w e) = λ e. growth (forward w e) sound.meeting.head_in in
       (coordinate g, grows g, stays g)
 
-pub ordered : (w : DartMap) → IsSound w → IsConnected w → IsCutUp w → (x : ℕ → ℕ) × (y : ℕ → ℕ) × IsOrdered w x y
+pub ordered : (w : DartMap) → IsSound w → IsConnected w → HasBoxFaces w → (x : ℕ → ℕ) × (y : ℕ → ℕ) × IsOrdered w x y
 ordered w sound connected cut =
     let (x, x_grows, x_stays) = coordinates w sound connected cut in
     let (y, y_grows, y_stays) = coordinates (rotated w 3) (rotated_sound w 3 sound) connected (rotated_cut w 3 cut) in (

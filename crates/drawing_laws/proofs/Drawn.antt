@@ -6,7 +6,7 @@ use Rattle.std.proofs.lemmas.List.{get_or_append_left, get_or_push, get_or_defau
 use Rattle.std.proofs.lemmas.List.FromFn.{get_or-map-range_with_len, get_or-range_with_len, length-range_with_len}
 use Rattle.std.proofs.lemmas.List.Kept.{AllPairs-filter}
 use Rattle.std.proofs.lemmas.List.Elements.{All-cons, All-nil, All-head, All-tail, All-contains, Contains-append_cases}
-use Rattle.geometry.specs.Directions.{left_of, lefts}
+use Rattle.geometry.specs.Directions.{left_of, left_quarters}
 use Rattle.faces.specs.Planes.{PlaneModel, IsPlane, darts, vertices, head, tail, reverse_dart, next}
 use Rattle.faces.proofs.Ends.{plane_ends}
 use Rattle.ortho_rep.specs.declared.points.Point.{Point}
@@ -69,7 +69,7 @@ distinct_from f (x ∷ xs) distinct = ((λ here. distinct.0 (mapped f x xs here)
 
 -- ---- quarter turns to the left
 
-ways_left : (n k : ℕ) → k < 4 → lefts n (way_of k) ≡ way_of ((k + n) % 4)
+ways_left : (n k : ℕ) → k < 4 → left_quarters n (way_of k) ≡ way_of ((k + n) % 4)
 ways_left zero k few = ap way_of (let e : k ≡ (k + 0) % 4 = omega (arith, few) in e)
 ways_left (suc n) k few =
     ap left_of (ways_left n k few) ∙ left_way ((k + n) % 4) (omega arith) ∙ ap way_of (let e : ((k + n) % 4 + 1) % 4 ≡ (k + suc n) % 4 = omega arith in e)
@@ -220,7 +220,7 @@ module _ (p : PlaneModel) (shape : ShapeModel) (b : BoxesModel) (plane : IsPlane
             ∙ ap (λ (e : ℕ). way_of (((dart_map b).direction e + 2) % 4)) (ends.reverse_dart_back d d_in)
             ∙ ap way_of turn
             ∙ sym (ways_left (angle_at shape d) k (omega arith))
-            ∙ ap (lefts (angle_at shape d)) (sym (leaves n n_in));
+            ∙ ap (left_quarters (angle_at shape d)) (sym (leaves n n_in));
       }
 
   -- ---- what is met along an edge

@@ -3,7 +3,7 @@ use Rattle.std.proofs.Common.{◌≡◌, ◌≢◌, ℕ, zero, suc, ◌+◌, ◌
 use Rattle.std.proofs.lemmas.Bool.{cases_eq}
 use Rattle.dissect.specs.DartMaps.{DartMap, IsSound}
 use Rattle.dissect.specs.Faces.{IsCorner, StretchesIn, Stretches}
-use Rattle.dissect.specs.Boxes.{IsCutUp}
+use Rattle.dissect.specs.Boxes.{HasBoxFaces}
 use Rattle.drawing_laws.proofs.Sides.{Keeps, IsOn, on_itself}
 use Rattle.drawing_laws.proofs.Rounds.{IsRound, AreFaces, are_faces, box_same}
 use Rattle.dissect.proofs.Trees.{put}
@@ -245,5 +245,5 @@ module _ (w : DartMap) (sound : IsSound w) (faces : AreFaces w) where
         angles = angles_of;
       }
 
-pub face_numbers : (w : DartMap) → IsSound w → (cut : IsCutUp w) → FaceNumbering w cut.outside
+pub face_numbers : (w : DartMap) → IsSound w → (cut : HasBoxFaces w) → FaceNumbering w cut.outside
 face_numbers w sound cut = numbering_of w sound (are_faces w sound cut) cut.outside cut.outside_in cut.around.angle_first

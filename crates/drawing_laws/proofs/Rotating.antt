@@ -2,7 +2,7 @@
 use Rattle.std.proofs.Common.{ℕ, zero, suc, ◌+◌, ◌%◌, arith, inl, inr}
 use Rattle.dissect.specs.DartMaps.{DartMap, IsSound}
 use Rattle.dissect.specs.Faces.{StretchesIn, Stretches, HasFourCorners}
-use Rattle.dissect.specs.Boxes.{IsCutUp}
+use Rattle.dissect.specs.Boxes.{HasBoxFaces}
 
 abbrev pub rotated : DartMap → ℕ → DartMap
 rotated w r = record {
@@ -62,7 +62,7 @@ rectangle w r g a is = record {
   angle_fourth = is.angle_fourth;
 }
 
-abbrev pub rotated_cut : (w : DartMap) (r : ℕ) → IsCutUp w → IsCutUp (rotated w r)
+abbrev pub rotated_cut : (w : DartMap) (r : ℕ) → HasBoxFaces w → HasBoxFaces (rotated w r)
 rotated_cut w r cut = record {
   reaches = λ a l. let (c, is) = cut.reaches a l in (c, stretches w r a c is);
   outside = cut.outside;

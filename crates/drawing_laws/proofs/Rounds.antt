@@ -4,7 +4,7 @@ use Rattle.std.proofs.lemmas.Bool.{cases_eq}
 use Rattle.dissect.specs.DartMaps.{DartMap, IsSound}
 use Rattle.dissect.specs.Faces.{In, IsCorner, Stretches, HasFourCorners, ReachesCorners}
 use Rattle.dissect.proofs.Stretching.{Stretches-one, Stretches-inside, Stretches-corner}
-use Rattle.dissect.specs.Boxes.{IsCutUp}
+use Rattle.dissect.specs.Boxes.{HasBoxFaces}
 use Rattle.drawing_laws.proofs.Sides.{IsOn, on_itself, stretch_keeps, stretch_way}
 
 -- the walk arrives at corner k in the direction k, with this angle; the corner before it is `back` directions further, or 4 less
@@ -240,7 +240,7 @@ end_of w sound reaches a a_in =
       | inr turning ↦ (a, a_in, turning, on_itself w a)
     ]
 
-pub are_faces : (w : DartMap) → IsSound w → IsCutUp w → AreFaces w
+pub are_faces : (w : DartMap) → IsSound w → HasBoxFaces w → AreFaces w
 are_faces w sound cut =
     let whole = outside_round w sound (w.direction cut.outside) cut.outside cut.outside_in cut.around refl in
     record {

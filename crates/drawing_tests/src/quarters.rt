@@ -16,7 +16,7 @@ fn turns_by_quarters(rt: HostRuntime) {
         same(&rt, round[k].left(), next);
         same(&rt, next.right(), round[k]);
         same(&rt, round[k].opposite(), round[(k + 2) % 4]);
-        same(&rt, round[k].lefts(7), round[(k + 3) % 4]);
+        same(&rt, round[k].left_quarters(7), round[(k + 3) % 4]);
         same(&rt, usize::from(round[k].quarters()), k);
         same(&rt, Direction::from_quarters(round[k].quarters()), round[k]);
     }

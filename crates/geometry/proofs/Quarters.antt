@@ -2,7 +2,7 @@
 use Rattle.std.proofs.Common.{◌≡◌, ◌+◌, ◌%◌, ℕ, zero, suc, refl, arith}
 use Rattle.geometry.specs.declared.direction.Direction.{Direction}
 use Rattle.geometry.specs.declared.direction.Direction.TheVariants.{East, North, West, South}
-use Rattle.geometry.specs.Directions.{left_of, quarters, lefts}
+use Rattle.geometry.specs.Directions.{left_of, quarters, left_quarters}
 
 -- one quarter turn
 one_left : (d : Direction) → quarters (left_of d) ≡ (quarters d + 1) % 4
@@ -12,12 +12,12 @@ one_left West = refl
 one_left South = refl
 
 -- so many of them
-pub quarters_of_lefts : (n : ℕ) (d : Direction) → quarters (lefts n d) ≡ (quarters d + n) % 4
+pub quarters_of_lefts : (n : ℕ) (d : Direction) → quarters (left_quarters n d) ≡ (quarters d + n) % 4
 quarters_of_lefts zero East = refl
 quarters_of_lefts zero North = refl
 quarters_of_lefts zero West = refl
 quarters_of_lefts zero South = refl
-quarters_of_lefts (suc n) d = omega (arith, one_left (lefts n d), quarters_of_lefts n d)
+quarters_of_lefts (suc n) d = omega (arith, one_left (left_quarters n d), quarters_of_lefts n d)
 
 -- directions with the same number are the same
 pub same_direction : (d e : Direction) → quarters d ≡ quarters e → d ≡ e

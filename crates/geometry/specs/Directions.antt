@@ -33,6 +33,6 @@ quarters West = 2
 quarters South = 3
 
 -- so many quarter turns to the left
-abbrev pub lefts : ℕ → Direction → Direction
-lefts zero direction = direction
-lefts (suc n) direction = left_of (lefts n direction)
+abbrev pub left_quarters : ℕ → Direction → Direction
+left_quarters zero direction = direction
+left_quarters (suc n) direction = left_of (left_quarters n direction)

@@ -15,7 +15,7 @@ pub enum Direction {
 
 impl Direction {
     ghost use Rattle.std.specs.Prelude.{◌≡◌, ◌<◌};
-    ghost use Rattle.geometry.specs.Directions.{left_of, right_of, opposite_of, quarters, lefts};
+    ghost use Rattle.geometry.specs.Directions.{left_of, right_of, opposite_of, quarters, left_quarters};
 
     /// The direction a quarter turn to the left: the left of (x, y) is (-y, x).
     pub fn left(self) -> Direction
@@ -81,8 +81,8 @@ impl Direction {
     }
 
     /// The direction so many quarter turns to the left. It takes constant time.
-    pub fn lefts(self, quarters: u8) -> Direction
-        ensures { result ≡ lefts quarters self }
+    pub fn left_quarters(self, quarters: u8) -> Direction
+        ensures { result ≡ left_quarters quarters self }
     {
         Direction::from_quarters((self.quarters() + quarters % 4) % 4)
     }

@@ -15,17 +15,17 @@ use Rattle.entries.proofs.KeptBooks.{all_answered, books_more}
 use Rattle.reports.specs.declared.form.Form.{Form}
 use Rattle.reports.specs.Report.{numbered_texts}
 use Rattle.reports.specs.Forms.{text_in}
-use Rattle.reports.specs.Wholes.{IsWholeBook}
+use Rattle.reports.specs.FlawlessBooks.{IsFlawlessBook}
 use Rattle.reports.proofs.TextParts.{texts-append}
 use Rattle.printing.specs.FormLines.{book_in}
 use Rattle.printing.proofs.BookTexts.{text_by_lines}
 use Rattle.printing.specs.declared.waiting.Waiting.{Waiting}
-use Rattle.printing.specs.Came.{Came, IsToldByNotes, IsWholeSoFar}
+use Rattle.printing.specs.Came.{Came, IsToldByNotes, IsFlawlessSoFar}
 use Rattle.printing.specs.Written.{ended_texts, begun, last_in}
 use Rattle.printing.specs.Holding.{HoldsNotes}
 use Rattle.printing.specs.Whole.{HaveFiles, IsAllWritten}
 use Rattle.printing.proofs.Notes.{abouts-end, mark-end}
-use Rattle.printing.proofs.Wholes.{all_front, all_last}
+use Rattle.printing.proofs.FlawlessBooks.{all_front, all_last}
 
 abouts-items : (xs : List About) → abouts (map Item xs) ≡ xs
 abouts-items [] = refl
@@ -48,10 +48,10 @@ book_told choice meaning file ns came has told = record {
   answered = all_answered came.entries;
 }
 
-whole_book : (came : Came) (mark : Mark) → came.mark ≡ Some mark → IsWholeSoFar came → IsWholeBook (record { entries = came.entries; mark = mark })
+whole_book : (came : Came) (mark : Mark) → came.mark ≡ Some mark → IsFlawlessSoFar came → IsFlawlessBook (record { entries = came.entries; mark = mark })
 whole_book came mark is whole = record { complete = whole.complete mark is; answered = whole.answered }
 
-book_whole : (came : Came) (mark : Mark) → came.mark ≡ Some mark → IsWholeBook (record { entries = came.entries; mark = mark }) → IsWholeSoFar came
+book_whole : (came : Came) (mark : Mark) → came.mark ≡ Some mark → IsFlawlessBook (record { entries = came.entries; mark = mark }) → IsFlawlessSoFar came
 book_whole came mark is whole = record {
   answered = whole.answered;
   complete = λ other e. let same : mark ≡ other = cc in sym same ∙ whole.complete;
@@ -63,7 +63,7 @@ record AreUpTo (choice : Choice) (meaning : ℕ → Meaning) (form : Form) (came
   count : length books ≡ n
   each : AreBooks choice meaning 0 books
   text : numbered_texts (book_in form) 1 books ≡ ended_texts form came n
-  whole : All IsWholeBook books ↔ ((k : ℕ) → k < n → IsWholeSoFar (came k))
+  whole : All IsFlawlessBook books ↔ ((k : ℕ) → k < n → IsFlawlessSoFar (came k))
 
 -- one more of them
 pub text_more : (form : Form) (came : ℕ → Came) (n : ℕ) (books : List BookModel) (mark : Mark) → length books ≡ n → (came n).mark ≡ Some mark
@@ -85,7 +85,7 @@ up_to choice meaning form ns came zero told have = record {
   count = refl;
   each = tt;
   text = refl;
-  whole = (λ _ k below. absurd (omega (arith, below)), λ _. All-nil IsWholeBook);
+  whole = (λ _ k below. absurd (omega (arith, below)), λ _. All-nil IsFlawlessBook);
 }
 up_to choice meaning form ns came (suc n) told have =
     let was = up_to choice meaning form ns came n (λ k below. told k (omega (arith, below))) (λ k below. have k (omega (arith, below))) in
@@ -102,12 +102,12 @@ up_to choice meaning form ns came (suc n) told have =
       text = text_more form came n was.books has.mark was.count marked was.text;
       whole = (
         λ all k below. elim (cases_lt k n) [
-          | inl lt ↦ was.whole.0 (all_front IsWholeBook was.books book all) k lt
+          | inl lt ↦ was.whole.0 (all_front IsFlawlessBook was.books book all) k lt
           | inr from ↦
               let same : n ≡ k = omega (arith, from, below) in
-              subst (λ j. IsWholeSoFar (came j)) same (book_whole (came n) has.mark marked (all_last IsWholeBook was.books book all))
+              subst (λ j. IsFlawlessSoFar (came j)) same (book_whole (came n) has.mark marked (all_last IsFlawlessBook was.books book all))
         ],
-        λ all. All-push IsWholeBook was.books book (was.whole.1 (λ k below. all k (omega (arith, below)))) (whole_book (came n) has.mark marked (all n last)),
+        λ all. All-push IsFlawlessBook was.books book (was.whole.1 (λ k below. all k (omega (arith, below)))) (whole_book (came n) has.mark marked (all n last)),
       );
     }
 

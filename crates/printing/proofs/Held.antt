@@ -17,7 +17,7 @@ use Rattle.reports.specs.declared.form.Form.TheVariants.{Report, Json}
 use Rattle.printing.specs.FormLines.{preamble_in}
 use Rattle.printing.specs.declared.waiting.Waiting.{Waiting}
 use Rattle.printing.specs.declared.run_lines.Lines.{Lines}
-use Rattle.printing.specs.Came.{Came, HasEntryMore, HasMarkMore, IsWholeSoFar, nothing}
+use Rattle.printing.specs.Came.{Came, HasEntryMore, HasMarkMore, IsFlawlessSoFar, nothing}
 use Rattle.printing.specs.Waits.{IsNothing}
 use Rattle.printing.specs.Orders.{IsKnownAt, IsInOrder, IsNext}
 use Rattle.printing.specs.Spelt.{IsSpelt}
@@ -27,14 +27,14 @@ use Rattle.printing.specs.Holding.{HoldsNotes, LinesHold, LinesWrite, NotesBreak
 use Rattle.printing.specs.Written.{BreaksOff}
 use Rattle.streams.specs.Sink.{AppendsPrefix}
 use Rattle.printing.proofs.Notes.{entry_more, has_entry_more, ended_now, has_mark_more, all_told_item, all_told_end}
-use Rattle.printing.proofs.Wholes.{whole_end}
+use Rattle.printing.proofs.FlawlessBooks.{whole_end}
 use Rattle.printing.proofs.Adding.{written_none}
 use Rattle.printing.proofs.Waits.{some_waiting}
 
 -- whether all is whole, of as many files
-as_many : (before after : ℕ) (whole : Bool) (came : ℕ → Came) → after ≡ before → ((whole ≡ true) ↔ ((k : ℕ) → k < before → IsWholeSoFar (came k)))
-    → ((whole ≡ true) ↔ ((k : ℕ) → k < after → IsWholeSoFar (came k)))
-as_many before after whole came same was = subst (λ n. (whole ≡ true) ↔ ((k : ℕ) → k < n → IsWholeSoFar (came k))) (sym same) was
+as_many : (before after : ℕ) (whole : Bool) (came : ℕ → Came) → after ≡ before → ((whole ≡ true) ↔ ((k : ℕ) → k < before → IsFlawlessSoFar (came k)))
+    → ((whole ≡ true) ↔ ((k : ℕ) → k < after → IsFlawlessSoFar (came k)))
+as_many before after whole came same was = subst (λ n. (whole ≡ true) ↔ ((k : ℕ) → k < n → IsFlawlessSoFar (came k))) (sym same) was
 
 same_mark : (file : ℕ) (entry : Entry) (came next : ℕ → Came) → HasEntryMore file entry came next → (k : ℕ) → (next k).mark ≡ (came k).mark
 same_mark file entry came next more k =
@@ -82,8 +82,8 @@ ordered_as meaning before after came same was k below = subst (λ c. IsInOrder c
 pub held_item : (meaning : ℕ → Meaning) (start old new : Option (List ℕ)) (before after : Lines) (ns : List Note) (file : ℕ) (entry : Entry) → AreLinesOf before after → after.current ≡ before.current
     → file < length before.waiting.items → before.current ≤ file → ComesNext before.choice (meaning file) file before.waiting.items entry
     → ((came next : ℕ → Came) → HasEntryMore file entry came next → LinesWrite start old before came → LinesWrite start new after next)
-    → ((came next : ℕ → Came) → HasEntryMore file entry came next → ((before.whole ≡ true) ↔ ((k : ℕ) → k < length before.waiting.items → IsWholeSoFar (came k)))
-    → ((after.whole ≡ true) ↔ ((k : ℕ) → k < length before.waiting.items → IsWholeSoFar (next k))))
+    → ((came next : ℕ → Came) → HasEntryMore file entry came next → ((before.whole ≡ true) ↔ ((k : ℕ) → k < length before.waiting.items → IsFlawlessSoFar (came k)))
+    → ((after.whole ≡ true) ↔ ((k : ℕ) → k < length before.waiting.items → IsFlawlessSoFar (next k))))
     → LinesHold meaning start old before ns → LinesHold meaning start new after (ns ++ Item (about_of entry) ∷ [])
 held_item meaning start old new before after ns file entry same current below from comes writes wholes held =
     let next = entry_more file entry held.came in
@@ -140,7 +140,7 @@ held_end meaning start old new before mid after ns file mark went kept below unm
           let w = some_waiting after.waiting.items after.current lt in
           sym (written.counted after.current w (omega arith) lt).mark ∙ unended w lt;
       all_whole = as_many (length before.waiting.items) (length after.waiting.items) after.whole next count
-          (subst (λ b. (b ≡ true) ↔ ((k : ℕ) → k < length before.waiting.items → IsWholeSoFar (next k))) (sym whole)
+          (subst (λ b. (b ≡ true) ↔ ((k : ℕ) → k < length before.waiting.items → IsFlawlessSoFar (next k))) (sym whole)
           (whole_end (length before.waiting.items) file mark held.came next before.whole mid.whole below bare says more held.all_whole));
     }
 

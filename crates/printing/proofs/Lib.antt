@@ -8,7 +8,7 @@ pub mod Added
 pub mod Books
 pub mod Undrawn
 pub mod Notes
-pub mod Wholes
+pub mod FlawlessBooks
 pub mod Waits
 pub mod Adding
 pub mod Breaking

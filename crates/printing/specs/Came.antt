@@ -37,6 +37,6 @@ pub record IsToldByNotes (file : ℕ) (ns : List Note) (came : Came) : Type 0 wh
   pub mark : came.mark ≡ mark_after None (of_file file ns)
 
 -- each entry has an answer, and no mark but that of a complete file has come
-pub record IsWholeSoFar (came : Came) : Type 0 where
+pub record IsFlawlessSoFar (came : Came) : Type 0 where
   pub answered : All (λ entry. entry.answer ≢ Answer.NoMemory) came.entries
   pub complete : (mark : Mark) → came.mark ≡ Some mark → mark ≡ Mark.Ended Ending.Complete

@@ -6,7 +6,7 @@ use Rattle.lanes.specs.Opening.{Meaning}
 use Rattle.reports.specs.declared.form.Form.{Form}
 use Rattle.printing.specs.declared.waiting.Waiting.{Waiting}
 use Rattle.printing.specs.declared.run_lines.Lines.{Lines}
-use Rattle.printing.specs.Came.{Came, IsToldByNotes, IsWholeSoFar}
+use Rattle.printing.specs.Came.{Came, IsToldByNotes, IsFlawlessSoFar}
 use Rattle.printing.specs.Orders.{IsInOrder}
 use Rattle.printing.specs.Written.{AreWritten, AreRemaining, BreaksOff}
 
@@ -17,7 +17,7 @@ pub record HoldsNotes (choice : Choice) (meaning : ℕ → Meaning) (form : Form
   pub ordered : (file : ℕ) → file < length waiting → IsInOrder choice (meaning file) file (came file)
   pub written : AreWritten form start now buffer current waiting came
   pub unended : current < length waiting → (came current).mark ≡ None
-  pub all_whole : (whole ≡ true) ↔ ((file : ℕ) → file < length waiting → IsWholeSoFar (came file))
+  pub all_whole : (whole ≡ true) ↔ ((file : ℕ) → file < length waiting → IsFlawlessSoFar (came file))
 
 -- What the notes tell of each of so many files, which means this, is in order, and the text of it was left off.
 pub record NotesBreakOff (choice : Choice) (meaning : ℕ → Meaning) (form : Form) (files : ℕ) (start now : Option (List ℕ)) (ns : List Note) : Type 0 where

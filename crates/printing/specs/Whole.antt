@@ -13,19 +13,19 @@ use Rattle.entries.specs.Books.{BookModel, IsBook, AreBooks}
 use Rattle.entries.specs.AllBooks.{AreAllBooks}
 use Rattle.reports.specs.declared.form.Form.{Form}
 use Rattle.reports.specs.Forms.{text_in}
-use Rattle.reports.specs.Wholes.{IsWholeBook}
+use Rattle.reports.specs.FlawlessBooks.{IsFlawlessBook}
 use Rattle.printing.specs.FormLines.{preamble_in, lines_in}
 
 -- the notes tell all of each of so many files
 abbrev pub HaveFiles : Choice → (ℕ → Meaning) → ℕ → List Note → Type 0
 HaveFiles choice meaning files ns = (file : ℕ) → file < files → HasFile choice (meaning file) file ns
 
--- the text of the books of so many files was added after `start`, and the status is 0 exactly where each book is whole
+-- the text of the books of so many files was added after `start`, and the status is 0 exactly where each book is flawless
 pub record IsAllWritten (choice : Choice) (meaning : ℕ → Meaning) (form : Form) (files : ℕ) (start now : Option (List ℕ)) (status : ℕ) : Type 0 where
   pub books : List BookModel
   pub of_files : AreAllBooks choice meaning files books
   pub text : Appends start now (text_in form books)
-  pub whole : (status ≡ 0) ↔ All IsWholeBook books
+  pub whole : (status ≡ 0) ↔ All IsFlawlessBook books
 
 -- The entries are the first of a file that means this: those that its book may have where memory is wanted.
 abbrev pub AreFirst : Choice → Meaning → ℕ → List Entry → Type 0

@@ -5,4 +5,4 @@ pub mod Report
 pub mod Json
 pub mod Writing
 pub mod Forms
-pub mod Wholes
+pub mod FlawlessBooks

@@ -1,6 +1,6 @@
 //! The status of a whole report.
 ghost use Rattle.std.specs.Prelude.{◌≡◌, ◌≢◌, ◌↔◌, All, IsTrue};
-ghost use Rattle.reports.specs.Wholes.{IsWholeBook};
+ghost use Rattle.reports.specs.FlawlessBooks.{IsFlawlessBook};
 
 use entries::{Answer, Batch, Book, Entry};
 use planar_code::Ending;
@@ -17,11 +17,11 @@ pub fn status_of(mark: Mark) -> u8
 /// The status of a report of answers: 0 where each file ended complete and no record lacks an answer
 /// for want of memory, and else 3.
 pub fn status_of_batch(batch: &Batch) -> u8
-    ensures whole { (result ≡ 0) ↔ All IsWholeBook batch.now }
+    ensures whole { (result ≡ 0) ↔ All IsFlawlessBook batch.now }
     ensures other { result ≢ 0 → result ≡ 3 }
 {
     for file in 0..batch.files() {
-        if !is_whole(batch.book(file)) {
+        if !is_flawless(batch.book(file)) {
             return 3;
         }
     }
@@ -29,8 +29,8 @@ pub fn status_of_batch(batch: &Batch) -> u8
 }
 
 /// Whether a file ended complete and each of its records has an answer.
-fn is_whole(book: &Book) -> bool
-    ensures { IsTrue result ↔ IsWholeBook book.now }
+fn is_flawless(book: &Book) -> bool
+    ensures { IsTrue result ↔ IsFlawlessBook book.now }
 {
     is_complete(book.mark()) && book.entries().iter().all(is_answered)
 }

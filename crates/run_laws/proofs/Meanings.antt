@@ -20,7 +20,7 @@ use Rattle.drawing_check.specs.Draws.{Draws}
 use Rattle.entries.specs.declared.cause.Cause.{Cause}
 use Rattle.entries.specs.Answers.{IsLaid}
 use Rattle.entries.specs.Drawn.{HasPoints, IsDrawn}
-use Rattle.run_laws.specs.Laid.{Represents, IsFirstBest, HasOuter, ProveLeast, AreDrawn, IsCauseShown, IsLayout}
+use Rattle.run_laws.specs.Laid.{Represents, IsFirstBest, HasOuter, ProveLeast, AreDrawn, IsCauseShown, IsLaidPlainly}
 
 -- ---- representations, in both words
 
@@ -126,7 +126,7 @@ drawn_means p shape (Err cause) drawn = (tt, record { boxes = drawn.boxes; boxed
 -- ---- the whole answer
 
 pub means : (choice : Choice) (bytes : List ℕ) (plane : PlaneModel) (shape : ShapeModel) (prices : PricesModel) (drawing : Result PointsModel Cause)
-    → IsLaid choice bytes plane shape prices drawing → IsLayout choice bytes plane shape prices drawing
+    → IsLaid choice bytes plane shape prices drawing → IsLaidPlainly choice bytes plane shape prices drawing
 means choice bytes plane shape prices drawing laid =
     let drawn = drawn_means plane shape drawing laid.drawn in
     record {

@@ -9,7 +9,7 @@ use Rattle.embedding.specs.Faces.{HasFaces}
 use Rattle.embedding.specs.Rules.{Breaks}
 use Rattle.common.specs.declared.choice.Choice.{Choice}
 use Rattle.common.specs.declared.choice.Choice.TheVariants.{First, Best}
-use Rattle.geometry.specs.Directions.{lefts as left_quarters}
+use Rattle.geometry.specs.Directions.{left_quarters}
 use Rattle.faces.specs.Planes.{PlaneModel, vertices, darts, head, reverse_dart, next, face_at, with_outer}
 use Rattle.ortho_rep.specs.declared.turn.Turn.{Turn}
 use Rattle.ortho_rep.specs.declared.turn.Turn.TheVariants.{Left}
@@ -134,7 +134,7 @@ pub record IsCauseShown (plane : PlaneModel) (shape : ShapeModel) (cause : Cause
 -- ---- the whole answer
 
 -- what an answer says that is laid for a record of these bytes under this choice of the outer face
-pub record IsLayout (choice : Choice) (bytes : List ℕ) (plane : PlaneModel) (shape : ShapeModel) (prices : PricesModel) (drawing : Result PointsModel Cause) : Type 0 where
+pub record IsLaidPlainly (choice : Choice) (bytes : List ℕ) (plane : PlaneModel) (shape : ShapeModel) (prices : PricesModel) (drawing : Result PointsModel Cause) : Type 0 where
   -- the plane has the record's lists, and they break no rule
   pub lists : plane.lists ≡ lists_of bytes
   pub no_rule : (rule : Rule) → ¬ Breaks (lists_of bytes) rule

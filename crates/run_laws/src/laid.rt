@@ -8,7 +8,7 @@ ghost use Rattle.ortho_rep.specs.Points.{PointsModel};
 ghost use Rattle.ortho_rep.specs.Prices.{PricesModel};
 ghost use Rattle.entries.specs.declared.cause.Cause.{Cause};
 ghost use Rattle.entries.specs.Answers.{IsLaid};
-ghost use Rattle.run_laws.specs.Laid.{IsLayout};
+ghost use Rattle.run_laws.specs.Laid.{IsLaidPlainly};
 
 /// A laid answer has the neighbour lists of its record, which break no rule, their faces and the chosen outer face; an
 /// orthogonal representation with no more bends than any other, with strings of any length; prices that prove
@@ -16,5 +16,5 @@ ghost use Rattle.run_laws.specs.Laid.{IsLayout};
 pub fn laid_means()
     ensures { (choice : Choice) (bytes : List ℕ) (plane : PlaneModel) (shape : ShapeModel) (prices : PricesModel) (drawing : Result PointsModel Cause)
         → IsLaid choice bytes plane shape prices drawing
-        → IsLayout choice bytes plane shape prices drawing }
+        → IsLaidPlainly choice bytes plane shape prices drawing }
 {}

@@ -2,7 +2,7 @@ use Rattle.std.proofs.Common.{◌≡◌, ℕ, ◌<◌, refl, sym, ap, ◌∙◌,
 use Rattle.std.proofs.lemmas.Bool.{false≢true}
 use denote.Enum.Bare.{differs_true, differs_false}
 use Rattle.geometry.specs.contracts.direction.Direction.{the_type}
-use Rattle.geometry.specs.Directions.{lefts}
+use Rattle.geometry.specs.Directions.{left_quarters}
 use Rattle.faces.specs.Planes.{darts, reverse_dart, next}
 use Rattle.ortho_rep.specs.Shapes.{angle_at}
 use Rattle.drawing_check.specs.Routes.{direction_at}
@@ -18,11 +18,11 @@ loop-dart-preserved c =
     let reverse_dart_is : c.reverse.result ≡ reverse_dart p dart = rw c.graph-graph.ensures.value at c.reverse.ensures.value in
     let back : direction_at directions c.from.result ≡ direction_at directions (reverse_dart p dart) =
     ap (direction_at directions) (c.from.ensures ∙ reverse_dart_is) in
-    let onward : c.lefts.result ≡ lefts (angle_at c.args.shape.now dart) (direction_at directions (next p dart)) =
-    c.lefts.ensures
-    ∙ ap (λ (a : ℕ). lefts a (direction_at directions c.from-in-loop-dart.result)) c.angle.ensures
-    ∙ ap (λ (n : ℕ). lefts (angle_at c.args.shape.now dart) (direction_at directions n)) (c.from-in-loop-dart.ensures ∙ c.next.ensures.value) in
-    let same = differs_false the_type tt (direction_at directions c.from.result) c.lefts.result (sym c.if-ne.ensures) in
+    let onward : c.left_quarters.result ≡ left_quarters (angle_at c.args.shape.now dart) (direction_at directions (next p dart)) =
+    c.left_quarters.ensures
+    ∙ ap (λ (a : ℕ). left_quarters a (direction_at directions c.from-in-loop-dart.result)) c.angle.ensures
+    ∙ ap (λ (n : ℕ). left_quarters (angle_at c.args.shape.now dart) (direction_at directions n)) (c.from-in-loop-dart.ensures ∙ c.next.ensures.value) in
+    let same = differs_false the_type tt (direction_at directions c.from.result) c.left_quarters.result (sym c.if-ne.ensures) in
     below_more _ _ c.loop-dart.invariant (sym back ∙ same ∙ onward)
 
 pub returns-then-ne : goal.returns-then-ne
@@ -35,12 +35,12 @@ returns-then-ne c =
     let reverse_dart_is : c.reverse.result ≡ reverse_dart p dart = rw c.graph-graph.ensures.value at c.reverse.ensures.value in
     let back : direction_at directions c.from.result ≡ direction_at directions (reverse_dart p dart) =
     ap (direction_at directions) (c.from.ensures ∙ reverse_dart_is) in
-    let onward : c.lefts.result ≡ lefts (angle_at c.args.shape.now dart) (direction_at directions (next p dart)) =
-    c.lefts.ensures
-    ∙ ap (λ (a : ℕ). lefts a (direction_at directions c.from-in-loop-dart.result)) c.angle.ensures
-    ∙ ap (λ (n : ℕ). lefts (angle_at c.args.shape.now dart) (direction_at directions n)) (c.from-in-loop-dart.ensures ∙ c.next.ensures.value) in (
+    let onward : c.left_quarters.result ≡ left_quarters (angle_at c.args.shape.now dart) (direction_at directions (next p dart)) =
+    c.left_quarters.ensures
+    ∙ ap (λ (a : ℕ). left_quarters a (direction_at directions c.from-in-loop-dart.result)) c.angle.ensures
+    ∙ ap (λ (n : ℕ). left_quarters (angle_at c.args.shape.now dart) (direction_at directions n)) (c.from-in-loop-dart.ensures ∙ c.next.ensures.value) in (
       λ e. absurd (false≢true e),
-      λ h. absurd (differs_true the_type (direction_at directions c.from.result) c.lefts.result (sym c.if-ne.ensures) (back ∙ h dart inside ∙ sym onward)),
+      λ h. absurd (differs_true the_type (direction_at directions c.from.result) c.left_quarters.result (sym c.if-ne.ensures) (back ∙ h dart inside ∙ sym onward)),
     )
 
 pub returns : goal.returns

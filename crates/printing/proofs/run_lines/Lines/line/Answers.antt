@@ -1,10 +1,10 @@
 use Rattle.std.proofs.Common.{◌≡◌, ◌<◌, ◌↔◌, true, ap, refl, rules, subst, sym, length, ℕ, ◌≤◌, ◌∙◌, inl}
 use Rattle.printing.specs.Answered.{entry_of}
 use Rattle.printing.specs.FormLines.{IsLineOf, line_in}
-use Rattle.printing.specs.Came.{IsWholeSoFar}
+use Rattle.printing.specs.Came.{IsFlawlessSoFar}
 use Rattle.printing.proofs.Held.{comes_next, held_item, lacking}
 use Rattle.printing.proofs.SucceedsOrFails.{ok_then, ok_both}
-use Rattle.printing.proofs.Wholes.{whole_item, whole_lacking}
+use Rattle.printing.proofs.FlawlessBooks.{whole_item, whole_lacking}
 use Rattle.printing.proofs.Held.{left_off_held, left_off_item}
 use Rattle.printing.proofs.SucceedsOrFails.{err_then}
 use Rattle.printing.proofs.run_lines.Lines.line.Goals as goal
@@ -26,7 +26,7 @@ returns-in-Some-clause-held g c =
     ok_then c.add.result c.add.ensures.added (λ added start ns held.
     held_item g.J.Meant.meaning start (g.S.Sink.taken c.args.sink.now) (g.S.Sink.taken c.add.new.sink) before after ns file entry c.add.ensures.same.same c.add.ensures.same.current below from comes
     (λ came next more was. added start came next entry line more was)
-    (λ came next more was. subst (λ b. (b ≡ true) ↔ ((k : ℕ) → k < length before.waiting.items → IsWholeSoFar (next k))) (sym c.add.ensures.same.whole) (whole_item (length before.waiting.items) file entry came next before.whole below has.0 more was))
+    (λ came next more was. subst (λ b. (b ≡ true) ↔ ((k : ℕ) → k < length before.waiting.items → IsFlawlessSoFar (next k))) (sym c.add.ensures.same.whole) (whole_item (length before.waiting.items) file entry came next before.whole below has.0 more was))
     held)
 
 pub returns-clause-held : goal.returns-clause-held
@@ -43,7 +43,7 @@ returns-clause-held g c =
     ok_both c.add_lacking.result c.add_lacking.ensures.added c.add_lacking.ensures.lacking (λ added lacks start ns held.
     held_item g.J.Meant.meaning start (g.S.Sink.taken c.args.sink.now) (g.S.Sink.taken c.add_lacking.new.sink) before after ns file entry c.add_lacking.ensures.same c.add_lacking.ensures.current below from comes
     (λ came next more was. added start came next entry refl refl refl more was)
-    (λ came next more was. subst (λ b. (b ≡ true) ↔ ((k : ℕ) → k < length before.waiting.items → IsWholeSoFar (next k))) (sym lacks) (whole_lacking (length before.waiting.items) file entry came next below refl more))
+    (λ came next more was. subst (λ b. (b ≡ true) ↔ ((k : ℕ) → k < length before.waiting.items → IsFlawlessSoFar (next k))) (sym lacks) (whole_lacking (length before.waiting.items) file entry came next below refl more))
     held)
 
 pub returns-in-Some-clause-broken : goal.returns-in-Some-clause-broken

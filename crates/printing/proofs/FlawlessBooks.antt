@@ -7,7 +7,7 @@ use Rattle.planar_code.specs.declared.ending.Ending.{Ending}
 use Rattle.streams.specs.declared.frames.Mark.{Mark}
 use Rattle.entries.specs.declared.answer.Answer.{Answer}
 use Rattle.entries.specs.declared.entry.Entry.{Entry}
-use Rattle.printing.specs.Came.{Came, HasEntryMore, HasMarkMore, IsWholeSoFar}
+use Rattle.printing.specs.Came.{Came, HasEntryMore, HasMarkMore, IsFlawlessSoFar}
 
 abbrev pub IsAnswered : Entry → Type 0
 IsAnswered entry = entry.answer ≢ Answer.NoMemory
@@ -23,50 +23,50 @@ module _ {A : Type 0} (P : A → Type 0) where
       subst P (get_or-append-add xs (x ∷ []) 0 x) (all (length xs + 0) x at)
 
 -- where all but one file are as before
-all_but : (files file : ℕ) (came next : ℕ → Came) → ((other : ℕ) → other ≢ file → next other ≡ came other) → IsWholeSoFar (next file)
-    → ((k : ℕ) → k < files → IsWholeSoFar (came k)) → (k : ℕ) → k < files → IsWholeSoFar (next k)
+all_but : (files file : ℕ) (came next : ℕ → Came) → ((other : ℕ) → other ≢ file → next other ≡ came other) → IsFlawlessSoFar (next file)
+    → ((k : ℕ) → k < files → IsFlawlessSoFar (came k)) → (k : ℕ) → k < files → IsFlawlessSoFar (next k)
 all_but files file came next others here were k below =
     elim (cases_eq k file) [
-      | inl same ↦ subst (λ j. IsWholeSoFar (next j)) (sym same) here
-      | inr apart ↦ subst IsWholeSoFar (sym (others k apart)) (were k below)
+      | inl same ↦ subst (λ j. IsFlawlessSoFar (next j)) (sym same) here
+      | inr apart ↦ subst IsFlawlessSoFar (sym (others k apart)) (were k below)
     ]
 
 pub whole_item : (files file : ℕ) (entry : Entry) (came next : ℕ → Came) (whole : Bool) → file < files → entry.answer ≢ Answer.NoMemory → HasEntryMore file entry came next
-    → ((whole ≡ true) ↔ ((k : ℕ) → k < files → IsWholeSoFar (came k))) → ((whole ≡ true) ↔ ((k : ℕ) → k < files → IsWholeSoFar (next k)))
+    → ((whole ≡ true) ↔ ((k : ℕ) → k < files → IsFlawlessSoFar (came k))) → ((whole ≡ true) ↔ ((k : ℕ) → k < files → IsFlawlessSoFar (next k)))
 whole_item files file entry came next whole below has more was = (
   λ is. all_but files file came next more.others
       (let here = was.0 is file below in
-      subst IsWholeSoFar (sym more.here) (record { answered = All-push IsAnswered (came file).entries entry here.answered has; complete = here.complete }))
+      subst IsFlawlessSoFar (sym more.here) (record { answered = All-push IsAnswered (came file).entries entry here.answered has; complete = here.complete }))
       (was.0 is),
   λ all. was.1 (all_but files file next came (λ other apart. sym (more.others other apart))
-      (let here : IsWholeSoFar (record { entries = (came file).entries ++ entry ∷ []; mark = (came file).mark }) = subst IsWholeSoFar more.here (all file below) in
+      (let here : IsFlawlessSoFar (record { entries = (came file).entries ++ entry ∷ []; mark = (came file).mark }) = subst IsFlawlessSoFar more.here (all file below) in
       record { answered = all_front IsAnswered (came file).entries entry here.answered; complete = here.complete })
       all),
 )
 
 pub whole_lacking : (files file : ℕ) (entry : Entry) (came next : ℕ → Came) → file < files → entry.answer ≡ Answer.NoMemory → HasEntryMore file entry came next
-    → ((false ≡ true) ↔ ((k : ℕ) → k < files → IsWholeSoFar (next k)))
+    → ((false ≡ true) ↔ ((k : ℕ) → k < files → IsFlawlessSoFar (next k)))
 whole_lacking files file entry came next below lacks more = (
   λ is. absurd (false≢true is),
   λ all.
-      let here : IsWholeSoFar (record { entries = (came file).entries ++ entry ∷ []; mark = (came file).mark }) = subst IsWholeSoFar more.here (all file below) in
+      let here : IsFlawlessSoFar (record { entries = (came file).entries ++ entry ∷ []; mark = (came file).mark }) = subst IsFlawlessSoFar more.here (all file below) in
       absurd (all_last IsAnswered (came file).entries entry here.answered lacks),
 )
 
 pub whole_end : (files file : ℕ) (mark : Mark) (came next : ℕ → Came) (whole now : Bool) → file < files → (came file).mark ≡ None
     → ((now ≡ true) ↔ ((whole ≡ true) × (mark ≡ Mark.Ended Ending.Complete))) → HasMarkMore file mark came next
-    → ((whole ≡ true) ↔ ((k : ℕ) → k < files → IsWholeSoFar (came k))) → ((now ≡ true) ↔ ((k : ℕ) → k < files → IsWholeSoFar (next k)))
+    → ((whole ≡ true) ↔ ((k : ℕ) → k < files → IsFlawlessSoFar (came k))) → ((now ≡ true) ↔ ((k : ℕ) → k < files → IsFlawlessSoFar (next k)))
 whole_end files file mark came next whole now below unmarked says more was = (
   λ is.
       let both = says.0 is in
       all_but files file came next more.others
-      (subst IsWholeSoFar (sym more.here) (record {
+      (subst IsFlawlessSoFar (sym more.here) (record {
         answered = (was.0 both.0 file below).answered;
         complete = λ other e. let same : mark ≡ other = cc in sym same ∙ both.1;
       }))
       (was.0 both.0),
   λ all.
-      let here : IsWholeSoFar (record { entries = (came file).entries; mark = Some mark }) = subst IsWholeSoFar more.here (all file below) in
+      let here : IsFlawlessSoFar (record { entries = (came file).entries; mark = Some mark }) = subst IsFlawlessSoFar more.here (all file below) in
       says.1 (
         was.1 (all_but files file next came (λ other apart. sym (more.others other apart))
             (record { answered = here.answered; complete = λ other e. let none : ⊥ = cc in absurd none })
