@@ -3,6 +3,7 @@
 ghost use Rattle.std.specs.Prelude.{false, None};
 ghost use Rattle.lanes.specs.Opening.{Silent};
 
+use crate::held::YIELDS;
 use crate::reported::{Narrow, QUICK, same};
 use collector::{
     Choice, Gate, IoSink, MAX_LANES, OpenFault, OpenGate, Opener, Stage, Tap, TapFault,
