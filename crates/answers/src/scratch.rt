@@ -77,13 +77,13 @@ impl StageScratch {
     pub fn new(alloc: Global, capacity: u32) -> Result<StageScratch, AllocError> {
         let room = capacity as usize + 3;
         let (planes, spent_planes) = ReturnQueue::new(alloc, room)?;
-        let (shaped_planes, spent_layouts) = ReturnQueue::new(alloc, room)?;
+        let (shaped_planes, spent_shaped_planes) = ReturnQueue::new(alloc, room)?;
         let mut embed = EmbedScratch::empty(alloc);
         embed.spent = spent_planes;
         let mut shape = ShapeScratch::empty(alloc);
         shape.return_queues = Passages {
             planes,
-            shaped_planes: spent_layouts,
+            shaped_planes: spent_shaped_planes,
         };
         let mut draw = DrawScratch::empty(alloc);
         draw.back = shaped_planes;

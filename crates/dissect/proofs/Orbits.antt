@@ -8,7 +8,7 @@ use Rattle.dissect.specs.Faces.{IsCorner, Trail, last_of, Ring, In, Distinct, Be
 use Rattle.dissect.specs.Turning.{total}
 use Rattle.dissect.proofs.Stretching.{stretch_more, stretch_direct}
 use Rattle.dissect.proofs.Rings.{last_of-append}
-use Rattle.dissect.specs.Walks.{steps, path, turning, HasPeriod}
+use Rattle.dissect.specs.Walks.{steps, darts_walked, turning, HasPeriod}
 
 pub steps_in : (w : DartMap) → IsTied w → (k a : ℕ) → a < w.darts → steps w k a < w.darts
 steps_in w tied zero a l = l
@@ -31,7 +31,7 @@ steps_one w tied (suc k) a b la lb e =
     sym (tied.next_back a la) ∙ ap w.prev same ∙ tied.next_back b lb
 
 -- what the path holds, by steps
-pub path_member : (w : DartMap) (x a k : ℕ) → In x (path w a k) → (j : ℕ) × (1 ≤ j) × (j ≤ k) × (steps w j a ≡ x)
+pub path_member : (w : DartMap) (x a k : ℕ) → In x (darts_walked w a k) → (j : ℕ) × (1 ≤ j) × (j ≤ k) × (steps w j a ≡ x)
 path_member w x a zero here = absurd here
 path_member w x a (suc k) here =
     elim here [
@@ -39,25 +39,25 @@ path_member w x a (suc k) here =
       | inr later ↦ let m = path_member w x (w.next a) k later in (suc m.0, omega arith, omega (arith, m.2), m.3)
     ]
 
-pub path_holds : (w : DartMap) (a k j : ℕ) → 1 ≤ j → j ≤ k → In (steps w j a) (path w a k)
+pub path_holds : (w : DartMap) (a k j : ℕ) → 1 ≤ j → j ≤ k → In (steps w j a) (darts_walked w a k)
 path_holds w a zero j some most = absurd (omega arith)
 path_holds w a (suc k) zero some most = absurd (omega arith)
 path_holds w a (suc k) (suc zero) some most = inl refl
 path_holds w a (suc k) (suc (suc j)) some most = inr (path_holds w (w.next a) k (suc j) (omega arith) (omega arith))
 
-pub path_more : (w : DartMap) (a k : ℕ) → path w a (suc k) ≡ path w a k ++ (steps w (suc k) a ∷ [])
+pub path_more : (w : DartMap) (a k : ℕ) → darts_walked w a (suc k) ≡ darts_walked w a k ++ (steps w (suc k) a ∷ [])
 path_more w a zero = refl
 path_more w a (suc k) = ap (λ (xs : List ℕ). w.next a ∷ xs) (path_more w (w.next a) k)
 
-pub length-path : (w : DartMap) (a k : ℕ) → length (path w a k) ≡ k
-length-path w a zero = refl
-length-path w a (suc k) = ap suc (length-path w (w.next a) k)
+pub length-darts_walked : (w : DartMap) (a k : ℕ) → length (darts_walked w a k) ≡ k
+length-darts_walked w a zero = refl
+length-darts_walked w a (suc k) = ap suc (length-darts_walked w (w.next a) k)
 
-pub path_below : (w : DartMap) → IsTied w → (a k : ℕ) → a < w.darts → Below w.darts (path w a k)
+pub path_below : (w : DartMap) → IsTied w → (a k : ℕ) → a < w.darts → Below w.darts (darts_walked w a k)
 path_below w tied a zero l = tt
 path_below w tied a (suc k) l = (tied.next_in a l, path_below w tied (w.next a) k (tied.next_in a l))
 
-pub path_distinct : (w : DartMap) (a k : ℕ) → ((i j : ℕ) → 1 ≤ i → i < j → j ≤ k → steps w i a ≢ steps w j a) → Distinct (path w a k)
+pub path_distinct : (w : DartMap) (a k : ℕ) → ((i j : ℕ) → 1 ≤ i → i < j → j ≤ k → steps w i a ≢ steps w j a) → Distinct (darts_walked w a k)
 path_distinct w a zero apart = tt
 path_distinct w a (suc k) apart = (
   (λ here. let m = path_member w (w.next a) (w.next a) k here in apart 1 (suc m.0) (omega arith) (omega (arith, m.1)) (omega (arith, m.2)) (sym m.3)),
@@ -125,16 +125,16 @@ orbit_of w tied a l =
       | inl found ↦ (found.0, record { some = found.1; most = found.2; back = found.3; first = found.4 })
       | inr none ↦ absurd (
           let n : ℕ = w.darts in
-          let all : Distinct (a ∷ path w a n) = (
+          let all : Distinct (a ∷ darts_walked w a n) = (
             (λ here. let m = path_member w a a n here in none m.0 m.1 m.2 m.3),
             path_distinct w a n (λ i j some less most same. none (j - i) (omega arith) (omega arith) (steps_meet w tied a i j l less same)),
           ) in
-          let few : length (a ∷ path w a n) ≤ n = distinct_few n (a ∷ path w a n) all (l, path_below w tied a n l) in
-          omega (arith, few, length-path w a n)
+          let few : length (a ∷ darts_walked w a n) ≤ n = distinct_few n (a ∷ darts_walked w a n) all (l, path_below w tied a n l) in
+          omega (arith, few, length-darts_walked w a n)
           )
     ]
 
-pub orbit_distinct : (w : DartMap) (a p : ℕ) → IsTied w → a < w.darts → HasPeriod w a p → Distinct (path w a p)
+pub orbit_distinct : (w : DartMap) (a p : ℕ) → IsTied w → a < w.darts → HasPeriod w a p → Distinct (darts_walked w a p)
 orbit_distinct w a p tied l period =
     path_distinct w a p (λ i j some less most same. period.first (j - i) (omega arith) (omega arith) (steps_meet w tied a i j l less same))
 
@@ -212,15 +212,15 @@ trail_behind w a b [] to straight trail = tt
 trail_behind w a b (c ∷ cs) to straight trail = (stretch_more w a b c to straight trail.0, trail.1)
 
 -- the corners on a walk are a trail
-pub path_trail : (w : DartMap) (a k : ℕ) → Trail w a (turning w (path w a k))
+pub path_trail : (w : DartMap) (a k : ℕ) → Trail w a (turning w (darts_walked w a k))
 path_trail w a zero = tt
 path_trail w a (suc k) =
     let b : ℕ = w.next a in
-    let rest : Trail w b (turning w (path w b k)) = path_trail w b k in
+    let rest : Trail w b (turning w (darts_walked w b k)) = path_trail w b k in
     elim (cases_eq (w.angle b) 2) [
-      | inl straight ↦ subst (Trail w a) (sym (turning_straight w b (path w b k) straight))
-          (trail_behind w a b (turning w (path w b k)) refl straight rest)
-      | inr corner ↦ subst (Trail w a) (sym (turning_corner w b (path w b k) corner)) (stretch_direct w a b refl corner, rest)
+      | inl straight ↦ subst (Trail w a) (sym (turning_straight w b (darts_walked w b k) straight))
+          (trail_behind w a b (turning w (darts_walked w b k)) refl straight rest)
+      | inr corner ↦ subst (Trail w a) (sym (turning_corner w b (darts_walked w b k) corner)) (stretch_direct w a b refl corner, rest)
     ]
 
 trail_ring : (w : DartMap) (a : ℕ) (front cs : List ℕ) → cs ≡ front ++ (a ∷ []) → Trail w a cs → Ring w cs
@@ -235,15 +235,15 @@ trail_ring w a front (c ∷ cs) e trail =
 
 -- a walk from a corner ends with it
 pub orbit_ends : (w : DartMap) (a p : ℕ) → HasPeriod w a p → IsCorner w a →
-    turning w (path w a p) ≡ turning w (path w a (p - 1)) ++ (a ∷ [])
+    turning w (darts_walked w a p) ≡ turning w (darts_walked w a (p - 1)) ++ (a ∷ [])
 orbit_ends w a zero period corner = absurd (omega (arith, period.some))
 orbit_ends w a (suc q) period corner =
     let less : suc q - 1 ≡ q = omega arith in
-    ap (turning w) (path_more w a q ∙ ap (λ (b : ℕ). path w a q ++ (b ∷ [])) period.back)
-    ∙ turning-append w (path w a q) (a ∷ [])
-    ∙ ap (λ (zs : List ℕ). turning w (path w a q) ++ zs) (turning_corner w a [] corner)
-    ∙ ap (λ (k : ℕ). turning w (path w a k) ++ (a ∷ [])) (sym less)
+    ap (turning w) (path_more w a q ∙ ap (λ (b : ℕ). darts_walked w a q ++ (b ∷ [])) period.back)
+    ∙ turning-append w (darts_walked w a q) (a ∷ [])
+    ∙ ap (λ (zs : List ℕ). turning w (darts_walked w a q) ++ zs) (turning_corner w a [] corner)
+    ∙ ap (λ (k : ℕ). turning w (darts_walked w a k) ++ (a ∷ [])) (sym less)
 
-pub orbit_ring : (w : DartMap) (a p : ℕ) → HasPeriod w a p → IsCorner w a → Ring w (turning w (path w a p))
+pub orbit_ring : (w : DartMap) (a p : ℕ) → HasPeriod w a p → IsCorner w a → Ring w (turning w (darts_walked w a p))
 orbit_ring w a p period corner =
-    trail_ring w a (turning w (path w a (p - 1))) (turning w (path w a p)) (orbit_ends w a p period corner) (path_trail w a p)
+    trail_ring w a (turning w (darts_walked w a (p - 1))) (turning w (darts_walked w a p)) (orbit_ends w a p period corner) (path_trail w a p)

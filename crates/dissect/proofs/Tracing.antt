@@ -5,9 +5,9 @@ use Rattle.dissect.specs.DartMaps.{DartMap, IsTied}
 use Rattle.dissect.specs.Faces.{IsCorner, Ring, In, Distinct, Below, concatenated, TurnsOnce, AreRings}
 use Rattle.dissect.specs.FaceNumbers.{HasTurns}
 use Rattle.dissect.proofs.Listing.{in_append, in_left, in_right, below_append, distinct_append}
-use Rattle.dissect.specs.Walks.{steps, path, turning, HasPeriod, IsFlagged, IsWalked}
+use Rattle.dissect.specs.Walks.{steps, darts_walked, turning, HasPeriod, IsFlagged, IsWalked}
 use Rattle.dissect.specs.Listed.{AreListed, AreFlat}
-use Rattle.dissect.proofs.Orbits.{steps_in, steps_more, steps_add, path_member, path_holds, path_below, length-path, orbit_distinct, in_turning, turning_in, turning_distinct, turning_below, turning_straight, turning_corner, orbit_ends, orbit_ring}
+use Rattle.dissect.proofs.Orbits.{steps_in, steps_more, steps_add, path_member, path_holds, path_below, length-darts_walked, orbit_distinct, in_turning, turning_in, turning_distinct, turning_below, turning_straight, turning_corner, orbit_ends, orbit_ring}
 use Rattle.dissect.proofs.Turns.{orbit_holds, orbit_once, orbit_outside}
 
 pub concatenated_more : (rs : List (List ℕ)) (r : List ℕ) → concatenated (rs ++ (r ∷ [])) ≡ concatenated rs ++ r
@@ -24,20 +24,20 @@ rings_more w [] r rings ring once = ((ring, once), tt)
 rings_more w (q ∷ rs) r rings ring once = (rings.0, rings_more w rs r rings.1 ring once)
 
 -- a walk that is back holds what follows each of its darts
-pub path_closed : (w : DartMap) (a p x : ℕ) → HasPeriod w a p → In x (path w a p) → In (w.next x) (path w a p)
+pub path_closed : (w : DartMap) (a p x : ℕ) → HasPeriod w a p → In x (darts_walked w a p) → In (w.next x) (darts_walked w a p)
 path_closed w a p x period here =
     let m = path_member w x a p here in
     elim (cases_eq m.0 p) [
       | inl e ↦
           let there : w.next x ≡ steps w 1 a = ap w.next (sym m.3 ∙ ap (λ (k : ℕ). steps w k a) e ∙ period.back) in
-          subst (λ (z : ℕ). In z (path w a p)) (sym there) (path_holds w a p 1 (omega arith) period.some)
+          subst (λ (z : ℕ). In z (darts_walked w a p)) (sym there) (path_holds w a p 1 (omega arith) period.some)
       | inr less ↦
           let there : w.next x ≡ steps w (suc m.0) a = ap w.next (sym m.3) ∙ sym (steps_more w m.0 a) in
-          subst (λ (z : ℕ). In z (path w a p)) (sym there) (path_holds w a p (suc m.0) (omega arith) (omega (arith, m.2, less)))
+          subst (λ (z : ℕ). In z (darts_walked w a p)) (sym there) (path_holds w a p (suc m.0) (omega arith) (omega (arith, m.2, less)))
     ]
 
-pub path_self : (w : DartMap) (a p : ℕ) → HasPeriod w a p → In a (path w a p)
-path_self w a p period = subst (λ (z : ℕ). In z (path w a p)) period.back (path_holds w a p p period.some (omega arith))
+pub path_self : (w : DartMap) (a p : ℕ) → HasPeriod w a p → In a (darts_walked w a p)
+path_self w a p period = subst (λ (z : ℕ). In z (darts_walked w a p)) period.back (path_holds w a p p period.some (omega arith))
 
 -- flags that "next" stays within
 abbrev pub AreShut : DartMap → List Bool → Type 0
@@ -49,7 +49,7 @@ shut_steps w flags tied shut (suc k) a l m = shut_steps w flags tied shut k (w.n
 
 -- a walk that passes a flagged dart began at one
 pub shut_back : (w : DartMap) (flags : List Bool) (a p x : ℕ) → IsTied w → AreShut w flags → a < w.darts → HasPeriod w a p →
-    In x (path w a p) → IsFlagged flags x → IsFlagged flags a
+    In x (darts_walked w a p) → IsFlagged flags x → IsFlagged flags a
 shut_back w flags a p x tied shut l period here m =
     let j = path_member w x a p here in
     let e : j.0 + (p - j.0) ≡ p = omega (arith, j.2) in
@@ -72,9 +72,9 @@ pub record IsTracing (w : DartMap) (right : ℕ) (flags : List Bool) (corners co
   pub passed : (a : ℕ) → a < d → IsCorner w a → IsFlagged flags a
   pub places : ℕ
   pub period : HasPeriod w right places
-  pub outer_is : outer ≡ turning w (path w right places)
-  pub held : (a : ℕ) → In a (path w right places) → IsFlagged flags a
-  pub apart : (a : ℕ) → In a (concatenated inner) → In a (path w right places) → ⊥
+  pub outer_is : outer ≡ turning w (darts_walked w right places)
+  pub held : (a : ℕ) → In a (darts_walked w right places) → IsFlagged flags a
+  pub apart : (a : ℕ) → In a (concatenated inner) → In a (darts_walked w right places) → ⊥
 
 pub trace_begins : (w : DartMap) (right : ℕ) (none flags : List Bool) (outer : List ℕ) → ((a : ℕ) → IsFlagged none a → ⊥) → w.darts ≤ length flags →
     IsWalked w right none flags [] outer → IsTracing w right flags [] [] outer 0
@@ -92,7 +92,7 @@ trace_begins w right none flags outer blank size walked = record {
   listed = λ a h. absurd h;
   known = λ a m corner. elim (walked.only a m) [
     | inl old ↦ absurd (blank a old)
-    | inr here ↦ inr (subst (In a) (sym walked.corners) (turning_in w a (path w right walked.places) here corner))
+    | inr here ↦ inr (subst (In a) (sym walked.corners) (turning_in w a (darts_walked w right walked.places) here corner))
   ];
   passed = λ a l. absurd (omega arith);
   places = walked.places;
@@ -137,9 +137,9 @@ pub trace_more : (w : DartMap) (right : ℕ) (face_number : ℕ → ℕ) (flags 
     IsTracing w right after new (counts ++ (count ∷ [])) outer (d + 1)
 trace_more w right face_number flags after corners counts outer new d count tied right_in turns d_in corner bare same_size counted trace walked =
     let p : ℕ = walked.places in
-    let r : List ℕ = turning w (path w d p) in
+    let r : List ℕ = turning w (darts_walked w d p) in
     let inner : List (List ℕ) = trace.inner in
-    let fresh : (x : ℕ) → In x (path w d p) → IsFlagged flags x → ⊥ =
+    let fresh : (x : ℕ) → In x (darts_walked w d p) → IsFlagged flags x → ⊥ =
     λ x here m. bare (shut_back w flags d p x tied trace.shut d_in walked.period here m) in
     let inside : face_number d ≢ face_number right =
     λ h. bare (trace.held d (orbit_holds w face_number right trace.places d tied turns.face_numbers right_in trace.period d_in h)) in
@@ -154,10 +154,10 @@ trace_more w right face_number flags after corners counts outer new d count tied
       rings = rings_more w inner r trace.rings (orbit_ring w d p walked.period corner)
           (orbit_once w face_number (face_number right) d p tied turns d_in walked.period inside);
       distinct = subst Distinct (sym (concatenated_more inner r))
-          (distinct_append (concatenated inner) r trace.distinct (turning_distinct w (path w d p) (orbit_distinct w d p tied d_in walked.period))
-          (λ a left right. fresh a (in_turning w a (path w d p) right).0 (trace.listed a left)));
+          (distinct_append (concatenated inner) r trace.distinct (turning_distinct w (darts_walked w d p) (orbit_distinct w d p tied d_in walked.period))
+          (λ a left right. fresh a (in_turning w a (darts_walked w d p) right).0 (trace.listed a left)));
       below = subst (Below w.darts) (sym (concatenated_more inner r))
-          (below_append w.darts (concatenated inner) r trace.below (turning_below w w.darts (path w d p) (path_below w tied d p d_in)));
+          (below_append w.darts (concatenated inner) r trace.below (turning_below w w.darts (darts_walked w d p) (path_below w tied d p d_in)));
       size = omega (arith, trace.size, same_size);
       shut = λ a l m. elim (walked.only a m) [
         | inl old ↦ walked.kept (w.next a) (trace.shut a l old)
@@ -165,14 +165,14 @@ trace_more w right face_number flags after corners counts outer new d count tied
       ];
       listed = λ a h. elim (in_append a (concatenated inner) r (subst (In a) (concatenated_more inner r) h)) [
         | inl left ↦ walked.kept a (trace.listed a left)
-        | inr right ↦ walked.passed a (in_turning w a (path w d p) right).0
+        | inr right ↦ walked.passed a (in_turning w a (darts_walked w d p) right).0
       ];
       known = λ a m turn. elim (walked.only a m) [
         | inl old ↦ elim (trace.known a old turn) [
           | inl left ↦ inl (subst (In a) (sym (concatenated_more inner r)) (in_left a (concatenated inner) r left))
           | inr outside ↦ inr outside
         ]
-        | inr here ↦ inl (subst (In a) (sym (concatenated_more inner r)) (in_right a (concatenated inner) r (turning_in w a (path w d p) here turn)))
+        | inr here ↦ inl (subst (In a) (sym (concatenated_more inner r)) (in_right a (concatenated inner) r (turning_in w a (darts_walked w d p) here turn)))
       ];
       passed = λ a l turn. elim (cases_eq a d) [
         | inl e ↦ subst (IsFlagged after) (sym e) (walked.passed d (path_self w d p walked.period))
@@ -184,7 +184,7 @@ trace_more w right face_number flags after corners counts outer new d count tied
       held = λ a h. walked.kept a (trace.held a h);
       apart = λ a h outside. elim (in_append a (concatenated inner) r (subst (In a) (concatenated_more inner r) h)) [
         | inl left ↦ trace.apart a left outside
-        | inr right ↦ fresh a (in_turning w a (path w d p) right).0 (trace.held a outside)
+        | inr right ↦ fresh a (in_turning w a (darts_walked w d p) right).0 (trace.held a outside)
       ];
     }
 
@@ -193,17 +193,17 @@ pub trace_done : (w : DartMap) (right : ℕ) (face_number : ℕ → ℕ) (flags 
     (inner : List (List ℕ)) × AreFlat corners counts inner × AreListed w right inner outer
 trace_done w right face_number flags corners counts outer d tied right_in turn turns all trace =
     let p : ℕ = trace.places in
-    let r : List ℕ = turning w (path w right p) in
+    let r : List ℕ = turning w (darts_walked w right p) in
     let corner : IsCorner w right = λ h. omega (arith, h, turn) in
     let listed : AreListed w right trace.inner r = record {
       rings = trace.rings;
       distinct = distinct_append (concatenated trace.inner) r trace.distinct
-          (turning_distinct w (path w right p) (orbit_distinct w right p tied right_in trace.period))
-          (λ a left outside. trace.apart a left (in_turning w a (path w right p) outside).0);
+          (turning_distinct w (darts_walked w right p) (orbit_distinct w right p tied right_in trace.period))
+          (λ a left outside. trace.apart a left (in_turning w a (darts_walked w right p) outside).0);
       below = below_append w.darts (concatenated trace.inner) r trace.below
-          (turning_below w w.darts (path w right p) (path_below w tied right p right_in));
+          (turning_below w w.darts (darts_walked w right p) (path_below w tied right p right_in));
       ring = orbit_ring w right p trace.period corner;
-      front = turning w (path w right (p - 1));
+      front = turning w (darts_walked w right (p - 1));
       ends = orbit_ends w right p trace.period corner;
       turns_back = orbit_outside w face_number right p tied turns right_in trace.period;
       all = λ a l turn. elim (trace.known a (trace.passed a (omega (arith, l, all)) turn) turn) [
@@ -228,9 +228,9 @@ walked_few w start before after others listed walked =
     omega (
       arith,
       ap length walked.corners,
-      length-append others (turning w (path w start walked.places)),
-      turning_few w (path w start walked.places),
-      length-path w start walked.places,
+      length-append others (turning w (darts_walked w start walked.places)),
+      turning_few w (darts_walked w start walked.places),
+      length-darts_walked w start walked.places,
       walked.period.most,
     )
 

@@ -8,7 +8,7 @@ use Rattle.dissect.specs.DartMaps.{DartMap, IsTied}
 use Rattle.dissect.specs.Faces.{Stretches, Trail, In, Distinct, Below, TurnsOnce, ReachesCorners}
 use Rattle.dissect.specs.Turning.{total}
 use Rattle.dissect.specs.FaceNumbers.{AreFaceNumbers, darts_around_face, angles_around_face, HasTurns}
-use Rattle.dissect.specs.Walks.{steps, path, turning, HasPeriod}
+use Rattle.dissect.specs.Walks.{steps, darts_walked, turning, HasPeriod}
 use Rattle.dissect.proofs.Orbits.{steps_more, path_member, path_holds, path_below, path_trail, any_in, in_any, orbit_of, orbit_distinct, turning_total}
 
 pub face_number_along : (w : DartMap) (face_number : ℕ → ℕ) → IsTied w → AreFaceNumbers w face_number → (k a : ℕ) → a < w.darts → face_number (steps w k a) ≡ face_number a
@@ -17,22 +17,22 @@ face_number_along w face_number tied face_numbers (suc k) a l = face_number_alon
 
 -- the walk passes each dart with its number
 pub orbit_holds : (w : DartMap) (face_number : ℕ → ℕ) (a p x : ℕ) → IsTied w → AreFaceNumbers w face_number → a < w.darts → HasPeriod w a p →
-    x < w.darts → face_number x ≡ face_number a → In x (path w a p)
+    x < w.darts → face_number x ≡ face_number a → In x (darts_walked w a p)
 orbit_holds w face_number a p x tied face_numbers l period x_in same =
-    let s : ℕ → Bool = λ y. list_any (eqb y) (path w a p) in
+    let s : ℕ → Bool = λ y. list_any (eqb y) (darts_walked w a p) in
     let closed : (y : ℕ) → y < w.darts → s y ≡ true → s (w.next y) ≡ true = λ y l h.
-    let m = path_member w y a p (any_in y (path w a p) h) in
-    in_any (w.next y) (path w a p) (elim (cases_eq m.0 p) [
+    let m = path_member w y a p (any_in y (darts_walked w a p) h) in
+    in_any (w.next y) (darts_walked w a p) (elim (cases_eq m.0 p) [
       | inl e ↦
           let here : w.next y ≡ steps w 1 a = ap w.next (sym m.3 ∙ ap (λ (k : ℕ). steps w k a) e ∙ period.back) in
-          subst (λ (z : ℕ). In z (path w a p)) (sym here) (path_holds w a p 1 (omega arith) period.some)
+          subst (λ (z : ℕ). In z (darts_walked w a p)) (sym here) (path_holds w a p 1 (omega arith) period.some)
       | inr less ↦
           let here : w.next y ≡ steps w (suc m.0) a = ap w.next (sym m.3) ∙ sym (steps_more w m.0 a) in
-          subst (λ (z : ℕ). In z (path w a p)) (sym here) (path_holds w a p (suc m.0) (omega arith) (omega (arith, m.2, less)))
+          subst (λ (z : ℕ). In z (darts_walked w a p)) (sym here) (path_holds w a p (suc m.0) (omega arith) (omega (arith, m.2, less)))
     ]) in
-    let begins : s a ≡ true = in_any a (path w a p)
-    (subst (λ (z : ℕ). In z (path w a p)) period.back (path_holds w a p p period.some (omega arith))) in
-    any_in x (path w a p) (face_numbers.least s closed a x l x_in (sym same) begins)
+    let begins : s a ≡ true = in_any a (darts_walked w a p)
+    (subst (λ (z : ℕ). In z (darts_walked w a p)) period.back (path_holds w a p p period.some (omega arith))) in
+    any_in x (darts_walked w a p) (face_numbers.least s closed a x l x_in (sym same) begins)
 
 -- the sum over the darts of a list
 pub listed_sum : (n : ℕ) (f : ℕ → ℕ) (xs : List ℕ) → Distinct xs → Below n xs →
@@ -68,19 +68,19 @@ listed_sum n f (y ∷ ys) distinct below =
 
 -- the same sum, over the darts with the number
 pub numbered_sum : (w : DartMap) (face_number : ℕ → ℕ) (a p : ℕ) (f : ℕ → ℕ) → IsTied w → AreFaceNumbers w face_number → a < w.darts → HasPeriod w a p →
-    sum_below w.darts (λ x. cond (eqb (face_number x) (face_number a)) (f x) 0) ≡ total (map f (path w a p))
+    sum_below w.darts (λ x. cond (eqb (face_number x) (face_number a)) (f x) 0) ≡ total (map f (darts_walked w a p))
 numbered_sum w face_number a p f tied face_numbers l period =
-    sum_below-same w.darts (λ x. cond (eqb (face_number x) (face_number a)) (f x) 0) (λ x. cond (list_any (eqb x) (path w a p)) (f x) 0)
+    sum_below-same w.darts (λ x. cond (eqb (face_number x) (face_number a)) (f x) 0) (λ x. cond (list_any (eqb x) (darts_walked w a p)) (f x) 0)
     (λ x x_in. ap (λ (b : Bool). cond b (f x) 0) (same x x_in))
-    ∙ listed_sum w.darts f (path w a p) (orbit_distinct w a p tied l period) (path_below w tied a p l)
+    ∙ listed_sum w.darts f (darts_walked w a p) (orbit_distinct w a p tied l period) (path_below w tied a p l)
   where
-    same : (x : ℕ) → x < w.darts → eqb (face_number x) (face_number a) ≡ list_any (eqb x) (path w a p)
+    same : (x : ℕ) → x < w.darts → eqb (face_number x) (face_number a) ≡ list_any (eqb x) (darts_walked w a p)
     same x x_in =
         elim (cases_eq (face_number x) (face_number a)) [
-          | inl e ↦ eq-eqb (face_number x) (face_number a) e ∙ sym (in_any x (path w a p) (orbit_holds w face_number a p x tied face_numbers l period x_in e))
-          | inr ne ↦ elim (cases_Bool (list_any (eqb x) (path w a p))) [
+          | inl e ↦ eq-eqb (face_number x) (face_number a) e ∙ sym (in_any x (darts_walked w a p) (orbit_holds w face_number a p x tied face_numbers l period x_in e))
+          | inr ne ↦ elim (cases_Bool (list_any (eqb x) (darts_walked w a p))) [
             | inl there ↦
-                let m = path_member w x a p (any_in x (path w a p) there) in
+                let m = path_member w x a p (any_in x (darts_walked w a p) there) in
                 absurd (ne (ap face_number (sym m.3) ∙ face_number_along w face_number tied face_numbers m.0 a l))
             | inr none ↦ ne_eqb (face_number x) (face_number a) ne ∙ sym none
           ]
@@ -92,20 +92,20 @@ total-ones (x ∷ xs) = omega (arith, total-ones xs)
 
 -- the angles on the walk are those of the face, and so are the darts
 pub orbit_angles : (w : DartMap) (face_number : ℕ → ℕ) (a p : ℕ) → IsTied w → AreFaceNumbers w face_number → a < w.darts → HasPeriod w a p →
-    angles_around_face w face_number (face_number a) ≡ total (map w.angle (path w a p))
+    angles_around_face w face_number (face_number a) ≡ total (map w.angle (darts_walked w a p))
 orbit_angles w face_number a p tied face_numbers l period = numbered_sum w face_number a p w.angle tied face_numbers l period
 
 pub orbit_darts : (w : DartMap) (face_number : ℕ → ℕ) (a p : ℕ) → IsTied w → AreFaceNumbers w face_number → a < w.darts → HasPeriod w a p →
-    darts_around_face w face_number (face_number a) ≡ length (path w a p)
-orbit_darts w face_number a p tied face_numbers l period = numbered_sum w face_number a p (λ _. 1) tied face_numbers l period ∙ total-ones (path w a p)
+    darts_around_face w face_number (face_number a) ≡ length (darts_walked w a p)
+orbit_darts w face_number a p tied face_numbers l period = numbered_sum w face_number a p (λ _. 1) tied face_numbers l period ∙ total-ones (darts_walked w a p)
 
 -- so the corners on the walk turn once to the left,
 pub orbit_once : (w : DartMap) (face_number : ℕ → ℕ) (outer a p : ℕ) → IsTied w → HasTurns w face_number outer → a < w.darts → HasPeriod w a p →
-    face_number a ≢ outer → TurnsOnce w (turning w (path w a p))
+    face_number a ≢ outer → TurnsOnce w (turning w (darts_walked w a p))
 orbit_once w face_number outer a p tied turns l period inner =
     omega (
       arith,
-      turning_total w (path w a p),
+      turning_total w (darts_walked w a p),
       orbit_angles w face_number a p tied turns.face_numbers l period,
       orbit_darts w face_number a p tied turns.face_numbers l period,
       turns.inner a l inner,
@@ -113,11 +113,11 @@ orbit_once w face_number outer a p tied turns l period inner =
 
 -- and those round the outer face once to the right
 pub orbit_outside : (w : DartMap) (face_number : ℕ → ℕ) (a p : ℕ) → IsTied w → HasTurns w face_number (face_number a) → a < w.darts → HasPeriod w a p →
-    total (map w.angle (turning w (path w a p))) ≡ 2 * length (turning w (path w a p)) + 4
+    total (map w.angle (turning w (darts_walked w a p))) ≡ 2 * length (turning w (darts_walked w a p)) + 4
 orbit_outside w face_number a p tied turns l period =
     omega (
       arith,
-      turning_total w (path w a p),
+      turning_total w (darts_walked w a p),
       orbit_angles w face_number a p tied turns.face_numbers l period,
       orbit_darts w face_number a p tied turns.face_numbers l period,
       turns.outer_turns,
@@ -132,17 +132,17 @@ flat_total f (x ∷ xs) flat = omega (arith, flat x (inl refl), flat_total f xs 
 pub turns_reach : (w : DartMap) (face_number : ℕ → ℕ) (outer : ℕ) → IsTied w → HasTurns w face_number outer → ReachesCorners w
 turns_reach w face_number outer tied turns = λ a l.
     let period = orbit_of w tied a l in
-    first w a (turning w (path w a period.0)) (path_trail w a period.0) (some a l period.0 period.1)
+    first w a (turning w (darts_walked w a period.0)) (path_trail w a period.0) (some a l period.0 period.1)
   where
     first : (w : DartMap) (a : ℕ) (cs : List ℕ) → Trail w a cs → 0 < length cs → (c : ℕ) × Stretches w a c
     first w a [] trail more = absurd (omega arith)
     first w a (c ∷ cs) trail more = (c, trail.0)
 
-    some : (a : ℕ) → a < w.darts → (p : ℕ) → HasPeriod w a p → 0 < length (turning w (path w a p))
+    some : (a : ℕ) → a < w.darts → (p : ℕ) → HasPeriod w a p → 0 < length (turning w (darts_walked w a p))
     some a l p period =
-        elim (cases_eq (length (turning w (path w a p))) 0) [
+        elim (cases_eq (length (turning w (darts_walked w a p))) 0) [
           | inl none ↦
-              let empty : total (map w.angle (turning w (path w a p))) ≡ 0 = no_total (turning w (path w a p)) none in
+              let empty : total (map w.angle (turning w (darts_walked w a p))) ≡ 0 = no_total (turning w (darts_walked w a p)) none in
               elim (cases_eq (face_number a) outer) [
                 | inl e ↦ absurd (omega (
                   arith,

@@ -6,7 +6,7 @@ use Rattle.dissect.specs.DartMaps.{DartMap, IsTied}
 use Rattle.dissect.specs.Faces.{In}
 use Rattle.dissect.specs.FaceNumbers.{AreFaceNumbers, HasTurns}
 use Rattle.dissect.proofs.Listing.{in_append, in_left, in_right}
-use Rattle.dissect.specs.Walks.{steps, path, turning, IsFlagged, IsWalked}
+use Rattle.dissect.specs.Walks.{steps, darts_walked, turning, IsFlagged, IsWalked}
 use Rattle.dissect.proofs.Orbits.{steps_in, steps_more, path_member, path_more, orbit_of, turning-append, turning_corner, turning_straight}
 use Rattle.dissect.proofs.Turns.{flat_total, face_number_along, orbit_angles, orbit_darts}
 
@@ -35,7 +35,7 @@ pub seek_fails : (w : DartMap) (face_number : ℕ → ℕ) (a k dart : ℕ) → 
 seek_fails w face_number a k dart tied turns l all seek =
     let period = orbit_of w tied a l in
     let p : ℕ = period.0 in
-    let flat : (x : ℕ) → In x (path w a p) → w.angle x ≤ 2 = λ x h.
+    let flat : (x : ℕ) → In x (darts_walked w a p) → w.angle x ≤ 2 = λ x h.
     let m = path_member w x a p h in
     elim (cases_eq m.0 p) [
       | inl e ↦ subst (λ (d : ℕ). w.angle d ≤ 2) (sym period.1.back ∙ ap (λ (i : ℕ). steps w i a) (sym e) ∙ m.3) (seek.flat 0 (omega (arith, all, l)))
@@ -43,7 +43,7 @@ seek_fails w face_number a k dart tied turns l all seek =
     ] in
     omega (
       arith,
-      flat_total w.angle (path w a p) flat,
+      flat_total w.angle (darts_walked w a p) flat,
       orbit_angles w face_number a p tied turns.face_numbers l period.1,
       orbit_darts w face_number a p tied turns.face_numbers l period.1,
       turns.outer_turns,
@@ -53,10 +53,10 @@ seek_fails w face_number a k dart tied turns l all seek =
 pub record IsWalking (w : DartMap) (start : ℕ) (before after : List Bool) (others listed : List ℕ) (k dart : ℕ) : Type 0 where
   pub here : dart ≡ steps w k start
   pub away : (j : ℕ) → 1 ≤ j → j ≤ k → steps w j start ≢ start
-  pub corners : listed ≡ others ++ turning w (path w start k)
+  pub corners : listed ≡ others ++ turning w (darts_walked w start k)
   pub kept : (a : ℕ) → IsFlagged before a → IsFlagged after a
-  pub passed : (a : ℕ) → In a (path w start k) → IsFlagged after a
-  pub only : (a : ℕ) → IsFlagged after a → IsFlagged before a ⊎ In a (path w start k)
+  pub passed : (a : ℕ) → In a (darts_walked w start k) → IsFlagged after a
+  pub only : (a : ℕ) → IsFlagged after a → IsFlagged before a ⊎ In a (darts_walked w start k)
   pub size : length after ≡ length before
 
 pub walk_begins : (w : DartMap) (start : ℕ) (flags : List Bool) (others : List ℕ) → IsWalking w start flags flags others others 0 start
@@ -74,10 +74,10 @@ walk_begins w start flags others = record {
 pub record IsStepped (w : DartMap) (start : ℕ) (before after : List Bool) (others listed : List ℕ) (k dart : ℕ) : Type 0 where
   pub here : dart ≡ steps w (suc k) start
   pub away : (j : ℕ) → 1 ≤ j → j ≤ k → steps w j start ≢ start
-  pub corners : listed ≡ others ++ turning w (path w start (suc k))
+  pub corners : listed ≡ others ++ turning w (darts_walked w start (suc k))
   pub kept : (a : ℕ) → IsFlagged before a → IsFlagged after a
-  pub passed : (a : ℕ) → In a (path w start (suc k)) → IsFlagged after a
-  pub only : (a : ℕ) → IsFlagged after a → IsFlagged before a ⊎ In a (path w start (suc k))
+  pub passed : (a : ℕ) → In a (darts_walked w start (suc k)) → IsFlagged after a
+  pub only : (a : ℕ) → IsFlagged after a → IsFlagged before a ⊎ In a (darts_walked w start (suc k))
   pub size : length after ≡ length before
 
 pub walk_steps : (w : DartMap) (start : ℕ) (before after : List Bool) (others listed new : List ℕ) (k dart next : ℕ) →
@@ -86,8 +86,8 @@ pub walk_steps : (w : DartMap) (start : ℕ) (before after : List Bool) (others 
     IsStepped w start before (set after next true) others new k next
 walk_steps w start before after others listed new k dart next walk to inside put =
     let here : next ≡ steps w (suc k) start = to ∙ ap w.next walk.here ∙ sym (steps_more w k start) in
-    let more : path w start (suc k) ≡ path w start k ++ (next ∷ []) =
-    path_more w start k ∙ ap (λ (d : ℕ). path w start k ++ (d ∷ [])) (sym here) in
+    let more : darts_walked w start (suc k) ≡ darts_walked w start k ++ (next ∷ []) =
+    path_more w start k ∙ ap (λ (d : ℕ). darts_walked w start k ++ (d ∷ [])) (sym here) in
     let set_here : get_or (set after next true) next false ≡ true = get_or-set_same after next true false inside in
     let set_other : (a : ℕ) → a ≢ next → get_or (set after next true) a false ≡ get_or after a false =
     λ a ne. get_or-set_other after next a true false ne in
@@ -96,15 +96,15 @@ walk_steps w start before after others listed new k dart next walk to inside put
       away = walk.away;
       corners = elim put [
         | inl corner ↦ corner.1 ∙ ap (λ (xs : List ℕ). xs ++ (next ∷ [])) walk.corners
-            ∙ append_assoc others (turning w (path w start k)) (next ∷ [])
+            ∙ append_assoc others (turning w (darts_walked w start k)) (next ∷ [])
             ∙ ap (λ (xs : List ℕ). others ++ xs)
-            (ap (λ (xs : List ℕ). turning w (path w start k) ++ xs) (sym (turning_corner w next [] corner.0))
-            ∙ sym (turning-append w (path w start k) (next ∷ [])) ∙ ap (turning w) (sym more))
+            (ap (λ (xs : List ℕ). turning w (darts_walked w start k) ++ xs) (sym (turning_corner w next [] corner.0))
+            ∙ sym (turning-append w (darts_walked w start k) (next ∷ [])) ∙ ap (turning w) (sym more))
         | inr straight ↦ straight.1 ∙ walk.corners
             ∙ ap (λ (xs : List ℕ). others ++ xs)
-            (sym (append-nil (turning w (path w start k)))
-            ∙ ap (λ (xs : List ℕ). turning w (path w start k) ++ xs) (sym (turning_straight w next [] straight.0))
-            ∙ sym (turning-append w (path w start k) (next ∷ [])) ∙ ap (turning w) (sym more))
+            (sym (append-nil (turning w (darts_walked w start k)))
+            ∙ ap (λ (xs : List ℕ). turning w (darts_walked w start k) ++ xs) (sym (turning_straight w next [] straight.0))
+            ∙ sym (turning-append w (darts_walked w start k) (next ∷ [])) ∙ ap (turning w) (sym more))
       ];
       kept = λ a h. elim (cases_eq a next) [
         | inl e ↦ subst (λ (d : ℕ). get_or (set after next true) d false ≡ true) (sym e) set_here
@@ -113,13 +113,13 @@ walk_steps w start before after others listed new k dart next walk to inside put
       passed = λ a h. elim (cases_eq a next) [
         | inl e ↦ subst (λ (d : ℕ). get_or (set after next true) d false ≡ true) (sym e) set_here
         | inr ne ↦ set_other a ne ∙ walk.passed a
-            (earlier a next (path w start k) ne (subst (λ (xs : List ℕ). In a xs) more h))
+            (earlier a next (darts_walked w start k) ne (subst (λ (xs : List ℕ). In a xs) more h))
       ];
       only = λ a h. elim (cases_eq a next) [
-        | inl e ↦ inr (subst (λ (xs : List ℕ). In a xs) (sym more) (in_right a (path w start k) (next ∷ []) (inl e)))
+        | inl e ↦ inr (subst (λ (xs : List ℕ). In a xs) (sym more) (in_right a (darts_walked w start k) (next ∷ []) (inl e)))
         | inr ne ↦ elim (walk.only a (sym (set_other a ne) ∙ h)) [
           | inl old ↦ inl old
-          | inr here ↦ inr (subst (λ (xs : List ℕ). In a xs) (sym more) (in_left a (path w start k) (next ∷ []) here))
+          | inr here ↦ inr (subst (λ (xs : List ℕ). In a xs) (sym more) (in_left a (darts_walked w start k) (next ∷ []) here))
         ]
       ];
       size = length-set after next true ∙ walk.size;

@@ -9,9 +9,9 @@ steps w zero a = a
 steps w (suc k) a = steps w k (w.next a)
 
 -- the darts of these steps, the first step first
-abbrev pub path : DartMap → ℕ → ℕ → List ℕ
-path w a zero = []
-path w a (suc k) = w.next a ∷ path w (w.next a) k
+abbrev pub darts_walked : DartMap → ℕ → ℕ → List ℕ
+darts_walked w a zero = []
+darts_walked w a (suc k) = w.next a ∷ darts_walked w (w.next a) k
 
 -- those of the darts at whose heads the walk turns
 abbrev pub turning : DartMap → List ℕ → List ℕ
@@ -33,7 +33,7 @@ IsFlagged flags a = slice_index_or flags a false ≡ true
 pub record IsWalked (w : DartMap) (start : ℕ) (before after : List Bool) (others listed : List ℕ) : Type 0 where
   pub places : ℕ
   pub period : HasPeriod w start places
-  pub corners : listed ≡ others ++ turning w (path w start places)
+  pub corners : listed ≡ others ++ turning w (darts_walked w start places)
   pub kept : (a : ℕ) → IsFlagged before a → IsFlagged after a
-  pub passed : (a : ℕ) → In a (path w start places) → IsFlagged after a
-  pub only : (a : ℕ) → IsFlagged after a → IsFlagged before a ⊎ In a (path w start places)
+  pub passed : (a : ℕ) → In a (darts_walked w start places) → IsFlagged after a
+  pub only : (a : ℕ) → IsFlagged after a → IsFlagged before a ⊎ In a (darts_walked w start places)

@@ -51,7 +51,7 @@ module _ {T : Type 0} where
 
   pub begins : IsFanned {T = T} [] (gatherer 0 [] ∷ [])
   begins = record {
-    seat = λ _. 0;
+    pass_of = λ _. 0;
     taker = 0;
     made = 0;
     taken = [];
@@ -66,25 +66,25 @@ module _ {T : Type 0} where
   gives n pass v lane x role same items views _ h at =
       let w : FanLog T = giver x.0 (given_in v ++ x.1 ∷ []) in
       let all : List (ℕ × T) = h.all ++ x ∷ [] in
-      let mine : KnowsLane h.seat h.made h.all pass (lane, given_in v) =
-      All-head (KnowsLane h.seat h.made h.all pass) (lane, given_in v) [] (subst (λ (u : FanLog T). All (KnowsLane h.seat h.made h.all pass) u.lanes) role (h.known pass v at).0) in
+      let mine : KnowsLane h.pass_of h.made h.all pass (lane, given_in v) =
+      All-head (KnowsLane h.pass_of h.made h.all pass) (lane, given_in v) [] (subst (λ (u : FanLog T). All (KnowsLane h.pass_of h.made h.all pass) u.lanes) role (h.known pass v at).0) in
       let below : x.0 < h.made = subst (λ k. k < h.made) (sym same) mine.1 in
-      let now : KnowsLane h.seat h.made all pass (x.0, given_in v ++ x.1 ∷ []) =
-      (mine.0 ∙ ap h.seat (sym same), below, of_lane-mine x.0 h.all x refl ∙ ap (λ l. l ++ x.1 ∷ []) (ap (λ k. of_lane k h.all) same ∙ mine.2)) in (
+      let now : KnowsLane h.pass_of h.made all pass (x.0, given_in v ++ x.1 ∷ []) =
+      (mine.0 ∙ ap h.pass_of (sym same), below, of_lane-mine x.0 h.all x refl ∙ ap (λ l. l ++ x.1 ∷ []) (ap (λ k. of_lane k h.all) same ∙ mine.2)) in (
         w,
         record {
-          seat = h.seat;
+          pass_of = h.pass_of;
           taker = h.taker;
           made = h.made;
           taken = h.taken;
           all = all;
           parted = sym (append_assoc h.taken items (x ∷ [])) ∙ ap (λ l. l ++ x ∷ []) h.parted;
           others = λ l le. of_lane-other l h.all x (λ e. omega arith) ∙ h.others l le;
-          known = each_set (KnowsFan h.seat h.made h.taker h.taken all) views pass w
-              (All-cons (KnowsLane h.seat h.made all pass) (x.0, given_in v ++ x.1 ∷ []) [] now (All-nil (KnowsLane h.seat h.made all pass)), λ p. absurd (off p))
+          known = each_set (KnowsFan h.pass_of h.made h.taker h.taken all) views pass w
+              (All-cons (KnowsLane h.pass_of h.made all pass) (x.0, given_in v ++ x.1 ∷ []) [] now (All-nil (KnowsLane h.pass_of h.made all pass)), λ p. absurd (off p))
               (λ j u apart e. (
-                All-weaker (KnowsLane h.seat h.made h.all j) (KnowsLane h.seat h.made all j)
-                    (λ l k. (k.0, k.1, of_lane-other l.0 h.all x (λ e'. apart (k.0 ∙ ap h.seat (sym e' ∙ same) ∙ sym mine.0)) ∙ k.2)) u.lanes (h.known j u e).0,
+                All-weaker (KnowsLane h.pass_of h.made h.all j) (KnowsLane h.pass_of h.made all j)
+                    (λ l k. (k.0, k.1, of_lane-other l.0 h.all x (λ e'. apart (k.0 ∙ ap h.pass_of (sym e' ∙ same) ∙ sym mine.0)) ∙ k.2)) u.lanes (h.known j u e).0,
                 (h.known j u e).1,
               ));
         },
@@ -103,14 +103,14 @@ module _ {T : Type 0} where
       let taken : List (ℕ × T) = h.taken ++ x ∷ [] in (
         w,
         record {
-          seat = h.seat;
+          pass_of = h.pass_of;
           taker = h.taker;
           made = h.made;
           taken = taken;
           all = h.all;
           parted = append_assoc h.taken (x ∷ []) items ∙ h.parted;
           others = h.others;
-          known = each_set (KnowsFan h.seat h.made h.taker taken h.all) views pass w (mine.0, λ _. (role.0, ap (λ l. l ++ x ∷ []) role.1, role.2))
+          known = each_set (KnowsFan h.pass_of h.made h.taker taken h.all) views pass w (mine.0, λ _. (role.0, ap (λ l. l ++ x ∷ []) role.1, role.2))
               (λ j u apart e. ((h.known j u e).0, λ p. absurd (apart (((h.known j u e).1 p).0 ∙ sym role.0))));
         },
         (subst (λ k. x.0 < k) (sym role.2) (of_made x items views h), refl),
@@ -123,15 +123,15 @@ module _ {T : Type 0} where
       let mine = h.known pass v at in
       let role = mine.1 may in
       let vs : List (FanLog T) = set views pass left in
-      let seat : ℕ → ℕ = λ l. cond (l == h.made) (length vs) (h.seat l) in
-      let Now : ℕ → FanLog T → Type 0 = KnowsFan seat (h.made + 1) h.taker h.taken h.all in
-      let older : (j : ℕ) (u : FanLog T) → All (KnowsLane h.seat h.made h.all j) u.lanes → All (KnowsLane seat (h.made + 1) h.all j) u.lanes = λ j u k.
-      All-weaker (KnowsLane h.seat h.made h.all j) (KnowsLane seat (h.made + 1) h.all j)
-      (λ l f. (f.0 ∙ passed_by l.0 h.made (length vs) (h.seat l.0) (λ e. omega arith), omega arith, f.2)) u.lanes k in
-      let new : KnowsLane seat (h.made + 1) h.all (length vs) (v.made, []) =
-      (chosen v.made h.made (length vs) (h.seat v.made) role.2, omega arith, h.others v.made (omega arith)) in
+      let pass_of : ℕ → ℕ = λ l. cond (l == h.made) (length vs) (h.pass_of l) in
+      let Now : ℕ → FanLog T → Type 0 = KnowsFan pass_of (h.made + 1) h.taker h.taken h.all in
+      let older : (j : ℕ) (u : FanLog T) → All (KnowsLane h.pass_of h.made h.all j) u.lanes → All (KnowsLane pass_of (h.made + 1) h.all j) u.lanes = λ j u k.
+      All-weaker (KnowsLane h.pass_of h.made h.all j) (KnowsLane pass_of (h.made + 1) h.all j)
+      (λ l f. (f.0 ∙ passed_by l.0 h.made (length vs) (h.pass_of l.0) (λ e. omega arith), omega arith, f.2)) u.lanes k in
+      let new : KnowsLane pass_of (h.made + 1) h.all (length vs) (v.made, []) =
+      (chosen v.made h.made (length vs) (h.pass_of v.made) role.2, omega arith, h.others v.made (omega arith)) in
       record {
-        seat = seat;
+        pass_of = pass_of;
         taker = h.taker;
         made = h.made + 1;
         taken = h.taken;
@@ -139,7 +139,7 @@ module _ {T : Type 0} where
         parted = h.parted;
         others = λ l le. h.others l (omega arith);
         known = each_more Now vs (giver v.made [])
-            (All-cons (KnowsLane seat (h.made + 1) h.all (length vs)) (v.made, []) [] new (All-nil (KnowsLane seat (h.made + 1) h.all (length vs))), λ p. absurd (off p))
+            (All-cons (KnowsLane pass_of (h.made + 1) h.all (length vs)) (v.made, []) [] new (All-nil (KnowsLane pass_of (h.made + 1) h.all (length vs))), λ p. absurd (off p))
             (each_set Now views pass left (older pass v mine.0, λ _. (role.0, role.1, ap (λ k. k + 1) role.2))
             (λ j u apart e. (older j u (h.known j u e).0, λ p. absurd (apart (((h.known j u e).1 p).0 ∙ sym role.0)))));
       }
@@ -152,26 +152,26 @@ module _ {T : Type 0} where
       let vs : List (FanLog T) = set views pass both in
       let was : get_elem? views other ≡ some u = ⊎_elim (λ x. absurd (two x.0)) (λ x. x.1) (at_set views pass other both u at') in
       let theirs = h.known other u was in
-      let seat : ℕ → ℕ = λ l. cond (h.seat l == other) pass (h.seat l) in
-      let Now : ℕ → FanLog T → Type 0 = λ j y. j ≢ other → KnowsFan seat h.made h.taker h.taken h.all j y in
-      let kept : (j : ℕ) (y : FanLog T) → j ≢ other → All (KnowsLane h.seat h.made h.all j) y.lanes → All (KnowsLane seat h.made h.all j) y.lanes = λ j y no k.
-      All-weaker (KnowsLane h.seat h.made h.all j) (KnowsLane seat h.made h.all j)
-      (λ l f. (f.0 ∙ passed_by (h.seat l.0) other pass (h.seat l.0) (λ e. no (f.0 ∙ e)), f.1, f.2)) y.lanes k in
-      let moved : All (KnowsLane seat h.made h.all pass) u.lanes =
-      All-weaker (KnowsLane h.seat h.made h.all other) (KnowsLane seat h.made h.all pass)
-      (λ l f. (chosen (h.seat l.0) other pass (h.seat l.0) (sym f.0), f.1, f.2)) u.lanes theirs.0 in
+      let pass_of : ℕ → ℕ = λ l. cond (h.pass_of l == other) pass (h.pass_of l) in
+      let Now : ℕ → FanLog T → Type 0 = λ j y. j ≢ other → KnowsFan pass_of h.made h.taker h.taken h.all j y in
+      let kept : (j : ℕ) (y : FanLog T) → j ≢ other → All (KnowsLane h.pass_of h.made h.all j) y.lanes → All (KnowsLane pass_of h.made h.all j) y.lanes = λ j y no k.
+      All-weaker (KnowsLane h.pass_of h.made h.all j) (KnowsLane pass_of h.made h.all j)
+      (λ l f. (f.0 ∙ passed_by (h.pass_of l.0) other pass (h.pass_of l.0) (λ e. no (f.0 ∙ e)), f.1, f.2)) y.lanes k in
+      let moved : All (KnowsLane pass_of h.made h.all pass) u.lanes =
+      All-weaker (KnowsLane h.pass_of h.made h.all other) (KnowsLane pass_of h.made h.all pass)
+      (λ l f. (chosen (h.pass_of l.0) other pass (h.pass_of l.0) (sym f.0), f.1, f.2)) u.lanes theirs.0 in
       let now : Each Now vs = each_set Now views pass both
-      (λ no. (All-append (KnowsLane seat h.made h.all pass) u.lanes v.lanes moved (kept pass v no mine.0), mine.1))
+      (λ no. (All-append (KnowsLane pass_of h.made h.all pass) u.lanes v.lanes moved (kept pass v no mine.0), mine.1))
       (λ j y _ e no. (kept j y no (h.known j y e).0, (h.known j y e).1)) in
       record {
-        seat = seat;
+        pass_of = pass_of;
         taker = h.taker;
         made = h.made;
         taken = h.taken;
         all = h.all;
         parted = h.parted;
         others = h.others;
-        known = each_set (KnowsFan seat h.made h.taker h.taken h.all) vs other nobody (All-nil (KnowsLane seat h.made h.all other), λ p. absurd (off p)) (λ j y apart e. now j y e apart);
+        known = each_set (KnowsFan pass_of h.made h.taker h.taken h.all) vs other nobody (All-nil (KnowsLane pass_of h.made h.all other), λ p. absurd (off p)) (λ j y apart e. now j y e apart);
       }
 
   pub totals : (pass : ℕ) (v : FanLog T) → v.takes ≡ true → Learns IsFanned pass v (Accounts v)
@@ -179,6 +179,6 @@ module _ {T : Type 0} where
       let mine = h.known pass v at in
       let role = mine.1 may in
       let all : v.taken ++ items ≡ h.all = ap (λ l. l ++ items) role.1 ∙ h.parted in (
-        All-weaker (KnowsLane h.seat h.made h.all pass) (λ l. of_lane l.0 (v.taken ++ items) ≡ l.1) (λ l k. ap (of_lane l.0) all ∙ k.2) v.lanes mine.0,
+        All-weaker (KnowsLane h.pass_of h.made h.all pass) (λ l. of_lane l.0 (v.taken ++ items) ≡ l.1) (λ l k. ap (of_lane l.0) all ∙ k.2) v.lanes mine.0,
         λ lane le. ap (of_lane lane) all ∙ h.others lane (subst (λ k. k ≤ lane) role.2 le),
       )

@@ -34,12 +34,12 @@ module _ {T : Type 0} where
 
   -- a lane that a pass has: no other pass has it, it was made, and what was given there is known
   abbrev pub KnowsLane : (ℕ → ℕ) → ℕ → List (ℕ × T) → ℕ → ℕ × List T → Type 0
-  KnowsLane seat made all pass l = (pass ≡ seat l.0) × (l.0 < made) × (of_lane l.0 all ≡ l.1)
+  KnowsLane pass_of made all pass l = (pass ≡ pass_of l.0) × (l.0 < made) × (of_lane l.0 all ≡ l.1)
 
   -- what the pass of this number knows, where the pass `taker` may take
   abbrev pub KnowsFan : (ℕ → ℕ) → ℕ → ℕ → List (ℕ × T) → List (ℕ × T) → ℕ → FanLog T → Type 0
-  KnowsFan seat made taker taken all pass v =
-      All (KnowsLane seat made all pass) v.lanes × (v.takes ≡ true → (pass ≡ taker) × (v.taken ≡ taken) × (v.made ≡ made))
+  KnowsFan pass_of made taker taken all pass v =
+      All (KnowsLane pass_of made all pass) v.lanes × (v.takes ≡ true → (pass ≡ taker) × (v.taken ≡ taken) × (v.made ≡ made))
 
   -- each lane of a pass gave what was taken of it and then what the fan holds of it, and a lane that was
   -- not made has nothing
@@ -48,7 +48,7 @@ module _ {T : Type 0} where
 
 pub record IsFanned {T : Type 0} (items : List (ℕ × T)) (views : List (FanLog T)) : Type 0 where
   -- the pass that has each lane, and the one that may take
-  pub seat : ℕ → ℕ
+  pub pass_of : ℕ → ℕ
   pub taker : ℕ
   -- how many lanes were made
   pub made : ℕ
@@ -58,4 +58,4 @@ pub record IsFanned {T : Type 0} (items : List (ℕ × T)) (views : List (FanLog
   pub parted : taken ++ items ≡ all
   -- lanes that were not made gave nothing
   pub others : (lane : ℕ) → made ≤ lane → of_lane lane all ≡ []
-  pub known : (pass : ℕ) (v : FanLog T) → get_elem? views pass ≡ some v → KnowsFan seat made taker taken all pass v
+  pub known : (pass : ℕ) (v : FanLog T) → get_elem? views pass ≡ some v → KnowsFan pass_of made taker taken all pass v
