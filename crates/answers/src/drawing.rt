@@ -110,7 +110,7 @@ pub(crate) fn draw(
     plane: &Plane,
     shape: &Shape,
     directions: &[u8],
-    drawing: DrawingKind,
+    drawing_kind: DrawingKind,
 ) -> Result<Result<Drawing, Cause>, AllocError>
     requires shape { IsShape plane.now shape.now }
     requires directions { AreDirectionsOf plane.now shape.now directions.now }
@@ -123,7 +123,7 @@ pub(crate) fn draw(
         Err(CompactFault::Memory) => return Err(AllocError),
     };
     boxes.give_back(&mut scratch.boxes);
-    match shorter_drawing(alloc, scratch, plane, shape, &points, drawing) {
+    match shorter_drawing(alloc, scratch, plane, shape, &points, drawing_kind) {
         Ok(Some(shorter)) => return Ok(Ok(shorter)),
         Ok(None) => {}
         Err(AllocError) => return Err(AllocError),
@@ -146,7 +146,7 @@ fn shorter_drawing(
     plane: &Plane,
     shape: &Shape,
     points: &Points,
-    drawing: DrawingKind,
+    drawing_kind: DrawingKind,
 ) -> Result<Option<Drawing>, AllocError>
     requires shape { IsShape plane.now shape.now }
     requires vertices { length points.now.vertices ≡ vertices plane.now }
@@ -154,7 +154,7 @@ fn shorter_drawing(
     ensures points { IfOk result (λ found. IfSome found (HasPoints plane.now)) }
     ensures draws { IfOk result (λ found. IfSome found (Draws plane.now shape.now)) }
 {
-    if drawing == DrawingKind::Quick {
+    if drawing_kind == DrawingKind::Quick {
         return Ok(None);
     }
     let Some(shorter) = compact_by_visibility_in(alloc, &mut scratch.compaction, plane, points)?

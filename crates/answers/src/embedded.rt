@@ -32,7 +32,7 @@ impl<P: Purpose> Staged for Item<P, <P as Purpose>::Carried, Traced> {
     fn work(self, alloc: Global, scratch: &mut ShapeScratch) -> Shaped<P> {
         let task = self.task;
         let plane = scratch.unpack(self.state);
-        let shaped_plane = shape(alloc, scratch, plane, task.choice, task.drawing);
+        let shaped_plane = shape(alloc, scratch, plane, task.choice, task.drawing_kind);
         Item {
             task,
             purpose: self.purpose,

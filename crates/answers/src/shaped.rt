@@ -30,7 +30,7 @@ impl<P: Purpose> Staged for Item<P, <P as Purpose>::Carried, ShapeFound> {
     fn work(self, alloc: Global, scratch: &mut DrawScratch) -> P::Entry {
         let task = self.task;
         let shaped_plane = scratch.unpack(self.state);
-        let answer = answer_with(alloc, scratch, shaped_plane, task.drawing);
+        let answer = answer_with(alloc, scratch, shaped_plane, task.drawing_kind);
         self.purpose.finish(alloc, scratch, task, self.rec, answer)
     }
 }

@@ -129,12 +129,12 @@ impl ShapeScratch {
 /// # Errors
 ///
 /// `AllocError` where there is no memory for it; the plane is dropped then.
-pub(crate) fn lay(
+pub(crate) fn with_least_shape(
     alloc: Global,
     scratch: &mut ShapeScratch,
     mut plane: Plane,
     choice: Choice,
-    drawing: DrawingKind,
+    drawing_kind: DrawingKind,
 ) -> Result<ShapedPlane, AllocError>
     ensures { IfOk result (λ shaped_plane. (bytes : List ℕ)
         → IsTracedPlane bytes plane → IsPlaneOf choice bytes shaped_plane.plane) }
@@ -146,7 +146,7 @@ pub(crate) fn lay(
         &plane,
         shape,
         &prices,
-        drawing,
+        drawing_kind,
     )?;
     let spare = mem::replace(&mut scratch.directions, Vec::new(alloc));
     let directions = directions_of(alloc, &mut scratch.search, spare, &plane, &shape)?;
@@ -188,7 +188,7 @@ fn shape_for(
     plane: &Plane,
     shape: Shape,
     prices: &Prices,
-    drawing: DrawingKind,
+    drawing_kind: DrawingKind,
 ) -> Result<Shape, AllocError>
     requires shape { IsShape plane.now shape }
     requires least { IsLeast plane.now shape }
@@ -197,7 +197,7 @@ fn shape_for(
     ensures least { IfOk result (λ made. IsLeast plane.now made) }
     ensures proof { IfOk result (λ made. IsProof plane.now made prices.now) }
 {
-    match drawing {
+    match drawing_kind {
         DrawingKind::Quick => Ok(shape),
         DrawingKind::Short => straighten_in(alloc, scratch, plane, shape, prices),
     }

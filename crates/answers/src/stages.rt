@@ -9,7 +9,7 @@ ghost use Rattle.drawing_laws.specs.Drawings.{IsDrawnIfLaid};
 use crate::drawing::{DrawScratch, draw};
 use crate::fault::ShapeFault;
 use crate::shaped_plane::ShapedPlane;
-use crate::shaping::{ShapeScratch, lay};
+use crate::shaping::{ShapeScratch, with_least_shape};
 use common::{Choice, DrawingKind};
 use embedding::{Graph, ReadFault, Rule};
 use entries::{Answer, Entry};
@@ -46,11 +46,11 @@ pub(crate) fn shape(
     scratch: &mut ShapeScratch,
     plane: Result<Plane, ShapeFault>,
     choice: Choice,
-    drawing: DrawingKind,
+    drawing_kind: DrawingKind,
 ) -> Result<ShapedPlane, ShapeFault>
     ensures { (bytes : List ℕ) → IsEmbedded bytes plane → IsShaped choice bytes result }
 {
-    match lay(alloc, scratch, plane?, choice, drawing) {
+    match with_least_shape(alloc, scratch, plane?, choice, drawing_kind) {
         Ok(shaped_plane) => Ok(shaped_plane),
         Err(AllocError) => Err(ShapeFault::Memory),
     }
@@ -61,7 +61,7 @@ pub(crate) fn answer_with(
     alloc: Global,
     scratch: &mut DrawScratch,
     shaped_plane: Result<ShapedPlane, ShapeFault>,
-    drawing: DrawingKind,
+    drawing_kind: DrawingKind,
 ) -> Answer
     ensures { (choice : Choice) (bytes : List ℕ) → IsShaped choice bytes shaped_plane → Answers choice bytes result }
 {
@@ -75,7 +75,7 @@ pub(crate) fn answer_with(
         Err(ShapeFault::Rule(rule)) => return Answer::Refused(rule),
         Err(ShapeFault::Memory) => return Answer::NoMemory,
     };
-    let drawn = draw(alloc, scratch, &plane, &shape, &directions, drawing);
+    let drawn = draw(alloc, scratch, &plane, &shape, &directions, drawing_kind);
     scratch.keep_directions(directions);
     match drawn {
         Ok(drawing) => Answer::Laid {
@@ -104,13 +104,13 @@ pub fn answer(alloc: Global, file: u32, ordinal: u32, rec: Record, choice: Choic
     let plane = embed(alloc, &mut planes, &rec);
     let mut shape_scratch = ShapeScratch::empty(alloc);
     let mut draw_scratch = DrawScratch::empty(alloc);
-    let drawing = DrawingKind::Quick;
-    let shaped_plane = shape(alloc, &mut shape_scratch, plane, choice, drawing);
+    let drawing_kind = DrawingKind::Quick;
+    let shaped_plane = shape(alloc, &mut shape_scratch, plane, choice, drawing_kind);
     Entry {
         file,
         ordinal,
         rec,
         choice,
-        answer: answer_with(alloc, &mut draw_scratch, shaped_plane, drawing),
+        answer: answer_with(alloc, &mut draw_scratch, shaped_plane, drawing_kind),
     }
 }

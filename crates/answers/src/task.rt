@@ -12,5 +12,5 @@ pub struct Task {
     /// How the outer face of its plane is chosen.
     pub choice: Choice,
     /// Which drawing is made of it.
-    pub drawing: DrawingKind,
+    pub drawing_kind: DrawingKind,
 }

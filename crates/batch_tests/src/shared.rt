@@ -140,8 +140,8 @@ pub(crate) fn text_of_lanes<R: AllocGlobal + Threads + Wait + Sync, G: Gate>(
     form: Form,
     gate: &G,
 ) -> Option<Vec<u8>> {
-    let (alloc, drawing) = (rt.alloc(), DrawingKind::Quick);
-    let style = Style { form, drawing };
+    let (alloc, drawing_kind) = (rt.alloc(), DrawingKind::Quick);
+    let style = Style { form, drawing_kind };
     let mut sink = IoSink::new(Vec::new(alloc));
     let ended = write_batch(
         rt,

@@ -24,7 +24,7 @@ impl LaneKind for Answering {
 
     type End = ();
 
-    ghost takes = { λ _ _ _. ⊤ };
+    ghost accepts = { λ _ _ _. ⊤ };
 
     ghost ends = { λ _ _ _. ⊤ };
 
@@ -34,7 +34,7 @@ impl LaneKind for Answering {
                 file,
                 ordinal,
                 choice,
-                drawing: DrawingKind::Quick,
+                drawing_kind: DrawingKind::Quick,
             },
             purpose: Keeping,
             rec,

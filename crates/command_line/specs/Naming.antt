@@ -19,7 +19,7 @@ meaning_at files (Some name) = files name.now
 abbrev pub meanings_in : (List ℕ → Meaning) → List (Bor (List ℕ)) → ℕ → Meaning
 meanings_in files names file = meaning_at files (slice_get names file)
 
--- the same where the other files are those of a system, which tell nothing
+-- the same where the other files are those of a system, of which nothing is known
 abbrev pub meaning_of : Meaning → List ℕ → Meaning
 meaning_of input name = meaning_in input (λ _. Silent) name
 

@@ -100,7 +100,7 @@ pub record AsksLayout (words : List (String Global)) (names : Vec (Bor (List ℕ
   pub once : inputs_in words ≤ 1
   pub best : (choice ≡ Choice.Best) ↔ (asks_in keyword.BestOuter words ≡ true)
   pub json : (style.form ≡ Form.Json) ↔ (asks_in keyword.Json words ≡ true)
-  pub drawing : style.drawing ≡ drawing_in words
+  pub drawing : style.drawing_kind ≡ drawing_in words
 
 -- the words ask for the records of this file
 pub record AsksFrames (words : List (String Global)) (name : List ℕ) : Type 0 where

@@ -1,4 +1,4 @@
--- What a source of a run tells of itself.
+-- What is known of a source of a run.
 use Rattle.std.specs.Prelude.{◌≡◌, ℕ, Bool, true, List, [], Option, Some}
 use Rattle.lanes.specs.Opening as opening
 use Rattle.command_line.specs.declared.source.FileSource.{FileSource}
@@ -28,7 +28,7 @@ module _ {F : Type 0} where
   opened_fails fails (Open file) = fails file
   opened_fails fails Refused = true
 
-  -- where a file tells its bytes, this source tells the same
+  -- where a file's bytes are known, they are those of this source
   abbrev pub Tells : (F → Option (List ℕ)) → (F → Bool) → opening.Meaning → FileSource F → Type 0
-  Tells to_come fails meaning source = (bytes : List ℕ) → opening.told_of meaning ≡ Some bytes
+  Tells to_come fails meaning source = (bytes : List ℕ) → opening.known_of meaning ≡ Some bytes
       → (opened_to_come to_come source ≡ Some bytes) × (opened_fails fails source ≡ opening.fails_of meaning)

@@ -11,7 +11,7 @@ use std::sync::atomic::{AtomicU64, Ordering};
 /// of its name. A number past the list is not opened. Files that are opened are counted in `begun`, also where the
 /// open is refused.
 ///
-/// In contracts a file tells what `files` tells of its name.
+/// In contracts that is known of a file which `files` says of its name.
 #[derive(Drop)]
 pub struct FileOpener<'r, 'n, N> {
     pub files: &'r N,

@@ -15,8 +15,8 @@ use streams::Tap;
 
 /// Opens files by their names, from any thread.
 ///
-/// For proofs it may tell of each name whether a file of this name opens, and then which bytes it gives and
-/// whether it fails after the last of them. The files of a system tell nothing.
+/// For proofs it may be known of each name whether a file of this name opens, and then which bytes it gives and
+/// whether it fails after the last of them. Of the files of a system nothing is known.
 pub trait NamedFiles: Sync {
     /// An open file.
     type Source: Tap + Send;
@@ -32,7 +32,7 @@ pub trait NamedFiles: Sync {
         ensures { Opens Self.Source.to_come Self.Source.fails (meaning self.now name.now) result };
 }
 
-/// The files of a system. They tell nothing of their bytes.
+/// The files of a system. Nothing is known of their bytes.
 #[derive(Drop)]
 pub struct SystemFiles<'r, R> {
     pub rt: &'r R,

@@ -6,7 +6,7 @@ ghost use Rattle.streams.specs.Tap.{IsAtItsEnd, IsAtItsFailure};
 use std::io::Read;
 use streams::{Tap, TapFault};
 
-/// A reader as a source. It tells nothing of its bytes beforehand, as any read may fail. What it gives is what the
+/// A reader as a source. Nothing is known of its bytes beforehand, as any read may fail. What it gives is what the
 /// reader gave, and it ends where the reader does.
 #[derive(Drop)]
 pub struct ReadTap<R> {

@@ -86,7 +86,7 @@ fn request_of<'a>(
         choice: choice_of(words),
         style: Style {
             form: form_of(words),
-            drawing: drawing_of(words),
+            drawing_kind: drawing_of(words),
         },
         progress: progress_of(matches),
     }))

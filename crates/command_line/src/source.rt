@@ -63,7 +63,7 @@ pub fn open_source<N: NamedFiles>(
     alloc: Global,
     name: &str,
 ) -> Result<FileSource<N::Source>, Fault>
-    ensures told { IfOk result (Tells N.Source.to_come N.Source.fails (N.meaning files.now name.now)) }
+    ensures known { IfOk result (Tells N.Source.to_come N.Source.fails (N.meaning files.now name.now)) }
     ensures memory { IfErr result (λ fault. fault ≡ Fault.Memory) }
 {
     match files.open(alloc, name) {

@@ -5,16 +5,16 @@ use Rattle.lanes.specs.Notes.{Note}
 use Rattle.lanes.specs.Opening.{Meaning}
 use Rattle.lane_runs.specs.declared.fault.RunFault.{RunFault}
 use Rattle.lane_runs.specs.declared.fault.RunFault.TheVariants.{Memory, LaneLost, Thread, Refused}
-use Rattle.lane_runs.specs.Faults.{EndsRun}
+use Rattle.lane_runs.specs.Faults.{HoldsOnRunFault}
 use Rattle.reports.specs.declared.form.Form.{Form}
 use Rattle.printing.specs.declared.run_lines.Lines.{Lines}
-use Rattle.printing.specs.Holding.{form_of, choice_of, files_of, NotesBreakOff, LinesBreakOff}
+use Rattle.printing.specs.Holding.{form_of, choice_of, files_of, ArePartialNotes, ArePartialLines}
 use Rattle.printing.specs.Whole.{IsBegun}
 use Rattle.printing.proofs.Ordering.{begun_left_off, begun_none}
 
 -- where it holds of what a consumer holds and of one that gave up
 pub ended_with : {F Q : Type 0} (gave_up : F → Type 0) (holds : List Note → Type 0) (fault : RunFault F) → ((refusal : F) → gave_up refusal → Q) → ((ns : List Note) → holds ns → Q)
-    → EndsRun gave_up holds fault → Q
+    → HoldsOnRunFault gave_up holds fault → Q
 ended_with gave_up holds (Refused refusal) given held ends = given refusal ends
 ended_with gave_up holds Memory given held ends = held ends.0 ends.1
 ended_with gave_up holds LaneLost given held ends = held ends.0 ends.1
@@ -22,12 +22,12 @@ ended_with gave_up holds Thread given held ends = held ends.0 ends.1
 
 -- lines of so many files in this form, under this choice
 pub begun_lines : (choice : Choice) (meaning : ℕ → Meaning) (form : Form) (files : ℕ) (start now : Option (List ℕ)) (lines : Lines) → choice_of lines ≡ choice → form_of lines ≡ form → files_of lines ≡ files
-    → (ns : List Note) → LinesBreakOff meaning start now lines ns → ∥ IsBegun choice meaning form files start now ∥₁
+    → (ns : List Note) → ArePartialLines meaning start now lines ns → ∥ IsBegun choice meaning form files start now ∥₁
 begun_lines choice meaning form files start now lines choice_is form_is files_is ns left =
     begun_left_off choice meaning form files start now ns
-    (subst (λ n. NotesBreakOff choice meaning form n start now ns) files_is
-    (subst (λ f. NotesBreakOff choice meaning f (files_of lines) start now ns) form_is
-    (subst (λ c. NotesBreakOff c meaning (form_of lines) (files_of lines) start now ns) choice_is left)))
+    (subst (λ n. ArePartialNotes choice meaning form n start now ns) files_is
+    (subst (λ f. ArePartialNotes choice meaning f (files_of lines) start now ns) form_is
+    (subst (λ c. ArePartialNotes c meaning (form_of lines) (files_of lines) start now ns) choice_is left)))
 
 -- nothing is a beginning of any text
 pub begun_by_nothing : (choice : Choice) (meaning : ℕ → Meaning) (form : Form) (files : ℕ) (taken : Option (List ℕ)) → ∥ IsBegun choice meaning form files taken taken ∥₁

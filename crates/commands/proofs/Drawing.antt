@@ -22,8 +22,8 @@ use Rattle.printing.proofs.Added.{text_added, front_added, none_added, from_some
 use Rattle.commands.proofs.TextDrawing.{all_drawn, begun_drawn}
 use Rattle.command_line.specs.declared.request.Request.{Request}
 use Rattle.command_line.specs.declared.request.Request.TheVariants.{Frames, Layout}
-use Rattle.commands.specs.Statuses.{IsTextOfRecords, IsTextOfBooks, IsBegunToReport, IsBegunTextOfBooks, IsDone, IsBegunToBeDone, IsNoReport, IsPrinted, version_text}
-use Rattle.commands.proofs.NoReport.{no_report}
+use Rattle.commands.specs.Statuses.{IsTextOfRecords, IsTextOfBooks, IsBegunTextOfRecords, IsBegunTextOfBooks, IsDone, IsBegunToBeDone, IsNoText, IsPrinted, version_text}
+use Rattle.commands.proofs.NoText.{no_text}
 
 -- ---- records and how they end
 
@@ -96,19 +96,19 @@ printed_drawn old new failed status is =
 
 -- a beginning of help
 pub help_begun : (old new : Option (List ℕ)) (help : List ℕ) → 65 ≤ first help → first help ≤ 90 → AppendsPrefix old new help
-    → AddsNoneUndrawn old new ⊎ ((text : List ℕ) × IsNoReport text × Appends old new text)
+    → AddsNoneUndrawn old new ⊎ ((text : List ℕ) × IsNoText text × Appends old new text)
 help_begun old new help low high adds = by adds.0 adds.1 adds.2 adds.3
   where
-    by : (front rest : List ℕ) → help ≡ front ++ rest → Appends old new front → AddsNoneUndrawn old new ⊎ ((text : List ℕ) × IsNoReport text × Appends old new text)
+    by : (front rest : List ℕ) → help ≡ front ++ rest → Appends old new front → AddsNoneUndrawn old new ⊎ ((text : List ℕ) × IsNoText text × Appends old new text)
     by [] rest e appends = inl (text_added old new [] refl appends)
     by (byte ∷ bytes) rest e appends =
         let same : first help ≡ byte = ap first e in
-        inr (byte ∷ bytes, no_report (byte ∷ bytes) (omega (arith, same, low)) (omega (arith, same, high)), appends)
+        inr (byte ∷ bytes, no_text (byte ∷ bytes) (omega (arith, same, low)) (omega (arith, same, high)), appends)
 
 -- help that was written, whole or a beginning of it
 pub help_drawn : {A : Type 0} (old new : Option (List ℕ)) (failed : Bool) (help : List ℕ) (result : Result A WriteFault) → (65 ≤ first help) × (first help ≤ 90)
-    → Writes old new failed help result → AddsNoneUndrawn old new ⊎ ((text : List ℕ) × IsNoReport text × Appends old new text)
-help_drawn old new failed help (Ok done) capital writes = inr (help, no_report help capital.0 capital.1, writes.1)
+    → Writes old new failed help result → AddsNoneUndrawn old new ⊎ ((text : List ℕ) × IsNoText text × Appends old new text)
+help_drawn old new failed help (Ok done) capital writes = inr (help, no_text help capital.0 capital.1, writes.1)
 help_drawn old new failed help (Err Write) capital writes = help_begun old new help capital.0 capital.1 writes.1
 help_drawn old new failed help (Err Memory) capital writes = absurd writes
 

@@ -1,8 +1,8 @@
 pub mod Layouts
 pub mod FaultStatus
 pub mod ReportBegun
-pub mod NoReport
+pub mod NoText
 pub mod Drawing
 pub mod Begun
-pub mod Taking
+pub mod Accepting
 pub mod TextDrawing

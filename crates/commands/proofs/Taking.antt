@@ -2,11 +2,11 @@
 use Rattle.std.proofs.Common.{◌≡◌, ℕ, List, sym, subst}
 use Rattle.streams.specs.declared.frames.Mark.{Mark}
 use Rattle.lanes.specs.Opening.{Meaning, IsPlacedAt, IsEndAt}
-use Rattle.lane_runs.specs.Taking.{TakesFiles}
+use Rattle.lane_runs.specs.Accepting.{AcceptsFiles}
 
-pub takes_known : (known meaning : ℕ → Meaning) → known ≡ meaning
-    → TakesFiles (λ file place bytes. IsPlacedAt (known file) place bytes) (λ file count mark. IsEndAt (known file) count mark) meaning
-takes_known known meaning same = record {
+pub accepts_known : (known meaning : ℕ → Meaning) → known ≡ meaning
+    → AcceptsFiles (λ file place bytes. IsPlacedAt (known file) place bytes) (λ file count mark. IsEndAt (known file) count mark) meaning
+accepts_known known meaning same = record {
   records = λ file place bytes placed. subst (λ m. IsPlacedAt (m file) place bytes) (sym same) placed;
   marks = λ file count mark is. subst (λ m. IsEndAt (m file) count mark) (sym same) is;
 }

@@ -8,7 +8,7 @@ use Rattle.streams.specs.Marks.{IsMarked}
 use Rattle.streams.specs.Sink.{AppendsPrefix}
 use Rattle.streams.specs.Text.{frames_text}
 use Rattle.common.specs.declared.choice.Choice.{Choice}
-use Rattle.lanes.specs.Opening.{Meaning, told_of, fails_of}
+use Rattle.lanes.specs.Opening.{Meaning, known_of, fails_of}
 use Rattle.entries.specs.Books.{BookModel}
 use Rattle.entries.specs.AllBooks.{AreAllBooks}
 use Rattle.reports.specs.declared.form.Form.{Form}
@@ -23,9 +23,9 @@ use Rattle.command_line.specs.declared.request.Request.TheVariants.{Frames, Layo
 abbrev pub version_text : List ℕ
 version_text = codes "planarbend 0.3.0\nproved with rattle-kit-13 logic dac8208d650f15bf\n"
 
--- The text begins with a capital letter, and is no beginning of a report: neither of the text of some books, in any form, nor
--- of the lines of some records. (Books have right entries alone, so what only looks like a report is known by its first byte.)
-pub record IsNoReport (text : List ℕ) : Type 0 where
+-- The text begins with a capital letter, and is no beginning of what a run writes: neither of the text of some books, in any form, nor
+-- of the lines of some records. (Books have right entries alone, so what only looks like such a text is told apart by its first byte.)
+pub record IsNoText (text : List ℕ) : Type 0 where
   pub capital : (65 ≤ slice_index text 0) × (slice_index text 0 ≤ 90)
   pub no_books : (form : Form) (books : List BookModel) (rest : List ℕ) → text_in form books ≡ text ++ rest → ⊥
   pub no_records : (found : FramesModel) (rest : List ℕ) → frames_text found ≡ text ++ rest → ⊥
@@ -39,14 +39,14 @@ IsPrinted text old new failed status =
 abbrev pub IsComplete : FramesModel → Type 0
 IsComplete found = found.mark ≡ Mark.Ended Ending.Complete
 
--- The whole report of a file that means this was added to the output, and the status tells how the file ended. The records and the
--- mark are those of some bytes, after which it ends or fails, and where the file tells its bytes, of these.
+-- The whole text of the records of a file that means this was added to the output, and the status tells how the file ended. The records and the
+-- mark are those of some bytes, after which it ends or fails, and where the file's bytes are known, of these.
 pub record IsTextOfRecords (meaning : Meaning) (old new : Option (List ℕ)) (failed : Bool) (status : ℕ) : Type 0 where
   pub found : FramesModel
   pub bytes : List ℕ
   pub fails : Bool
   pub marked : IsMarked bytes fails found.records found.mark
-  pub told : (all : List ℕ) → told_of meaning ≡ Some all → IsMarked all (fails_of meaning) found.records found.mark
+  pub known : (all : List ℕ) → known_of meaning ≡ Some all → IsMarked all (fails_of meaning) found.records found.mark
   pub text : Appends old new (frames_text found)
   pub whole : failed ≡ false
   pub complete : IsComplete found ↔ (status ≡ 0)
@@ -67,24 +67,24 @@ pub record IsTextOfBooks (choice : Choice) (form : Form) (meaning : ℕ → Mean
 abbrev pub IsBegunTextOfBooks : Choice → Form → (ℕ → Meaning) → ℕ → Option (List ℕ) → Option (List ℕ) → Type 0
 IsBegunTextOfBooks choice form meaning files old new = ∥ IsBegun choice meaning form files old new ∥₁
 
--- A beginning of the report of a file that means this was added to the output. The records and the mark are those of some bytes, as in a whole
--- report.
-pub record IsBegunToReport (meaning : Meaning) (old new : Option (List ℕ)) : Type 0 where
+-- A beginning of the text of the records of a file that means this was added to the output. The records and the mark are those of some bytes, as
+-- in a whole text.
+pub record IsBegunTextOfRecords (meaning : Meaning) (old new : Option (List ℕ)) : Type 0 where
   pub found : FramesModel
   pub bytes : List ℕ
   pub fails : Bool
   pub marked : IsMarked bytes fails found.records found.mark
-  pub told : (all : List ℕ) → told_of meaning ≡ Some all → IsMarked all (fails_of meaning) found.records found.mark
+  pub known : (all : List ℕ) → known_of meaning ≡ Some all → IsMarked all (fails_of meaning) found.records found.mark
   pub text : AppendsPrefix old new (frames_text found)
 
--- the whole report that a request asks for, where standard input means `input`, was added to the output, with this status
+-- the whole text that a request asks for, where standard input means `input`, was added to the output, with this status
 abbrev pub IsDone : Meaning → Request → Option (List ℕ) → Option (List ℕ) → Bool → ℕ → Type 0
 IsDone input (Frames name) old new failed status = IsTextOfRecords (meaning_of input name.now) old new failed status
 IsDone input (Layout asked) old new failed status =
     IsTextOfBooks asked.choice asked.style.form (meanings input asked.names.items) (vec_len asked.names) old new failed status
 
--- a beginning of the report that a request asks for, where standard input means `input`, was added to the output
+-- a beginning of the text that a request asks for, where standard input means `input`, was added to the output
 abbrev pub IsBegunToBeDone : Meaning → Request → Option (List ℕ) → Option (List ℕ) → Type 0
-IsBegunToBeDone input (Frames name) old new = IsBegunToReport (meaning_of input name.now) old new
+IsBegunToBeDone input (Frames name) old new = IsBegunTextOfRecords (meaning_of input name.now) old new
 IsBegunToBeDone input (Layout asked) old new =
     IsBegunTextOfBooks asked.choice asked.style.form (meanings input asked.names.items) (vec_len asked.names) old new

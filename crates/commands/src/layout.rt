@@ -29,7 +29,7 @@ const MEGABYTE: usize = 1_000_000;
 /// `TooManyFiles` exactly where there are more than `MAX_FILES` files, and `BadLanes` exactly where there are
 /// no more than that and no lanes or more than `MAX_LANES`; nothing is then written. Else what a run or the
 /// writing met; then a beginning of the text is written: that of books of the first files, of which any may end
-/// `memory`, and the lines of the next one, which has no last line. Of a file that tells no bytes, as a real one, they are those of some bytes.
+/// `memory`, and the lines of the next one, which has no last line. Of a file of which no bytes are known, as a real one, they are those of some bytes.
 pub fn layout<
     'a,
     R: Files + AllocGlobal + Threads + Wait + Sync,
@@ -47,7 +47,7 @@ where
     R::File: Send,
     R::Dir: Send,
     requires { S.failed out.old ≡ false }
-    ensures reported { IfOk result (IsTextOfBooks asked.now.choice asked.now.style.form (meanings (I.meaning input.now 0) asked.now.names.items)
+    ensures written { IfOk result (IsTextOfBooks asked.now.choice asked.now.style.form (meanings (I.meaning input.now 0) asked.now.names.items)
         (vec_len asked.now.names) (S.taken out.old) (S.taken out.new) (S.failed out.new)) }
     ensures begun { OnErr result (IsBegunTextOfBooks asked.now.choice asked.now.style.form (meanings (I.meaning input.now 0) asked.now.names.items)
         (vec_len asked.now.names) (S.taken out.old) (S.taken out.new)) }

@@ -22,7 +22,7 @@ use streams::SourceEnd;
 #[derive(Drop)]
 pub struct LineLanes<J: Meant> {
     pub form: Form,
-    pub drawing: DrawingKind,
+    pub drawing_kind: DrawingKind,
     pub meant: PhantomData<J>,
 }
 
@@ -31,16 +31,16 @@ impl<J: Meant> LineLanes<J> {
     /// asked for.
     pub fn new(style: Style) -> LineLanes<J>
         ensures form { result.form ≡ style.form }
-        ensures report { style.form ≡ Form.Report → result.drawing ≡ Quick }
-        ensures json { style.form ≡ Form.Json → result.drawing ≡ style.drawing }
+        ensures report { style.form ≡ Form.Report → result.drawing_kind ≡ Quick }
+        ensures json { style.form ≡ Form.Json → result.drawing_kind ≡ style.drawing_kind }
     {
-        let drawing = match style.form {
+        let drawing_kind = match style.form {
             Form::Report => DrawingKind::Quick,
-            Form::Json => style.drawing,
+            Form::Json => style.drawing_kind,
         };
         LineLanes {
             form: style.form,
-            drawing,
+            drawing_kind,
             meant: PhantomData,
         }
     }
@@ -57,7 +57,7 @@ impl<J: Meant + Send + Sync> LaneKind for LineLanes<J> {
 
     type End = KnownEnd<J>;
 
-    ghost takes = { λ file place bytes. IsPlacedAt (J.meaning file) place bytes };
+    ghost accepts = { λ file place bytes. IsPlacedAt (J.meaning file) place bytes };
 
     ghost ends = { λ file count mark. IsEndAt (J.meaning file) count mark };
 
@@ -66,7 +66,7 @@ impl<J: Meant + Send + Sync> LaneKind for LineLanes<J> {
         ensures about { ⟦<Framed<Worded<J>> as Numbered>⟧.about result
             ≡ record { file = file; ordinal = ordinal; bytes = rec; choice = choice } }
         ensures form { result.purpose.form ≡ self.now.form }
-        ensures drawing { result.task.drawing ≡ self.now.drawing }
+        ensures drawing { result.task.drawing_kind ≡ self.now.drawing_kind }
     {
         spelt(&rec);
         Framed {
@@ -74,7 +74,7 @@ impl<J: Meant + Send + Sync> LaneKind for LineLanes<J> {
                 file,
                 ordinal,
                 choice,
-                drawing: self.drawing,
+                drawing_kind: self.drawing_kind,
             },
             purpose: Worded::new(self.form),
             rec,

@@ -3,7 +3,7 @@ ghost use Rattle.std.specs.Prelude.{◌≡◌, ◌≤◌, ◌⊎◌, ℕ, List, 
 ghost use Rattle.std.specs.Io.KnownBytes.{Appends};
 ghost use Rattle.std.specs.Process.{exit_status};
 ghost use Rattle.printing.specs.Telling.{AddsNoneUndrawn};
-ghost use Rattle.commands.specs.Statuses.{IsNoReport};
+ghost use Rattle.commands.specs.Statuses.{IsNoText};
 
 use crate::program::command;
 use command_line::{Console, Fault, arguments_fault, write_fault};
@@ -27,15 +27,15 @@ pub fn run<
 where
     R::File: Send,
     R::Dir: Send,
-    requires out_is_whole { S.failed out.old ≡ false }
-    requires err_is_whole { E.failed err.old ≡ false }
+    requires out_is_intact { S.failed out.old ≡ false }
+    requires err_is_intact { E.failed err.old ≡ false }
     ensures known { exit_status result ≤ 3 }
     ensures failed_write { S.failed out.new ≡ true → exit_status result ≡ 1 }
     ensures refused { exit_status result ≡ 2 → out.new ≡ out.old }
 
-    // What is written tells of no graph without a drawing, or it is help, which begins with a capital letter, and as no report does.
+    // What is written tells of no graph without a drawing, or it is help, which begins with a capital letter, and as no text of a run does.
     ensures drawn { AddsNoneUndrawn (S.taken out.old) (S.taken out.new)
-        ⊎ ((text : List ℕ) × IsNoReport text × Appends (S.taken out.old) (S.taken out.new) text) }
+        ⊎ ((text : List ℕ) × IsNoText text × Appends (S.taken out.old) (S.taken out.new) text) }
 {
     match arguments(rt) {
         Ok(words) => ExitCode::from(command(rt, words.as_slice(), input, console, out, err)),

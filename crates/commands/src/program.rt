@@ -10,7 +10,7 @@ ghost use Rattle.clap.specs.Words.{kind_of};
 ghost use Rattle.clap.specs.declared.error.kind.ErrorKind.{ErrorKind};
 ghost use Rattle.command_line.specs.declared.reading.Keyword.{Keyword};
 ghost use Rattle.command_line.specs.declared.request.Request.{Request};
-ghost use Rattle.commands.specs.Statuses.{IsTextOfRecords, IsTextOfBooks, IsDone, IsBegunToReport, IsBegunToBeDone, IsNoReport, IsPrinted, version_text};
+ghost use Rattle.commands.specs.Statuses.{IsTextOfRecords, IsTextOfBooks, IsDone, IsBegunTextOfRecords, IsBegunToBeDone, IsNoText, IsPrinted, version_text};
 ghost use Rattle.command_line.specs.Requests.{IsAskedBy, asks_in};
 ghost use Rattle.printing.specs.Telling.{AddsNoneUndrawn};
 
@@ -47,8 +47,8 @@ pub fn command<
 where
     R::File: Send,
     R::Dir: Send,
-    requires out_is_whole { S.failed out.old ≡ false }
-    requires err_is_whole { E.failed err.old ≡ false }
+    requires out_is_intact { S.failed out.old ≡ false }
+    requires err_is_intact { E.failed err.old ≡ false }
     ensures known { result ≤ 3 }
     ensures failed_write { S.failed out.new ≡ true → result ≡ 1 }
 
@@ -57,7 +57,7 @@ where
 
     // Status 3 comes with a whole report: of a file that does not end complete, or of files of which
     // one does not or lacks an answer for want of memory.
-    ensures reported { result ≡ 3
+    ensures written { result ≡ 3
         → ((name : List ℕ)
         × IsTextOfRecords (meaning_of (I.meaning input.now 0) name) (S.taken out.old) (S.taken out.new) (S.failed out.new) 3)
         ⊎ ((choice : Choice) × (form : Form) × (names : List (Bor (List ℕ)))
@@ -68,27 +68,27 @@ where
     ensures version { asks_in Keyword.Version words.now ≡ true
         → IsPrinted version_text (S.taken out.old) (S.taken out.new) (S.failed out.new) result }
 
-    // With status 0 and 3 there is the version, or help, which begins with a capital letter and as no report does, or the
-    // report of all files that the words name, as they ask for it. The file named `-` has what standard input tells.
+    // With status 0 and 3 there is the version, or help, which begins with a capital letter and as no text of a run does, or the
+    // text of all files that the words name, as they ask for it. The file named `-` has what standard input gives.
     ensures done { (result ≡ 0) ⊎ (result ≡ 3)
         → ((result ≡ 0) × (asks_in Keyword.Version words.now ≡ true))
         ⊎ ((result ≡ 0) × (asks_in Keyword.Help words.now ≡ true)
-        × ((text : List ℕ) × IsNoReport text × Appends (S.taken out.old) (S.taken out.new) text))
+        × ((text : List ℕ) × IsNoText text × Appends (S.taken out.old) (S.taken out.new) text))
         ⊎ ((request : Request) × IsAskedBy words.now request
         × IsDone (I.meaning input.now 0) request (S.taken out.old) (S.taken out.new) (S.failed out.new) result) }
 
     // With status 1, where neither the version nor help is asked for, nothing is written, or a beginning of the
-    // report of what the words ask for.
+    // text of what the words ask for.
     ensures begun { result ≡ 1 → asks_in Keyword.Version words.now ≡ false → asks_in Keyword.Help words.now ≡ false
         → (out.new ≡ out.old)
         ⊎ ((request : Request) × IsAskedBy words.now request
         × IsBegunToBeDone (I.meaning input.now 0) request (S.taken out.old) (S.taken out.new)) }
 
     // Whatever the status, what is written tells of no graph without a drawing, as the line `drawn=no` of a report would. Of help,
-    // where that is asked for, it is known that it begins with a capital letter, and as no report does.
+    // where that is asked for, it is known that it begins with a capital letter, and as no text of a run does.
     ensures drawn { AddsNoneUndrawn (S.taken out.old) (S.taken out.new)
         ⊎ ((asks_in Keyword.Help words.now ≡ true)
-        × ((text : List ℕ) × IsNoReport text × Appends (S.taken out.old) (S.taken out.new) text)) }
+        × ((text : List ℕ) × IsNoText text × Appends (S.taken out.old) (S.taken out.new) text)) }
 {
     if asks(Keyword::Version, words) {
         return show_version(out, err);
@@ -114,8 +114,8 @@ fn perform<
 where
     R::File: Send,
     R::Dir: Send,
-    requires out_is_whole { S.failed out.old ≡ false }
-    requires err_is_whole { E.failed err.old ≡ false }
+    requires out_is_intact { S.failed out.old ≡ false }
+    requires err_is_intact { E.failed err.old ≡ false }
     ensures known { result ≤ 3 }
     ensures failed_write { S.failed out.new ≡ true → result ≡ 1 }
     ensures refused { result ≡ 2 → out.new ≡ out.old }
@@ -161,11 +161,11 @@ where
     R::File: Send,
     R::Dir: Send,
     requires { S.failed out.old ≡ false }
-    ensures reported { IfOk result (IsTextOfRecords (meaning_of (I.meaning input.now 0) name.now)
+    ensures written { IfOk result (IsTextOfRecords (meaning_of (I.meaning input.now 0) name.now)
         (S.taken out.old) (S.taken out.new) (S.failed out.new)) }
     ensures failed { IfErr result (λ fault. ¬ IsRefusal fault) }
     ensures begun { OnErr result ((out.new ≡ out.old)
-        ⊎ IsBegunToReport (meaning_of (I.meaning input.now 0) name.now) (S.taken out.old) (S.taken out.new)) }
+        ⊎ IsBegunTextOfRecords (meaning_of (I.meaning input.now 0) name.now) (S.taken out.old) (S.taken out.new)) }
 {
     let files = FilesAndInput {
         files: &SystemFiles { rt },
@@ -197,8 +197,8 @@ fn refuse<E: Sink>(alloc: Global, error: &Error, err: &mut E) -> u8
 
 /// Writes the version, and returns the status.
 fn show_version<S: Sink, E: Sink>(out: &mut S, err: &mut E) -> u8
-    requires out_is_whole { S.failed out.old ≡ false }
-    requires err_is_whole { E.failed err.old ≡ false }
+    requires out_is_intact { S.failed out.old ≡ false }
+    requires err_is_intact { E.failed err.old ≡ false }
     ensures { IsPrinted version_text (S.taken out.old) (S.taken out.new) (S.failed out.new) result }
 {
     match put_all(out, VERSION.as_bytes()) {
@@ -209,14 +209,14 @@ fn show_version<S: Sink, E: Sink>(out: &mut S, err: &mut E) -> u8
 
 /// Writes the help that was asked for, and returns the status. What does not begin as help is refused.
 fn show_help<S: Sink, E: Sink>(alloc: Global, help: &Error, out: &mut S, err: &mut E) -> u8
-    requires out_is_whole { S.failed out.old ≡ false }
-    requires err_is_whole { E.failed err.old ≡ false }
+    requires out_is_intact { S.failed out.old ≡ false }
+    requires err_is_intact { E.failed err.old ≡ false }
     ensures known { result ≤ 2 }
-    ensures shown { result ≡ 0 → ((text : List ℕ) × IsNoReport text × Appends (S.taken out.old) (S.taken out.new) text) }
+    ensures shown { result ≡ 0 → ((text : List ℕ) × IsNoText text × Appends (S.taken out.old) (S.taken out.new) text) }
     ensures refused { result ≡ 2 → out.new ≡ out.old }
     ensures failed_write { S.failed out.new ≡ true → result ≡ 1 }
     ensures drawn { AddsNoneUndrawn (S.taken out.old) (S.taken out.new)
-        ⊎ ((text : List ℕ) × IsNoReport text × Appends (S.taken out.old) (S.taken out.new) text) }
+        ⊎ ((text : List ℕ) × IsNoText text × Appends (S.taken out.old) (S.taken out.new) text) }
 {
     let Ok(text) = help.to_string(alloc) else {
         return end_by(Fault::Memory, err);
@@ -232,7 +232,7 @@ fn show_help<S: Sink, E: Sink>(alloc: Global, help: &Error, out: &mut S, err: &m
 
 /// Whether a text begins as help does, and as no report.
 fn begins_as_help(text: &[u8]) -> bool
-    ensures no_report { IsTrue result → IsNoReport text.now }
+    ensures no_text { IsTrue result → IsNoText text.now }
     ensures capital { IsTrue result → (65 ≤ slice_index text.now 0) × (slice_index text.now 0 ≤ 90) }
 {
     begins_with_capital(text)

@@ -4,8 +4,8 @@ ghost use Rattle.ruled_lanes.specs.declared.limits.TheConstants.{LANES, MAX_CAPA
 ghost use Rattle.entries.specs.declared.limits.TheConstants.{MAX_FILES};
 ghost use Rattle.lanes.specs.Notes.{Note};
 ghost use Rattle.lanes.specs.Files.{AreToldWhole};
-ghost use Rattle.lane_runs.specs.Faults.{EndsRun};
-ghost use Rattle.lane_runs.specs.Taking.{TakesFiles};
+ghost use Rattle.lane_runs.specs.Faults.{HoldsOnRunFault};
+ghost use Rattle.lane_runs.specs.Accepting.{AcceptsFiles};
 ghost use Rattle.printing.specs.Whole.{IsAllWritten, IsBegun};
 ghost use Rattle.printing.specs.Telling.{AddsNoneUndrawn};
 ghost use Rattle.commands.specs.TextRuns.{IsRefusedRun};
@@ -52,7 +52,7 @@ pub enum TextFault {
 /// `LaneLost`: an end of a link or of the fan was gone, or the text was handed a message that no lane gives.
 /// `Thread`: a thread could not be started. Whatever it is, what was written is a beginning of this: the text of
 /// books of the first files, of which any may end `memory`, and the lines of the next file so far, which has no last
-/// line. Of a file that tells no bytes, as a real one, records and mark are those of some bytes.
+/// line. Of a file of which no bytes are known, as a real one, records and mark are those of some bytes.
 pub fn write_batch<R: Threads + Wait + Sync, O: Opener, G: Gate, S: Sink>(
     rt: &R,
     alloc: Global,
@@ -174,9 +174,9 @@ fn run_into<
     G: Gate,
 >(run: &Run<'_, R, O, G>, kind: &L, consumer: C, ran: &mut Result<(), RunFault<C::Refusal>>) -> C
     requires empty { C.holds consumer [] }
-    requires takes { TakesFiles L.takes L.ends (O.meaning run.now.opener.now) }
+    requires accepts { AcceptsFiles L.accepts L.ends (O.meaning run.now.opener.now) }
     ensures told { OnOk ran.new ((ns : List Note) × C.holds result ns × AreToldWhole run.now.choice (O.meaning run.now.opener.now) run.now.files ns) }
-    ensures ended { IfErr ran.new (EndsRun (C.gave_up result) (C.holds result)) }
+    ensures failed { IfErr ran.new (HoldsOnRunFault (C.gave_up result) (C.holds result)) }
     ensures stays { C.stays consumer result }
 {
     let (consumer, end) = run_lanes(run, kind, consumer);

@@ -7,7 +7,7 @@ use Rattle.dissect.specs.DartMaps.{DartMap, IsSound, no_dart}
 use Rattle.dissect.specs.Paths.{turning_vertices}
 use Rattle.ortho_rep.specs.declared.points.Point.{Point}
 use Rattle.dissect.specs.Boxes.{BoxesModel, HasEdge, dart_map}
-use Rattle.compact.specs.Ordered.{tail, point_at, IsOrdered, IsAlong, AreCorners, AreCornersOf, IsAxisFault, IsCompactFault, AreLaidOut, AreLeast, AreWithin}
+use Rattle.compact.specs.Ordered.{tail, point_at, IsMonotone, IsAlong, AreCorners, AreCornersOf, IsAxisFault, IsCompactFault, AreLeastPoints, AreLeast, AreWithin}
 use Rattle.std.specs.List.{range_with_len}
 use Rattle.ortho_rep.specs.declared.points.TheConstants.{MAX_COORDINATE}
 use Rattle.compact.specs.Neighbours.{AreUnder}
@@ -20,7 +20,7 @@ pub turned_round : (w : DartMap) (a : ℕ) → IsSound w → a < w.darts → tai
 turned_round w a sound a_in = ap w.head (sound.tied.reverse_dart_back a a_in)
 
 -- coordinates that keep both axes are in order
-pub in_order : (w : DartMap) (x y : ℕ → ℕ) → IsSound w → IsAlong w 0 x → IsAlong w 1 y → IsOrdered w x y
+pub in_order : (w : DartMap) (x y : ℕ → ℕ) → IsSound w → IsAlong w 0 x → IsAlong w 1 y → IsMonotone w x y
 in_order w x y sound along_x along_y = record {
   east = λ a a_in way.
       let back : w.direction (w.reverse_dart a) ≡ 2 = sound.straight a a_in ∙ ap (λ (d : ℕ). (d + 2) % 4) way in
@@ -39,7 +39,7 @@ in_order w x y sound along_x along_y = record {
 }
 
 -- coordinates in order keep the axis x
-pub keep_x : (w : DartMap) (x y : ℕ → ℕ) → IsSound w → IsOrdered w x y → IsAlong w 0 x
+pub keep_x : (w : DartMap) (x y : ℕ → ℕ) → IsSound w → IsMonotone w x y → IsAlong w 0 x
 keep_x w x y sound ordered = record {
   forward = λ a a_in way. omega (arith, (ordered.east a a_in way).0);
   across = λ a a_in one two. elim (cases_eq (w.direction a) 1) [
@@ -53,7 +53,7 @@ keep_x w x y sound ordered = record {
 }
 
 -- and the axis y
-pub keep_y : (w : DartMap) (x y : ℕ → ℕ) → IsSound w → IsOrdered w x y → IsAlong w 1 y
+pub keep_y : (w : DartMap) (x y : ℕ → ℕ) → IsSound w → IsMonotone w x y → IsAlong w 1 y
 keep_y w x y sound ordered = record {
   forward = λ a a_in way. omega (arith, (ordered.north a a_in way).0);
   across = λ a a_in one two. elim (cases_eq (w.direction a) 0) [
@@ -91,15 +91,15 @@ y_fault b Wide wide = λ x y ordered.
 y_fault b Memory fault = tt
 
 -- points that are taken from coordinates in order
-pub laid_out : (b : BoxesModel) (x y x1 y1 x2 y2 : List ℕ) (vertices : List Point) (corners : List (List Point)) →
+pub least_points : (b : BoxesModel) (x y x1 y1 x2 y2 : List ℕ) (vertices : List Point) (corners : List (List Point)) →
     x1 ≡ x → y1 ≡ y → x2 ≡ x → y2 ≡ y → IsSound (dart_map b) → IsAlong (dart_map b) 0 (λ v. slice_index x v) → IsAlong (dart_map b) 1 (λ v. slice_index y v) →
     ((z : ℕ → ℕ) → IsAlong (dart_map b) 0 z → (v : ℕ) → v < b.vertices → slice_index x v ≤ z v) →
     ((z : ℕ → ℕ) → IsAlong (dart_map b) 1 z → (v : ℕ) → v < b.vertices → slice_index y v ≤ z v) →
     AreWithin b.vertices (λ v. slice_index x v) → AreWithin b.vertices (λ v. slice_index y v) →
     vertices ≡ map (point_at (λ v. slice_index x1 v) (λ v. slice_index y1 v)) (range_with_len 0 b.old) → length corners ≡ length b.edges →
     AreCorners b (λ v. slice_index x2 v) (λ v. slice_index y2 v) (length b.edges) corners →
-    AreLaidOut b (record { vertices = vertices; corners = corners })
-laid_out b x y x1 y1 x2 y2 vertices corners sx1 sy1 sx2 sy2 sound along_x along_y least_x least_y within_x within_y at_vertices count at_corners =
+    AreLeastPoints b (record { vertices = vertices; corners = corners })
+least_points b x y x1 y1 x2 y2 vertices corners sx1 sy1 sx2 sy2 sound along_x along_y least_x least_y within_x within_y at_vertices count at_corners =
     record {
       x = λ v. slice_index x v;
       y = λ v. slice_index y v;

@@ -3,7 +3,7 @@
 ghost use Rattle.std.specs.Prelude.{◌≡◌, length, map, slice_index, IfOk, IfErr};
 ghost use Rattle.std.specs.List.{range_with_len};
 ghost use Rattle.ortho_rep.specs.Storage.{slices_at, AreStarts};
-ghost use Rattle.compact.specs.Ordered.{AreLaidOut, AreCorners, IsCompactFault, point_at};
+ghost use Rattle.compact.specs.Ordered.{AreLeastPoints, AreCorners, IsCompactFault, point_at};
 
 use crate::axis::least_coordinates;
 use crate::corners::{point_of, push_corners};
@@ -76,7 +76,7 @@ fn list_corners(
 /// `Wide` where no coordinates that grow along the darts are all at most 65,535; `Memory` where there is
 /// none for the neighbours, the coordinates, the segments, the constraints or the points.
 pub fn compact(alloc: Global, boxes: &Boxes) -> Result<Points, CompactFault>
-    ensures laid { IfOk result (AreLaidOut boxes.now) }
+    ensures least { IfOk result (AreLeastPoints boxes.now) }
     ensures fault { IfErr result (IsCompactFault boxes.now) }
 {
     let mut scratch = Scratch::empty(alloc);
@@ -94,7 +94,7 @@ pub fn compact_in(
     scratch: &mut Scratch,
     boxes: &Boxes,
 ) -> Result<Points, CompactFault>
-    ensures laid { IfOk result (AreLaidOut boxes.now) }
+    ensures least { IfOk result (AreLeastPoints boxes.now) }
     ensures fault { IfErr result (IsCompactFault boxes.now) }
 {
     let Scratch {

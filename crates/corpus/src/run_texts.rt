@@ -50,9 +50,9 @@ fn text_over<R: AllocGlobal + Threads + Wait + Sync>(
     choice: Choice,
     form: Form,
 ) -> Result<Vec<u8>> {
-    let (alloc, drawing) = (rt.alloc(), DrawingKind::Quick);
+    let (alloc, drawing_kind) = (rt.alloc(), DrawingKind::Quick);
     let mut sink = IoSink::new(Vec::new(alloc));
-    let style = Style { form, drawing };
+    let style = Style { form, drawing_kind };
     let ended = write_batch(
         rt, alloc, opener, files, LANES, CAPACITY, WAITING, choice, style, &OpenGate, &mut sink,
     );

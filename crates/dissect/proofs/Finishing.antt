@@ -1,9 +1,9 @@
--- How a scan begins and how it ends.
+-- How the cutting of a face begins and how it ends.
 use Rattle.std.proofs.Common.{◌≡◌, ℕ, suc, ◌+◌, ◌*◌, ◌<◌, ◌∙◌, List, [], ◌∷◌, ◌++◌, length, length-append, map, append-nil, arith, subst, sym, ap, refl, inl, inr}
 use Rattle.dissect.specs.Turning.{total, HasNoHook, AreCornerAngles, AreLefts}
 use Rattle.dissect.specs.DartMaps.{DartMap, IsSound}
 use Rattle.dissect.specs.Faces.{IsCorner, Trail, last_of, Ring, HasFourCorners, In, concatenated, AreWaiting}
-use Rattle.dissect.specs.Scan.{down, IsScan}
+use Rattle.dissect.specs.FaceCutting.{down, IsFaceCutting}
 use Rattle.dissect.proofs.Stretching.{Stretches-corner}
 use Rattle.dissect.proofs.Rings.{ring_turned, four_turned}
 use Rattle.dissect.proofs.LeftTurns.{all_left, four_lefts}
@@ -96,16 +96,16 @@ four_done w a b c d o rs left_a left_b left_c left_d waiting =
     }
 
 -- with nothing unread and a hookless stack, the face is done
-pub scan_done : (w0 : DartMap) (face : List ℕ) (w : DartMap) (st : List ℕ) → IsScan w0 face w st [] → HasNoHook 0 (map w.angle st) →
+pub scan_done : (w0 : DartMap) (face : List ℕ) (w : DartMap) (st : List ℕ) → IsFaceCutting w0 face w st [] → HasNoHook 0 (map w.angle st) →
     (o : ℕ) (rs : List (List ℕ)) → AreWaiting w0 o (face ∷ rs) → AreWaiting w o rs
-scan_done w0 face w st scan hookless o rs wait =
-    let waiting = scan.waiting o rs wait in
+scan_done w0 face w st face_cutting hookless o rs wait =
+    let waiting = face_cutting.waiting o rs wait in
     let each : (a : ℕ) → In a st → (a < w.darts) × IsCorner w a = λ a h.
     let there : In a (down st []) = in_down_back a st [] h in (
       in_below w.darts a (down st []) (below_left w.darts (down st []) (concatenated rs) waiting.below) there,
       ring_corners w a (down st []) waiting.rings.0.0 there,
     ) in
-    let lefts : AreLefts (map w.angle st) = all_left 0 (map w.angle st) (turns_of w st scan.sound each) scan.hopeful hookless in
+    let lefts : AreLefts (map w.angle st) = all_left 0 (map w.angle st) (turns_of w st face_cutting.sound each) face_cutting.hopeful hookless in
     let once : total (map w.angle st) + 4 ≡ 2 * length (map w.angle st) =
     omega (arith, waiting.rings.0.1, total-down w.angle st [], length-down st [], length-map_angle w.angle st) in
     let four : length (map w.angle st) ≡ 4 = four_lefts (map w.angle st) lefts once in

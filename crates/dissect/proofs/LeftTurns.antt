@@ -1,4 +1,4 @@
--- Why a scan that cuts at each right turn followed by two left turns ends with four left turns.
+-- Why the cutting of a face at each right turn followed by two left turns ends with four left turns.
 use Rattle.std.proofs.Common.{◌≡◌, ◌⊎◌, ℕ, ◌+◌, ◌*◌, ◌<◌, ◌≤◌, List, [], ◌∷◌, length, arith, subst, refl, inl, inr}
 use Rattle.std.proofs.lemmas.Bool.{cases_eq, cases_lt}
 use Rattle.dissect.specs.Turning.{total, Rising, Hopeful, HasNoHook, AreCornerAngles, AreLefts}

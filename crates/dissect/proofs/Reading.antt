@@ -1,4 +1,4 @@
--- The scan reads a face, corner by corner.
+-- A face is read corner by corner while it is cut.
 use Rattle.std.proofs.Common.{◌≡◌, ℕ, zero, suc, ◌+◌, ◌-◌, ◌<◌, ◌≤◌, ◌∙◌, List, [], ◌∷◌, ◌++◌, length, map, take, drop, get_or, set, sum, All, arith, subst, sym, ap, refl}
 use Rattle.std.proofs.lemmas.List.{drop-set-lt, take-append-drop, drop_more, drop_all, drop-drop, length-take-le, length-drop, length-append}
 use borrow.Rule.Slice.PartMut.{put_mid, mid_of}
@@ -8,7 +8,7 @@ use Rattle.dissect.specs.Turning.{Rising, HasNoHook, IsPeak}
 use Rattle.dissect.specs.DartMaps.{DartMap, IsSound, IsCutUp, same, further}
 use Rattle.std.proofs.lemmas.List.Sums.{sum_by-cons}
 use Rattle.dissect.specs.Faces.{Below, AreWaiting, slices_of}
-use Rattle.dissect.specs.Scan.{down, tops, IsScan, HasRoom, IsReading}
+use Rattle.dissect.specs.FaceCutting.{down, tops, IsFaceCutting, HasRoom, IsReading}
 use Rattle.dissect.proofs.Listing.{below_append, below_left, below_right}
 use Rattle.dissect.proofs.Scanning.{scan_reads}
 use Rattle.dissect.proofs.Stacks.{IsTop, tops_put, tops_set}
@@ -19,9 +19,9 @@ pub grows_on : (a b c : DartMap) → IsCutUp a b → IsCutUp b c → IsCutUp a c
 grows_on a b c first same = first
 grows_on a b c first (further mid new d e way more cut) = further mid new d e way (grows_on a b mid first more) cut
 
--- a scan goes on where another stopped
-pub scan_on : (w0 w new : DartMap) (face : List ℕ) (st rest st' rest' : List ℕ) → IsScan w0 face w st rest →
-    IsScan w (down st rest) new st' rest' → IsScan w0 face new st' rest'
+-- cutting goes on where it stopped
+pub scan_on : (w0 w new : DartMap) (face : List ℕ) (st rest st' rest' : List ℕ) → IsFaceCutting w0 face w st rest →
+    IsFaceCutting w (down st rest) new st' rest' → IsFaceCutting w0 face new st' rest'
 scan_on w0 w new face st rest st' rest' first second = record {
   sound = second.sound;
   grows = grows_on w0 w new first.grows second.grows;
@@ -30,29 +30,29 @@ scan_on w0 w new face st rest st' rest' first second = record {
   rising = second.rising;
 }
 
--- the same scan, seen from where it stands
-pub scan_here : (w0 w : DartMap) (face : List ℕ) (st rest : List ℕ) → IsScan w0 face w st rest → IsScan w (down st rest) w st rest
-scan_here w0 w face st rest scan = record {
-  sound = scan.sound;
+-- the same cutting, seen from where it stands
+pub scan_here : (w0 w : DartMap) (face : List ℕ) (st rest : List ℕ) → IsFaceCutting w0 face w st rest → IsFaceCutting w (down st rest) w st rest
+scan_here w0 w face st rest face_cutting = record {
+  sound = face_cutting.sound;
   grows = same;
   waiting = λ o rs wait. wait;
-  hopeful = scan.hopeful;
-  rising = scan.rising;
+  hopeful = face_cutting.hopeful;
+  rising = face_cutting.rising;
 }
 
 -- one corner is put on the stack
 pub reading_put : (w0 : DartMap) (face : List ℕ) (room : ℕ) (w : DartMap) (xs : List ℕ) (h read now : ℕ) → read < length xs →
     IsReading w0 face room w xs h read now →
-    IsScan w0 face w (tops (set xs h (get_or xs read 0)) (h + 1)) (drop (read + 1) (set xs h (get_or xs read 0)))
+    IsFaceCutting w0 face w (tops (set xs h (get_or xs read 0)) (h + 1)) (drop (read + 1) (set xs h (get_or xs read 0)))
 reading_put w0 face room w xs h read now more reading =
     let c : ℕ = get_or xs read 0 in
     let top : tops (set xs h c) (h + 1) ≡ c ∷ tops xs h = tops_put xs h c (omega (arith, reading.low, more)) in
     let rest : drop (read + 1) (set xs h c) ≡ drop (read + 1) xs = drop-set-lt (read + 1) xs h c (omega (arith, reading.low)) in
     let apart : drop read xs ≡ c ∷ drop (read + 1) xs = drop_more xs read 0 more in
-    subst (λ (st : List ℕ). IsScan w0 face w st (drop (read + 1) (set xs h c))) (sym top)
-    (subst (λ (zs : List ℕ). IsScan w0 face w (c ∷ tops xs h) zs) (sym rest)
+    subst (λ (st : List ℕ). IsFaceCutting w0 face w st (drop (read + 1) (set xs h c))) (sym top)
+    (subst (λ (zs : List ℕ). IsFaceCutting w0 face w (c ∷ tops xs h) zs) (sym rest)
     (scan_reads w0 w face c (tops xs h) (drop (read + 1) xs)
-    (subst (λ (zs : List ℕ). IsScan w0 face w (tops xs h) zs) apart reading.scan)))
+    (subst (λ (zs : List ℕ). IsFaceCutting w0 face w (tops xs h) zs) apart reading.face_cutting)))
 
 pub reading_top : (w0 : DartMap) (face : List ℕ) (room : ℕ) (w : DartMap) (xs : List ℕ) (h read now : ℕ) → read < length xs →
     IsReading w0 face room w xs h read now → IsTop w0 room face w (set xs h (get_or xs read 0)) (h + 1) (read + 1)
@@ -61,7 +61,7 @@ reading_top w0 face room w xs h read now more reading =
     let one_back : h + 1 - 1 ≡ h = omega arith in
     let below : tops (set xs h c) (h + 1 - 1) ≡ tops xs h = ap (tops (set xs h c)) one_back ∙ tops_set xs h c h (omega arith) in
     record {
-      scan = reading_put w0 face room w xs h read now more reading;
+      face_cutting = reading_put w0 face room w xs h read now more reading;
       low = omega (arith, reading.low);
       some = omega arith;
       inside = omega (arith, more, length-set xs h c);
@@ -73,7 +73,7 @@ reading_top w0 face room w xs h read now more reading =
 pub reading_here : (w0 : DartMap) (face : List ℕ) (room : ℕ) (w : DartMap) (xs : List ℕ) (h read now : ℕ) → IsReading w0 face room w xs h read now →
     IsReading w (down (tops xs h) (drop read xs)) now w xs h read now
 reading_here w0 face room w xs h read now reading = record {
-  scan = scan_here w0 w face (tops xs h) (drop read xs) reading.scan;
+  face_cutting = scan_here w0 w face (tops xs h) (drop read xs) reading.face_cutting;
   low = reading.low;
   inside = reading.inside;
   hookless = reading.hookless;
@@ -87,7 +87,7 @@ pub reading_on : (w0 : DartMap) (face : List ℕ) (room : ℕ) (w new : DartMap)
     IsReading w0 face room w xs h read now → IsReading w (down (tops xs h) (drop read xs)) now new zs h' read' now' →
     IsReading w0 face room new zs h' read' now'
 reading_on w0 face room w new xs zs h read now h' read' now' first second = record {
-  scan = scan_on w0 w new face (tops xs h) (drop read xs) (tops zs h') (drop read' zs) first.scan second.scan;
+  face_cutting = scan_on w0 w new face (tops xs h) (drop read xs) (tops zs h') (drop read' zs) first.face_cutting second.face_cutting;
   low = second.low;
   inside = second.inside;
   hookless = second.hookless;
@@ -101,7 +101,7 @@ pub reading_begins : (w0 : DartMap) (face : List ℕ) (room m : ℕ) (xs : List 
     AreWaiting w0 o (face ∷ rs) → HasRoom w0 room → IsPeak (map w0.angle face) m → xs ≡ drop m face ++ take m face →
     All (λ a. a < room) xs → IsReading w0 face room w0 xs 0 0 room
 reading_begins w0 face room m xs sound o rs wait space peak said darts = record {
-  scan = record {
+  face_cutting = record {
     sound = sound;
     grows = same;
     waiting = λ o rs wait. subst (λ (zs : List ℕ). AreWaiting w0 o (zs ∷ rs)) (sym said)
@@ -143,7 +143,7 @@ reading_begins w0 face room m xs sound o rs wait space peak said darts = record 
 pub reading_done : (w0 : DartMap) (face : List ℕ) (room : ℕ) (w : DartMap) (xs : List ℕ) (h read now : ℕ) → length xs ≤ read →
     IsReading w0 face room w xs h read now → (o : ℕ) (rs : List (List ℕ)) → AreWaiting w0 o (face ∷ rs) → AreWaiting w o rs
 reading_done w0 face room w xs h read now all reading o rs wait =
-    scan_done w0 face w (tops xs h) (subst (λ (zs : List ℕ). IsScan w0 face w (tops xs h) zs) (drop_all read xs all) reading.scan)
+    scan_done w0 face w (tops xs h) (subst (λ (zs : List ℕ). IsFaceCutting w0 face w (tops xs h) zs) (drop_all read xs all) reading.face_cutting)
     reading.hookless o rs wait
 
 pub all_below : (n m : ℕ) (xs : List ℕ) → n ≤ m → Below n xs → All (λ a. a < m) xs

@@ -8,7 +8,7 @@ use Rattle.dissect.specs.declared.table.TheConstants.{RECTANGLE_ROOM}
 use Rattle.dissect.specs.DartMaps.{DartMap, IsTied, IsSound, IsCut, IsCutUp, reflex_turns}
 use Rattle.dissect.specs.Surrounds.{IsSurrounded, IsEnclosed}
 use Rattle.dissect.specs.FaceNumbers.{AreFaceNumbers, HasTurns}
-use Rattle.dissect.specs.Scan.{CanCut, HasRoom}
+use Rattle.dissect.specs.FaceCutting.{CanCut, HasRoom}
 use Rattle.dissect.specs.Turning.{total}
 use Rattle.dissect.specs.Faces.{Stretches, HasFourCorners, In, Distinct, Below, concatenated, AreWaiting, ReachesCorners, slices_of}
 use Rattle.dissect.proofs.Stretching.{stretch_direct, Stretches-inside}

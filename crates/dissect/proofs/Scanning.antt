@@ -1,4 +1,4 @@
--- The steps of the scan.
+-- The steps of cutting a face.
 use Rattle.std.proofs.Common.{◌≡◌, ◌≢◌, ℕ, zero, suc, ◌+◌, ◌-◌, ◌%◌, ◌<◌, ◌≤◌, ◌∙◌, List, [], ◌∷◌, ◌++◌, length, append_assoc, map, arith, subst, sym, ap, refl, inl, inr}
 use Rattle.std.proofs.lemmas.Bool.{cases_eq}
 use Rattle.common.specs.Sums.{sum_below}
@@ -6,7 +6,7 @@ use Rattle.common.proofs.Sums.{sum_below-more, sum_below-changed, sum_below-memb
 use Rattle.dissect.specs.Turning.{total, Rising, Hopeful}
 use Rattle.dissect.specs.DartMaps.{DartMap, IsTied, IsSubdivided, IsChord, HasChordAngles, IsSound, IsCut, further, reflex_turns}
 use Rattle.dissect.specs.Faces.{IsCorner, StretchesIn, Stretches, Trail, last_of, Ring, In, Distinct, Below, concatenated, AreWaiting}
-use Rattle.dissect.specs.Scan.{down, IsScan, CanCut, HasRoom}
+use Rattle.dissect.specs.FaceCutting.{down, IsFaceCutting, CanCut, HasRoom}
 use Rattle.dissect.proofs.Splitting.{split_tied, split_meeting, split_straight}
 use Rattle.dissect.proofs.Chords.{chord_tied, chord_meeting, chord_straight}
 use Rattle.dissect.proofs.Rings.{trail_rest}
@@ -131,17 +131,17 @@ down_append (c ∷ st) rest =
     ∙ ap (λ (zs : List ℕ). zs ++ rest) (sym (down_append st (c ∷ [])))
 
 -- reading one more corner
-pub scan_reads : (w0 w : DartMap) (face : List ℕ) (c : ℕ) (st rest : List ℕ) → IsScan w0 face w st (c ∷ rest) →
-    IsScan w0 face w (c ∷ st) rest
-scan_reads w0 w face c st rest scan = record {
-  sound = scan.sound;
-  grows = scan.grows;
-  waiting = scan.waiting;
+pub scan_reads : (w0 w : DartMap) (face : List ℕ) (c : ℕ) (st rest : List ℕ) → IsFaceCutting w0 face w st (c ∷ rest) →
+    IsFaceCutting w0 face w (c ∷ st) rest
+scan_reads w0 w face c st rest face_cutting = record {
+  sound = face_cutting.sound;
+  grows = face_cutting.grows;
+  waiting = face_cutting.waiting;
   hopeful = subst (λ (k : ℕ). Hopeful (total (map w.angle rest)) k (map w.angle (c ∷ st))) (length-map_angle w rest)
       (hopeful_reads (w.angle c) (map w.angle rest) (map w.angle st)
-      (subst (λ (k : ℕ). Hopeful (total (map w.angle (c ∷ rest))) k (map w.angle st)) (sym (length-map_angle w (c ∷ rest))) scan.hopeful)
-      scan.rising);
-  rising = scan.rising.1;
+      (subst (λ (k : ℕ). Hopeful (total (map w.angle (c ∷ rest))) k (map w.angle st)) (sym (length-map_angle w (c ∷ rest))) face_cutting.hopeful)
+      face_cutting.rising);
+  rising = face_cutting.rising.1;
 }
   where
     length-map_angle : (w : DartMap) (xs : List ℕ) → length (map w.angle xs) ≡ length xs
@@ -158,10 +158,10 @@ ring_stretches w (b ∷ bs) d c1 c rest ring =
 
 -- the three uppermost corners of the stack, where they are a right below two lefts
 pub scan_bites : (w0 : DartMap) (face : List ℕ) (w : DartMap) (d c1 c way : ℕ) (st rest : List ℕ) (o : ℕ) (rs : List (List ℕ)) (new : DartMap) →
-    IsScan w0 face w (c ∷ c1 ∷ d ∷ st) rest → AreWaiting w0 o (face ∷ rs) → w.angle c1 ≡ 1 → w.angle c ≡ 1 →
+    IsFaceCutting w0 face w (c ∷ c1 ∷ d ∷ st) rest → AreWaiting w0 o (face ∷ rs) → w.angle c1 ≡ 1 → w.angle c ≡ 1 →
     IsCut w d (w.next c) way new → IsBite w d c1 c (w.next c) way new
-scan_bites w0 face w d c1 c way st rest o rs new scan wait left_first left cut =
-    let waiting = scan.waiting o rs wait in
+scan_bites w0 face w d c1 c way st rest o rs new face_cutting wait left_first left cut =
+    let waiting = face_cutting.waiting o rs wait in
     let same : down st (d ∷ c1 ∷ c ∷ rest) ≡ down st [] ++ (d ∷ c1 ∷ c ∷ rest) = down_append st (d ∷ c1 ∷ c ∷ rest) in
     let stretches = ring_stretches w (down st []) d c1 c rest (subst (Ring w) same waiting.rings.0.0) in
     let below : Below w.darts (down st [] ++ (d ∷ c1 ∷ c ∷ rest)) =
@@ -171,7 +171,7 @@ scan_bites w0 face w d c1 c way st rest o rs new scan wait left_first left cut =
     let tail = below_right w.darts (down st []) (d ∷ c1 ∷ c ∷ rest) below in
     let apart = distinct_right (down st []) (d ∷ c1 ∷ c ∷ rest) distinct in
     record {
-      tied = scan.sound.tied;
+      tied = face_cutting.sound.tied;
       cut = cut;
       c1_in = tail.1.0;
       c_in = tail.1.1.0;
@@ -185,10 +185,10 @@ scan_bites w0 face w d c1 c way st rest o rs new scan wait left_first left cut =
 
 -- the same three corners can be cut
 pub scan_can : (w0 : DartMap) (face : List ℕ) (w : DartMap) (d c1 c : ℕ) (st rest : List ℕ) (o : ℕ) (rs : List (List ℕ)) →
-    IsScan w0 face w (c ∷ c1 ∷ d ∷ st) rest → AreWaiting w0 o (face ∷ rs) → w.angle c1 ≡ 1 → w.angle c ≡ 1 → 2 < w.angle d →
+    IsFaceCutting w0 face w (c ∷ c1 ∷ d ∷ st) rest → AreWaiting w0 o (face ∷ rs) → w.angle c1 ≡ 1 → w.angle c ≡ 1 → 2 < w.angle d →
     CanCut w d c
-scan_can w0 face w d c1 c st rest o rs scan wait left_first left right =
-    let waiting = scan.waiting o rs wait in
+scan_can w0 face w d c1 c st rest o rs face_cutting wait left_first left right =
+    let waiting = face_cutting.waiting o rs wait in
     let same : down st (d ∷ c1 ∷ c ∷ rest) ≡ down st [] ++ (d ∷ c1 ∷ c ∷ rest) = down_append st (d ∷ c1 ∷ c ∷ rest) in
     let stretches = ring_stretches w (down st []) d c1 c rest (subst (Ring w) same waiting.rings.0.0) in
     let below : Below w.darts (down st [] ++ (d ∷ c1 ∷ c ∷ rest)) =
@@ -198,7 +198,7 @@ scan_can w0 face w d c1 c st rest o rs scan wait left_first left right =
       d_in = tail.0;
       c_in = tail.1.1.0;
       right = right;
-      faces = hook_faces w d c1 c scan.sound tail.0 tail.1.0 tail.1.1.0 stretches.0 stretches.1 left_first left;
+      faces = hook_faces w d c1 c face_cutting.sound tail.0 tail.1.0 tail.1.1.0 stretches.0 stretches.1 left_first left;
     }
 
 pub map_kept : (w : DartMap) (d c1 c e way : ℕ) (new : DartMap) → IsBite w d c1 c e way new → (xs : List ℕ) → Below w.darts xs →
@@ -226,10 +226,10 @@ pub record Kept (w new : DartMap) (d : ℕ) (st rest : List ℕ) : Type 0 where
   pub unread : map new.angle rest ≡ map w.angle rest
 
 pub scan_kept : (w0 : DartMap) (face : List ℕ) (w : DartMap) (d c1 c way : ℕ) (st rest : List ℕ) (o : ℕ) (rs : List (List ℕ)) (new : DartMap) →
-    IsScan w0 face w (c ∷ c1 ∷ d ∷ st) rest → AreWaiting w0 o (face ∷ rs) → IsBite w d c1 c (w.next c) way new →
+    IsFaceCutting w0 face w (c ∷ c1 ∷ d ∷ st) rest → AreWaiting w0 o (face ∷ rs) → IsBite w d c1 c (w.next c) way new →
     Kept w new d st rest
-scan_kept w0 face w d c1 c way st rest o rs new scan wait bite =
-    let waiting = scan.waiting o rs wait in
+scan_kept w0 face w d c1 c way st rest o rs new face_cutting wait bite =
+    let waiting = face_cutting.waiting o rs wait in
     let same : down st (d ∷ c1 ∷ c ∷ rest) ≡ down st [] ++ (d ∷ c1 ∷ c ∷ rest) = down_append st (d ∷ c1 ∷ c ∷ rest) in
     let below : Below w.darts (down st [] ++ (d ∷ c1 ∷ c ∷ rest)) =
     subst (Below w.darts) same (below_left w.darts (down st (d ∷ c1 ∷ c ∷ rest)) (concatenated rs) waiting.below) in
@@ -249,59 +249,59 @@ pub total_kept : (w new : DartMap) (rest : List ℕ) → map new.angle rest ≡ 
 total_kept w new rest e = ap total e
 
 pub scan_cut_straight : (w0 : DartMap) (face : List ℕ) (w : DartMap) (d c1 c way : ℕ) (st rest : List ℕ) (o : ℕ) (rs : List (List ℕ)) (new : DartMap) →
-    IsScan w0 face w (c ∷ c1 ∷ d ∷ st) rest → AreWaiting w0 o (face ∷ rs) → w.angle c1 ≡ 1 → w.angle c ≡ 1 →
-    IsCut w d (w.next c) way new → new.angle d ≡ 2 → IsScan w0 face new ((w.darts + 2) ∷ st) rest
-scan_cut_straight w0 face w d c1 c way st rest o rs new scan wait left_first left cut straight =
-    let bite = scan_bites w0 face w d c1 c way st rest o rs new scan wait left_first left cut in
-    let kept = scan_kept w0 face w d c1 c way st rest o rs new scan wait bite in
+    IsFaceCutting w0 face w (c ∷ c1 ∷ d ∷ st) rest → AreWaiting w0 o (face ∷ rs) → w.angle c1 ≡ 1 → w.angle c ≡ 1 →
+    IsCut w d (w.next c) way new → new.angle d ≡ 2 → IsFaceCutting w0 face new ((w.darts + 2) ∷ st) rest
+scan_cut_straight w0 face w d c1 c way st rest o rs new face_cutting wait left_first left cut straight =
+    let bite = scan_bites w0 face w d c1 c way st rest o rs new face_cutting wait left_first left cut in
+    let kept = scan_kept w0 face w d c1 c way st rest o rs new face_cutting wait bite in
     let three : w.angle d ≡ 3 = omega (arith, bite_angle_d w d c1 c (w.next c) way new bite, straight) in
     let x_one : new.angle (w.darts + 2) ≡ 1 = ap new.angle (sym cut.subdivide.darts) ∙ cut.chord.angle_there in
     let hopeful : Hopeful (total (map w.angle rest)) (length rest) (1 ∷ 1 ∷ w.angle d ∷ map w.angle st) =
     subst (λ (k : ℕ). Hopeful (total (map w.angle rest)) (length rest) (1 ∷ k ∷ w.angle d ∷ map w.angle st)) left_first
-    (subst (λ (k : ℕ). Hopeful (total (map w.angle rest)) (length rest) (k ∷ w.angle c1 ∷ w.angle d ∷ map w.angle st)) left scan.hopeful) in
+    (subst (λ (k : ℕ). Hopeful (total (map w.angle rest)) (length rest) (k ∷ w.angle c1 ∷ w.angle d ∷ map w.angle st)) left face_cutting.hopeful) in
     let after : Hopeful (total (map w.angle rest)) (length rest) (1 ∷ map w.angle st) =
     hopeful_cut_straight (total (map w.angle rest)) (length rest) (w.angle d) (map w.angle st) three hopeful in
     record {
-      sound = cut_sound w d (w.next c) way new scan.sound cut;
-      grows = further w new d (w.next c) way scan.grows cut;
+      sound = cut_sound w d (w.next c) way new face_cutting.sound cut;
+      grows = further w new d (w.next c) way face_cutting.grows cut;
       waiting = λ o2 rs2 wait2.
-          let bite2 = scan_bites w0 face w d c1 c way st rest o2 rs2 new scan wait2 left_first left cut in
+          let bite2 = scan_bites w0 face w d c1 c way st rest o2 rs2 new face_cutting wait2 left_first left cut in
           subst (λ (zs : List ℕ). AreWaiting new o2 (zs ∷ rs2)) (sym (down_append st ((w.darts + 2) ∷ rest)))
           (gone_waiting w d c1 c (w.next c) way new (down st []) rest o2 rs2 bite2 straight
-          (subst (λ (zs : List ℕ). AreWaiting w o2 (zs ∷ rs2)) (down_append st (d ∷ c1 ∷ c ∷ rest)) (scan.waiting o2 rs2 wait2)));
+          (subst (λ (zs : List ℕ). AreWaiting w o2 (zs ∷ rs2)) (down_append st (d ∷ c1 ∷ c ∷ rest)) (face_cutting.waiting o2 rs2 wait2)));
       hopeful = subst (λ (k : ℕ). Hopeful (total (map new.angle rest)) (length rest) (k ∷ map new.angle st)) (sym x_one)
           (subst (λ (zs : List ℕ). Hopeful (total zs) (length rest) (1 ∷ map new.angle st)) (sym kept.unread)
           (subst (λ (zs : List ℕ). Hopeful (total (map w.angle rest)) (length rest) (1 ∷ zs)) (sym kept.stack) after));
-      rising = subst Rising (sym kept.unread) scan.rising;
+      rising = subst Rising (sym kept.unread) face_cutting.rising;
     }
 
 pub scan_cut_turning : (w0 : DartMap) (face : List ℕ) (w : DartMap) (d c1 c way : ℕ) (st rest : List ℕ) (o : ℕ) (rs : List (List ℕ)) (new : DartMap) →
-    IsScan w0 face w (c ∷ c1 ∷ d ∷ st) rest → AreWaiting w0 o (face ∷ rs) → w.angle c1 ≡ 1 → w.angle c ≡ 1 →
-    IsCut w d (w.next c) way new → IsCorner new d → IsScan w0 face new ((w.darts + 2) ∷ d ∷ st) rest
-scan_cut_turning w0 face w d c1 c way st rest o rs new scan wait left_first left cut corner =
-    let bite = scan_bites w0 face w d c1 c way st rest o rs new scan wait left_first left cut in
-    let kept = scan_kept w0 face w d c1 c way st rest o rs new scan wait bite in
+    IsFaceCutting w0 face w (c ∷ c1 ∷ d ∷ st) rest → AreWaiting w0 o (face ∷ rs) → w.angle c1 ≡ 1 → w.angle c ≡ 1 →
+    IsCut w d (w.next c) way new → IsCorner new d → IsFaceCutting w0 face new ((w.darts + 2) ∷ d ∷ st) rest
+scan_cut_turning w0 face w d c1 c way st rest o rs new face_cutting wait left_first left cut corner =
+    let bite = scan_bites w0 face w d c1 c way st rest o rs new face_cutting wait left_first left cut in
+    let kept = scan_kept w0 face w d c1 c way st rest o rs new face_cutting wait bite in
     let less = bite_angle_d w d c1 c (w.next c) way new bite in
-    let four : w.angle d ≡ 4 = pick (w.angle d) (new.angle d) less cut.right (scan.sound.meeting.most d cut.d_in) corner in
+    let four : w.angle d ≡ 4 = pick (w.angle d) (new.angle d) less cut.right (face_cutting.sound.meeting.most d cut.d_in) corner in
     let three : new.angle d ≡ 3 = omega (arith, less, four) in
     let x_one : new.angle (w.darts + 2) ≡ 1 = ap new.angle (sym cut.subdivide.darts) ∙ cut.chord.angle_there in
     let hopeful : Hopeful (total (map w.angle rest)) (length rest) (1 ∷ 1 ∷ w.angle d ∷ map w.angle st) =
     subst (λ (k : ℕ). Hopeful (total (map w.angle rest)) (length rest) (1 ∷ k ∷ w.angle d ∷ map w.angle st)) left_first
-    (subst (λ (k : ℕ). Hopeful (total (map w.angle rest)) (length rest) (k ∷ w.angle c1 ∷ w.angle d ∷ map w.angle st)) left scan.hopeful) in
+    (subst (λ (k : ℕ). Hopeful (total (map w.angle rest)) (length rest) (k ∷ w.angle c1 ∷ w.angle d ∷ map w.angle st)) left face_cutting.hopeful) in
     let after : Hopeful (total (map w.angle rest)) (length rest) (1 ∷ new.angle d ∷ map w.angle st) =
     hopeful_cut_turning (total (map w.angle rest)) (length rest) (w.angle d) (new.angle d) (map w.angle st) four three hopeful in
     record {
-      sound = cut_sound w d (w.next c) way new scan.sound cut;
-      grows = further w new d (w.next c) way scan.grows cut;
+      sound = cut_sound w d (w.next c) way new face_cutting.sound cut;
+      grows = further w new d (w.next c) way face_cutting.grows cut;
       waiting = λ o2 rs2 wait2.
-          let bite2 = scan_bites w0 face w d c1 c way st rest o2 rs2 new scan wait2 left_first left cut in
+          let bite2 = scan_bites w0 face w d c1 c way st rest o2 rs2 new face_cutting wait2 left_first left cut in
           subst (λ (zs : List ℕ). AreWaiting new o2 (zs ∷ rs2)) (sym (down_append st (d ∷ (w.darts + 2) ∷ rest)))
           (kept_waiting w d c1 c (w.next c) way new (down st []) rest o2 rs2 bite2 corner
-          (subst (λ (zs : List ℕ). AreWaiting w o2 (zs ∷ rs2)) (down_append st (d ∷ c1 ∷ c ∷ rest)) (scan.waiting o2 rs2 wait2)));
+          (subst (λ (zs : List ℕ). AreWaiting w o2 (zs ∷ rs2)) (down_append st (d ∷ c1 ∷ c ∷ rest)) (face_cutting.waiting o2 rs2 wait2)));
       hopeful = subst (λ (k : ℕ). Hopeful (total (map new.angle rest)) (length rest) (k ∷ new.angle d ∷ map new.angle st)) (sym x_one)
           (subst (λ (zs : List ℕ). Hopeful (total zs) (length rest) (1 ∷ new.angle d ∷ map new.angle st)) (sym kept.unread)
           (subst (λ (zs : List ℕ). Hopeful (total (map w.angle rest)) (length rest) (1 ∷ new.angle d ∷ zs)) (sym kept.stack) after));
-      rising = subst Rising (sym kept.unread) scan.rising;
+      rising = subst Rising (sym kept.unread) face_cutting.rising;
     }
   where
     pick : (a b : ℕ) → b + 1 ≡ a → 2 < a → a ≤ 4 → b ≢ 2 → a ≡ 4

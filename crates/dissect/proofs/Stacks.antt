@@ -1,4 +1,4 @@
--- The scan over a list of places.
+-- The stack of corners over a list of places.
 use Rattle.std.proofs.Common.{◌≡◌, ◌≢◌, ℕ, zero, suc, ◌+◌, ◌-◌, ◌<◌, ◌≤◌, ◌∙◌, List, [], ◌∷◌, length, map, drop, get_or, set, arith, subst, sym, ap, refl, inl, inr, All, get_or-set_same, get_or-set_other}
 use Rattle.std.proofs.lemmas.Bool.{cases_lt}
 use Rattle.std.proofs.lemmas.List.{drop-set-lt}
@@ -7,15 +7,15 @@ use Rattle.std.proofs.Math.ListN.{length-set}
 use Rattle.dissect.specs.Turning.{HasNoHook, AreCornerAngles}
 use Rattle.dissect.specs.DartMaps.{DartMap, IsCut}
 use Rattle.dissect.specs.Faces.{IsCorner, In, concatenated, AreWaiting}
-use Rattle.dissect.specs.Scan.{down, tops, IsScan, CanCut, HasRoom, IsHookOn}
+use Rattle.dissect.specs.FaceCutting.{down, tops, IsFaceCutting, CanCut, HasRoom, IsHookOn}
 use Rattle.dissect.proofs.LeftTurns.{hookless_left, hookless_right, left_or_right}
 use Rattle.dissect.proofs.Listing.{in_below, below_left}
 use Rattle.dissect.proofs.Scanning.{scan_can, scan_bites, scan_kept, scan_cut_straight, scan_cut_turning, cut_room, in_down}
 use Rattle.dissect.proofs.Finishing.{turns_of, ring_corners}
 
--- the scan where only the uppermost corner may stand on a left on a right
+-- the stack where only the uppermost corner may stand on a left on a right
 pub record IsTop (w0 : DartMap) (room : ℕ) (face : List ℕ) (w : DartMap) (xs : List ℕ) (h read : ℕ) : Type 0 where
-  pub scan : IsScan w0 face w (tops xs h) (drop read xs)
+  pub face_cutting : IsFaceCutting w0 face w (tops xs h) (drop read xs)
   pub low : h ≤ read
   pub some : 1 ≤ h
   pub inside : read ≤ length xs
@@ -64,10 +64,10 @@ hook_at w xs k hook =
     record { left = h.0; left_first = h.1; right = h.2 }
 
 -- the corners on the stack are darts that turn
-pub stack_turns : (w0 : DartMap) (face : List ℕ) (w : DartMap) (st rest : List ℕ) (o : ℕ) (rs : List (List ℕ)) → IsScan w0 face w st rest →
+pub stack_turns : (w0 : DartMap) (face : List ℕ) (w : DartMap) (st rest : List ℕ) (o : ℕ) (rs : List (List ℕ)) → IsFaceCutting w0 face w st rest →
     AreWaiting w0 o (face ∷ rs) → (a : ℕ) → In a st → (a < w.darts) × IsCorner w a
-stack_turns w0 face w st rest o rs scan wait a here =
-    let waiting = scan.waiting o rs wait in
+stack_turns w0 face w st rest o rs face_cutting wait a here =
+    let waiting = face_cutting.waiting o rs wait in
     let there : In a (down st rest) = in_down a st rest here in (
       in_below w.darts a (down st rest) (below_left w.darts (down st rest) (concatenated rs) waiting.below) there,
       ring_corners w a (down st rest) waiting.rings.0.0 there,
@@ -102,20 +102,20 @@ top_straight w0 room face w xs k read way o rs new top wait hook cut straight =
     let d : ℕ = get_or xs k 0 in
     let c1 : ℕ = get_or xs (k + 1) 0 in
     let c : ℕ = get_or xs (k + 2) 0 in
-    let scan : IsScan w0 face w (c ∷ c1 ∷ d ∷ tops xs k) (drop read xs) =
-    subst (λ (st : List ℕ). IsScan w0 face w st (drop read xs)) (tops_three xs k) top.scan in
-    let after : IsScan w0 face new ((w.darts + 2) ∷ tops xs k) (drop read xs) =
-    scan_cut_straight w0 face w d c1 c way (tops xs k) (drop read xs) o rs new scan wait hook.left_first hook.left cut straight in
-    let bite = scan_bites w0 face w d c1 c way (tops xs k) (drop read xs) o rs new scan wait hook.left_first hook.left cut in
-    let kept = scan_kept w0 face w d c1 c way (tops xs k) (drop read xs) o rs new scan wait bite in
+    let face_cutting : IsFaceCutting w0 face w (c ∷ c1 ∷ d ∷ tops xs k) (drop read xs) =
+    subst (λ (st : List ℕ). IsFaceCutting w0 face w st (drop read xs)) (tops_three xs k) top.face_cutting in
+    let after : IsFaceCutting w0 face new ((w.darts + 2) ∷ tops xs k) (drop read xs) =
+    scan_cut_straight w0 face w d c1 c way (tops xs k) (drop read xs) o rs new face_cutting wait hook.left_first hook.left cut straight in
+    let bite = scan_bites w0 face w d c1 c way (tops xs k) (drop read xs) o rs new face_cutting wait hook.left_first hook.left cut in
+    let kept = scan_kept w0 face w d c1 c way (tops xs k) (drop read xs) o rs new face_cutting wait bite in
     let same_rest : drop read (set xs k (w.darts + 2)) ≡ drop read xs = drop-set-lt read xs k (w.darts + 2) (omega (arith, top.low)) in
     let same_tops : tops (set xs k (w.darts + 2)) (k + 1) ≡ (w.darts + 2) ∷ tops xs k =
     tops_put xs k (w.darts + 2) (omega (arith, top.low, top.inside)) in
     let hookless : HasNoHook 0 (w.angle c1 ∷ w.angle d ∷ map w.angle (tops xs k)) = below_top w xs k top.tail in
     let one_back : k + 1 - 1 ≡ k = omega arith in
     record {
-      scan = subst (λ (st : List ℕ). IsScan w0 face new st (drop read (set xs k (w.darts + 2)))) (sym same_tops)
-          (subst (λ (rest : List ℕ). IsScan w0 face new ((w.darts + 2) ∷ tops xs k) rest) (sym same_rest) after);
+      face_cutting = subst (λ (st : List ℕ). IsFaceCutting w0 face new st (drop read (set xs k (w.darts + 2)))) (sym same_tops)
+          (subst (λ (rest : List ℕ). IsFaceCutting w0 face new ((w.darts + 2) ∷ tops xs k) rest) (sym same_rest) after);
       low = omega (arith, top.low);
       some = omega arith;
       inside = omega (arith, top.inside, length-set xs k (w.darts + 2));
@@ -144,12 +144,12 @@ top_turning w0 room face w xs k read way o rs new top wait hook cut corner =
     let c : ℕ = get_or xs (k + 2) 0 in
     let x : ℕ = w.darts + 2 in
     let ys : List ℕ = set xs (k + 1) x in
-    let scan : IsScan w0 face w (c ∷ c1 ∷ d ∷ tops xs k) (drop read xs) =
-    subst (λ (st : List ℕ). IsScan w0 face w st (drop read xs)) (tops_three xs k) top.scan in
-    let after : IsScan w0 face new (x ∷ d ∷ tops xs k) (drop read xs) =
-    scan_cut_turning w0 face w d c1 c way (tops xs k) (drop read xs) o rs new scan wait hook.left_first hook.left cut corner in
-    let bite = scan_bites w0 face w d c1 c way (tops xs k) (drop read xs) o rs new scan wait hook.left_first hook.left cut in
-    let kept = scan_kept w0 face w d c1 c way (tops xs k) (drop read xs) o rs new scan wait bite in
+    let face_cutting : IsFaceCutting w0 face w (c ∷ c1 ∷ d ∷ tops xs k) (drop read xs) =
+    subst (λ (st : List ℕ). IsFaceCutting w0 face w st (drop read xs)) (tops_three xs k) top.face_cutting in
+    let after : IsFaceCutting w0 face new (x ∷ d ∷ tops xs k) (drop read xs) =
+    scan_cut_turning w0 face w d c1 c way (tops xs k) (drop read xs) o rs new face_cutting wait hook.left_first hook.left cut corner in
+    let bite = scan_bites w0 face w d c1 c way (tops xs k) (drop read xs) o rs new face_cutting wait hook.left_first hook.left cut in
+    let kept = scan_kept w0 face w d c1 c way (tops xs k) (drop read xs) o rs new face_cutting wait bite in
     let same_rest : drop read ys ≡ drop read xs = drop-set-lt read xs (k + 1) x (omega (arith, top.low)) in
     let same_tops : tops ys (k + 2) ≡ x ∷ d ∷ tops xs k =
     let e2 : k + 2 ≡ (k + 1) + 1 = omega arith in
@@ -161,8 +161,8 @@ top_turning w0 room face w xs k read way o rs new top wait hook cut corner =
     let rights : 2 < new.angle d = beyond (new.angle d) (w.angle d) cut.chord.angle_d (cut.subdivide.angle_old d cut.d_in) cut.right corner in
     let hookless = below_top w xs k top.tail in
     record {
-      scan = subst (λ (st : List ℕ). IsScan w0 face new st (drop read ys)) (sym same_tops)
-          (subst (λ (rest : List ℕ). IsScan w0 face new (x ∷ d ∷ tops xs k) rest) (sym same_rest) after);
+      face_cutting = subst (λ (st : List ℕ). IsFaceCutting w0 face new st (drop read ys)) (sym same_tops)
+          (subst (λ (rest : List ℕ). IsFaceCutting w0 face new (x ∷ d ∷ tops xs k) rest) (sym same_rest) after);
       low = omega (arith, top.low);
       some = omega arith;
       inside = omega (arith, top.inside, length-set xs (k + 1) x);
@@ -188,7 +188,7 @@ pub top_can : (w0 : DartMap) (room : ℕ) (face : List ℕ) (w : DartMap) (xs : 
     IsTop w0 room face w xs (k + 3) read → AreWaiting w0 o (face ∷ rs) → HookAt w xs k → CanCut w (get_or xs k 0) (get_or xs (k + 2) 0)
 top_can w0 room face w xs k read o rs top wait hook =
     scan_can w0 face w (get_or xs k 0) (get_or xs (k + 1) 0) (get_or xs (k + 2) 0) (tops xs k) (drop read xs) o rs
-    (subst (λ (st : List ℕ). IsScan w0 face w st (drop read xs)) (tops_three xs k) top.scan) wait hook.left_first hook.left hook.right
+    (subst (λ (st : List ℕ). IsFaceCutting w0 face w st (drop read xs)) (tops_three xs k) top.face_cutting) wait hook.left_first hook.left hook.right
 
 pub hook_parts : (w : DartMap) (xs : List ℕ) (h : ℕ) → IsHookOn w (tops xs h) →
     (w.angle (get_or xs (h - 1) 0) ≡ 1) × (w.angle (get_or xs (h - 2) 0) ≡ 1) × (2 < w.angle (get_or xs (h - 3) 0))
@@ -288,7 +288,7 @@ turning_at w0 room face w xs h read way o rs new top wait hook cut corner =
 pub turns_at : (w0 : DartMap) (room : ℕ) (face : List ℕ) (w : DartMap) (xs : List ℕ) (h read : ℕ) (o : ℕ) (rs : List (List ℕ)) →
     IsTop w0 room face w xs h read → AreWaiting w0 o (face ∷ rs) → AreCornerAngles (map w.angle (tops xs h))
 turns_at w0 room face w xs h read o rs top wait =
-    turns_of w (tops xs h) top.scan.sound (stack_turns w0 face w (tops xs h) (drop read xs) o rs top.scan wait)
+    turns_of w (tops xs h) top.face_cutting.sound (stack_turns w0 face w (tops xs h) (drop read xs) o rs top.face_cutting wait)
 
 -- with no hook uppermost, the whole stack is hookless
 pub unhooked_at : (w0 : DartMap) (room : ℕ) (face : List ℕ) (w : DartMap) (xs : List ℕ) (h read : ℕ) (o : ℕ) (rs : List (List ℕ)) →

@@ -4,7 +4,7 @@ pub mod DartMaps
 pub mod Faces
 pub mod Turning
 pub mod Tables
-pub mod Scan
+pub mod FaceCutting
 pub mod FaceNumbers
 pub mod Paths
 pub mod Surrounds

@@ -14,7 +14,7 @@ tail w a = w.head (w.reverse_dart a)
 
 -- along a dart to the east x grows and y stays, along a dart to the north y grows and x stays; so the other way
 -- round to the west and south
-pub record IsOrdered (w : DartMap) (x y : ℕ → ℕ) : Type 0 where
+pub record IsMonotone (w : DartMap) (x y : ℕ → ℕ) : Type 0 where
   pub east : (a : ℕ) → a < w.darts → w.direction a ≡ 0 → (x (tail w a) < x (w.head a)) × (y (tail w a) ≡ y (w.head a))
   pub north : (a : ℕ) → a < w.darts → w.direction a ≡ 1 → (y (tail w a) < y (w.head a)) × (x (tail w a) ≡ x (w.head a))
 
@@ -34,19 +34,19 @@ pub record AreTaken (b : BoxesModel) (x y : ℕ → ℕ) (points : PointsModel) 
   pub corners : (e : ℕ) → e < length b.edges → (edge : HasEdge b e)
       → corners_at points e ≡ map (point_at x y) (turning_vertices (dart_map b) edge.first edge.rest)
 
--- the points are taken from some numbers that grow along the darts, within the grid
-pub record AreLaidOut (b : BoxesModel) (points : PointsModel) : Type 0 where
+-- the points are taken from the least numbers that grow along the darts, and those are within the grid
+pub record AreLeastPoints (b : BoxesModel) (points : PointsModel) : Type 0 where
   pub x : ℕ → ℕ
   pub y : ℕ → ℕ
-  pub ordered : IsOrdered (dart_map b) x y
-  -- the least there are: the lengths of longest paths
-  pub x_least : (x1 y1 : ℕ → ℕ) → IsOrdered (dart_map b) x1 y1 → (v : ℕ) → v < b.vertices → x v ≤ x1 v
-  pub y_least : (x1 y1 : ℕ → ℕ) → IsOrdered (dart_map b) x1 y1 → (v : ℕ) → v < b.vertices → y v ≤ y1 v
+  pub ordered : IsMonotone (dart_map b) x y
+  -- lengths of longest paths
+  pub x_least : (x1 y1 : ℕ → ℕ) → IsMonotone (dart_map b) x1 y1 → (v : ℕ) → v < b.vertices → x v ≤ x1 v
+  pub y_least : (x1 y1 : ℕ → ℕ) → IsMonotone (dart_map b) x1 y1 → (v : ℕ) → v < b.vertices → y v ≤ y1 v
   pub x_within : AreWithin b.vertices x
   pub y_within : AreWithin b.vertices y
   pub taken : AreTaken b x y points
 
 -- no numbers that grow along the darts are all within the grid
 abbrev pub FitsNoGrid : BoxesModel → Type 0
-FitsNoGrid b = (x y : ℕ → ℕ) → IsOrdered (dart_map b) x y
+FitsNoGrid b = (x y : ℕ → ℕ) → IsMonotone (dart_map b) x y
     → (v : ℕ) × (v < b.vertices) × ((MAX_COORDINATE < x v) ⊎ (MAX_COORDINATE < y v))

@@ -1,4 +1,4 @@
-//! The dissection of a shape.
+//! The dissection of a shape into rectangles, the step before compaction (Tamassia 1987).
 
 ghost use Rattle.std.specs.Prelude.{IfOk};
 ghost use Rattle.ortho_rep.specs.Representation.{IsShape};
@@ -21,7 +21,7 @@ use std::mem;
 ///
 /// Each dart is given a direction, each edge is subdivided at its turns, a rectangle is put round the whole
 /// and connected to it at a right turn of the outer face, and each face is cut at its right turns until
-/// all are boxes (after Tamassia 1987, in one scan a face). For n vertices and b bends there are at
+/// all are boxes (after Tamassia 1987, each corner read once). For n vertices and b bends there are at
 /// most 3n + 2b + 5 vertices. Linear in the boxes.
 ///
 /// # Errors

@@ -12,9 +12,9 @@ ghost use Rattle.dissect.specs.FaceNumbers.{HasTurns};
 ghost use Rattle.dissect.specs.Tables.{room, dart_map_of};
 ghost use Rattle.dissect.specs.DartMaps.{IsSound, reflex_turns};
 
+use crate::face_cutting::{cut_across, cut_faces};
 use crate::face_list::{Faces, add_merged_face, list_faces};
 use crate::rectangle::surround;
-use crate::scan::{cut_across, cut_faces};
 use crate::table::DartTable;
 use crate::walks::find_right;
 use std::alloc::{AllocError, Global};

@@ -4,7 +4,7 @@ use Rattle.std.proofs.Common.{◌≡◌, ℕ, zero, suc, ◌+◌, ◌-◌, ◌%�
 use Rattle.std.proofs.lemmas.Bool.{cases_eq, cases_lt}
 use Rattle.dissect.specs.DartMaps.{DartMap, IsSound}
 use Rattle.dissect.specs.Faces.{IsCorner}
-use Rattle.dissect.specs.Ordered.{IsOrdered, tail}
+use Rattle.dissect.specs.Ordered.{IsMonotone, tail}
 use Rattle.drawing_laws.proofs.Sides.{Goes, Spans, Keeps, IsOn, on_one, keeps_way, keeps_leads, next_tail, tail_back, dart_goes, goes_on, side_wide, side_once, side_leads}
 use Rattle.drawing_laws.proofs.Rounds.{IsRound, AreFaces}
 use Rattle.drawing_laws.proofs.Rows.{Crosses, DartsAcross, Covers, IsStep, round_corner, round_goes, box_upright, chain_crosses, chain_one, chain_east, chain_of, chain_within, step_west, cover_step, cover_one}
@@ -51,7 +51,7 @@ on_straight w a c on = go w on.places a c on.keeps
     go w zero a c keeps = inl keeps
     go w (suc k) a c keeps = inr keeps.0
 
-module _ (w : DartMap) (sound : IsSound w) (x y : ℕ → ℕ) (ordered : IsOrdered w x y) where
+module _ (w : DartMap) (sound : IsSound w) (x y : ℕ → ℕ) (ordered : IsMonotone w x y) where
   -- before its end a side goes on
   keeps_goes : (d k a c : ℕ) → a < w.darts → w.direction c ≡ d → Keeps w k a c → (a ≡ c → ⊥) → Goes d x y (w.head a) (w.head c)
   keeps_goes d zero a c a_in way keeps other = absurd (other keeps)

@@ -260,8 +260,8 @@ module _ (w : DartMap) (sound : IsSound w) (connected : IsConnected w) (o : ℕ)
       abbrev told : ℕ → Bool
       told a = s a || g2.reached (w.head a)
 
-      told_of : OfFaces w told
-      told_of a a_in =
+      known_of : OfFaces w told
+      known_of a a_in =
           elim (cases_Bool (s a)) [
             | inl on ↦ or_left (s (w.next a)) (g2.reached (w.head (w.next a))) (of a a_in ∙ on) ∙ sym (or_left (s a) (g2.reached (w.head a)) on)
             | inr off ↦
@@ -274,7 +274,7 @@ module _ (w : DartMap) (sound : IsSound w) (connected : IsConnected w) (o : ℕ)
 
       from_told : (a c : ℕ) → a < w.darts → faces.face_number a ≡ c → told c ≡ true → s a ≡ false → g2.reached (w.head a) ≡ true
       from_told a c a_in named on off =
-          let here : told a ≡ true = faces.held told told_of a a_in ∙ ap told named ∙ on in
+          let here : told a ≡ true = faces.held told known_of a a_in ∙ ap told named ∙ on in
           elim (or_cases (s a) (g2.reached (w.head a)) here) [
             | inl set ↦ absurd (both_ways (s a) off set)
             | inr yes' ↦ yes'
@@ -295,7 +295,7 @@ module _ (w : DartMap) (sound : IsSound w) (connected : IsConnected w) (o : ℕ)
               let off : s d ≡ false = off_of d (ap g0.reached leads.to ∙ r) in
               let there : g2.reached (w.head (w.reverse_dart d)) ≡ true = before (w.reverse_dart d) (back_in d leads.inside) refl in
               let here : g2.reached (w.head d) ≡ true = ends d leads.inside (and_off (s d) (s (w.reverse_dart d)) off) ∙ there in
-              let face : told (faces.face_number d) ≡ true = sym (faces.held told told_of d leads.inside) ∙ or_right (s d) (g2.reached (w.head d)) here in
+              let face : told (faces.face_number d) ≡ true = sym (faces.held told known_of d leads.inside) ∙ or_right (s d) (g2.reached (w.head d)) here in
               from_told a v a_in named (ap told (sym leads.to) ∙ face) (off_of a (ap g0.reached named ∙ r))
 
       -- so all vertices of the edges that touch such a face are reached

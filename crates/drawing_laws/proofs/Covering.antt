@@ -9,7 +9,7 @@ use Rattle.dissect.specs.Paths.{HasPath, turn_to, bends}
 use Rattle.dissect.proofs.StraightPaths.{straight_on}
 use Rattle.dissect.specs.Boxes.{BoxesModel, dart_map}
 use Rattle.dissect.specs.Boxed.{IsBoxed}
-use Rattle.dissect.specs.Ordered.{IsOrdered}
+use Rattle.dissect.specs.Ordered.{IsMonotone}
 use Rattle.dissect.specs.Rectangle.{HasRectangle}
 use Rattle.drawing_laws.specs.Cells.{CoversCell, IsCoveredOnce, IsWithin}
 use Rattle.drawing_laws.proofs.Sides.{Goes}
@@ -68,7 +68,7 @@ module _ (w : DartMap) (sound : IsSound w) where
 
 -- ---- cells
 
-module _ (w : DartMap) (sound : IsSound w) (x y : ℕ → ℕ) (ordered : IsOrdered w x y) where
+module _ (w : DartMap) (sound : IsSound w) (x y : ℕ → ℕ) (ordered : IsMonotone w x y) where
   -- the box with an upper right corner, by its four corners
   box_covers : (c i j : ℕ) → CoversCell w x y c i j → (corner : ℕ → ℕ) × IsRound w 3 1 corner × Covers w x y corner i j × (corner 1 ≡ c)
   box_covers c i j covers =
@@ -137,7 +137,7 @@ module _ (w : DartMap) (sound : IsSound w) (x y : ℕ → ℕ) (ordered : IsOrde
             sym at ∙ cover_one w sound x y ordered faces corner' corner i j round' round covers' covers 1 (omega arith);
       }
 
-pub covered_once : (p : PlaneModel) (shape : ShapeModel) (b : BoxesModel) (x y : ℕ → ℕ) → (boxed : IsBoxed p shape b) → IsOrdered (dart_map b) x y
+pub covered_once : (p : PlaneModel) (shape : ShapeModel) (b : BoxesModel) (x y : ℕ → ℕ) → (boxed : IsBoxed p shape b) → IsMonotone (dart_map b) x y
     → (i j : ℕ) → IsWithin x y (boxed.enclosed.enclosed_map.vertices + 3) (boxed.enclosed.enclosed_map.vertices + 1) i j → IsCoveredOnce (dart_map b) x y i j
 covered_once p shape b x y boxed ordered i j within =
     let sound = boxed.boxes.sound in

@@ -19,7 +19,7 @@ use Rattle.dissect.specs.Faces.{In, Distinct, Below, last_of}
 use Rattle.dissect.specs.Paths.{HasPath, IsPath, turn_to, turning_vertices}
 use Rattle.dissect.specs.Boxes.{BoxesModel, dart_map}
 use Rattle.dissect.specs.Boxed.{IsBoxed}
-use Rattle.dissect.specs.Ordered.{IsOrdered, AreWithin, AreTaken, AreLaidOut, point_at}
+use Rattle.dissect.specs.Ordered.{IsMonotone, AreWithin, AreTaken, AreLeastPoints, point_at}
 use Rattle.drawing_check.specs.declared.fault.CheckFault.{CheckFault}
 use Rattle.drawing_check.specs.declared.fault.CheckFault.TheVariants.{OutOfGrid, NotAxis, WrongTurn, Meet, Memory}
 use Rattle.drawing_check.specs.Faults.{IsFirstFault}
@@ -84,7 +84,7 @@ ways_left (suc n) k few =
 -- ---- the points of a shape
 
 module _ (p : PlaneModel) (shape : ShapeModel) (b : BoxesModel) (plane : IsPlane p) (boxed : IsBoxed p shape b) (x y : ℕ → ℕ)
-    (ordered : IsOrdered (dart_map b) x y) (points : PointsModel) (taken : AreTaken b x y points) where
+    (ordered : IsMonotone (dart_map b) x y) (points : PointsModel) (taken : AreTaken b x y points) where
   path_of : (d : ℕ) → d < darts p → HasPath (dart_map b) d (reverse_dart p d) (map angle_of (turns_at shape d))
   path_of d d_in = boxed.paths.paths d d_in
 
@@ -393,12 +393,12 @@ drawn_passes p shape points drawn WrongTurn first = absurd (first.2 drawn.turns)
 drawn_passes p shape points drawn Meet first = absurd (first.3 drawn.apart)
 drawn_passes p shape points drawn Memory first = refl
 
-pub laid_out_draws : (p : PlaneModel) (shape : ShapeModel) (b : BoxesModel) (points : PointsModel) → IsPlane p → IsBoxed p shape b
-    → AreLaidOut b points → Draws p shape points
-laid_out_draws p shape b points plane boxed laid =
+pub least_points_draw : (p : PlaneModel) (shape : ShapeModel) (b : BoxesModel) (points : PointsModel) → IsPlane p → IsBoxed p shape b
+    → AreLeastPoints b points → Draws p shape points
+least_points_draw p shape b points plane boxed laid =
     draws p shape b plane boxed laid.x laid.y laid.ordered points laid.taken laid.x_within laid.y_within
 
-pub laid_out_passes : (p : PlaneModel) (shape : ShapeModel) (b : BoxesModel) (points : PointsModel) → IsPlane p → IsBoxed p shape b
-    → AreLaidOut b points → (fault : CheckFault) → IsFirstFault p shape points fault → fault ≡ Memory
-laid_out_passes p shape b points plane boxed laid =
-    drawn_passes p shape points (laid_out_draws p shape b points plane boxed laid)
+pub least_points_passed : (p : PlaneModel) (shape : ShapeModel) (b : BoxesModel) (points : PointsModel) → IsPlane p → IsBoxed p shape b
+    → AreLeastPoints b points → (fault : CheckFault) → IsFirstFault p shape points fault → fault ≡ Memory
+least_points_passed p shape b points plane boxed laid =
+    drawn_passes p shape points (least_points_draw p shape b points plane boxed laid)

@@ -11,7 +11,7 @@ use Rattle.dissect.specs.Faces.{Below, last_of}
 use Rattle.dissect.specs.Paths.{Follows, turn_to, bends, turning_vertices}
 use Rattle.dissect.proofs.StraightPaths.{straight_on, turned_on}
 use Rattle.dissect.specs.Steps.{angle_of}
-use Rattle.dissect.specs.Ordered.{IsOrdered, point_at}
+use Rattle.dissect.specs.Ordered.{IsMonotone, point_at}
 use Rattle.drawing_check.specs.Paths.{point_of}
 use Rattle.drawing_check.specs.Draws.{IsAxis, IsOnAxes, IsTurning, direction_between, direction_of, turned}
 use Rattle.drawing_laws.proofs.Sides.{Goes, goes_on, goes_leads, dart_goes}
@@ -116,7 +116,7 @@ turning_more q path turn turns first behind = record {
 
 -- ---- the path
 
-module _ (w : DartMap) (sound : IsSound w) (x y : ℕ → ℕ) (ordered : IsOrdered w x y) where
+module _ (w : DartMap) (sound : IsSound w) (x y : ℕ → ℕ) (ordered : IsMonotone w x y) where
   -- a straight place is passed
   pub on_straight : (u a b : ℕ) → a < w.darts → b < w.darts → w.head (w.reverse_dart b) ≡ w.head a → turn_to w a b ≡ 0
       → Goes (w.direction a) x y u (w.head a) → (w.direction b ≡ w.direction a) × Goes (w.direction b) x y u (w.head b)

@@ -10,7 +10,7 @@ use Rattle.dissect.specs.DartMaps.{DartMap}
 use Rattle.dissect.specs.Faces.{Below}
 use Rattle.dissect.specs.Paths.{turn_to, turning_vertices}
 use Rattle.dissect.specs.Boxes.{BoxesModel, AreBoxes, dart_map}
-use Rattle.dissect.specs.Ordered.{IsOrdered, AreLaidOut, point_at}
+use Rattle.dissect.specs.Ordered.{IsMonotone, AreLeastPoints, point_at}
 use Rattle.drawing_laws.specs.Least.{AreLeast, AreBelow, HasLeast, HasNoGap, IsBelow}
 use Rattle.drawing_laws.proofs.Axes.{Follow, HasEnds, least_following, no_gap, few_numbers}
 
@@ -21,19 +21,19 @@ ends_of b boxes = record {
 }
 
 -- coordinates in order along each axis, and both together
-x_follows : (b : BoxesModel) (x y : ℕ → ℕ) → IsOrdered (dart_map b) x y → Follow (dart_map b) 0 1 b.darts x
+x_follows : (b : BoxesModel) (x y : ℕ → ℕ) → IsMonotone (dart_map b) x y → Follow (dart_map b) 0 1 b.darts x
 x_follows b x y o = record { grow = λ a inside goes. (o.east a inside goes).0; stay = λ a inside across. (o.north a inside across).1 }
 
-y_follows : (b : BoxesModel) (x y : ℕ → ℕ) → IsOrdered (dart_map b) x y → Follow (dart_map b) 1 0 b.darts y
+y_follows : (b : BoxesModel) (x y : ℕ → ℕ) → IsMonotone (dart_map b) x y → Follow (dart_map b) 1 0 b.darts y
 y_follows b x y o = record { grow = λ a inside goes. (o.north a inside goes).0; stay = λ a inside across. (o.east a inside across).1 }
 
-in_order : (b : BoxesModel) (x y : ℕ → ℕ) → Follow (dart_map b) 0 1 b.darts x → Follow (dart_map b) 1 0 b.darts y → IsOrdered (dart_map b) x y
+in_order : (b : BoxesModel) (x y : ℕ → ℕ) → Follow (dart_map b) 0 1 b.darts x → Follow (dart_map b) 1 0 b.darts y → IsMonotone (dart_map b) x y
 in_order b x y fx fy = record {
   east = λ a inside goes. (fx.grow a inside goes, fy.stay a inside goes);
   north = λ a inside goes. (fy.grow a inside goes, fx.stay a inside goes);
 }
 
-pub least_exist : (b : BoxesModel) (x y : ℕ → ℕ) → AreBoxes b → IsOrdered (dart_map b) x y → HasLeast b
+pub least_exist : (b : BoxesModel) (x y : ℕ → ℕ) → AreBoxes b → IsMonotone (dart_map b) x y → HasLeast b
 least_exist b x y boxes o =
     let lx = least_following (dart_map b) 0 1 x (ends_of b boxes) (λ e. omega (arith, e)) (x_follows b x y o) in
     let ly = least_following (dart_map b) 1 0 y (ends_of b boxes) (λ e. omega (arith, e)) (y_follows b x y o) in (
@@ -63,7 +63,7 @@ least_are_few b x y boxes least v inside =
 
 -- ---- points
 
-pub laid_least : (b : BoxesModel) (points : PointsModel) → (laid : AreLaidOut b points) → AreLeast b laid.x laid.y
+pub laid_least : (b : BoxesModel) (points : PointsModel) → (laid : AreLeastPoints b points) → AreLeast b laid.x laid.y
 laid_least b points laid = record { ordered = laid.ordered; x_least = laid.x_least; y_least = laid.y_least }
 
 -- what holds of the points of all vertices of boxes holds of the points at which a path turns
@@ -82,8 +82,8 @@ all_places w P x y each a (b ∷ bs) a_in below =
           subst (All P) (sym (ap (map (point_at x y)) on)) (All-cons P (point_at x y (w.head a)) (map (point_at x y) (turning_vertices w b bs)) (each a a_in) later)
     ]
 
--- and of all points and corners of a layout
-pub all_ends : (b : BoxesModel) (points : PointsModel) (P : Point → Type 0) → AreBoxes b → (laid : AreLaidOut b points)
+-- and of all least points and their corners
+pub all_ends : (b : BoxesModel) (points : PointsModel) (P : Point → Type 0) → AreBoxes b → (laid : AreLeastPoints b points)
     → ((v : ℕ) → v < b.vertices → P (point_at laid.x laid.y v)) → All P points.vertices
 all_ends b points P boxes laid each k d inside =
     let f : ℕ → Point = point_at laid.x laid.y in
@@ -92,7 +92,7 @@ all_ends b points P boxes laid each k d inside =
     ap (λ (ps : List Point). get_or ps k d) laid.taken.vertices ∙ get_or-map-range_with_len f 0 b.old k k d below (omega arith) in
     subst P (sym is) (each k (omega (arith, below, boxes.old_in)))
 
-pub all_bends : (b : BoxesModel) (points : PointsModel) (P : Point → Type 0) → AreBoxes b → (laid : AreLaidOut b points)
+pub all_bends : (b : BoxesModel) (points : PointsModel) (P : Point → Type 0) → AreBoxes b → (laid : AreLeastPoints b points)
     → ((v : ℕ) → v < b.vertices → P (point_at laid.x laid.y v)) → All (All P) points.corners
 all_bends b points P boxes laid each e d inside =
     let e_in : e < length b.edges = omega (arith, inside, laid.taken.count) in
@@ -100,7 +100,7 @@ all_bends b points P boxes laid each e d inside =
     subst (All P) (sym (get_or_default points.corners e d [] inside ∙ laid.taken.corners e e_in edge))
     (all_places (dart_map b) P laid.x laid.y (λ a a_in. each ((dart_map b).head a) (boxes.sound.meeting.head_in a a_in)) edge.first edge.rest edge.path.first_in edge.path.rest_in)
 
-pub laid_below : (b : BoxesModel) (points : PointsModel) → AreBoxes b → AreLaidOut b points → AreBelow b.vertices points
+pub laid_below : (b : BoxesModel) (points : PointsModel) → AreBoxes b → AreLeastPoints b points → AreBelow b.vertices points
 laid_below b points boxes laid =
     let each : (v : ℕ) → v < b.vertices → IsBelow b.vertices (point_at laid.x laid.y v) =
     least_are_few b laid.x laid.y boxes (laid_least b points laid) in

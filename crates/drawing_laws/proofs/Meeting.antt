@@ -8,7 +8,7 @@ use Rattle.ortho_rep.specs.Shapes.{ShapeModel}
 use Rattle.dissect.specs.DartMaps.{DartMap, IsSound}
 use Rattle.dissect.specs.Boxes.{BoxesModel, dart_map}
 use Rattle.dissect.specs.Boxed.{IsBoxed}
-use Rattle.dissect.specs.Ordered.{IsOrdered, tail}
+use Rattle.dissect.specs.Ordered.{IsMonotone, tail}
 use Rattle.drawing_laws.proofs.Rounds.{AreFaces, are_faces}
 use Rattle.drawing_laws.proofs.Apart.{Holds, vertices_apart, vertex_outside, darts_apart}
 use Rattle.drawing_laws.proofs.Passing.{PassesAt, IsBefore, passes_holds}
@@ -28,7 +28,7 @@ arrival w sound v v_in =
     )
 
 module _ (p : PlaneModel) (shape : ShapeModel) (b : BoxesModel) (plane : IsPlane p) (boxed : IsBoxed p shape b) (x y : ℕ → ℕ)
-    (ordered : IsOrdered (dart_map b) x y) where
+    (ordered : IsMonotone (dart_map b) x y) where
   faces : AreFaces (dart_map b)
   faces = are_faces (dart_map b) boxed.boxes.sound boxed.boxes.faces
 

@@ -7,7 +7,7 @@ use Rattle.ortho_rep.specs.declared.points.Point.{Point}
 use Rattle.dissect.specs.DartMaps.{DartMap, IsSound}
 use Rattle.dissect.specs.Faces.{Below, last_of, In, Distinct}
 use Rattle.dissect.specs.Paths.{Follows, turn_to, turning_vertices}
-use Rattle.dissect.specs.Ordered.{IsOrdered, tail, point_at}
+use Rattle.dissect.specs.Ordered.{IsMonotone, tail, point_at}
 use Rattle.drawing_check.specs.Walks.{step_from, distance, walk, interior, AreDistinct}
 use Rattle.drawing_check.proofs.Coverings.{no_repeat_append}
 use Rattle.drawing_check.proofs.Segments.{toward_up, toward_down, toward_same, segment_lists}
@@ -140,7 +140,7 @@ inner_turn w x y u a b bs some =
     ap interior (line_turn w x y u a b bs some)
     ∙ inner_more (point_at x y u) (point_at x y (w.head a)) (point_at x y (w.head (last_of b bs))) (map (point_at x y) (turning_vertices w b bs))
 
-module _ (w : DartMap) (sound : IsSound w) (x y : ℕ → ℕ) (ordered : IsOrdered w x y) where
+module _ (w : DartMap) (sound : IsSound w) (x y : ℕ → ℕ) (ordered : IsMonotone w x y) where
   pub line_met : (u a : ℕ) (rest : List ℕ) (q : Point) → a < w.darts → Below w.darts rest → Follows w a rest → Distinct (a ∷ rest)
       → Goes (w.direction a) x y u (w.head a) → Contains (interior (line w x y u a rest)) q → IsMet w x y u a rest q.x q.y
   line_met u a [] q a_in below follows distinct goes within =

@@ -11,7 +11,7 @@ use Rattle.ortho_rep.specs.Points.{PointsModel}
 use Rattle.drawing_check.specs.Draws.{AreInGrid, IsInGrid}
 use Rattle.dissect.specs.Boxes.{BoxesModel, AreBoxes}
 use Rattle.dissect.specs.Boxed.{IsBoxed}
-use Rattle.dissect.specs.Ordered.{AreLaidOut, FitsNoGrid, point_at}
+use Rattle.dissect.specs.Ordered.{AreLeastPoints, FitsNoGrid, point_at}
 use Rattle.entries.specs.declared.cause.Cause.{Cause}
 use Rattle.entries.specs.declared.cause.Cause.TheVariants.{Wide, OutOfGrid, NotAxis, WrongTurn, Meet}
 use Rattle.entries.specs.Drawn.{ShowsCause}
@@ -20,13 +20,13 @@ use Rattle.drawing_laws.specs.Least.{HasNoCoordinates}
 use Rattle.drawing_laws.specs.Remaining.{MayShow}
 use Rattle.drawing_laws.proofs.Lowest.{least_exist, least_are_few, all_ends, all_bends}
 
-pub laid_in_grid : (b : BoxesModel) (points : PointsModel) → AreBoxes b → AreLaidOut b points → AreInGrid points
+pub laid_in_grid : (b : BoxesModel) (points : PointsModel) → AreBoxes b → AreLeastPoints b points → AreInGrid points
 laid_in_grid b points boxes laid =
     let each : (v : ℕ) → v < b.vertices → IsInGrid (point_at laid.x laid.y v) = λ v inside. (laid.x_within v inside, laid.y_within v inside) in
     record { ends = all_ends b points IsInGrid boxes laid each; bends = all_bends b points IsInGrid boxes laid each }
 
 pub never_out : (plane : PlaneModel) (shape : ShapeModel) (b : BoxesModel) → IsBoxed plane shape b → ¬ ShowsCause plane shape b OutOfGrid
-never_out plane shape b boxed fails = fails.first (laid_in_grid b fails.points boxed.boxes fails.laid_out)
+never_out plane shape b boxed fails = fails.first (laid_in_grid b fails.points boxed.boxes fails.least_points)
 
 no_order : (b : BoxesModel) → AreBoxes b → b.vertices ≤ MAX_COORDINATE + 1 → FitsNoGrid b → HasNoCoordinates b
 no_order b boxes few none x y o =

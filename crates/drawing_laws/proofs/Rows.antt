@@ -4,7 +4,7 @@ use Rattle.std.proofs.Common.{◌≡◌, ◌≢◌, ℕ, zero, suc, ◌+◌, ◌
 use Rattle.std.proofs.lemmas.Bool.{cases_lt}
 use Rattle.dissect.specs.DartMaps.{DartMap, IsSound}
 use Rattle.dissect.specs.Faces.{IsCorner}
-use Rattle.dissect.specs.Ordered.{IsOrdered, tail}
+use Rattle.dissect.specs.Ordered.{IsMonotone, tail}
 use Rattle.drawing_laws.proofs.Sides.{Goes, Spans, IsOn, on_one, keeps_way, tail_back, dart_goes, stretch_goes, side_spans, side_wide, side_once, side_leads}
 use Rattle.drawing_laws.proofs.Rounds.{IsRound, AreFaces, box_same}
 
@@ -43,7 +43,7 @@ pub record IsUpright (w : DartMap) (x y : ℕ → ℕ) (corner : ℕ → ℕ) : 
   pub bottom : y (w.head (corner 3)) ≡ y (w.head (corner 0))
   pub top : y (w.head (corner 1)) ≡ y (w.head (corner 2))
 
-module _ (w : DartMap) (sound : IsSound w) (x y : ℕ → ℕ) (ordered : IsOrdered w x y) where
+module _ (w : DartMap) (sound : IsSound w) (x y : ℕ → ℕ) (ordered : IsMonotone w x y) where
   -- ---- one face
 
   pub round_corner : (back angle : ℕ) (corner : ℕ → ℕ) → IsRound w back angle corner → angle ≢ 2 → (k : ℕ) → k < 4 → IsCorner w (corner k)

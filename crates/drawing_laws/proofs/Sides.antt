@@ -4,7 +4,7 @@ use Rattle.std.proofs.lemmas.Bool.{cases_eq, cases_lt, cases_order}
 use Rattle.dissect.specs.DartMaps.{DartMap, IsTied, IsSound}
 use Rattle.dissect.specs.Faces.{IsCorner, StretchesIn, Stretches}
 use Rattle.dissect.proofs.Stretching.{stretch_back, steps_back}
-use Rattle.dissect.specs.Ordered.{IsOrdered, tail}
+use Rattle.dissect.specs.Ordered.{IsMonotone, tail}
 
 -- ---- coordinates along a direction
 
@@ -163,7 +163,7 @@ module _ (w : DartMap) (sound : IsSound w) where
   pub next_tail : (a : ℕ) → a < w.darts → tail w (w.next a) ≡ w.head a
   next_tail a a_in = sound.meeting.meets a a_in
 
-  module _ (x y : ℕ → ℕ) (ordered : IsOrdered w x y) where
+  module _ (x y : ℕ → ℕ) (ordered : IsMonotone w x y) where
     reverse_way : (a k m : ℕ) → a < w.darts → w.direction a ≡ k → (k + 2) % 4 ≡ m → w.direction (w.reverse_dart a) ≡ m
     reverse_way a k m a_in way is = sound.straight a a_in ∙ ap (λ (d : ℕ). (d + 2) % 4) way ∙ is
 

@@ -1,4 +1,4 @@
--- Points that are laid out for boxes of a shape draw it, so of the causes one alone is left.
+-- The least points of boxes of a shape draw it, so of the causes one alone is left.
 use Rattle.std.proofs.Common.{◌≡◌, ℕ, List, Err, refl, subst}
 use Rattle.common.specs.declared.choice.Choice.{Choice}
 use Rattle.faces.specs.Planes.{PlaneModel, IsPlane}
@@ -6,7 +6,7 @@ use Rattle.ortho_rep.specs.Shapes.{ShapeModel}
 use Rattle.ortho_rep.specs.Prices.{PricesModel}
 use Rattle.dissect.specs.Boxes.{BoxesModel}
 use Rattle.dissect.specs.Boxed.{IsBoxed}
-use Rattle.drawing_laws.proofs.Drawn.{laid_out_draws}
+use Rattle.drawing_laws.proofs.Drawn.{least_points_draw}
 use Rattle.entries.specs.declared.cause.Cause.{Cause}
 use Rattle.entries.specs.declared.cause.Cause.TheVariants.{Wide, OutOfGrid, NotAxis, WrongTurn, Meet}
 use Rattle.entries.specs.Drawn.{ShowsCause}
@@ -18,10 +18,10 @@ use Rattle.drawing_laws.proofs.Remaining.{remaining_of_least}
 pub shown_wide : (plane : PlaneModel) (shape : ShapeModel) (b : BoxesModel) (cause : Cause) → IsPlane plane → IsBoxed plane shape b
     → ShowsCause plane shape b cause → cause ≡ Wide
 shown_wide plane shape b Wide is boxed shown = refl
-shown_wide plane shape b OutOfGrid is boxed shown = absurd (shown.first (laid_out_draws plane shape b shown.points is boxed shown.laid_out).grid)
-shown_wide plane shape b NotAxis is boxed shown = absurd (shown.first.1 (laid_out_draws plane shape b shown.points is boxed shown.laid_out).axes)
-shown_wide plane shape b WrongTurn is boxed shown = absurd (shown.first.2 (laid_out_draws plane shape b shown.points is boxed shown.laid_out).turns)
-shown_wide plane shape b Meet is boxed shown = absurd (shown.first.3 (laid_out_draws plane shape b shown.points is boxed shown.laid_out).apart)
+shown_wide plane shape b OutOfGrid is boxed shown = absurd (shown.first (least_points_draw plane shape b shown.points is boxed shown.least_points).grid)
+shown_wide plane shape b NotAxis is boxed shown = absurd (shown.first.1 (least_points_draw plane shape b shown.points is boxed shown.least_points).axes)
+shown_wide plane shape b WrongTurn is boxed shown = absurd (shown.first.2 (least_points_draw plane shape b shown.points is boxed shown.least_points).turns)
+shown_wide plane shape b Meet is boxed shown = absurd (shown.first.3 (least_points_draw plane shape b shown.points is boxed shown.least_points).apart)
 
 pub laid_wide : (choice : Choice) (bytes : List ℕ) (plane : PlaneModel) (shape : ShapeModel) (prices : PricesModel) (cause : Cause)
     → IsLaid choice bytes plane shape prices (Err cause) → (boxes : BoxesModel) × IsBoxed plane shape boxes × HasNoCoordinates boxes × (cause ≡ Wide)

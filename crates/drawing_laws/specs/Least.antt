@@ -3,13 +3,13 @@ use Rattle.std.specs.Prelude.{◌≡◌, ℕ, ◌<◌, ◌≤◌, All}
 use Rattle.ortho_rep.specs.declared.points.Point.{Point}
 use Rattle.ortho_rep.specs.Points.{PointsModel}
 use Rattle.dissect.specs.Boxes.{BoxesModel, dart_map}
-use Rattle.dissect.specs.Ordered.{IsOrdered}
+use Rattle.dissect.specs.Ordered.{IsMonotone}
 
 -- coordinates that grow along the darts of the boxes, and no others that do are lower at any vertex
 pub record AreLeast (b : BoxesModel) (x y : ℕ → ℕ) : Type 0 where
-  pub ordered : IsOrdered (dart_map b) x y
-  pub x_least : (x1 y1 : ℕ → ℕ) → IsOrdered (dart_map b) x1 y1 → (v : ℕ) → v < b.vertices → x v ≤ x1 v
-  pub y_least : (x1 y1 : ℕ → ℕ) → IsOrdered (dart_map b) x1 y1 → (v : ℕ) → v < b.vertices → y v ≤ y1 v
+  pub ordered : IsMonotone (dart_map b) x y
+  pub x_least : (x1 y1 : ℕ → ℕ) → IsMonotone (dart_map b) x1 y1 → (v : ℕ) → v < b.vertices → x v ≤ x1 v
+  pub y_least : (x1 y1 : ℕ → ℕ) → IsMonotone (dart_map b) x1 y1 → (v : ℕ) → v < b.vertices → y v ≤ y1 v
 
 -- there are least coordinates that grow along the darts of the boxes
 abbrev pub HasLeast : BoxesModel → Type 0
@@ -21,7 +21,7 @@ HasNoGap n x = (v k : ℕ) → v < n → k ≤ x v → (u : ℕ) × (u < n) × (
 
 -- no coordinates grow along the darts of the boxes
 abbrev pub HasNoCoordinates : BoxesModel → Type 0
-HasNoCoordinates b = (x y : ℕ → ℕ) → ¬ IsOrdered (dart_map b) x y
+HasNoCoordinates b = (x y : ℕ → ℕ) → ¬ IsMonotone (dart_map b) x y
 
 -- both coordinates of a point are less than n
 abbrev pub IsBelow : ℕ → Point → Type 0

@@ -2,11 +2,11 @@
 use Rattle.std.specs.Prelude.{◌≡◌, ℕ, ◌<◌, Bool, true}
 use Rattle.dissect.specs.DartMaps.{DartMap}
 use Rattle.dissect.specs.Boxes.{BoxesModel, dart_map}
-use Rattle.dissect.specs.Ordered.{IsOrdered}
+use Rattle.dissect.specs.Ordered.{IsMonotone}
 
 -- some coordinates grow along the darts of the boxes
 abbrev pub HasCoordinates : BoxesModel → Type 0
-HasCoordinates b = (x : ℕ → ℕ) × (y : ℕ → ℕ) × IsOrdered (dart_map b) x y
+HasCoordinates b = (x : ℕ → ℕ) × (y : ℕ → ℕ) × IsMonotone (dart_map b) x y
 
 -- A set of faces, told for each dart by the face on its left, that is closed across the darts of the direction k: with the face on the
 -- right of such a dart it has the face on its left. Across darts to the east this is: with each box it has those directly above it.

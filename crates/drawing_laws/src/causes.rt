@@ -11,16 +11,16 @@ ghost use Rattle.ortho_rep.specs.Representation.{IsLeast};
 ghost use Rattle.drawing_check.specs.Draws.{AreInGrid};
 ghost use Rattle.dissect.specs.Boxes.{BoxesModel, AreBoxes};
 ghost use Rattle.dissect.specs.Boxed.{IsBoxed};
-ghost use Rattle.dissect.specs.Ordered.{AreLaidOut};
+ghost use Rattle.dissect.specs.Ordered.{AreLeastPoints};
 ghost use Rattle.entries.specs.declared.cause.Cause.{Cause};
 ghost use Rattle.entries.specs.Drawn.{ShowsCause};
 ghost use Rattle.entries.specs.Answers.{IsLaid};
 ghost use Rattle.drawing_laws.specs.Least.{HasNoCoordinates};
 ghost use Rattle.drawing_laws.specs.Remaining.{MayShow};
 
-/// The points and corners of a layout are within the grid, so no boxes of a shape show `OutOfGrid`.
-pub fn layouts_are_in_grid()
-    ensures points { (b : BoxesModel) (points : PointsModel) → AreBoxes b → AreLaidOut b points → AreInGrid points }
+/// Least points and their corners are within the grid, so no boxes of a shape show `OutOfGrid`.
+pub fn least_points_are_in_grid()
+    ensures points { (b : BoxesModel) (points : PointsModel) → AreBoxes b → AreLeastPoints b points → AreInGrid points }
     ensures cause { (plane : PlaneModel) (shape : ShapeModel) (b : BoxesModel)
         → IsBoxed plane shape b → ¬ ShowsCause plane shape b Cause.OutOfGrid }
 {}
@@ -40,7 +40,7 @@ pub fn remaining_causes()
         → (boxes : BoxesModel) × IsBoxed plane shape boxes × MayShow boxes cause }
 {}
 
-/// Points that are laid out for boxes of a shape of a plane draw it, so of the causes `Wide` alone can be shown. In place of points a
+/// The least points of boxes of a shape of a plane draw it, so of the causes `Wide` alone can be shown. In place of points a
 /// laid answer has it only where some boxes of its shape have no coordinates that grow along their darts at all.
 pub fn only_wide()
     ensures shown { (plane : PlaneModel) (shape : ShapeModel) (b : BoxesModel) (cause : Cause)

@@ -5,13 +5,13 @@ ghost use Rattle.faces.specs.Planes.{PlaneModel};
 ghost use Rattle.ortho_rep.specs.Shapes.{ShapeModel};
 ghost use Rattle.dissect.specs.Boxes.{BoxesModel, dart_map};
 ghost use Rattle.dissect.specs.Boxed.{IsBoxed};
-ghost use Rattle.dissect.specs.Ordered.{IsOrdered};
+ghost use Rattle.dissect.specs.Ordered.{IsMonotone};
 ghost use Rattle.drawing_laws.specs.Cells.{IsWithin, IsCoveredOnce};
 
 /// Where boxes dissect a shape, exactly one of them covers each unit cell of the rectangle round them, in any coordinates that grow
 /// along their darts. The rectangle's corners are the first vertices behind those of the drawing.
 pub fn cells_are_covered_once()
-    ensures { (p : PlaneModel) (shape : ShapeModel) (b : BoxesModel) (x y : ℕ → ℕ) → (boxed : IsBoxed p shape b) → IsOrdered (dart_map b) x y
+    ensures { (p : PlaneModel) (shape : ShapeModel) (b : BoxesModel) (x y : ℕ → ℕ) → (boxed : IsBoxed p shape b) → IsMonotone (dart_map b) x y
         → (i j : ℕ) → IsWithin x y (boxed.enclosed.enclosed_map.vertices + 3) (boxed.enclosed.enclosed_map.vertices + 1) i j
         → IsCoveredOnce (dart_map b) x y i j }
 {}

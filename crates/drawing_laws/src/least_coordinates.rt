@@ -3,7 +3,7 @@
 ghost use Rattle.std.specs.Prelude.{ℕ, ◌<◌};
 ghost use Rattle.ortho_rep.specs.Points.{PointsModel};
 ghost use Rattle.dissect.specs.Boxes.{BoxesModel, AreBoxes, dart_map};
-ghost use Rattle.dissect.specs.Ordered.{IsOrdered, AreLaidOut};
+ghost use Rattle.dissect.specs.Ordered.{IsMonotone, AreLeastPoints};
 ghost use Rattle.drawing_laws.specs.Least.{AreLeast, AreBelow, HasLeast, HasNoGap};
 
 /// The least coordinates that grow along the darts of boxes have no gap: if no vertex had some coordinate below that of another,
@@ -18,10 +18,10 @@ pub fn least_coordinates_have_no_gap()
 
 /// Where any coordinates grow along the darts of boxes, there are least ones.
 pub fn least_coordinates_exist()
-    ensures { (b : BoxesModel) (x y : ℕ → ℕ) → AreBoxes b → IsOrdered (dart_map b) x y → HasLeast b }
+    ensures { (b : BoxesModel) (x y : ℕ → ℕ) → AreBoxes b → IsMonotone (dart_map b) x y → HasLeast b }
 {}
 
-/// So the coordinates of a layout are less than the number of vertices of its boxes.
-pub fn layouts_have_no_gap()
-    ensures { (b : BoxesModel) (points : PointsModel) → AreBoxes b → AreLaidOut b points → AreBelow b.vertices points }
+/// So the coordinates of least points are less than the number of vertices of its boxes.
+pub fn least_points_have_no_gap()
+    ensures { (b : BoxesModel) (points : PointsModel) → AreBoxes b → AreLeastPoints b points → AreBelow b.vertices points }
 {}

@@ -14,13 +14,13 @@ mod planarity;
 mod prices;
 
 pub use bends::few_bends;
-pub use causes::{layouts_are_in_grid, only_wide, remaining_causes};
+pub use causes::{least_points_are_in_grid, only_wide, remaining_causes};
 pub use cells::cells_are_covered_once;
 pub use closed_sets::closed_sets_hold_the_outside;
 pub use drawn_answers::{answers_are_drawn, laid_answers_are_drawn, no_cause_is_shown};
 pub use least_coordinates::{
-    layouts_have_no_gap, least_coordinates_exist, least_coordinates_have_no_gap,
+    least_coordinates_exist, least_coordinates_have_no_gap, least_points_have_no_gap,
 };
 pub use orders::coordinates_in_order_exist;
-pub use planarity::{laid_out_points_pass, ordered_coordinates_draw};
+pub use planarity::{least_points_pass, monotone_coordinates_draw};
 pub use prices::{least_is_priced, least_shape_exists};

@@ -21,7 +21,7 @@ ghost use Rattle.ortho_rep.specs.Shapes.{ShapeModel};
 ghost use Rattle.ortho_rep.specs.Points.{PointsModel};
 ghost use Rattle.dissect.specs.Boxes.{BoxesModel, dart_map};
 ghost use Rattle.dissect.specs.Boxed.{IsBoxed};
-ghost use Rattle.dissect.specs.Ordered.{IsOrdered, AreWithin, AreTaken, AreLaidOut};
+ghost use Rattle.dissect.specs.Ordered.{IsMonotone, AreWithin, AreTaken, AreLeastPoints};
 ghost use Rattle.drawing_check.specs.declared.fault.CheckFault.{CheckFault};
 ghost use Rattle.drawing_check.specs.declared.fault.CheckFault.TheVariants.{Memory};
 ghost use Rattle.drawing_check.specs.Draws.{Draws};
@@ -29,13 +29,13 @@ ghost use Rattle.drawing_check.specs.Faults.{IsFirstFault};
 
 /// Where boxes dissect a shape of a plane, points that are taken from any coordinates that grow along their darts, within the grid,
 /// draw the shape.
-pub fn ordered_coordinates_draw()
+pub fn monotone_coordinates_draw()
     ensures { (p : PlaneModel) (shape : ShapeModel) (b : BoxesModel) (x y : ℕ → ℕ) (points : PointsModel) → IsPlane p → IsBoxed p shape b
-        → IsOrdered (dart_map b) x y → AreWithin b.vertices x → AreWithin b.vertices y → AreTaken b x y points → Draws p shape points }
+        → IsMonotone (dart_map b) x y → AreWithin b.vertices x → AreWithin b.vertices y → AreTaken b x y points → Draws p shape points }
 {}
 
-/// Points that are laid out for boxes of a shape are refused by a check for want of memory alone: each condition of a drawing holds.
-pub fn laid_out_points_pass()
+/// The least points of boxes of a shape are refused by a check for want of memory alone: each condition of a drawing holds.
+pub fn least_points_pass()
     ensures { (p : PlaneModel) (shape : ShapeModel) (b : BoxesModel) (points : PointsModel) → IsPlane p → IsBoxed p shape b
-        → AreLaidOut b points → (fault : CheckFault) → IsFirstFault p shape points fault → fault ≡ Memory }
+        → AreLeastPoints b points → (fault : CheckFault) → IsFirstFault p shape points fault → fault ≡ Memory }
 {}

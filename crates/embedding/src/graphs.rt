@@ -224,7 +224,7 @@ impl Graph {
     }
 
     /// How many darts a face has.
-    pub fn degree_of(&self, face: u16) -> u16
+    pub fn face_degree(&self, face: u16) -> u16
         requires { (other : ℕ → ℕ) (f : ℕ) → HasFaces (dart_count self.now) (next_of self.now) other f → face < f }
         ensures { (other : ℕ → ℕ) (f : ℕ) → HasFaces (dart_count self.now) (next_of self.now) other f
             → result ≡ degree_in (dart_count self.now) other face }

@@ -5,7 +5,7 @@ use Rattle.ortho_rep.specs.Shapes.{ShapeModel}
 use Rattle.ortho_rep.specs.Points.{PointsModel}
 use Rattle.dissect.specs.Boxes.{BoxesModel}
 use Rattle.dissect.specs.Boxed.{IsBoxed}
-use Rattle.dissect.specs.Ordered.{AreLaidOut, FitsNoGrid}
+use Rattle.dissect.specs.Ordered.{AreLeastPoints, FitsNoGrid}
 use Rattle.drawing_check.specs.declared.fault.CheckFault.{CheckFault}
 use Rattle.drawing_check.specs.declared.fault.CheckFault.TheVariants as fault
 use Rattle.drawing_check.specs.Draws.{Draws}
@@ -17,7 +17,7 @@ use Rattle.entries.specs.declared.cause.Cause.TheVariants.{Wide, OutOfGrid, NotA
 -- that one first
 pub record FailFirst (plane : PlaneModel) (shape : ShapeModel) (boxes : BoxesModel) (fault : CheckFault) : Type 0 where
   pub points : PointsModel
-  pub laid_out : AreLaidOut boxes points
+  pub least_points : AreLeastPoints boxes points
   pub first : IsFirstFault plane shape points fault
 
 -- the boxes show that this is why the shape is not drawn

@@ -17,7 +17,7 @@ use thiserror::Error;
 /// How many faces a plane has at most: 510 edges less 255 vertices, and two more.
 pub const MAX_FACES: usize = 257;
 
-/// A connected graph of maximum degree at most 4 that is drawn on the sphere without crossings: its
+/// A connected graph of maximum degree at most 4 that is embedded on the sphere: its
 /// faces, and which of them is the outer one. In contracts it is a `PlaneModel`.
 ///
 /// A face is walked by `next`, with the face on the left. Faces are numbered from 0 in the order of
@@ -57,9 +57,9 @@ fn greatest_face(graph: &Graph) -> u16
         → IsFirstGreatest (dart_count graph.now) face f result }
 {
     let mut best = 0;
-    let mut most = graph.degree_of(0);
+    let mut most = graph.face_degree(0);
     for face in 1..graph.face_count() {
-        let degree = graph.degree_of(face);
+        let degree = graph.face_degree(face);
         if degree > most {
             best = face;
             most = degree;
@@ -174,7 +174,7 @@ impl Plane {
         requires { face < self.now.faces }
         ensures value { result ≡ degree self.now face }
     {
-        self.graph.degree_of(face)
+        self.graph.face_degree(face)
     }
 
     /// The outer face.
@@ -186,7 +186,7 @@ impl Plane {
     }
 
     /// Makes a face the outer one, and changes nothing else. It takes no memory.
-    pub fn turn_out(&mut self, face: u16)
+    pub fn set_outer(&mut self, face: u16)
         requires { face < self.old.faces }
         ensures { self.new ≡ with_outer self.old face }
     {

@@ -2,4 +2,4 @@ pub mod VertexDegrees
 pub mod Flowing
 pub mod GrowingLists
 pub mod Faultless
-pub mod TurnedOut
+pub mod OuterSet

@@ -99,9 +99,9 @@ impl FaceNet {
         scratch.arcs = arcs;
     }
 
-    /// Turns a face out in place of the plane's outer one: eight units more are supplied at the old one, and
+    /// Makes a face the outer one in place of the plane's: eight units more are supplied at the old one, and
     /// eight less at the new one. It takes no memory.
-    pub fn turn_out(&mut self, plane: &Plane, face: u16)
+    pub fn set_outer(&mut self, plane: &Plane, face: u16)
         requires net { IsFaceNetOf plane.now self.old }
         requires face { face < plane.now.faces }
         ensures net { IsFaceNetOf (with_outer plane.now face) self.new }

@@ -12,8 +12,8 @@ module _ {F : Type 0} where
 
   -- What is known of a consumer where a run came to nothing: it refused a message, and this is known of that; or it holds what
   -- some notes tell.
-  abbrev pub EndsRun : (F → Type 0) → (List Note → Type 0) → RunFault F → Type 0
-  EndsRun gave_up holds (Refused refusal) = gave_up refusal
-  EndsRun gave_up holds Memory = (ns : List Note) × holds ns
-  EndsRun gave_up holds LaneLost = (ns : List Note) × holds ns
-  EndsRun gave_up holds Thread = (ns : List Note) × holds ns
+  abbrev pub HoldsOnRunFault : (F → Type 0) → (List Note → Type 0) → RunFault F → Type 0
+  HoldsOnRunFault gave_up holds (Refused refusal) = gave_up refusal
+  HoldsOnRunFault gave_up holds Memory = (ns : List Note) × holds ns
+  HoldsOnRunFault gave_up holds LaneLost = (ns : List Note) × holds ns
+  HoldsOnRunFault gave_up holds Thread = (ns : List Note) × holds ns

@@ -58,7 +58,7 @@ module _ {A M : Type 0} where
 
   -- what a lane gives back: the end of the fan at its own number, where one stop came last, whatever the lane met, or none where a give of the
   -- stop was refused; and where it was not, its seat if nothing was lost
-  pub record EndsLane {R : Type 0} (about : A → About) (choice : Choice) (meaning : ℕ → Meaning) (tickets : Tickets) (giver after : LaneGiver (Message A M)) (stop : Result R (Closed (Message A M))) (seat : Result Seat LaneFault) : Type 0 where
+  pub record LeavesLane {R : Type 0} (about : A → About) (choice : Choice) (meaning : ℕ → Meaning) (tickets : Tickets) (giver after : LaneGiver (Message A M)) (stop : Result R (Closed (Message A M))) (seat : Result Seat LaneFault) : Type 0 where
     pub to_same : GivesToSameLane giver after
     pub stopped : OnOk stop (IsStopped (notes about (given_at after)))
     pub refused : IfErr stop (λ closed. (handed_back closed ≡ Stop) × GoOn (notes about (given_at after)))

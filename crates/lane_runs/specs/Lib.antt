@@ -1,4 +1,4 @@
 pub mod Faults
 pub mod Lanes
 pub mod Running
-pub mod Taking
+pub mod Accepting

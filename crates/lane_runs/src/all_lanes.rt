@@ -6,8 +6,8 @@ ghost use Rattle.lanes.specs.Notes.{Note};
 ghost use Rattle.lanes.specs.Files.{AreToldWhole};
 ghost use Rattle.lane_runs.specs.Lanes.{StartsLane};
 ghost use Rattle.lane_runs.specs.Running.{StartsRun, LeavesRun};
-ghost use Rattle.lane_runs.specs.Faults.{EndsRun};
-ghost use Rattle.lane_runs.specs.Taking.{TakesFiles, TakesAll};
+ghost use Rattle.lane_runs.specs.Faults.{HoldsOnRunFault};
+ghost use Rattle.lane_runs.specs.Accepting.{AcceptsFiles, AcceptsAll};
 
 use crate::fault::{LaneFault, RunFault};
 use crate::lane::Lane;
@@ -39,10 +39,10 @@ pub fn run_lanes<
     G: Gate,
 >(run: &Run<'_, R, O, G>, kind: &L, consumer: C) -> (C, Result<(), RunFault<C::Refusal>>)
     requires empty { C.holds consumer [] }
-    requires takes { TakesFiles L.takes L.ends (O.meaning run.now.opener.now) }
+    requires accepts { AcceptsFiles L.accepts L.ends (O.meaning run.now.opener.now) }
     ensures told { IfOk result.1 (λ _. (ns : List Note) × C.holds result.0 ns
         × AreToldWhole run.now.choice (O.meaning run.now.opener.now) run.now.files ns) }
-    ensures ended { IfErr result.1 (EndsRun (C.gave_up result.0) (C.holds result.0)) }
+    ensures failed { IfErr result.1 (HoldsOnRunFault (C.gave_up result.0) (C.holds result.0)) }
     ensures stays { C.stays consumer result.0 }
 {
     let Ok((tickets, seats)) = Tickets::new(run.alloc, run.files, run.lanes) else {
@@ -76,7 +76,7 @@ impl<'s, R: Threads + Wait + Sync, O: Opener, G: Gate, L: LaneKind + 's> Shared<
         consumer: C,
     ) -> (C, Result<Vec<Seat>, RunFault<C::Refusal>>)
         requires starts { StartsRun C.holds self.now.tickets.now seats fan.givers fan.idle fan.gatherer consumer }
-        requires takes { TakesAll L.takes L.ends (O.meaning self.now.run.now.opener.now) }
+        requires accepts { AcceptsAll L.accepts L.ends (O.meaning self.now.run.now.opener.now) }
         ensures { LeavesRun C.holds C.gave_up C.stays self.now.run.now.choice (O.meaning self.now.run.now.opener.now) self.now.tickets.now (vec_len seats) consumer result.0 result.1 }
     {
         thread::scope(
@@ -84,7 +84,7 @@ impl<'s, R: Threads + Wait + Sync, O: Opener, G: Gate, L: LaneKind + 's> Shared<
             self.run.rt,
             move |scope| -> (C, Result<Vec<Seat>, RunFault<C::Refusal>>)
                 requires { StartsRun C.holds self.now.tickets.now seats fan.givers fan.idle fan.gatherer consumer
-                    × TakesAll L.takes L.ends (O.meaning self.now.run.now.opener.now) }
+                    × AcceptsAll L.accepts L.ends (O.meaning self.now.run.now.opener.now) }
                 ensures { LeavesRun C.holds C.gave_up C.stays self.entry.now.run.now.choice (O.meaning self.entry.now.run.now.opener.now) self.entry.now.tickets.now (vec_len seats) consumer result.0 result.1 }
             {
                 let mut consumer = consumer;
@@ -103,7 +103,7 @@ impl<'s, R: Threads + Wait + Sync, O: Opener, G: Gate, L: LaneKind + 's> Shared<
         consumer: &mut C,
     ) -> Result<Vec<Seat>, RunFault<C::Refusal>>
         requires { StartsRun C.holds self.now.tickets.now seats fan.givers fan.idle fan.gatherer consumer.old
-            × TakesAll L.takes L.ends (O.meaning self.now.run.now.opener.now) }
+            × AcceptsAll L.accepts L.ends (O.meaning self.now.run.now.opener.now) }
         ensures { LeavesRun C.holds C.gave_up C.stays self.now.run.now.choice (O.meaning self.now.run.now.opener.now) self.now.tickets.now (vec_len seats) consumer.old consumer.new result }
     {
         let Fan {
@@ -128,7 +128,7 @@ impl<'s, R: Threads + Wait + Sync, O: Opener, G: Gate, L: LaneKind + 's> Shared<
         requires seats { All (IsSeatOf self.now.tickets.now) seats.items }
         requires unused { All IsUnused seats.items }
         requires none_given { All (λ giver. given_at giver ≡ []) givers.items }
-        requires takes { TakesAll L.takes L.ends (O.meaning self.now.run.now.opener.now) }
+        requires accepts { AcceptsAll L.accepts L.ends (O.meaning self.now.run.now.opener.now) }
         ensures count { IfOk result (λ running. vec_len running ≡ vec_len seats) }
         ensures givers { IfOk result (λ running. map (λ r. r.promise.giver.value) running.items ≡ givers.items) }
         ensures choice { IfOk result (λ running. All (λ r. r.promise.choice ≡ self.now.run.now.choice) running.items) }
@@ -157,7 +157,7 @@ impl<'s, R: Threads + Wait + Sync, O: Opener, G: Gate, L: LaneKind + 's> Shared<
         lane: Lane<L::Entry, L::End>,
     ) -> Result<Running<L::Entry, L::End, O>, LaneFault>
         requires ready { StartsLane self.now.tickets.now lane.seat lane.giver }
-        requires takes { TakesAll L.takes L.ends (O.meaning self.now.run.now.opener.now) }
+        requires accepts { AcceptsAll L.accepts L.ends (O.meaning self.now.run.now.opener.now) }
         ensures choice { IfOk result (λ r. r.promise.choice ≡ self.now.run.now.choice) }
         ensures opener { IfOk result (λ r. r.promise.opener.value ≡ self.now.run.now.opener.now) }
         ensures tickets { IfOk result (λ r. r.promise.tickets.value ≡ self.now.tickets.now) }
@@ -173,7 +173,7 @@ impl<'s, R: Threads + Wait + Sync, O: Opener, G: Gate, L: LaneKind + 's> Shared<
             promise,
             move || -> LaneReturn<L::Entry, L::End>
                 requires { StartsLane self.now.tickets.now lane.seat lane.giver
-                    × TakesAll L.takes L.ends (O.meaning self.now.run.now.opener.now) }
+                    × AcceptsAll L.accepts L.ends (O.meaning self.now.run.now.opener.now) }
             { self.run_lane(scope, lane) },
         ) {
             Ok(handle) => Ok(handle),

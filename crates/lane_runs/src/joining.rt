@@ -9,7 +9,7 @@ ghost use Rattle.lanes.specs.Files.{HasFile};
 ghost use Rattle.lanes.specs.Fans.{untagged, HaveStopped};
 ghost use Rattle.lane_runs.specs.Lanes.{TellsSeat};
 ghost use Rattle.lane_runs.specs.Running.{AreNumbered, IsIdle, IsRunning};
-ghost use Rattle.lane_runs.specs.Faults.{EndsRun};
+ghost use Rattle.lane_runs.specs.Faults.{HoldsOnRunFault};
 
 use crate::fault::{LaneFault, RunFault};
 use crate::lane::Lane;
@@ -101,7 +101,7 @@ impl<R: Threads + Wait + Sync, O: Opener, G: Gate, L> Shared<'_, R, O, G, L> {
         ensures seats { IfOk result (λ seats. All (λ s. IsSeatOf self.now.tickets.now s × (has_ended s ≡ true)) seats.items) }
         ensures told { IfOk result (λ seats. (ns : List Note) × C.holds consumer.new ns
             × ((file : ℕ) → times file (all_drawn seats.items) ≡ 1 → HasFile self.now.run.now.choice (O.meaning self.now.run.now.opener.now file) file ns)) }
-        ensures ended { IfErr result (EndsRun (C.gave_up consumer.new) (C.holds consumer.new)) }
+        ensures failed { IfErr result (HoldsOnRunFault (C.gave_up consumer.new) (C.holds consumer.new)) }
         ensures stays { C.stays consumer.old consumer.new }
     {
         let lanes = running.len() as u32;

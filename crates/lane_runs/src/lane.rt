@@ -6,8 +6,8 @@ ghost use Rattle.lanes.specs.declared.message.Message.{Message as AnyMessage};
 ghost use Rattle.lanes.specs.declared.message.Message.TheVariants.{Stop};
 ghost use Rattle.lanes.specs.Notes.{notes, GoOn};
 ghost use Rattle.lanes.specs.Stages.{IsPassedOn};
-ghost use Rattle.lane_runs.specs.Lanes.{TellsSeat, StartsToRead, StartsLane, EndsLane};
-ghost use Rattle.lane_runs.specs.Taking.{TakesAll};
+ghost use Rattle.lane_runs.specs.Lanes.{TellsSeat, StartsToRead, StartsLane, LeavesLane};
+ghost use Rattle.lane_runs.specs.Accepting.{AcceptsAll};
 
 use crate::fault::LaneFault;
 use crate::lane_kind::LaneKind;
@@ -39,8 +39,8 @@ impl<'s, R: Threads + Wait + Sync, O: Opener, G: Gate, L: LaneKind + 's> Shared<
         lane: Lane<L::Entry, L::End>,
     ) -> LaneReturn<L::Entry, L::End>
         requires { StartsLane self.now.tickets.now lane.seat lane.giver
-            × TakesAll L.takes L.ends (O.meaning self.now.run.now.opener.now) }
-        ensures { EndsLane L.Entry.about self.now.run.now.choice (O.meaning self.now.run.now.opener.now) self.now.tickets.now
+            × AcceptsAll L.accepts L.ends (O.meaning self.now.run.now.opener.now) }
+        ensures { LeavesLane L.Entry.about self.now.run.now.choice (O.meaning self.now.run.now.opener.now) self.now.tickets.now
             lane.giver result.giver result.stop result.seat }
     {
         let Lane { seat, mut giver } = lane;
@@ -58,7 +58,7 @@ impl<'s, R: Threads + Wait + Sync, O: Opener, G: Gate, L: LaneKind + 's> Shared<
         giver: &mut LaneGiver<Message<L::Entry, L::End>>,
     ) -> Result<Seat, LaneFault>
         requires { StartsLane self.now.tickets.now seat giver.old
-            × TakesAll L.takes L.ends (O.meaning self.now.run.now.opener.now) }
+            × AcceptsAll L.accepts L.ends (O.meaning self.now.run.now.opener.now) }
         ensures same { GivesToSameLane giver.old giver.new }
         ensures goes_on { GoOn (notes L.Entry.about (given_at giver.new)) }
         ensures told { IfOk result (λ after. TellsSeat L.Entry.about self.now.run.now.choice (O.meaning self.now.run.now.opener.now) self.now.tickets.now after
@@ -97,7 +97,7 @@ impl<'s, R: Threads + Wait + Sync, O: Opener, G: Gate, L: LaneKind + 's> Shared<
         shape: MiddleStage<L::Embedded, L::End>,
     ) -> Result<StartedStages<L, O>, LaneFault>
         requires read { StartsToRead self.now.tickets.now read.seat (vec_len read.buffer) read.giver
-            × TakesAll L.takes L.ends (O.meaning self.now.run.now.opener.now) }
+            × AcceptsAll L.accepts L.ends (O.meaning self.now.run.now.opener.now) }
         requires embed { (taken embed.taker ≡ []) × (given embed.giver ≡ []) }
         requires shape { (taken shape.taker ≡ []) × (given shape.giver ≡ []) }
         ensures choice { IfOk result (λ started. started.read.promise.choice ≡ self.now.run.now.choice) }

@@ -42,14 +42,14 @@ pub trait LaneKind: Sync {
     type End: Drop + Send;
 
     // Which records it may be handed: of which file, and at which place there.
-    ghost takes: { ℕ → ℕ → List ℕ → Type 0 };
+    ghost accepts: { ℕ → ℕ → List ℕ → Type 0 };
 
     // Which ends it may be handed: of which file, with how many records and which mark.
     ghost ends: { ℕ → ℕ → Mark → Type 0 };
 
     /// The record that has this place in this file, with this choice of the outer face.
     fn framed(&self, file: u32, ordinal: u32, rec: Record, choice: Choice) -> Self::Framed
-        requires { takes file ordinal rec }
+        requires { accepts file ordinal rec }
         ensures { Self.Framed.about result ≡ record { file = file; ordinal = ordinal; bytes = rec; choice = choice } };
 
     /// What is known of this end of this file.

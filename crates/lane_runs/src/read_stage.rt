@@ -3,7 +3,7 @@ ghost use Rattle.std.specs.Prelude.{◌<◌, IfSome, OnOk, length, vec_len};
 ghost use Rattle.ruled_lanes.specs.LinkEnds.{given, GivesToSame};
 ghost use Rattle.lanes.specs.Notes.{notes};
 ghost use Rattle.lane_runs.specs.Lanes.{ReadsSeat, StartsToRead, TellsFile};
-ghost use Rattle.lane_runs.specs.Taking.{TakesAll};
+ghost use Rattle.lane_runs.specs.Accepting.{AcceptsAll};
 
 use crate::lane_kind::LaneKind;
 use crate::record_giver::{Gone, RecordGiver};
@@ -30,7 +30,7 @@ impl<R: Wait, O: Opener, G: Gate, L: LaneKind> Shared<'_, R, O, G, L> {
         reading: Reading<L::Framed, L::End>,
     ) -> Option<(Giver<Message<L::Framed, L::End>>, Seat)>
         requires { StartsToRead self.now.tickets.now reading.seat (vec_len reading.buffer) reading.giver
-            × TakesAll L.takes L.ends (O.meaning self.now.run.now.opener.now) }
+            × AcceptsAll L.accepts L.ends (O.meaning self.now.run.now.opener.now) }
         ensures { IfSome result (λ ends.
             ReadsSeat L.Framed.about self.now.run.now.choice (O.meaning self.now.run.now.opener.now) self.now.tickets.now reading.giver ends.0 ends.1) }
     {
@@ -70,7 +70,7 @@ impl<R: Wait, O: Opener, G: Gate, L: LaneKind> Shared<'_, R, O, G, L> {
         gives: &mut RecordGiver<'_, R, G, L>,
     ) -> Result<(), Gone>
         requires room { 0 < length buffer.old }
-        requires takes { TakesAll L.takes L.ends (O.meaning self.now.run.now.opener.now) }
+        requires accepts { AcceptsAll L.accepts L.ends (O.meaning self.now.run.now.opener.now) }
         ensures told { OnOk result (TellsFile self.now.run.now.choice (O.meaning self.now.run.now.opener.now file) file
             (notes L.Framed.about (given gives.old.giver)) (notes L.Framed.about (given gives.new.giver))) }
         ensures same { GivesToSame gives.old.giver gives.new.giver }

@@ -32,7 +32,7 @@ impl<R: Wait, G: Gate, L: LaneKind> Keep for RecordGiver<'_, R, G, L> {
 
     ghost stays = { λ a b. GivesToSame a.giver b.giver };
 
-    ghost accepts = { λ _ file ordinal bytes. L.takes file ordinal bytes };
+    ghost accepts = { λ _ file ordinal bytes. L.accepts file ordinal bytes };
 
     fn keep(
         &mut self,
@@ -50,7 +50,7 @@ impl<R: Wait, G: Gate, L: LaneKind> Keep for RecordGiver<'_, R, G, L> {
         }
     }
 
-    ghost accepts_on = { λ _ _ _ _ _ _ takes. takes };
+    ghost accepts_on = { λ _ _ _ _ _ _ accepts. accepts };
 
     ghost stays_itself = { λ x. refl };
 

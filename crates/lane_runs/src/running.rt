@@ -1,6 +1,6 @@
 //! Lanes that run in threads of their own.
 ghost use Rattle.ruled_lanes.specs.FanEnds.{given_at};
-ghost use Rattle.lane_runs.specs.Lanes.{EndsLane};
+ghost use Rattle.lane_runs.specs.Lanes.{LeavesLane};
 
 use crate::fault::LaneFault;
 use common::Choice;
@@ -29,7 +29,7 @@ pub struct LanePromise<E: Numbered, M: Drop + Send, O: Opener> {
 }
 
 impl<E: Numbered, M: Drop + Send, O: Opener> Promise<LaneReturn<E, M>> for LanePromise<E, M, O> {
-    ghost kept_by = { λ p end. EndsLane E.about p.choice (O.meaning p.opener.value) p.tickets.value p.giver.value end.giver end.stop end.seat };
+    ghost kept_by = { λ p end. LeavesLane E.about p.choice (O.meaning p.opener.value) p.tickets.value p.giver.value end.giver end.stop end.seat };
 }
 
 /// A lane that runs.

@@ -3,7 +3,7 @@ ghost use Rattle.std.specs.Prelude.{◌≡◌, [], IfOk, IfSome, vec_len};
 ghost use Rattle.ruled_lanes.specs.LinkEnds.{given, taken};
 ghost use Rattle.lanes.specs.Stages.{PassedAll};
 ghost use Rattle.lane_runs.specs.Lanes.{ReadsSeat, StartsToRead};
-ghost use Rattle.lane_runs.specs.Taking.{TakesAll};
+ghost use Rattle.lane_runs.specs.Accepting.{AcceptsAll};
 
 use crate::fault::LaneFault;
 use crate::lane_kind::LaneKind;
@@ -66,7 +66,7 @@ impl<'s, R: Threads + Wait + Sync, O: Opener, G: Gate, L: LaneKind + 's> Shared<
         reading: Reading<L::Framed, L::End>,
     ) -> Result<StartedRead<L::Framed, L::End, O>, LaneFault>
         requires { StartsToRead self.now.tickets.now reading.seat (vec_len reading.buffer) reading.giver
-            × TakesAll L.takes L.ends (O.meaning self.now.run.now.opener.now) }
+            × AcceptsAll L.accepts L.ends (O.meaning self.now.run.now.opener.now) }
         ensures choice { IfOk result (λ started. started.promise.choice ≡ self.now.run.now.choice) }
         ensures opener { IfOk result (λ started. started.promise.opener.value ≡ self.now.run.now.opener.now) }
         ensures tickets { IfOk result (λ started. started.promise.tickets.value ≡ self.now.tickets.now) }
@@ -82,7 +82,7 @@ impl<'s, R: Threads + Wait + Sync, O: Opener, G: Gate, L: LaneKind + 's> Shared<
             promise,
             move || -> Option<(Giver<Message<L::Framed, L::End>>, Seat)>
                 requires { StartsToRead self.now.tickets.now reading.seat (vec_len reading.buffer) reading.giver
-                    × TakesAll L.takes L.ends (O.meaning self.now.run.now.opener.now) }
+                    × AcceptsAll L.accepts L.ends (O.meaning self.now.run.now.opener.now) }
             { self.read_stage(reading) },
         ) {
             Ok(started) => Ok(started),

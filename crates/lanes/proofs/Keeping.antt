@@ -11,10 +11,10 @@ use Rattle.common.specs.declared.choice.Choice.{Choice}
 use Rattle.lanes.specs.declared.opener.OpenFault.{OpenFault}
 use Rattle.lanes.specs.declared.opener.OpenFault.TheVariants.{Io}
 use Rattle.lanes.specs.Notes.{Note}
-use Rattle.lanes.specs.Opening.{Meaning, Silent, Unopened, Opened, Opens, IsFoundAt, told_of, fails_of}
+use Rattle.lanes.specs.Opening.{Meaning, Silent, Unopened, Opened, Opens, IsFoundAt, known_of, fails_of}
 use Rattle.lanes.specs.Keeping.{KeepsFile, KeepsSource}
 
--- what is found in a source is found where nothing is told
+-- what is found in a source is found where nothing is known
 found_silent : (told : Option (List ℕ)) (fails : Bool) (records : List (List ℕ)) (mark : Mark) → IsFoundIn told fails records mark → IsFoundIn None false records mark
 found_silent told fails records mark f = record { bytes = f.bytes; fails = f.fails; gave = tt; marked = f.marked }
 
@@ -53,7 +53,7 @@ keeps_unopened choice to_come fails meaning fault file before opens is = record 
 
 -- a file for which there was no memory
 pub keeps_wanting : (choice : Choice) (meaning : Meaning) (file : ℕ) (before : List Note) → KeepsFile choice meaning file before before 0 (Ended ending.Memory)
-keeps_wanting choice meaning file before = record { records = []; counted = refl; kept = sym (append-nil before); found = found_nothing (told_of meaning) (fails_of meaning) [] refl }
+keeps_wanting choice meaning file before = record { records = []; counted = refl; kept = sym (append-nil before); found = found_nothing (known_of meaning) (fails_of meaning) [] refl }
 
 pub keeps_nothing : (choice : Choice) (told : Option (List ℕ)) (fails : Bool) (file : ℕ) (before : List Note) → KeepsSource choice told fails file before before 0 (Ended ending.Memory)
 keeps_nothing choice told fails file before = record { records = []; counted = refl; kept = sym (append-nil before); found = found_nothing told fails [] refl }

@@ -5,7 +5,7 @@ use Rattle.lanes.specs.declared.gathering.GatherFault.TheVariants.{Memory, LaneL
 use Rattle.lanes.specs.Notes.{Note}
 
 -- It refused a message, and this is known of that; or it holds what some notes tell.
-abbrev pub EndsGathering : {F : Type 0} → (F → Type 0) → (List Note → Type 0) → GatherFault F → Type 0
-EndsGathering gave_up holds (Refused refusal) = gave_up refusal
-EndsGathering gave_up holds Memory = (ns : List Note) × holds ns
-EndsGathering gave_up holds LaneLost = (ns : List Note) × holds ns
+abbrev pub HoldsOnGatherFault : {F : Type 0} → (F → Type 0) → (List Note → Type 0) → GatherFault F → Type 0
+HoldsOnGatherFault gave_up holds (Refused refusal) = gave_up refusal
+HoldsOnGatherFault gave_up holds Memory = (ns : List Note) × holds ns
+HoldsOnGatherFault gave_up holds LaneLost = (ns : List Note) × holds ns

@@ -14,9 +14,9 @@ pub record KeepsFile (choice : Choice) (meaning : Meaning) (file : ℕ) (before 
   pub kept : after ≡ before ++ map Item (numbered choice file 0 records)
   pub found : IsFoundAt meaning records mark
 
--- the same of a source that told this of itself
-pub record KeepsSource (choice : Choice) (told : Option (List ℕ)) (fails : Bool) (file : ℕ) (before after : List Note) (count : ℕ) (mark : Mark) : Type 0 where
+-- the same of a source of which this is known
+pub record KeepsSource (choice : Choice) (known : Option (List ℕ)) (fails : Bool) (file : ℕ) (before after : List Note) (count : ℕ) (mark : Mark) : Type 0 where
   pub records : List (List ℕ)
   pub counted : length records ≡ count
   pub kept : after ≡ before ++ map Item (numbered choice file 0 records)
-  pub found : IsFoundIn told fails records mark
+  pub found : IsFoundIn known fails records mark

@@ -6,17 +6,17 @@ use Rattle.streams.specs.Placing.{IsPlaced}
 use Rattle.lanes.specs.declared.opener.OpenFault.{OpenFault}
 use Rattle.lanes.specs.declared.opener.OpenFault.TheVariants.{Io, Memory}
 
--- nothing is told of it; or it does not open; or it opens, gives these bytes, and then fails or ends
+-- nothing is known of it; or it does not open; or it opens, gives these bytes, and then fails or ends
 pub data Meaning : Type 0 where
   Silent : Meaning
   Unopened : Meaning
   Opened : List ℕ → Bool → Meaning
 
--- the bytes that it tells: one that does not open gives none and fails
-abbrev pub told_of : Meaning → Option (List ℕ)
-told_of Silent = None
-told_of Unopened = Some []
-told_of (Opened bytes fails) = Some bytes
+-- the bytes that are known of it: one that does not open gives none and fails
+abbrev pub known_of : Meaning → Option (List ℕ)
+known_of Silent = None
+known_of Unopened = Some []
+known_of (Opened bytes fails) = Some bytes
 
 abbrev pub fails_of : Meaning → Bool
 fails_of Silent = false
@@ -34,11 +34,11 @@ Opens to_come fails (Opened bytes f) (Err Memory) = ⊤
 
 -- these records and this mark are those of a file that means this
 abbrev pub IsFoundAt : Meaning → List (List ℕ) → Mark → Type 0
-IsFoundAt meaning records mark = IsFoundIn (told_of meaning) (fails_of meaning) records mark
+IsFoundAt meaning records mark = IsFoundIn (known_of meaning) (fails_of meaning) records mark
 
 -- the record has this place in a file that means this
 abbrev pub IsPlacedAt : Meaning → ℕ → List ℕ → Type 0
-IsPlacedAt meaning place bytes = IsPlaced (told_of meaning) place bytes
+IsPlacedAt meaning place bytes = IsPlaced (known_of meaning) place bytes
 
 -- a file that means this has this mark and so many records
 pub record IsEndAt (meaning : Meaning) (count : ℕ) (mark : Mark) : Type 0 where

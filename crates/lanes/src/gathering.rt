@@ -4,7 +4,7 @@ ghost use Rattle.ruled_lanes.specs.declared.limits.TheConstants.{LANES};
 ghost use Rattle.ruled_lanes.specs.FanEnds.{gathered, TakesFromSameFan};
 ghost use Rattle.lanes.specs.Notes.{Note, notes};
 ghost use Rattle.lanes.specs.Fans.{untagged, HaveStopped};
-ghost use Rattle.lanes.specs.Gathering.{EndsGathering};
+ghost use Rattle.lanes.specs.Gathering.{HoldsOnGatherFault};
 
 use crate::consumer::Consumer;
 use crate::message::Message;
@@ -53,7 +53,7 @@ pub fn gather<E: Numbered, M: Drop, C: Consumer<E, M>, R: Wait>(
     ensures fan { IfOk result (λ after. TakesFromSameFan gatherer after) }
     ensures stopped { IfOk result (λ after. HaveStopped E.about lanes (gathered after)) }
     ensures told { IfOk result (λ after. C.holds consumer.new (notes E.about (untagged (gathered after)))) }
-    ensures ended { IfErr result (EndsGathering (C.gave_up consumer.new) (C.holds consumer.new)) }
+    ensures failed { IfErr result (HoldsOnGatherFault (C.gave_up consumer.new) (C.holds consumer.new)) }
     ensures stays { C.stays consumer.old consumer.new }
 {
     let Ok(mut stops) = Vec::from_elem(alloc, false, lanes as usize) else {

@@ -16,8 +16,8 @@ pub enum OpenFault {
 
 /// Opens files by their numbers, from any thread.
 ///
-/// For proofs an opener may tell of each file whether it opens, and then which bytes it gives and
-/// whether it fails after the last of them. Real files tell nothing.
+/// For proofs it may be known of each file whether it opens, and then which bytes it gives and
+/// whether it fails after the last of them. Of real files nothing is known.
 pub trait Opener: Sync {
     /// An open file.
     type Source: Tap + Send;

@@ -23,7 +23,7 @@ use Rattle.networks.specs.declared.state.Search.{Search}
 use Rattle.networks.specs.declared.state.Visit.{Visit}
 use Rattle.min_cost_flow.specs.SolverState.{IsReadyIn, CanAugmentIn, IsCleared}
 use Rattle.networks.specs.ResidualArcs.{end_at, cost_at, reverse_at, capacity_at, StartsAt, number_of, units_of, HasResidualArcs, AreResidualArcs, carried}
-use Rattle.networks.specs.Search.{far, IsArcCost, HasResidualCapacity, IsGraph, AreFeasiblePotentials, IsNear, IsReached, IsHit, IsNearest, AreFeasible, IsRemaining, IsPut, IsWithinFar, degree, looked, place_at, labels, predecessors, orders, places}
+use Rattle.networks.specs.Search.{far, IsArcCost, HasResidualCapacity, IsGraph, AreFeasiblePotentials, IsNear, IsReached, IsHit, IsNearest, AreFeasible, IsRemaining, IsPut, IsWithinFar, out_degree, looked, place_at, labels, predecessors, orders, places}
 use Rattle.min_cost_flow.specs.Path.{HasTightPath}
 use Rattle.min_cost_flow.proofs.Cut.{no_flow_out}
 use Rattle.networks.proofs.Ends.{start_in, end_in}
@@ -356,7 +356,7 @@ other_way_start net i false = refl
 other_way_start net i true = refl
 
 -- the end of a residual arc has one of its own
-has_own : (net : NetworkModel) (first : List ℕ) (reverse : ℕ → ℕ) (forward : List ℕ) (capacity : ℕ → ℕ) (arcs : List ResidualArc) (u k : ℕ) → HasResidualArcs net first reverse forward → AreResidualArcs net reverse forward capacity arcs → u < node_count net → StartsAt first u k → 0 < degree first (end_at arcs k)
+has_own : (net : NetworkModel) (first : List ℕ) (reverse : ℕ → ℕ) (forward : List ℕ) (capacity : ℕ → ℕ) (arcs : List ResidualArc) (u k : ℕ) → HasResidualArcs net first reverse forward → AreResidualArcs net reverse forward capacity arcs → u < node_count net → StartsAt first u k → 0 < out_degree first (end_at arcs k)
 has_own net first reverse forward capacity arcs u k l f b st =
     let o = l.stem_from_arcs u k b st in
     let ends : end_at arcs k ≡ end_of net o.arc o.back = ap (end_at arcs) (sym o.place) ∙ f.end o.arc o.back o.inside in
@@ -364,36 +364,36 @@ has_own net first reverse forward capacity arcs u k l f b st =
     let here : StartsAt first (end_at arcs k) (number_of reverse forward o.arc (other_way o.back)) = subst (λ (t : ℕ). StartsAt first t (number_of reverse forward o.arc (other_way o.back))) (other_way_start net o.arc o.back ∙ sym ends) own in
     omega (arith, here.from, here.below)
 
-own_degree : (first : List ℕ) (v k : ℕ) → StartsAt first v k → 0 < degree first v
-own_degree first v k st = omega (arith, st.from, st.below)
+own_out_degree : (first : List ℕ) (v k : ℕ) → StartsAt first v k → 0 < out_degree first v
+own_out_degree first v k st = omega (arith, st.from, st.below)
 
-root_degree : (n : ℕ) (first : List ℕ) (arcs : List ResidualArc) (p e : ℕ → ℤ) (s : ℕ) (q : ℕ → ℤ) (predecessor order place : ℕ → ℕ) (scanned ordered reached : ℕ) (radius : ℤ) (b v : ℕ) → IsReached n first arcs p e s q predecessor order place scanned ordered reached radius → place v < b → v < n → q v <ℤ far → v ≢ s → 0 < degree first s
-root_degree n first arcs p e s q predecessor order place scanned ordered reached radius zero v r less vb l ne = absurd (omega arith)
-root_degree n first arcs p e s q predecessor order place scanned ordered reached radius (suc b) v r less vb l ne =
+root_out_degree : (n : ℕ) (first : List ℕ) (arcs : List ResidualArc) (p e : ℕ → ℤ) (s : ℕ) (q : ℕ → ℤ) (predecessor order place : ℕ → ℕ) (scanned ordered reached : ℕ) (radius : ℤ) (b v : ℕ) → IsReached n first arcs p e s q predecessor order place scanned ordered reached radius → place v < b → v < n → q v <ℤ far → v ≢ s → 0 < out_degree first s
+root_out_degree n first arcs p e s q predecessor order place scanned ordered reached radius zero v r less vb l ne = absurd (omega arith)
+root_out_degree n first arcs p e s q predecessor order place scanned ordered reached radius (suc b) v r less vb l ne =
     let x = r.entered v vb l ne in
     let before : place x.start < place v = x.before in
     elim (cases_eq x.start s) [
-      | inl t ↦ own_degree first s (predecessor v) (subst (λ (i : ℕ). StartsAt first i (predecessor v)) t x.leaves)
-      | inr d ↦ root_degree n first arcs p e s q predecessor order place scanned ordered reached radius b x.start r (omega arith) x.node x.labelled d
+      | inl t ↦ own_out_degree first s (predecessor v) (subst (λ (i : ℕ). StartsAt first i (predecessor v)) t x.leaves)
+      | inr d ↦ root_out_degree n first arcs p e s q predecessor order place scanned ordered reached radius b x.start r (omega arith) x.node x.labelled d
     ]
 
-one_each : (net : NetworkModel) (first : List ℕ) (reverse : ℕ → ℕ) (forward : List ℕ) (capacity : ℕ → ℕ) (arcs : List ResidualArc) (p e : ℕ → ℤ) (s : ℕ) (q : ℕ → ℤ) (predecessor order place : ℕ → ℕ) (scanned ordered reached : ℕ) (radius bound : ℤ) (f : ℕ) → HasResidualArcs net first reverse forward → AreResidualArcs net reverse forward capacity arcs → IsReached (node_count net) first arcs p e s q predecessor order place scanned ordered reached radius → IsHit (node_count net) first arcs p e s q place scanned bound f → (v : ℕ) → v < node_count net → q v <ℤ far → 0 < degree first v
+one_each : (net : NetworkModel) (first : List ℕ) (reverse : ℕ → ℕ) (forward : List ℕ) (capacity : ℕ → ℕ) (arcs : List ResidualArc) (p e : ℕ → ℤ) (s : ℕ) (q : ℕ → ℤ) (predecessor order place : ℕ → ℕ) (scanned ordered reached : ℕ) (radius bound : ℤ) (f : ℕ) → HasResidualArcs net first reverse forward → AreResidualArcs net reverse forward capacity arcs → IsReached (node_count net) first arcs p e s q predecessor order place scanned ordered reached radius → IsHit (node_count net) first arcs p e s q place scanned bound f → (v : ℕ) → v < node_count net → q v <ℤ far → 0 < out_degree first v
 one_each net first reverse forward capacity arcs p e s q predecessor order place scanned ordered reached radius bound f l fl r h v b m =
     elim (cases_eq v s) [
-      | inl t ↦ subst (λ (i : ℕ). 0 < degree first i) (sym t) (elim (cases_eq h.start s) [
-        | inl d ↦ own_degree first s f (subst (λ (i : ℕ). StartsAt first i f) d h.leaves)
-        | inr d ↦ root_degree (node_count net) first arcs p e s q predecessor order place scanned ordered reached radius (place h.start + 1) h.start r (omega arith) h.node h.labelled d
+      | inl t ↦ subst (λ (i : ℕ). 0 < out_degree first i) (sym t) (elim (cases_eq h.start s) [
+        | inl d ↦ own_out_degree first s f (subst (λ (i : ℕ). StartsAt first i f) d h.leaves)
+        | inr d ↦ root_out_degree (node_count net) first arcs p e s q predecessor order place scanned ordered reached radius (place h.start + 1) h.start r (omega arith) h.node h.labelled d
       ])
       | inr ne ↦
           let x = r.entered v b m ne in
-          subst (λ (i : ℕ). 0 < degree first i) x.arrives (has_own net first reverse forward capacity arcs x.start (predecessor v) l fl x.node x.leaves)
+          subst (λ (i : ℕ). 0 < out_degree first i) x.arrives (has_own net first reverse forward capacity arcs x.start (predecessor v) l fl x.node x.leaves)
     ]
 
 -- so a search that finds something looks at no fewer residual arcs than it scans nodes
 pub many_looks : (net : NetworkModel) (first : List ℕ) (reverse : ℕ → ℕ) (forward : List ℕ) (capacity : ℕ → ℕ) (arcs : List ResidualArc) (p e : ℕ → ℤ) (s : ℕ) (q : ℕ → ℤ) (predecessor order place : ℕ → ℕ) (scanned ordered reached : ℕ) (radius bound : ℤ) (f : ℕ) → HasResidualArcs net first reverse forward → AreResidualArcs net reverse forward capacity arcs → IsReached (node_count net) first arcs p e s q predecessor order place scanned ordered reached radius → IsHit (node_count net) first arcs p e s q place scanned bound f → scanned ≤ looked first order scanned
 many_looks net first reverse forward capacity arcs p e s q predecessor order place scanned ordered reached radius bound f l fl r h =
     let le : scanned ≤ reached = omega (arith, r.counts) in
-    let more : sum_below scanned (λ _. 1) ≤ looked first order scanned = sum_below-le scanned (λ _. 1) (λ j. degree first (order j)) (λ j b. one_each net first reverse forward capacity arcs p e s q predecessor order place scanned ordered reached radius bound f l fl r h (order j) (r.node j (omega arith)) (r.has_label j (omega arith))) in
+    let more : sum_below scanned (λ _. 1) ≤ looked first order scanned = sum_below-le scanned (λ _. 1) (λ j. out_degree first (order j)) (λ j b. one_each net first reverse forward capacity arcs p e s q predecessor order place scanned ordered reached radius bound f l fl r h (order j) (r.node j (omega arith)) (r.has_label j (omega arith))) in
     omega (arith, sum_below-constant scanned 1)
 
 -- the path has no more residual arcs than that

@@ -18,7 +18,7 @@ pub struct Nodes {
 
 /// The residual network, what is known of each node, what the last search left of it and the residual arc that it
 /// found, and how much work was done since the solver began: searches, and looks at residual arcs in them. Where it
-/// goes on after a move, no searches are counted, and the looks of the last one alone.
+/// goes on after a move, no searches are counted, and only the looks of the last one.
 #[derive(Drop)]
 pub struct Solver {
     pub residual: Residual,

@@ -7,7 +7,7 @@ use Rattle.networks.specs.declared.network.TheConstants.{MAX_NODES}
 use Rattle.networks.specs.declared.residual.ResidualArc.{ResidualArc}
 use Rattle.networks.proofs.Distinct.{AreDistinct, distinct_sum, room_for}
 use Rattle.networks.specs.ResidualArcs.{numbers, end_at, cost_at, StartsAt}
-use Rattle.networks.specs.Search.{far, IsGraph, AreFeasiblePotentials, IsNear, HasPredecessor, IsReached, IsNearest, IsFeasibleAt, AreFeasible, IsRemaining, AreLowered, IsCandidate, IsPut, IsSwapped, IsWithinFar, degree, looked}
+use Rattle.networks.specs.Search.{far, IsGraph, AreFeasiblePotentials, IsNear, HasPredecessor, IsReached, IsNearest, IsFeasibleAt, AreFeasible, IsRemaining, AreLowered, IsCandidate, IsPut, IsSwapped, IsWithinFar, out_degree, looked}
 use Rattle.common.specs.Sums.{sum_below}
 use Rattle.common.proofs.Sums.{sum_below-same, sum_below-more}
 
@@ -615,18 +615,18 @@ order_kept n first arcs p e s q q' predecessor predecessor' order order' place p
 
 -- ---- how many looks
 
-telescoped : (n k : ℕ) (first : List ℕ) → k ≤ n → ((v : ℕ) → v < n → numbers first v ≤ numbers first (v + 1)) → sum_below k (degree first) + numbers first 0 ≡ numbers first k
+telescoped : (n k : ℕ) (first : List ℕ) → k ≤ n → ((v : ℕ) → v < n → numbers first v ≤ numbers first (v + 1)) → sum_below k (out_degree first) + numbers first 0 ≡ numbers first k
 telescoped n zero first le rise = omega arith
 telescoped n (suc k) first le rise =
     let up : numbers first k ≤ numbers first (k + 1) = rise k (omega arith) in
-    let before : sum_below k (degree first) + numbers first 0 ≡ numbers first k = telescoped n k first (omega arith) rise in
+    let before : sum_below k (out_degree first) + numbers first 0 ≡ numbers first k = telescoped n k first (omega arith) rise in
     let whole : numbers first (suc k) ≡ numbers first (k + 1) = ap (numbers first) (omega arith) in
     omega arith
 
-all_degrees : (n : ℕ) (first : List ℕ) (arcs : List ResidualArc) → IsGraph n first arcs → sum_below n (degree first) ≤ length arcs
-all_degrees zero first arcs g = omega arith
-all_degrees (suc n) first arcs g =
-    let t : sum_below (suc n) (degree first) + numbers first 0 ≡ numbers first (suc n) = telescoped (suc n) (suc n) first (omega arith) g.rising in
+all_out_degrees : (n : ℕ) (first : List ℕ) (arcs : List ResidualArc) → IsGraph n first arcs → sum_below n (out_degree first) ≤ length arcs
+all_out_degrees zero first arcs g = omega arith
+all_out_degrees (suc n) first arcs g =
+    let t : sum_below (suc n) (out_degree first) + numbers first 0 ≡ numbers first (suc n) = telescoped (suc n) (suc n) first (omega arith) g.rising in
     let i : numbers first (n + 1) ≤ length arcs = g.inside n (omega arith) in
     let whole : numbers first (suc n) ≡ numbers first (n + 1) = ap (numbers first) (omega arith) in
     omega arith
@@ -634,17 +634,17 @@ all_degrees (suc n) first arcs g =
 pub looked_most : (n : ℕ) (first : List ℕ) (arcs : List ResidualArc) (p e : ℕ → ℤ) (s : ℕ) (q : ℕ → ℤ) (predecessor order place : ℕ → ℕ) (scanned ordered reached : ℕ) (radius : ℤ) → IsGraph n first arcs → IsReached n first arcs p e s q predecessor order place scanned ordered reached radius → looked first order scanned ≤ length arcs
 looked_most n first arcs p e s q predecessor order place scanned ordered reached radius g r =
     let le : scanned ≤ reached = omega (arith, r.counts) in
-    let sum : looked first order scanned ≤ sum_below n (degree first) = distinct_sum scanned n order (degree first) (λ j b. r.node j (omega arith)) (λ i j a b h. order_distinct n first arcs p e s q predecessor order place scanned ordered reached radius r i j (omega arith) (omega arith) h) in
-    omega (arith, all_degrees n first arcs g)
+    let sum : looked first order scanned ≤ sum_below n (out_degree first) = distinct_sum scanned n order (out_degree first) (λ j b. r.node j (omega arith)) (λ i j a b h. order_distinct n first arcs p e s q predecessor order place scanned ordered reached radius r i j (omega arith) (omega arith) h) in
+    omega (arith, all_out_degrees n first arcs g)
 
 pub looked_same : (first : List ℕ) (order order' : ℕ → ℕ) (h : ℕ) → ((j : ℕ) → j < h → order' j ≡ order j) → looked first order' h ≡ looked first order h
-looked_same first order order' h same = sum_below-same h (λ j. degree first (order' j)) (λ j. degree first (order j)) (λ j b. ap (degree first) (same j b))
+looked_same first order order' h same = sum_below-same h (λ j. out_degree first (order' j)) (λ j. out_degree first (order j)) (λ j b. ap (out_degree first) (same j b))
 
-pub looked_more : (first : List ℕ) (order order' : ℕ → ℕ) (h : ℕ) → ((j : ℕ) → j < h + 1 → order' j ≡ order j) → looked first order' (h + 1) ≡ looked first order h + degree first (order h)
+pub looked_more : (first : List ℕ) (order order' : ℕ → ℕ) (h : ℕ) → ((j : ℕ) → j < h + 1 → order' j ≡ order j) → looked first order' (h + 1) ≡ looked first order h + out_degree first (order h)
 looked_more first order order' h same =
-    let more : looked first order' (h + 1) ≡ looked first order' h + degree first (order' h) = sum_below-more h (λ j. degree first (order' j)) in
+    let more : looked first order' (h + 1) ≡ looked first order' h + out_degree first (order' h) = sum_below-more h (λ j. out_degree first (order' j)) in
     let rest : looked first order' h ≡ looked first order h = looked_same first order order' h (λ j b. same j (omega arith)) in
-    let last : degree first (order' h) ≡ degree first (order h) = ap (degree first) (same h (omega arith)) in
+    let last : out_degree first (order' h) ≡ out_degree first (order h) = ap (out_degree first) (same h (omega arith)) in
     omega arith
 
 -- ---- the root alone

@@ -10,7 +10,7 @@ use Rattle.networks.specs.declared.state.Search.{Search}
 use Rattle.networks.specs.declared.state.Candidate.{Candidate}
 use Rattle.networks.specs.declared.state.Visit.{Visit}
 use Rattle.networks.specs.ResidualArcs.{StartsAt, end_at, cost_at}
-use Rattle.networks.specs.Search.{far, nodes_of, first_of, arcs_of, IsScanning, potential_of, excess_of, labels, orders, places, Reaches, HasLowered, IsSearch, HasCandidate, IsLabelled, IsRelaxed, AreLowered, IsSwapped, IsReordered, HasFeasibleLabels, IsSearchInput, IsFeasibleAt, AreFeasible, looked, degree, SameBesideBound, SameBesideOrder, IsWithinFar}
+use Rattle.networks.specs.Search.{far, nodes_of, first_of, arcs_of, IsScanning, potential_of, excess_of, labels, orders, places, Reaches, HasLowered, IsSearch, HasCandidate, IsLabelled, IsRelaxed, AreLowered, IsSwapped, IsReordered, HasFeasibleLabels, IsSearchInput, IsFeasibleAt, AreFeasible, looked, out_degree, SameBesideBound, SameBesideOrder, IsWithinFar}
 use Rattle.networks.proofs.Signs.{fits_within, label_fits, label_passed, passed_within, difference_is}
 use Rattle.networks.proofs.Reaching.{below_or_not, behind, swapped, nearest_kept, nearest_offered, kept_then, kept_same, at_radius, offer_below, offer_fits, offer_made, next_node, next_kept, next_only, serves_kept, served_kept, served_more, kept_less, same_le, order_kept, looked_most, looked_same, looked_more, same_z, relabelled, enlisted, order_room, reached_fits, potential_fits_at, offer_end}
 
@@ -239,7 +239,7 @@ looked_ordered g s t h o =
     let few : s.scanned ≤ s.reached = omega (arith, h.reached.counts) in
     rw o.scanned (looked_same _ _ _ _ (order_kept _ _ _ _ _ _ _ _ _ _ _ _ _ _ _ _ _ _ _ _ _ _ _ h.reached o.search.reached o.kept few))
 
-pub looked_scanned : (g : SearchInput) (s t : Search) → IsSearch g s → s.scanned < s.ordered → IsSearch g t → HasLowered g (s.scanned + 1) s t → t.scanned ≡ s.scanned + 1 → looked (first_of g) (orders t) t.scanned ≡ looked (first_of g) (orders s) s.scanned + degree (first_of g) (orders s s.scanned)
+pub looked_scanned : (g : SearchInput) (s t : Search) → IsSearch g s → s.scanned < s.ordered → IsSearch g t → HasLowered g (s.scanned + 1) s t → t.scanned ≡ s.scanned + 1 → looked (first_of g) (orders t) t.scanned ≡ looked (first_of g) (orders s) s.scanned + out_degree (first_of g) (orders s s.scanned)
 looked_scanned g s t h more k kept heads =
     let few : s.scanned + 1 ≤ s.reached = omega (arith, h.reached.counts) in
     rw heads (looked_more (first_of g) (orders s) (orders t) s.scanned (order_kept _ _ _ _ _ _ _ _ _ _ _ _ _ _ _ _ _ _ _ _ _ _ _ h.reached k.reached kept few))

@@ -109,11 +109,11 @@ abbrev pub IsRemaining : ℕ → (ℕ → ℤ) → (ℕ → ℤ) → (ℕ → �
 IsRemaining n p q place scanned bound = (v : ℕ) → v < n → q v <ℤ far → scanned ≤ place v → bound ≤ℤ (q v -ℤ p v)
 
 -- how many residual arcs start at a node, and at the first h nodes of the order
-abbrev pub degree : List ℕ → ℕ → ℕ
-degree first v = numbers first (v + 1) - numbers first v
+abbrev pub out_degree : List ℕ → ℕ → ℕ
+out_degree first v = numbers first (v + 1) - numbers first v
 
 abbrev pub looked : List ℕ → (ℕ → ℕ) → ℕ → ℕ
-looked first order h = sum_below h (λ j. degree first (order j))
+looked first order h = sum_below h (λ j. out_degree first (order j))
 
 -- labels only fall, and those of the first h nodes of the order stay, with their places
 pub record AreLowered (n h : ℕ) (q : ℕ → ℤ) (place : ℕ → ℕ) (q' : ℕ → ℤ) (place' : ℕ → ℕ) : Type 0 where

@@ -5,7 +5,7 @@
 //! Each residual arc is looked at once at most. Beside that the nodes that wait are gone over for each radius.
 ghost use Rattle.std.specs.Prelude.{◌≡◌, ◌⊎◌, ◌<◌, ◌≤◌, ◌+◌, ◌^◌, ℕ, length, pos, ◌≤ℤ◌, ◌<ℤ◌, ◌+ℤ◌, ◌-ℤ◌, true, false};
 ghost use Rattle.networks.specs.ResidualArcs.{StartsAt};
-ghost use Rattle.networks.specs.Search.{far, nodes_of, first_of, arcs_of, potential_of, excess_of, labels, orders, degree, looked, IsSearchInput, IsSearch, IsUnlabelled, HasLowered, HasFeasibleLabels, HasRemaining, IsFeasibleAt, IsNextRadius, IsReordered, IsWaiting, IsScanning, IsRelaxed, IsWithinFar, IsArcCost, HasSameList};
+ghost use Rattle.networks.specs.Search.{far, nodes_of, first_of, arcs_of, potential_of, excess_of, labels, orders, out_degree, looked, IsSearchInput, IsSearch, IsUnlabelled, HasLowered, HasFeasibleLabels, HasRemaining, IsFeasibleAt, IsNextRadius, IsReordered, IsWaiting, IsScanning, IsRelaxed, IsWithinFar, IsArcCost, HasSameList};
 
 use crate::reach::distance;
 use crate::state::{Candidate, FAR, Search, SearchInput, Visit};
@@ -143,7 +143,7 @@ impl<'a> Search<'a> {
         ensures served { HasFeasibleLabels input.entry self.new }
         ensures kept { HasLowered input.entry (self.old.scanned + 1) self.old self.new }
         ensures scanned { self.new.scanned ≡ self.old.scanned + 1 }
-        ensures looks { looks.new ≡ looks.old + degree (first_of input.entry) (orders self.old self.old.scanned) }
+        ensures looks { looks.new ≡ looks.old + out_degree (first_of input.entry) (orders self.old self.old.scanned) }
     {
         let node = self.visits[self.scanned].at_place as usize;
         self.scanned += 1;

@@ -38,7 +38,7 @@ no_better p bends face bound f needs more first = record {
   first = λ (a, s, rep, is). first (omega (arith, needs a s rep, more, is));
 }
 
--- a plane that was turned has the same ends
+-- a plane with another outer face has the same ends
 pub ends_turned : (p : PlaneModel) (outer : ℕ) → HasEnds p → HasEnds (with_outer p outer)
 ends_turned p outer ends = record {
   some_darts = ends.some_darts;
@@ -69,34 +69,34 @@ best_of p incumbent is all = record {
   first = λ f b. (all f b).first;
 }
 
--- a plane that was turned twice is the plane, turned once
-pub turned_again : (p q r : PlaneModel) (outer face : ℕ) → q ≡ with_outer p outer → r ≡ with_outer q face → r ≡ with_outer p face
-turned_again p q r outer face first second = second ∙ ap (λ (m : PlaneModel). with_outer m face) first
+-- a plane whose outer face was set twice is the plane where it was set once
+pub moved_again : (p q r : PlaneModel) (outer face : ℕ) → q ≡ with_outer p outer → r ≡ with_outer q face → r ≡ with_outer p face
+moved_again p q r outer face first second = second ∙ ap (λ (m : PlaneModel). with_outer m face) first
 
 -- it is the plane, with the outer face that it has then
 pub turned_own : (p q : PlaneModel) (face : ℕ) → q ≡ with_outer p face → q ≡ with_outer p q.outer
 turned_own p q face once = once ∙ sym (ap (λ (m : PlaneModel). with_outer p m.outer) once)
 
--- what is known of faces of the plane turned some way is known of the plane, and the other way
-pub incumbent_turned : (p q : PlaneModel) (outer : ℕ) (incumbent : Incumbent) → q ≡ with_outer p outer → IsIncumbent q incumbent → IsIncumbent p incumbent
-incumbent_turned p q outer incumbent turned is =
-    let was = subst (λ (m : PlaneModel). IsIncumbent m incumbent) turned is in
+-- what is known of faces of the plane with another outer face is known of the plane, and the other way
+pub incumbent_moved : (p q : PlaneModel) (outer : ℕ) (incumbent : Incumbent) → q ≡ with_outer p outer → IsIncumbent q incumbent → IsIncumbent p incumbent
+incumbent_moved p q outer incumbent outer_moved is =
+    let was = subst (λ (m : PlaneModel). IsIncumbent m incumbent) outer_moved is in
     record { named = was.named; some = was.some; needs = was.needs }
 
-pub incumbent_turning : (p q : PlaneModel) (outer : ℕ) (incumbent : Incumbent) → q ≡ with_outer p outer → IsIncumbent p incumbent → IsIncumbent q incumbent
-incumbent_turning p q outer incumbent turned is =
+pub incumbent_moving : (p q : PlaneModel) (outer : ℕ) (incumbent : Incumbent) → q ≡ with_outer p outer → IsIncumbent p incumbent → IsIncumbent q incumbent
+incumbent_moving p q outer incumbent outer_moved is =
     let will : IsIncumbent (with_outer p outer) incumbent = record { named = is.named; some = is.some; needs = is.needs } in
-    subst (λ (m : PlaneModel). IsIncumbent m incumbent) (sym turned) will
+    subst (λ (m : PlaneModel). IsIncumbent m incumbent) (sym outer_moved) will
 
-pub tried_turned : (p q : PlaneModel) (outer bends face f : ℕ) → q ≡ with_outer p outer → IsNoBetter q bends face f → IsNoBetter p bends face f
-tried_turned p q outer bends face f turned is =
-    let was = subst (λ (m : PlaneModel). IsNoBetter m bends face f) turned is in
+pub tried_moved : (p q : PlaneModel) (outer bends face f : ℕ) → q ≡ with_outer p outer → IsNoBetter q bends face f → IsNoBetter p bends face f
+tried_moved p q outer bends face f outer_moved is =
+    let was = subst (λ (m : PlaneModel). IsNoBetter m bends face f) outer_moved is in
     record { fewest = was.fewest; first = was.first }
 
-pub tried_turning : (p q : PlaneModel) (outer bends face f : ℕ) → q ≡ with_outer p outer → IsNoBetter p bends face f → IsNoBetter q bends face f
-tried_turning p q outer bends face f turned is =
+pub tried_moving : (p q : PlaneModel) (outer bends face f : ℕ) → q ≡ with_outer p outer → IsNoBetter p bends face f → IsNoBetter q bends face f
+tried_moving p q outer bends face f outer_moved is =
     let will : IsNoBetter (with_outer p outer) bends face f = record { fewest = is.fewest; first = is.first } in
-    subst (λ (m : PlaneModel). IsNoBetter m bends face f) (sym turned) will
+    subst (λ (m : PlaneModel). IsNoBetter m bends face f) (sym outer_moved) will
 
 -- faces that were tried before, and one that is tried now
 pub tried_next : (p : PlaneModel) (incumbent other : Incumbent) (face : ℕ) → IsNoWorse incumbent other → ((f : ℕ) → f < face → IsNoBetter p other.bends other.face f) → IsNoBetter p incumbent.bends incumbent.face face → (f : ℕ) → f < face + 1 → IsNoBetter p incumbent.bends incumbent.face f
@@ -147,16 +147,16 @@ bound_of_potentials p net bends ps face bound own other ends outer inside is sho
     let priced : bends_of (darts p) (strings_of p x) + 8 * up other + 8 * down own ≤ bends_of (darts p) s + 8 * up own + 8 * down other = rw (of_own, of_other) more in
     omega (arith, ints, priced, sum, bends_are_cost p net x ends is shown.flow, shown.costs)
 
--- bounds of the plane turned some way are bounds of the plane, and the other way
-pub bounds_turned : (p q : PlaneModel) (outer : ℕ) (bounds : List ℕ) → q ≡ with_outer p outer → AreBounds q bounds → AreBounds p bounds
-bounds_turned p q outer bounds turned are =
-    let was = subst (λ (m : PlaneModel). AreBounds m bounds) turned are in
+-- bounds of the plane with another outer face are bounds of the plane, and the other way
+pub bounds_moved : (p q : PlaneModel) (outer : ℕ) (bounds : List ℕ) → q ≡ with_outer p outer → AreBounds q bounds → AreBounds p bounds
+bounds_moved p q outer bounds outer_moved are =
+    let was = subst (λ (m : PlaneModel). AreBounds m bounds) outer_moved are in
     record { each = was.each }
 
-pub bounds_turning : (p q : PlaneModel) (outer : ℕ) (bounds : List ℕ) → q ≡ with_outer p outer → AreBounds p bounds → AreBounds q bounds
-bounds_turning p q outer bounds turned are =
+pub bounds_moving : (p q : PlaneModel) (outer : ℕ) (bounds : List ℕ) → q ≡ with_outer p outer → AreBounds p bounds → AreBounds q bounds
+bounds_moving p q outer bounds outer_moved are =
     let will : AreBounds (with_outer p outer) bounds = record { each = are.each } in
-    subst (λ (m : PlaneModel). AreBounds m bounds) (sym turned) will
+    subst (λ (m : PlaneModel). AreBounds m bounds) (sym outer_moved) will
 
 -- to begin with, no bends are needed
 pub no_bounds : (p : PlaneModel) (n : ℕ) → p.faces ≤ n → AreBounds p (replicate n 0)
@@ -176,9 +176,9 @@ bound_raised p bounds face bound inside are needs = record {
       ];
 }
 
--- a plane that was turned is one
-pub plane_turned : (p : PlaneModel) (face : ℕ) → face < p.faces → IsPlane p → IsPlane (with_outer p face)
-plane_turned p face inside plane = record {
+-- a plane with another outer face is one
+pub plane_moved : (p : PlaneModel) (face : ℕ) → face < p.faces → IsPlane p → IsPlane (with_outer p face)
+plane_moved p face inside plane = record {
   order = plane.order;
   rules = plane.rules;
   size = plane.size;

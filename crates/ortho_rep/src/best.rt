@@ -37,7 +37,7 @@ impl Incumbent {
     }
 }
 
-/// Turns the best face out, and gives a least shape with prices that prove it least.
+/// Makes the best face the outer one, and gives a least shape with prices that prove it least.
 ///
 /// The best face is the one with which the fewest bends are needed, among equals the one with the least
 /// number. Each face is tried, but for those of which the potentials of an earlier one prove that they
@@ -48,7 +48,7 @@ impl Incumbent {
 /// `AllocError` where there is no memory for a network, its flow, the shape or the prices. The plane is then
 /// what it was.
 pub fn best_shape(alloc: Global, plane: &mut Plane) -> Result<(Shape, Prices), AllocError>
-    ensures turned { OnOk result (plane.new ≡ with_outer plane.old plane.new.outer) }
+    ensures outer_moved { OnOk result (plane.new ≡ with_outer plane.old plane.new.outer) }
     ensures best { OnOk result (IsBest plane.new) }
     ensures shape { IfOk result (λ found. IsShape plane.new found.0) }
     ensures least { IfOk result (λ found. IsLeast plane.new found.0) }
@@ -59,7 +59,7 @@ pub fn best_shape(alloc: Global, plane: &mut Plane) -> Result<(Shape, Prices), A
     match best_found(alloc, plane) {
         Ok(found) => Ok(found),
         Err(AllocError) => {
-            plane.turn_out(outer);
+            plane.set_outer(outer);
             Err(AllocError)
         }
     }
@@ -67,7 +67,7 @@ pub fn best_shape(alloc: Global, plane: &mut Plane) -> Result<(Shape, Prices), A
 
 /// The same, but where memory runs out some face that was tried may be left as the outer one.
 fn best_found(alloc: Global, plane: &mut Plane) -> Result<(Shape, Prices), AllocError>
-    ensures turned { plane.new ≡ with_outer plane.old plane.new.outer }
+    ensures outer_moved { plane.new ≡ with_outer plane.old plane.new.outer }
     ensures best { OnOk result (IsBest plane.new) }
     ensures shape { IfOk result (λ found. IsShape plane.new found.0) }
     ensures least { IfOk result (λ found. IsLeast plane.new found.0) }
@@ -75,8 +75,8 @@ fn best_found(alloc: Global, plane: &mut Plane) -> Result<(Shape, Prices), Alloc
 {
     let moving = begin(alloc, plane)?;
     let (moving, incumbent) = best_incumbent(plane, moving);
-    let moving = turned(moving, plane, incumbent.face);
-    plane.turn_out(incumbent.face);
+    let moving = outer_moved(moving, plane, incumbent.face);
+    plane.set_outer(incumbent.face);
     let solved = moving.warm_start.solved(alloc)?;
     let mut lists = ShapeLists::empty(alloc);
     shape_in(alloc, &mut lists, plane, &moving.net, &solved)
@@ -103,7 +103,7 @@ fn begin(alloc: Global, plane: &Plane) -> Result<Moving, AllocError>
 
 /// Goes on to another outer face: the deficit of the old one is eight units less, and eight more at the
 /// new one. It takes no memory.
-fn turned(moving: Moving, plane: &Plane, face: u16) -> Moving
+fn outer_moved(moving: Moving, plane: &Plane, face: u16) -> Moving
     requires moving { IsMoving plane.now moving }
     requires face { face < plane.now.faces }
     ensures { IsMoving (with_outer plane.now face) result }
@@ -116,17 +116,17 @@ fn turned(moving: Moving, plane: &Plane, face: u16) -> Moving
     } = moving;
     let from = net.face_node(plane.outer());
     let to = net.face_node(face);
-    net.turn_out(plane, face);
+    net.set_outer(plane, face);
     match warm_start.shift(from, to, 8) {
         Some(warm_start) => Moving { net, warm_start },
         None => unreachable!(),
     }
 }
 
-/// The best face. The outer face is left as it was turned last.
+/// The best face. The outer face is left as it was set last.
 fn best_incumbent(plane: &mut Plane, moving: Moving) -> (Moving, Incumbent)
     requires moving { IsMoving plane.old moving }
-    ensures turned { plane.new ≡ with_outer plane.old plane.new.outer }
+    ensures outer_moved { plane.new ≡ with_outer plane.old plane.new.outer }
     ensures moving { IsMoving plane.new result.0 }
     ensures named { result.1.face < plane.old.faces }
     ensures best { IsBest (with_outer plane.old result.1.face) }
@@ -153,7 +153,7 @@ fn tour(plane: &mut Plane, moving: Moving, incumbent: &mut Incumbent, bounds: &m
     requires incumbent { IsIncumbent plane.old incumbent.old }
     requires room { plane.old.faces ≤ length bounds.old }
     requires bounds { AreBounds plane.old bounds.old }
-    ensures turned { plane.new ≡ with_outer plane.old plane.new.outer }
+    ensures outer_moved { plane.new ≡ with_outer plane.old plane.new.outer }
     ensures moving { IsMoving plane.new result }
     ensures incumbent { IsIncumbent plane.new incumbent.new }
     ensures bounds { AreBounds plane.new bounds.new }
@@ -219,7 +219,7 @@ fn visit(
     requires incumbent { IsIncumbent plane.old incumbent.old }
     requires room { plane.old.faces ≤ length bounds.old }
     requires bounds { AreBounds plane.old bounds.old }
-    ensures turned { plane.new ≡ with_outer plane.old plane.new.outer }
+    ensures outer_moved { plane.new ≡ with_outer plane.old plane.new.outer }
     ensures moving { IsMoving plane.new result }
     ensures incumbent { IsIncumbent plane.new incumbent.new }
     ensures bounds { AreBounds plane.new bounds.new }
@@ -229,8 +229,8 @@ fn visit(
     if !incumbent.loses_to(bounds[usize::from(face)], face) {
         return moving;
     }
-    let moving = turned(moving, plane, face);
-    plane.turn_out(face);
+    let moving = outer_moved(moving, plane, face);
+    plane.set_outer(face);
     let bends = bends_and_bounds(plane, &moving, bounds);
     if incumbent.loses_to(bends, face) {
         *incumbent = Incumbent { face, bends };

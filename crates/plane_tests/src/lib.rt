@@ -15,11 +15,11 @@ mod graphs;
 #[cfg(test)]
 mod known;
 #[cfg(test)]
-mod lines;
-#[cfg(test)]
 mod parsing;
 #[cfg(test)]
 mod planes;
+#[cfg(test)]
+mod polylines;
 #[cfg(test)]
 mod rules;
 #[cfg(test)]

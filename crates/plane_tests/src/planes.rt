@@ -63,7 +63,7 @@ fn memory_hands_the_graph_back(rt: HostRuntime) {
 /// The dart after each dart of the triangle.
 const NEXTS: [u16; 6] = [2, 5, 4, 1, 0, 3];
 
-/// The darts and faces of the triangle, of which the other one can be turned out. None of it takes memory.
+/// The darts and faces of the triangle, of which the other one can be made the outer one. None of it takes memory.
 fn expect_triangle(rt: &impl Abort, mut plane: Plane) {
     same(rt, counts(&plane), (3, 3, 2, 0, 3));
     for dart in 0..plane.graph().darts() {
@@ -72,7 +72,7 @@ fn expect_triangle(rt: &impl Abort, mut plane: Plane) {
         same(rt, plane.face_of(dart), dart % 2);
     }
     assert!(rt; plane.face_count() == 2);
-    plane.turn_out(1);
+    plane.set_outer(1);
     same(rt, (plane.outer(), plane.degree(1)), (1, 3));
 }
 

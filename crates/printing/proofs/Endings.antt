@@ -154,9 +154,9 @@ found_any records mark all few may =
     found_at stands.0 records mark stands.1 may
 
 -- records of a file that tells nothing, with its mark or that of want of memory
-pub found_untold : (records : List (List ℕ)) (count : ℕ) (was : Option Mark) → All IsRecord records → length records ≤ MAX_RECORDS → count ≡ length records
+pub found_unknown : (records : List (List ℕ)) (count : ℕ) (was : Option Mark) → All IsRecord records → length records ≤ MAX_RECORDS → count ≡ length records
     → ((mark : Mark) → was ≡ Some mark → ∥ IsEndAt Silent count mark ∥₁) → ∥ IsFoundAt Silent records (mark_or_memory was) ∥₁
-found_untold records count None all few same ends = merely (found_any records (Ended ending.Memory) all few tt)
-found_untold records count (Some mark) all few same ends = ∥∥₁_map (ends mark refl) (λ known.
+found_unknown records count None all few same ends = merely (found_any records (Ended ending.Memory) all few tt)
+found_unknown records count (Some mark) all few same ends = ∥∥₁_map (ends mark refl) (λ known.
     let f = known.found in
     found_any records mark all few (subst (MayEnd mark) (known.counted ∙ same) (may_marked f.bytes f.fails known.records mark f.marked)))

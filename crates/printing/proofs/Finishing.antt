@@ -40,7 +40,7 @@ mark_told choice meaning file ns came has told =
 book_told : (choice : Choice) (meaning : Meaning) (file : ℕ) (ns : List Note) (came : Came) (has : HasFile choice meaning file ns) → IsToldByNotes file ns came
     → IsBook choice meaning file (record { entries = came.entries; mark = has.mark })
 book_told choice meaning file ns came has told = record {
-  whole = record {
+  flawless = record {
     records = has.records;
     each = told.entries ∙ ap abouts has.told ∙ abouts-end (map Item (numbered choice file 0 has.records)) file has.mark ∙ abouts-items (numbered choice file 0 has.records);
     found = has.found;
@@ -49,12 +49,12 @@ book_told choice meaning file ns came has told = record {
 }
 
 whole_book : (came : Came) (mark : Mark) → came.mark ≡ Some mark → IsFlawlessSoFar came → IsFlawlessBook (record { entries = came.entries; mark = mark })
-whole_book came mark is whole = record { complete = whole.complete mark is; answered = whole.answered }
+whole_book came mark is flawless = record { complete = flawless.complete mark is; answered = flawless.answered }
 
 book_whole : (came : Came) (mark : Mark) → came.mark ≡ Some mark → IsFlawlessBook (record { entries = came.entries; mark = mark }) → IsFlawlessSoFar came
-book_whole came mark is whole = record {
-  answered = whole.answered;
-  complete = λ other e. let same : mark ≡ other = cc in sym same ∙ whole.complete;
+book_whole came mark is flawless = record {
+  answered = flawless.answered;
+  complete = λ other e. let same : mark ≡ other = cc in sym same ∙ flawless.complete;
 }
 
 -- the books of the first files
@@ -63,7 +63,7 @@ record AreUpTo (choice : Choice) (meaning : ℕ → Meaning) (form : Form) (came
   count : length books ≡ n
   each : AreBooks choice meaning 0 books
   text : numbered_texts (book_in form) 1 books ≡ ended_texts form came n
-  whole : All IsFlawlessBook books ↔ ((k : ℕ) → k < n → IsFlawlessSoFar (came k))
+  flawless : All IsFlawlessBook books ↔ ((k : ℕ) → k < n → IsFlawlessSoFar (came k))
 
 -- one more of them
 pub text_more : (form : Form) (came : ℕ → Came) (n : ℕ) (books : List BookModel) (mark : Mark) → length books ≡ n → (came n).mark ≡ Some mark
@@ -85,7 +85,7 @@ up_to choice meaning form ns came zero told have = record {
   count = refl;
   each = tt;
   text = refl;
-  whole = (λ _ k below. absurd (omega (arith, below)), λ _. All-nil IsFlawlessBook);
+  flawless = (λ _ k below. absurd (omega (arith, below)), λ _. All-nil IsFlawlessBook);
 }
 up_to choice meaning form ns came (suc n) told have =
     let was = up_to choice meaning form ns came n (λ k below. told k (omega (arith, below))) (λ k below. have k (omega (arith, below))) in
@@ -100,21 +100,21 @@ up_to choice meaning form ns came (suc n) told have =
       each = books_more choice meaning 0 was.books book was.each
           (subst (λ k. IsBook choice (meaning k) k book) number (book_told choice (meaning n) n ns (came n) has (told n last)));
       text = text_more form came n was.books has.mark was.count marked was.text;
-      whole = (
+      flawless = (
         λ all k below. elim (cases_lt k n) [
-          | inl lt ↦ was.whole.0 (all_front IsFlawlessBook was.books book all) k lt
+          | inl lt ↦ was.flawless.0 (all_front IsFlawlessBook was.books book all) k lt
           | inr from ↦
               let same : n ≡ k = omega (arith, from, below) in
               subst (λ j. IsFlawlessSoFar (came j)) same (book_whole (came n) has.mark marked (all_last IsFlawlessBook was.books book all))
         ],
-        λ all. All-push IsFlawlessBook was.books book (was.whole.1 (λ k below. all k (omega (arith, below)))) (whole_book (came n) has.mark marked (all n last)),
+        λ all. All-push IsFlawlessBook was.books book (was.flawless.1 (λ k below. all k (omega (arith, below)))) (whole_book (came n) has.mark marked (all n last)),
       );
     }
 
 -- the current file is past the last one
-past_last : (choice held_choice : Choice) (meaning known : ℕ → Meaning) (form : Form) (start now : Option (List ℕ)) (buffer : List ℕ) (current : ℕ) (waiting : List Waiting) (whole : Bool) (ns : List Note)
-    → HaveFiles choice meaning (length waiting) ns → HoldsNotes held_choice known form start now buffer current waiting whole ns → length waiting ≤ current
-past_last choice held_choice meaning known form start now buffer current waiting whole ns have holds =
+past_last : (choice held_choice : Choice) (meaning known : ℕ → Meaning) (form : Form) (start now : Option (List ℕ)) (buffer : List ℕ) (current : ℕ) (waiting : List Waiting) (flawless : Bool) (ns : List Note)
+    → HaveFiles choice meaning (length waiting) ns → HoldsNotes held_choice known form start now buffer current waiting flawless ns → length waiting ≤ current
+past_last choice held_choice meaning known form start now buffer current waiting flawless ns have holds =
     elim (cases_lt current (length waiting)) [
       | inl below ↦
           let has = have current below in
@@ -125,12 +125,12 @@ past_last choice held_choice meaning known form start now buffer current waiting
     ]
 
 -- what was buffered was put, and with it the text of all books
-pub all_written : (choice held_choice : Choice) (meaning known : ℕ → Meaning) (form : Form) (start old new : Option (List ℕ)) (buffer : List ℕ) (current : ℕ) (waiting : List Waiting) (whole : Bool) (ns : List Note) (status : ℕ)
-    → HaveFiles choice meaning (length waiting) ns → HoldsNotes held_choice known form start old buffer current waiting whole ns → Appends old new buffer → ((status ≡ 0) ↔ (whole ≡ true))
+pub all_written : (choice held_choice : Choice) (meaning known : ℕ → Meaning) (form : Form) (start old new : Option (List ℕ)) (buffer : List ℕ) (current : ℕ) (waiting : List Waiting) (flawless : Bool) (ns : List Note) (status : ℕ)
+    → HaveFiles choice meaning (length waiting) ns → HoldsNotes held_choice known form start old buffer current waiting flawless ns → Appends old new buffer → ((status ≡ 0) ↔ (flawless ≡ true))
     → IsAllWritten choice meaning form (length waiting) start new status
-all_written choice held_choice meaning known form start old new buffer current waiting whole ns status have holds put says =
+all_written choice held_choice meaning known form start old new buffer current waiting flawless ns status have holds put says =
     let books = up_to choice meaning form ns holds.came (length waiting) holds.told have in
-    let past = past_last choice held_choice meaning known form start old buffer current waiting whole ns have holds in
+    let past = past_last choice held_choice meaning known form start old buffer current waiting flawless ns have holds in
     let way = holds.written.over past in
     let same : current ≡ length waiting = omega (arith, past, holds.written.within) in
     let text : ended_texts form holds.came current ≡ text_in form books.books =
@@ -139,5 +139,5 @@ all_written choice held_choice meaning known form start old new buffer current w
       books = books.books;
       of_files = record { count = books.count; each = books.each };
       text = subst (Appends start new) (sym way.split ∙ text) (added_both start old new way.sent buffer way.added put);
-      whole = (λ is. books.whole.1 (holds.all_whole.0 (says.0 is)), λ all. says.1 (holds.all_whole.1 (books.whole.0 all)));
+      flawless = (λ is. books.flawless.1 (holds.all_flawless.0 (says.0 is)), λ all. says.1 (holds.all_flawless.1 (books.flawless.0 all)));
     }

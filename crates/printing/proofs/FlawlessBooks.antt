@@ -31,9 +31,9 @@ all_but files file came next others here were k below =
       | inr apart ↦ subst IsFlawlessSoFar (sym (others k apart)) (were k below)
     ]
 
-pub whole_item : (files file : ℕ) (entry : Entry) (came next : ℕ → Came) (whole : Bool) → file < files → entry.answer ≢ Answer.NoMemory → HasEntryMore file entry came next
-    → ((whole ≡ true) ↔ ((k : ℕ) → k < files → IsFlawlessSoFar (came k))) → ((whole ≡ true) ↔ ((k : ℕ) → k < files → IsFlawlessSoFar (next k)))
-whole_item files file entry came next whole below has more was = (
+pub flawless_item : (files file : ℕ) (entry : Entry) (came next : ℕ → Came) (flawless : Bool) → file < files → entry.answer ≢ Answer.NoMemory → HasEntryMore file entry came next
+    → ((flawless ≡ true) ↔ ((k : ℕ) → k < files → IsFlawlessSoFar (came k))) → ((flawless ≡ true) ↔ ((k : ℕ) → k < files → IsFlawlessSoFar (next k)))
+flawless_item files file entry came next flawless below has more was = (
   λ is. all_but files file came next more.others
       (let here = was.0 is file below in
       subst IsFlawlessSoFar (sym more.here) (record { answered = All-push IsAnswered (came file).entries entry here.answered has; complete = here.complete }))
@@ -53,10 +53,10 @@ whole_lacking files file entry came next below lacks more = (
       absurd (all_last IsAnswered (came file).entries entry here.answered lacks),
 )
 
-pub whole_end : (files file : ℕ) (mark : Mark) (came next : ℕ → Came) (whole now : Bool) → file < files → (came file).mark ≡ None
-    → ((now ≡ true) ↔ ((whole ≡ true) × (mark ≡ Mark.Ended Ending.Complete))) → HasMarkMore file mark came next
-    → ((whole ≡ true) ↔ ((k : ℕ) → k < files → IsFlawlessSoFar (came k))) → ((now ≡ true) ↔ ((k : ℕ) → k < files → IsFlawlessSoFar (next k)))
-whole_end files file mark came next whole now below unmarked says more was = (
+pub flawless_end : (files file : ℕ) (mark : Mark) (came next : ℕ → Came) (flawless now : Bool) → file < files → (came file).mark ≡ None
+    → ((now ≡ true) ↔ ((flawless ≡ true) × (mark ≡ Mark.Ended Ending.Complete))) → HasMarkMore file mark came next
+    → ((flawless ≡ true) ↔ ((k : ℕ) → k < files → IsFlawlessSoFar (came k))) → ((now ≡ true) ↔ ((k : ℕ) → k < files → IsFlawlessSoFar (next k)))
+flawless_end files file mark came next flawless now below unmarked says more was = (
   λ is.
       let both = says.0 is in
       all_but files file came next more.others

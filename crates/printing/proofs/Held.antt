@@ -22,19 +22,19 @@ use Rattle.printing.specs.Waits.{IsNothing}
 use Rattle.printing.specs.Orders.{IsKnownAt, IsInOrder, IsNext}
 use Rattle.printing.specs.Spelt.{IsSpelt}
 use Rattle.printing.proofs.Ordering.{order_none, order_item, order_end, order_but}
-use Rattle.printing.proofs.Breaking.{breaks_written, breaks_flushed}
-use Rattle.printing.specs.Holding.{HoldsNotes, LinesHold, LinesWrite, NotesBreakOff, LinesBreakOff, LinesBreakOffAt, AreLinesOf}
-use Rattle.printing.specs.Written.{BreaksOff}
+use Rattle.printing.proofs.Partial.{partial_written, partial_flushed}
+use Rattle.printing.specs.Holding.{HoldsNotes, LinesHold, LinesWrite, ArePartialNotes, ArePartialLines, ArePartialLinesAt, AreLinesOf}
+use Rattle.printing.specs.Written.{IsPartialText}
 use Rattle.streams.specs.Sink.{AppendsPrefix}
 use Rattle.printing.proofs.Notes.{entry_more, has_entry_more, ended_now, has_mark_more, all_told_item, all_told_end}
-use Rattle.printing.proofs.FlawlessBooks.{whole_end}
+use Rattle.printing.proofs.FlawlessBooks.{flawless_end}
 use Rattle.printing.proofs.Adding.{written_none}
 use Rattle.printing.proofs.Waits.{some_waiting}
 
 -- whether all is whole, of as many files
-as_many : (before after : ℕ) (whole : Bool) (came : ℕ → Came) → after ≡ before → ((whole ≡ true) ↔ ((k : ℕ) → k < before → IsFlawlessSoFar (came k)))
-    → ((whole ≡ true) ↔ ((k : ℕ) → k < after → IsFlawlessSoFar (came k)))
-as_many before after whole came same was = subst (λ n. (whole ≡ true) ↔ ((k : ℕ) → k < n → IsFlawlessSoFar (came k))) (sym same) was
+as_many : (before after : ℕ) (flawless : Bool) (came : ℕ → Came) → after ≡ before → ((flawless ≡ true) ↔ ((k : ℕ) → k < before → IsFlawlessSoFar (came k)))
+    → ((flawless ≡ true) ↔ ((k : ℕ) → k < after → IsFlawlessSoFar (came k)))
+as_many before after flawless came same was = subst (λ n. (flawless ≡ true) ↔ ((k : ℕ) → k < n → IsFlawlessSoFar (came k))) (sym same) was
 
 same_mark : (file : ℕ) (entry : Entry) (came next : ℕ → Came) → HasEntryMore file entry came next → (k : ℕ) → (next k).mark ≡ (came k).mark
 same_mark file entry came next more k =
@@ -82,8 +82,8 @@ ordered_as meaning before after came same was k below = subst (λ c. IsInOrder c
 pub held_item : (meaning : ℕ → Meaning) (start old new : Option (List ℕ)) (before after : Lines) (ns : List Note) (file : ℕ) (entry : Entry) → AreLinesOf before after → after.current ≡ before.current
     → file < length before.waiting.items → before.current ≤ file → ComesNext before.choice (meaning file) file before.waiting.items entry
     → ((came next : ℕ → Came) → HasEntryMore file entry came next → LinesWrite start old before came → LinesWrite start new after next)
-    → ((came next : ℕ → Came) → HasEntryMore file entry came next → ((before.whole ≡ true) ↔ ((k : ℕ) → k < length before.waiting.items → IsFlawlessSoFar (came k)))
-    → ((after.whole ≡ true) ↔ ((k : ℕ) → k < length before.waiting.items → IsFlawlessSoFar (next k))))
+    → ((came next : ℕ → Came) → HasEntryMore file entry came next → ((before.flawless ≡ true) ↔ ((k : ℕ) → k < length before.waiting.items → IsFlawlessSoFar (came k)))
+    → ((after.flawless ≡ true) ↔ ((k : ℕ) → k < length before.waiting.items → IsFlawlessSoFar (next k))))
     → LinesHold meaning start old before ns → LinesHold meaning start new after (ns ++ Item (about_of entry) ∷ [])
 held_item meaning start old new before after ns file entry same current below from comes writes wholes held =
     let next = entry_more file entry held.came in
@@ -96,7 +96,7 @@ held_item meaning start old new before after ns file entry same current below fr
       unended = λ lt.
           let was : (held.came before.current).mark ≡ None = held.unended (omega (arith, lt, same.files, current)) in
           same_mark file entry held.came next more after.current ∙ ap (λ k. (held.came k).mark) current ∙ was;
-      all_whole = as_many (length before.waiting.items) (length after.waiting.items) after.whole next same.files (wholes held.came next more held.all_whole);
+      all_flawless = as_many (length before.waiting.items) (length after.waiting.items) after.flawless next same.files (wholes held.came next more held.all_flawless);
     }
 
 -- an entry like this one, without an answer
@@ -119,12 +119,12 @@ pub held_end : (meaning : ℕ → Meaning) (start old new : Option (List ℕ)) (
     → file < length before.waiting.items
     → ((other : Waiting) → (get_or before.waiting.items file other).mark ≡ None)
     → ((other : Waiting) → ∥ IsEndAt (meaning file) (get_or before.waiting.items file other).count mark ∥₁) → before.current ≤ file
-    → ((mid.whole ≡ true) ↔ ((before.whole ≡ true) × (mark ≡ Mark.Ended Ending.Complete))) → after.whole ≡ mid.whole
+    → ((mid.flawless ≡ true) ↔ ((before.flawless ≡ true) × (mark ≡ Mark.Ended Ending.Complete))) → after.flawless ≡ mid.flawless
     → ((came next : ℕ → Came) → HasMarkMore file mark came next → LinesWrite start old before came → LinesWrite start old mid next)
     → ((came : ℕ → Came) → LinesWrite start old mid came → LinesWrite start new after came)
     → ((other : Waiting) → after.current < length after.waiting.items → (get_or after.waiting.items after.current other).mark ≡ None)
     → LinesHold meaning start old before ns → LinesHold meaning start new after (ns ++ End file mark ∷ [])
-held_end meaning start old new before mid after ns file mark went kept below unmarked ends from says whole keeps moves unended held =
+held_end meaning start old new before mid after ns file mark went kept below unmarked ends from says flawless keeps moves unended held =
     let next = ended_now file mark held.came in
     let more = has_mark_more file mark held.came in
     let count : length after.waiting.items ≡ length before.waiting.items = went.files ∙ kept.files in
@@ -139,9 +139,9 @@ held_end meaning start old new before mid after ns file mark went kept below unm
       unended = λ lt.
           let w = some_waiting after.waiting.items after.current lt in
           sym (written.counted after.current w (omega arith) lt).mark ∙ unended w lt;
-      all_whole = as_many (length before.waiting.items) (length after.waiting.items) after.whole next count
-          (subst (λ b. (b ≡ true) ↔ ((k : ℕ) → k < length before.waiting.items → IsFlawlessSoFar (next k))) (sym whole)
-          (whole_end (length before.waiting.items) file mark held.came next before.whole mid.whole below bare says more held.all_whole));
+      all_flawless = as_many (length before.waiting.items) (length after.waiting.items) after.flawless next count
+          (subst (λ b. (b ≡ true) ↔ ((k : ℕ) → k < length before.waiting.items → IsFlawlessSoFar (next k))) (sym flawless)
+          (flawless_end (length before.waiting.items) file mark held.came next before.flawless mid.flawless below bare says more held.all_flawless));
     }
 
 -- nothing is told
@@ -153,7 +153,7 @@ held_none choice meaning form start buffer waiting all some none = record {
   ordered = λ k below. order_none choice (meaning k) k;
   written = written_none form start buffer waiting all some none;
   unended = λ _. refl;
-  all_whole = (
+  all_flawless = (
     λ _ k below. record { answered = All-nil (λ (entry : Entry). entry.answer ≢ Answer.NoMemory); complete = λ mark e. absurd (let no : ⊥ = cc in no) },
     λ _. refl,
   );
@@ -167,27 +167,27 @@ preamble_short Report =
 preamble_short Json = omega arith
 
 -- what is held is left off as it is
-pub left_off_held : (meaning : ℕ → Meaning) (start now : Option (List ℕ)) (lines : Lines) (ns : List Note) → LinesHold meaning start now lines ns → LinesBreakOff meaning start now lines ns
+pub left_off_held : (meaning : ℕ → Meaning) (start now : Option (List ℕ)) (lines : Lines) (ns : List Note) → LinesHold meaning start now lines ns → ArePartialLines meaning start now lines ns
 left_off_held meaning start now lines ns held = record {
   came = held.came;
   told = held.told;
   ordered = held.ordered;
-  text = breaks_written lines.form start now lines.buffer lines.current lines.waiting.items held.came held.written;
+  text = partial_written lines.form start now lines.buffer lines.current lines.waiting.items held.came held.written;
 }
 
 -- of the same lines later
-pub left_off_as : (meaning : ℕ → Meaning) (start now : Option (List ℕ)) (before after : Lines) (ns : List Note) → AreLinesOf before after → LinesBreakOff meaning start now before ns → LinesBreakOff meaning start now after ns
+pub left_off_as : (meaning : ℕ → Meaning) (start now : Option (List ℕ)) (before after : Lines) (ns : List Note) → AreLinesOf before after → ArePartialLines meaning start now before ns → ArePartialLines meaning start now after ns
 left_off_as meaning start now before after ns same was =
-    subst (λ n. NotesBreakOff after.choice meaning after.form n start now ns) (sym same.files)
-    (subst (λ f. NotesBreakOff after.choice meaning f (length before.waiting.items) start now ns) (sym same.form)
-    (subst (λ c. NotesBreakOff c meaning before.form (length before.waiting.items) start now ns) (sym same.choice) was))
+    subst (λ n. ArePartialNotes after.choice meaning after.form n start now ns) (sym same.files)
+    (subst (λ f. ArePartialNotes after.choice meaning f (length before.waiting.items) start now ns) (sym same.form)
+    (subst (λ c. ArePartialNotes c meaning before.form (length before.waiting.items) start now ns) (sym same.choice) was))
 
 -- where one entry more was to be added
 pub left_off_item : (meaning : ℕ → Meaning) (start old new : Option (List ℕ)) (before after : Lines) (ns : List Note) (file : ℕ) (entry : Entry) → AreLinesOf before after
     → file < length before.waiting.items → before.current ≤ file → ComesNext before.choice (meaning file) file before.waiting.items entry
     → ((came next : ℕ → Came) → HasEntryMore file entry came next → LinesWrite start old before came
-    → BreaksOff before.form start new (length before.waiting.items) came ⊎ BreaksOff before.form start new (length before.waiting.items) next)
-    → LinesHold meaning start old before ns → LinesBreakOffAt meaning start new after ns (Item (about_of entry))
+    → IsPartialText before.form start new (length before.waiting.items) came ⊎ IsPartialText before.form start new (length before.waiting.items) next)
+    → LinesHold meaning start old before ns → ArePartialLinesAt meaning start new after ns (Item (about_of entry))
 left_off_item meaning start old new before after ns file entry same below from comes breaks held =
     let next = entry_more file entry held.came in
     let more = has_entry_more file entry held.came in
@@ -206,8 +206,8 @@ pub left_off_end : (meaning : ℕ → Meaning) (start old new : Option (List ℕ
     → file < length before.waiting.items
     → ((other : Waiting) → ∥ IsEndAt (meaning file) (get_or before.waiting.items file other).count mark ∥₁) → before.current ≤ file
     → ((came next : ℕ → Came) → HasMarkMore file mark came next → LinesWrite start old before came → LinesWrite start old mid next)
-    → ((came : ℕ → Came) → LinesWrite start old mid came → BreaksOff mid.form start new (length mid.waiting.items) came)
-    → LinesHold meaning start old before ns → LinesBreakOffAt meaning start new after ns (End file mark)
+    → ((came : ℕ → Came) → LinesWrite start old mid came → IsPartialText mid.form start new (length mid.waiting.items) came)
+    → LinesHold meaning start old before ns → ArePartialLinesAt meaning start new after ns (End file mark)
 left_off_end meaning start old new before mid after ns file mark went kept below ends from keeps breaks held =
     let next = ended_now file mark held.came in
     let more = has_mark_more file mark held.came in
@@ -219,12 +219,12 @@ left_off_end meaning start old new before mid after ns file mark went kept below
     }))
 
 -- where what was buffered was to be put
-pub left_off_finish : (meaning : ℕ → Meaning) (start old new : Option (List ℕ)) (lines : Lines) (ns : List Note) → AppendsPrefix old new lines.buffer → LinesHold meaning start old lines ns → LinesBreakOff meaning start new lines ns
+pub left_off_finish : (meaning : ℕ → Meaning) (start old new : Option (List ℕ)) (lines : Lines) (ns : List Note) → AppendsPrefix old new lines.buffer → LinesHold meaning start old lines ns → ArePartialLines meaning start new lines ns
 left_off_finish meaning start old new lines ns put held = record {
   came = held.came;
   told = held.told;
   ordered = held.ordered;
-  text = breaks_flushed lines.form start old new lines.buffer lines.current lines.waiting.items held.came put held.written;
+  text = partial_flushed lines.form start old new lines.buffer lines.current lines.waiting.items held.came put held.written;
 }
 
 -- what is known of the end of a file, told of the same file, number and mark

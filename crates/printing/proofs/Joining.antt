@@ -4,8 +4,8 @@ use Rattle.std.proofs.lemmas.List.{take_more, take-append-drop}
 use Rattle.std.proofs.lemmas.List.Concat.{flat_map-append}
 use Rattle.streams.specs.Sink.{AppendsPrefix, IsInTransit}
 use Rattle.printing.specs.Concatenated.{concatenated}
-use Rattle.printing.specs.Written.{GoesOn, BreaksIn}
-use Rattle.printing.proofs.Breaking.{appends_longer}
+use Rattle.printing.specs.Written.{GoesOn, IsPartlyAdded}
+use Rattle.printing.proofs.Partial.{appends_longer}
 
 -- one chunk more
 pub concatenated_more : (chunks : List (Vec ℕ Global)) (chunk : Vec ℕ Global) → concatenated (chunks ++ chunk ∷ []) ≡ concatenated chunks ++ chunk.items
@@ -24,13 +24,13 @@ goes_both old mid new waited between waits first next p q start text way =
 
 -- one text, and a beginning of the next
 pub goes_breaks : (old mid new : Option (List ℕ)) (waited between first next : List ℕ)
-    → GoesOn old waited mid between first → BreaksIn mid between new next → BreaksIn old waited new (first ++ next)
+    → GoesOn old waited mid between first → IsPartlyAdded mid between new next → IsPartlyAdded old waited new (first ++ next)
 goes_breaks old mid new waited between first next p q start text way =
     subst (AppendsPrefix start new) (append_assoc text first next) (q start (text ++ first) (p start text way))
 
 -- more was to come
-pub breaks_more : (old new : Option (List ℕ)) (waited text more : List ℕ) → BreaksIn old waited new text → BreaksIn old waited new (text ++ more)
-breaks_more old new waited text more breaks start before way =
+pub partial_more : (old new : Option (List ℕ)) (waited text more : List ℕ) → IsPartlyAdded old waited new text → IsPartlyAdded old waited new (text ++ more)
+partial_more old new waited text more breaks start before way =
     appends_longer start new (before ++ (text ++ more)) (before ++ text) (more, sym (append_assoc before text more)) (breaks start before way)
 
 -- the chunks up to the next one

@@ -11,7 +11,7 @@ pub mod Notes
 pub mod FlawlessBooks
 pub mod Waits
 pub mod Adding
-pub mod Breaking
+pub mod Partial
 pub mod Joining
 pub mod Endings
 pub mod ToldEnds

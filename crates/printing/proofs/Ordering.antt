@@ -27,9 +27,9 @@ use Rattle.printing.proofs.BookTexts.{text_by_lines}
 use Rattle.printing.specs.Came.{Came, HasMark, nothing}
 use Rattle.printing.specs.Orders.{IsKnownAt, IsInOrder}
 use Rattle.printing.specs.Written.{begun, ended_texts}
-use Rattle.printing.specs.Holding.{NotesBreakOff}
+use Rattle.printing.specs.Holding.{ArePartialNotes}
 use Rattle.printing.specs.Whole.{AreFirst, IsBegun}
-use Rattle.printing.proofs.Endings.{record_spelt, found_untold}
+use Rattle.printing.proofs.Endings.{record_spelt, found_unknown}
 use Rattle.printing.proofs.Finishing.{text_more}
 use Rattle.printing.proofs.ToldEnds.{both, each_push, found_closed, mark_or_memory}
 
@@ -111,7 +111,7 @@ all_records (entry ∷ entries) all =
 found_come : (choice : Choice) (meaning : Meaning) (file : ℕ) (came : Came) → IsInOrder choice meaning file came → ∥ IsFoundAt meaning (map rec_of came.entries) (mark_or_memory came.mark) ∥₁
 found_come choice Silent file came order =
     let count = length-map came.entries rec_of in
-    found_untold (map rec_of came.entries) (length came.entries) came.mark (all_records came.entries order.records) (omega (arith, order.few, count)) (sym count) order.ends
+    found_unknown (map rec_of came.entries) (length came.entries) came.mark (all_records came.entries order.records) (omega (arith, order.few, count)) (sym count) order.ends
 found_come choice Unopened file came order =
     found_closed [] true (map rec_of came.entries) (length came.entries) came.mark (sym (length-map came.entries rec_of)) order.placed
     (λ mark e. ∥∥₁_map (order.ends mark e) (λ known. (known.records, known.counted, known.found)))
@@ -197,7 +197,7 @@ begun_next choice meaning form files start now came current below added first up
       );
     }
 
-pub begun_left_off : (choice : Choice) (meaning : ℕ → Meaning) (form : Form) (files : ℕ) (start now : Option (List ℕ)) (ns : List Note) → NotesBreakOff choice meaning form files start now ns
+pub begun_left_off : (choice : Choice) (meaning : ℕ → Meaning) (form : Form) (files : ℕ) (start now : Option (List ℕ)) (ns : List Note) → ArePartialNotes choice meaning form files start now ns
     → ∥ IsBegun choice meaning form files start now ∥₁
 begun_left_off choice meaning form files start now ns left =
     let off = left.text in

@@ -77,9 +77,9 @@ marked_as told fails records others (Ended ending.Many) each count m = (m.0, sub
 marked_as told fails records others (Ended ending.Memory) each count m = placed_first told records each
 
 -- of a source that told its bytes
-found_told : (told : List ℕ) (fails : Bool) (records : List (List ℕ)) (mark : Mark) → EachAt (IsPlaced (Some told)) 0 records
+found_known : (told : List ℕ) (fails : Bool) (records : List (List ℕ)) (mark : Mark) → EachAt (IsPlaced (Some told)) 0 records
     → (others : List (List ℕ)) → length others ≡ length records → IsFoundIn (Some told) fails others mark → IsFoundIn (Some told) fails records mark
-found_told told fails records mark each others count f = record {
+found_known told fails records mark each others count f = record {
   bytes = f.bytes;
   fails = f.fails;
   gave = f.gave;
@@ -98,4 +98,4 @@ pub found_closed : (told : List ℕ) (fails : Bool) (records : List (List ℕ)) 
 found_closed told fails records count None same placed ends = ∥∥₁_map (each_merely (IsPlaced (Some told)) 0 records placed) (λ each. found_wanting told fails records each)
 found_closed told fails records count (Some mark) same placed ends =
     ∥∥₁_map (both (each_merely (IsPlaced (Some told)) 0 records placed) (ends mark refl))
-    (λ known. found_told told fails records mark known.0 known.1.0 (known.1.1 ∙ same) known.1.2)
+    (λ known. found_known told fails records mark known.0 known.1.0 (known.1.1 ∙ same) known.1.2)

@@ -8,23 +8,23 @@ use Rattle.printing.specs.declared.waiting.Waiting.{Waiting}
 use Rattle.printing.specs.declared.run_lines.Lines.{Lines}
 use Rattle.printing.specs.Came.{Came, IsToldByNotes, IsFlawlessSoFar}
 use Rattle.printing.specs.Orders.{IsInOrder}
-use Rattle.printing.specs.Written.{AreWritten, AreRemaining, BreaksOff}
+use Rattle.printing.specs.Written.{AreWritten, AreRemaining, IsPartialText}
 
 -- What the notes tell of each file, which means this, is in order, and is written or waits. The current file, the first that has not ended, has no mark. And it is known whether all is whole so far.
-pub record HoldsNotes (choice : Choice) (meaning : ℕ → Meaning) (form : Form) (start now : Option (List ℕ)) (buffer : List ℕ) (current : ℕ) (waiting : List Waiting) (whole : Bool) (ns : List Note) : Type 0 where
+pub record HoldsNotes (choice : Choice) (meaning : ℕ → Meaning) (form : Form) (start now : Option (List ℕ)) (buffer : List ℕ) (current : ℕ) (waiting : List Waiting) (flawless : Bool) (ns : List Note) : Type 0 where
   pub came : ℕ → Came
   pub told : (file : ℕ) → file < length waiting → IsToldByNotes file ns (came file)
   pub ordered : (file : ℕ) → file < length waiting → IsInOrder choice (meaning file) file (came file)
   pub written : AreWritten form start now buffer current waiting came
   pub unended : current < length waiting → (came current).mark ≡ None
-  pub all_whole : (whole ≡ true) ↔ ((file : ℕ) → file < length waiting → IsFlawlessSoFar (came file))
+  pub all_flawless : (flawless ≡ true) ↔ ((file : ℕ) → file < length waiting → IsFlawlessSoFar (came file))
 
 -- What the notes tell of each of so many files, which means this, is in order, and the text of it was left off.
-pub record NotesBreakOff (choice : Choice) (meaning : ℕ → Meaning) (form : Form) (files : ℕ) (start now : Option (List ℕ)) (ns : List Note) : Type 0 where
+pub record ArePartialNotes (choice : Choice) (meaning : ℕ → Meaning) (form : Form) (files : ℕ) (start now : Option (List ℕ)) (ns : List Note) : Type 0 where
   pub came : ℕ → Came
   pub told : (file : ℕ) → file < files → IsToldByNotes file ns (came file)
   pub ordered : (file : ℕ) → file < files → IsInOrder choice (meaning file) file (came file)
-  pub text : BreaksOff form start now files came
+  pub text : IsPartialText form start now files came
 
 -- the form of the text, the choice of outer faces, and how many files the run has
 abbrev pub form_of : Lines → Form
@@ -46,16 +46,16 @@ LinesRemain start now lines came = AreRemaining lines.form start now lines.buffe
 
 -- what the notes tell of files that mean this is written or waits
 abbrev pub LinesHold : (ℕ → Meaning) → Option (List ℕ) → Option (List ℕ) → Lines → List Note → Type 0
-LinesHold meaning start now lines ns = HoldsNotes lines.choice meaning lines.form start now lines.buffer lines.current lines.waiting.items lines.whole ns
+LinesHold meaning start now lines ns = HoldsNotes lines.choice meaning lines.form start now lines.buffer lines.current lines.waiting.items lines.flawless ns
 
 -- the text of what the notes tell was left off
-abbrev pub LinesBreakOff : (ℕ → Meaning) → Option (List ℕ) → Option (List ℕ) → Lines → List Note → Type 0
-LinesBreakOff meaning start now lines ns = NotesBreakOff lines.choice meaning lines.form (length lines.waiting.items) start now ns
+abbrev pub ArePartialLines : (ℕ → Meaning) → Option (List ℕ) → Option (List ℕ) → Lines → List Note → Type 0
+ArePartialLines meaning start now lines ns = ArePartialNotes lines.choice meaning lines.form (length lines.waiting.items) start now ns
 
 -- the same, with or without the note that came last
-abbrev pub LinesBreakOffAt : (ℕ → Meaning) → Option (List ℕ) → Option (List ℕ) → Lines → List Note → Note → Type 0
-LinesBreakOffAt meaning start now lines ns note =
-    LinesBreakOff meaning start now lines ns ⊎ LinesBreakOff meaning start now lines (ns ++ note ∷ [])
+abbrev pub ArePartialLinesAt : (ℕ → Meaning) → Option (List ℕ) → Option (List ℕ) → Lines → List Note → Note → Type 0
+ArePartialLinesAt meaning start now lines ns note =
+    ArePartialLines meaning start now lines ns ⊎ ArePartialLines meaning start now lines (ns ++ note ∷ [])
 
 -- the form, the choice and the number of files are those of before
 pub record AreLinesOf (before after : Lines) : Type 0 where
@@ -67,4 +67,4 @@ pub record AreLinesOf (before after : Lines) : Type 0 where
 pub record StandAt (before after : Lines) : Type 0 where
   pub same : AreLinesOf before after
   pub current : after.current ≡ before.current
-  pub whole : after.whole ≡ before.whole
+  pub flawless : after.flawless ≡ before.flawless

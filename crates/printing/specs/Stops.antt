@@ -19,13 +19,13 @@ told_same file ns n came other was =
     let same = sym (of_file-other file ns n other) in
     record { entries = was.entries ∙ ap abouts same; mark = was.mark ∙ ap (mark_after None) same }
 
-pub held_stop : (choice : Choice) (meaning : ℕ → Meaning) (form : Form) (start now : Option (List ℕ)) (buffer : List ℕ) (current : ℕ) (waiting : List Waiting) (whole : Bool) (ns : List Note)
-    → HoldsNotes choice meaning form start now buffer current waiting whole ns → HoldsNotes choice meaning form start now buffer current waiting whole (ns ++ Stop ∷ [])
-held_stop choice meaning form start now buffer current waiting whole ns held = record {
+pub held_stop : (choice : Choice) (meaning : ℕ → Meaning) (form : Form) (start now : Option (List ℕ)) (buffer : List ℕ) (current : ℕ) (waiting : List Waiting) (flawless : Bool) (ns : List Note)
+    → HoldsNotes choice meaning form start now buffer current waiting flawless ns → HoldsNotes choice meaning form start now buffer current waiting flawless (ns ++ Stop ∷ [])
+held_stop choice meaning form start now buffer current waiting flawless ns held = record {
   came = held.came;
   told = λ k below. told_same k ns Stop (held.came k) refl (held.told k below);
   ordered = held.ordered;
   written = held.written;
   unended = held.unended;
-  all_whole = held.all_whole;
+  all_flawless = held.all_flawless;
 }

@@ -25,7 +25,7 @@ pub record IsAllWritten (choice : Choice) (meaning : ℕ → Meaning) (form : Fo
   pub books : List BookModel
   pub of_files : AreAllBooks choice meaning files books
   pub text : Appends start now (text_in form books)
-  pub whole : (status ≡ 0) ↔ All IsFlawlessBook books
+  pub flawless : (status ≡ 0) ↔ All IsFlawlessBook books
 
 -- The entries are the first of a file that means this: those that its book may have where memory is wanted.
 abbrev pub AreFirst : Choice → Meaning → ℕ → List Entry → Type 0

@@ -20,8 +20,8 @@ abbrev pub GoesOn : Option (List ℕ) → List ℕ → Option (List ℕ) → Lis
 GoesOn old waited new waits more = (start : Option (List ℕ)) (text : List ℕ) → IsInTransit start old waited text → IsInTransit start new waits (text ++ more)
 
 -- whatever text was on its way, a beginning of it with `more` at its end was added
-abbrev pub BreaksIn : Option (List ℕ) → List ℕ → Option (List ℕ) → List ℕ → Type 0
-BreaksIn old waited new more = (start : Option (List ℕ)) (text : List ℕ) → IsInTransit start old waited text → AppendsPrefix start new (text ++ more)
+abbrev pub IsPartlyAdded : Option (List ℕ) → List ℕ → Option (List ℕ) → List ℕ → Type 0
+IsPartlyAdded old waited new more = (start : Option (List ℕ)) (text : List ℕ) → IsInTransit start old waited text → AppendsPrefix start new (text ++ more)
 
 -- what stands before the lines of this file, counted from 0, and its lines so far
 abbrev pub begun : Form → ℕ → Came → List ℕ
@@ -42,7 +42,7 @@ ended_texts form came zero = []
 ended_texts form came (suc file) = ended_texts form came file ++ ended form file (came file)
 
 -- Of so many files the first have ended, and a beginning was added of their texts, or of these and what has come of the next file.
-pub record BreaksOff (form : Form) (start now : Option (List ℕ)) (files : ℕ) (came : ℕ → Came) : Type 0 where
+pub record IsPartialText (form : Form) (start now : Option (List ℕ)) (files : ℕ) (came : ℕ → Came) : Type 0 where
   pub current : ℕ
   pub within : current ≤ files
   pub marked : (file : ℕ) → file < current → HasMark (came file)

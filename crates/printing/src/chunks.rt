@@ -1,7 +1,7 @@
 //! Text that grows without being moved.
 ghost use Rattle.std.specs.Prelude.{◌≡◌, ◌++◌, [], false, OnOk, OnErr, IfErr};
 ghost use Rattle.printing.specs.Concatenated.{concatenated};
-ghost use Rattle.printing.specs.Written.{GoesOn, BreaksIn, GivesUp};
+ghost use Rattle.printing.specs.Written.{GoesOn, IsPartlyAdded, GivesUp};
 
 use crate::refusal::Refusal;
 use crate::writing::put;
@@ -77,7 +77,7 @@ impl Chunks {
     pub(crate) fn put<S: Sink>(&self, buffer: &mut TextBuffer, sink: &mut S) -> Result<(), Refusal>
         requires { S.failed sink.old ≡ false }
         ensures put { OnOk result (GoesOn (S.taken sink.old) buffer.old (S.taken sink.new) buffer.new self.now) }
-        ensures broken { OnErr result (BreaksIn (S.taken sink.old) buffer.old (S.taken sink.new) self.now) }
+        ensures partial { OnErr result (IsPartlyAdded (S.taken sink.old) buffer.old (S.taken sink.new) self.now) }
         ensures stands { OnOk result (S.failed sink.new ≡ false) }
         ensures gave_up { IfErr result (λ refusal. GivesUp (S.failed sink.new) refusal) }
     {
@@ -94,7 +94,7 @@ fn put_each<S: Sink>(
 ) -> Result<(), Refusal>
     requires { S.failed sink.old ≡ false }
     ensures put { OnOk result (GoesOn (S.taken sink.old) buffer.old (S.taken sink.new) buffer.new (concatenated chunks.now)) }
-    ensures broken { OnErr result (BreaksIn (S.taken sink.old) buffer.old (S.taken sink.new) (concatenated chunks.now)) }
+    ensures partial { OnErr result (IsPartlyAdded (S.taken sink.old) buffer.old (S.taken sink.new) (concatenated chunks.now)) }
     ensures stands { OnOk result (S.failed sink.new ≡ false) }
     ensures gave_up { IfErr result (λ refusal. GivesUp (S.failed sink.new) refusal) }
 {

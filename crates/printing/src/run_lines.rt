@@ -10,8 +10,8 @@ ghost use Rattle.printing.specs.FormLines.{line_in};
 ghost use Rattle.printing.specs.declared.waiting.Waiting.{Waiting};
 ghost use Rattle.printing.specs.Came.{Came, HasEntryMore};
 ghost use Rattle.printing.specs.Orders.{IsNext};
-ghost use Rattle.printing.specs.Written.{BreaksOff, GivesUp};
-ghost use Rattle.printing.specs.Holding.{form_of, choice_of, files_of, LinesWrite, LinesRemain, LinesHold, LinesBreakOff, LinesBreakOffAt, AreLinesOf, StandAt};
+ghost use Rattle.printing.specs.Written.{IsPartialText, GivesUp};
+ghost use Rattle.printing.specs.Holding.{form_of, choice_of, files_of, LinesWrite, LinesRemain, LinesHold, ArePartialLines, ArePartialLinesAt, AreLinesOf, StandAt};
 ghost use Rattle.printing.specs.Whole.{HaveFiles, IsAllWritten};
 
 use crate::lines::{lacking_text, preamble_text};
@@ -41,7 +41,7 @@ pub struct Lines {
     /// How many bytes of memory what waits holds.
     held: usize,
     /// Whether no entry so far lacks an answer or its line, and each file that has ended is complete.
-    whole: bool,
+    flawless: bool,
 }
 
 impl Lines {
@@ -70,7 +70,7 @@ impl Lines {
             current: 0,
             waiting,
             held: 0,
-            whole: true,
+            flawless: true,
         })
     }
 
@@ -110,8 +110,8 @@ impl Lines {
         requires { S.failed sink.old ≡ false }
         ensures held { OnOk result ((start : Option (List ℕ)) (ns : List Note) → LinesHold J.meaning start (S.taken sink.old) self.old ns
             → LinesHold J.meaning start (S.taken sink.new) self.new (ns ++ Item (record { file = printed.file; ordinal = printed.ordinal; bytes = printed.rec.value; choice = printed.choice }) ∷ [])) }
-        ensures broken { OnErr result ((start : Option (List ℕ)) (ns : List Note) → LinesHold J.meaning start (S.taken sink.old) self.old ns
-            → LinesBreakOffAt J.meaning start (S.taken sink.new) self.new ns (Item (record { file = printed.file; ordinal = printed.ordinal; bytes = printed.rec.value; choice = printed.choice }))) }
+        ensures partial { OnErr result ((start : Option (List ℕ)) (ns : List Note) → LinesHold J.meaning start (S.taken sink.old) self.old ns
+            → ArePartialLinesAt J.meaning start (S.taken sink.new) self.new ns (Item (record { file = printed.file; ordinal = printed.ordinal; bytes = printed.rec.value; choice = printed.choice }))) }
         ensures stands { OnOk result (S.failed sink.new ≡ false) }
         ensures gave_up { IfErr result (λ refusal. GivesUp (S.failed sink.new) refusal) }
         ensures same { AreLinesOf self.old self.new }
@@ -152,8 +152,8 @@ impl Lines {
         requires { S.failed sink.old ≡ false }
         ensures held { OnOk result ((start : Option (List ℕ)) (ns : List Note) → LinesHold J.meaning start (S.taken sink.old) self.old ns
             → LinesHold J.meaning start (S.taken sink.new) self.new (ns ++ End file mark ∷ [])) }
-        ensures broken { OnErr result ((start : Option (List ℕ)) (ns : List Note) → LinesHold J.meaning start (S.taken sink.old) self.old ns
-            → LinesBreakOffAt J.meaning start (S.taken sink.new) self.new ns (End file mark)) }
+        ensures partial { OnErr result ((start : Option (List ℕ)) (ns : List Note) → LinesHold J.meaning start (S.taken sink.old) self.old ns
+            → ArePartialLinesAt J.meaning start (S.taken sink.new) self.new ns (End file mark)) }
         ensures stands { OnOk result (S.failed sink.new ≡ false) }
         ensures gave_up { IfErr result (λ refusal. GivesUp (S.failed sink.new) refusal) }
         ensures same { AreLinesOf self.old self.new }
@@ -164,7 +164,7 @@ impl Lines {
         if !self.is_to_come(file) || !keep_mark(&mut self.waiting, file, known.count, mark) {
             return Err(Refusal::Astray);
         }
-        self.whole = is_whole_with(self.whole, mark);
+        self.flawless = is_flawless_with(self.flawless, mark);
         self.advance(alloc, sink)
     }
 
@@ -179,14 +179,14 @@ impl Lines {
         ensures written { IfOk result (λ status. (start : Option (List ℕ)) (choice : Choice) (known meaning : ℕ → Meaning)
             (ns : List Note) → LinesHold known start (S.taken sink.old) self ns → HaveFiles choice meaning (files_of self) ns
             → IsAllWritten choice meaning (form_of self) (files_of self) start (S.taken sink.new) status) }
-        ensures broken { OnErr result ((meaning : ℕ → Meaning) (start : Option (List ℕ)) (ns : List Note)
-            → LinesHold meaning start (S.taken sink.old) self ns → LinesBreakOff meaning start (S.taken sink.new) self ns) }
+        ensures partial { OnErr result ((meaning : ℕ → Meaning) (start : Option (List ℕ)) (ns : List Note)
+            → LinesHold meaning start (S.taken sink.old) self ns → ArePartialLines meaning start (S.taken sink.new) self ns) }
         ensures other { IfOk result (λ status. status ≢ 0 → status ≡ 3) }
         ensures write { (result ≡ Err WriteFault.Write) ↔ (S.failed sink.new ≡ true) }
         ensures memory { result ≢ Err WriteFault.Memory }
     {
         self.buffer.flush(sink)?;
-        Ok(if self.whole { 0 } else { 3 })
+        Ok(if self.flawless { 0 } else { 3 })
     }
 
     /// Whether a file is one of the run and its last line is not on its way yet.
@@ -224,9 +224,9 @@ impl Lines {
         ensures added { OnOk result ((start : Option (List ℕ)) (before after : ℕ → Came) (entry : Entry)
             → line_in self.old.form entry ≡ line.now → HasEntryMore file entry before after
             → LinesWrite start (S.taken sink.old) self.old before → LinesWrite start (S.taken sink.new) self.new after) }
-        ensures broken { OnErr result ((start : Option (List ℕ)) (before after : ℕ → Came) (entry : Entry)
+        ensures partial { OnErr result ((start : Option (List ℕ)) (before after : ℕ → Came) (entry : Entry)
             → line_in self.old.form entry ≡ line.now → HasEntryMore file entry before after → LinesWrite start (S.taken sink.old) self.old before
-            → BreaksOff self.old.form start (S.taken sink.new) (files_of self.old) before ⊎ BreaksOff self.old.form start (S.taken sink.new) (files_of self.old) after) }
+            → IsPartialText self.old.form start (S.taken sink.new) (files_of self.old) before ⊎ IsPartialText self.old.form start (S.taken sink.new) (files_of self.old) after) }
         ensures stands { OnOk result (S.failed sink.new ≡ false) }
         ensures gave_up { IfErr result (λ refusal. GivesUp (S.failed sink.new) refusal) }
         ensures same { StandAt self.old self.new }
@@ -254,19 +254,19 @@ impl Lines {
         ensures added { OnOk result ((start : Option (List ℕ)) (before after : ℕ → Came) (entry : Entry)
             → entry.file ≡ file → entry.ordinal ≡ ordinal → entry.answer ≡ Answer.NoMemory → HasEntryMore file entry before after
             → LinesWrite start (S.taken sink.old) self.old before → LinesWrite start (S.taken sink.new) self.new after) }
-        ensures broken { OnErr result ((start : Option (List ℕ)) (before after : ℕ → Came) (entry : Entry)
+        ensures partial { OnErr result ((start : Option (List ℕ)) (before after : ℕ → Came) (entry : Entry)
             → entry.file ≡ file → entry.ordinal ≡ ordinal → entry.answer ≡ Answer.NoMemory → HasEntryMore file entry before after
             → LinesWrite start (S.taken sink.old) self.old before
-            → BreaksOff self.old.form start (S.taken sink.new) (files_of self.old) before ⊎ BreaksOff self.old.form start (S.taken sink.new) (files_of self.old) after) }
+            → IsPartialText self.old.form start (S.taken sink.new) (files_of self.old) before ⊎ IsPartialText self.old.form start (S.taken sink.new) (files_of self.old) after) }
         ensures stands { OnOk result (S.failed sink.new ≡ false) }
         ensures gave_up { IfErr result (λ refusal. GivesUp (S.failed sink.new) refusal) }
         ensures current { self.new.current ≡ self.old.current }
-        ensures lacking { OnOk result (self.new.whole ≡ false) }
+        ensures lacking { OnOk result (self.new.flawless ≡ false) }
         ensures same { AreLinesOf self.old self.new }
     {
         match lacking_text(alloc, self.form, file, ordinal) {
             Ok(line) => {
-                self.whole = false;
+                self.flawless = false;
                 self.add(alloc, sink, file, line.as_slice())
             }
             Err(_) => Err(Refusal::Memory),
@@ -278,13 +278,13 @@ impl Lines {
         requires { S.failed sink.old ≡ false }
         ensures written { OnOk result ((start : Option (List ℕ)) (came : ℕ → Came)
             → LinesWrite start (S.taken sink.old) self.old came → LinesWrite start (S.taken sink.new) self.new came) }
-        ensures broken { OnErr result ((start : Option (List ℕ)) (came : ℕ → Came)
-            → LinesWrite start (S.taken sink.old) self.old came → BreaksOff self.old.form start (S.taken sink.new) (files_of self.old) came) }
+        ensures partial { OnErr result ((start : Option (List ℕ)) (came : ℕ → Came)
+            → LinesWrite start (S.taken sink.old) self.old came → IsPartialText self.old.form start (S.taken sink.new) (files_of self.old) came) }
         ensures unended { OnOk result ((other : Waiting) → self.new.current < length self.new.waiting.items
             → (slice_index_or self.new.waiting.items self.new.current other).mark ≡ None) }
         ensures stands { OnOk result (S.failed sink.new ≡ false) }
         ensures gave_up { IfErr result (λ refusal. GivesUp (S.failed sink.new) refusal) }
-        ensures whole { self.new.whole ≡ self.old.whole }
+        ensures flawless { self.new.flawless ≡ self.old.flawless }
         ensures same { AreLinesOf self.old self.new }
     {
         while let Some(mark) = self.current_mark() {
@@ -314,12 +314,12 @@ impl Lines {
         requires mark { (other : Waiting) → (slice_index_or self.old.waiting.items self.old.current other).mark ≡ Some mark }
         ensures written { OnOk result ((start : Option (List ℕ)) (came : ℕ → Came)
             → LinesWrite start (S.taken sink.old) self.old came → LinesWrite start (S.taken sink.new) self.new came) }
-        ensures broken { OnErr result ((start : Option (List ℕ)) (came : ℕ → Came)
-            → LinesWrite start (S.taken sink.old) self.old came → BreaksOff self.old.form start (S.taken sink.new) (files_of self.old) came) }
+        ensures partial { OnErr result ((start : Option (List ℕ)) (came : ℕ → Came)
+            → LinesWrite start (S.taken sink.old) self.old came → IsPartialText self.old.form start (S.taken sink.new) (files_of self.old) came) }
         ensures stands { OnOk result (S.failed sink.new ≡ false) }
         ensures gave_up { IfErr result (λ refusal. GivesUp (S.failed sink.new) refusal) }
         ensures current { OnOk result (self.new.current ≡ self.old.current + 1) }
-        ensures whole { self.new.whole ≡ self.old.whole }
+        ensures flawless { self.new.flawless ≡ self.old.flawless }
         ensures same { AreLinesOf self.old self.new }
     {
         let Some(next) = self.current.checked_add(1) else {
@@ -342,8 +342,8 @@ impl Lines {
         requires below { self.old.current < length self.old.waiting.items }
         ensures begun { OnOk result ((start : Option (List ℕ)) (came : ℕ → Came)
             → LinesRemain start (S.taken sink.old) self.old came → LinesWrite start (S.taken sink.new) self.new came) }
-        ensures broken { OnErr result ((start : Option (List ℕ)) (came : ℕ → Came)
-            → LinesRemain start (S.taken sink.old) self.old came → BreaksOff self.old.form start (S.taken sink.new) (files_of self.old) came) }
+        ensures partial { OnErr result ((start : Option (List ℕ)) (came : ℕ → Came)
+            → LinesRemain start (S.taken sink.old) self.old came → IsPartialText self.old.form start (S.taken sink.new) (files_of self.old) came) }
         ensures stands { OnOk result (S.failed sink.new ≡ false) }
         ensures gave_up { IfErr result (λ refusal. GivesUp (S.failed sink.new) refusal) }
         ensures same { StandAt self.old self.new }
@@ -356,8 +356,8 @@ impl Lines {
 }
 
 /// Whether all is whole with one mark more, where it was so before or not.
-fn is_whole_with(whole: bool, mark: Mark) -> bool
-    ensures { IsTrue result ↔ (IsTrue whole × (mark ≡ Mark.Ended Ending.Complete)) }
+fn is_flawless_with(flawless: bool, mark: Mark) -> bool
+    ensures { IsTrue result ↔ (IsTrue flawless × (mark ≡ Mark.Ended Ending.Complete)) }
 {
-    whole && matches!(mark, Mark::Ended(Ending::Complete))
+    flawless && matches!(mark, Mark::Ended(Ending::Complete))
 }

@@ -6,7 +6,7 @@ ghost use Rattle.lanes.specs.Notes.{Note};
 ghost use Rattle.lanes.specs.Opening.{Meaning};
 ghost use Rattle.printing.specs.Written.{GivesUp};
 ghost use Rattle.printing.specs.Stops.{held_stop};
-ghost use Rattle.printing.specs.Holding.{form_of, files_of, LinesHold, LinesBreakOff, AreLinesOf};
+ghost use Rattle.printing.specs.Holding.{form_of, files_of, LinesHold, ArePartialLines, AreLinesOf};
 ghost use Rattle.printing.specs.Whole.{HaveFiles, IsAllWritten};
 
 use crate::meant::{KnownEnd, Meant};
@@ -79,9 +79,9 @@ impl<S: Sink> Texts<'_, S, Lines> {
             → HaveFiles choice meaning (files_of self.entry.lines) ns
             → IsAllWritten choice meaning (form_of self.entry.lines) (files_of self.entry.lines)
             (S.taken self.entry.start.value) (S.taken self.exit.0.now) status) }
-        ensures broken { OnErr result ((meaning : ℕ → Meaning) (ns : List Note)
+        ensures partial { OnErr result ((meaning : ℕ → Meaning) (ns : List Note)
             → LinesHold meaning (S.taken self.entry.start.value) (S.taken self.entry.sink.now) self.entry.lines ns
-            → LinesBreakOff meaning (S.taken self.entry.start.value) (S.taken self.exit.0.now) self.entry.lines ns) }
+            → ArePartialLines meaning (S.taken self.entry.start.value) (S.taken self.exit.0.now) self.entry.lines ns) }
         ensures other { IfOk result (λ status. status ≢ 0 → status ≡ 3) }
         ensures write { (result ≡ Err WriteFault.Write) ↔ (S.failed self.exit.0.now ≡ true) }
         ensures memory { result ≢ Err WriteFault.Memory }
@@ -98,7 +98,7 @@ impl<S: Sink, J: Meant + Send + Sync> Consumer<Printed<J>, KnownEnd<J>> for Text
     ghost stays = { λ a b. (a.sink.ghost_name ≡ b.sink.ghost_name) × (a.start.value ≡ b.start.value) × AreLinesOf a.lines b.lines };
 
     ghost gave_up = { λ t refusal. GivesUp (S.failed t.sink.now) refusal
-        × ((ns : List Note) × LinesBreakOff J.meaning (S.taken t.start.value) (S.taken t.sink.now) t.lines ns) };
+        × ((ns : List Note) × ArePartialLines J.meaning (S.taken t.start.value) (S.taken t.sink.now) t.lines ns) };
 
     fn item(&mut self, item: Printed<J>) -> Result<(), Refusal> {
         let taken = self.lines.line(self.alloc, self.sink, item);

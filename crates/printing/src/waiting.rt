@@ -8,7 +8,7 @@ use std::alloc::{AllocError, Global};
 use std::mem;
 use streams::Mark;
 
-/// What has come of a file.
+/// What is kept of a file that has not been written to its end.
 #[derive(Drop)]
 pub struct Waiting {
     /// The lines of its entries, as long as it is not current.

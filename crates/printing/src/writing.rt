@@ -1,7 +1,7 @@
 //! Text on its way to a sink.
 ghost use Rattle.std.specs.Prelude.{◌≡◌, ◌+◌, false, OnOk, OnErr, IfErr};
 ghost use Rattle.printing.specs.FormLines.{preamble_in, end_in};
-ghost use Rattle.printing.specs.Written.{GoesOn, BreaksIn, GivesUp};
+ghost use Rattle.printing.specs.Written.{GoesOn, IsPartlyAdded, GivesUp};
 
 use crate::lines::{end_text, preamble_text};
 use crate::refusal::Refusal;
@@ -17,7 +17,7 @@ pub(crate) fn put<S: Sink>(
 ) -> Result<(), Refusal>
     requires { S.failed sink.old ≡ false }
     ensures put { OnOk result (GoesOn (S.taken sink.old) buffer.old (S.taken sink.new) buffer.new text.now) }
-    ensures broken { OnErr result (BreaksIn (S.taken sink.old) buffer.old (S.taken sink.new) text.now) }
+    ensures partial { OnErr result (IsPartlyAdded (S.taken sink.old) buffer.old (S.taken sink.new) text.now) }
     ensures stands { OnOk result (S.failed sink.new ≡ false) }
     ensures gave_up { IfErr result (λ refusal. GivesUp (S.failed sink.new) refusal) }
 {
@@ -37,7 +37,7 @@ pub(crate) fn put_preamble<S: Sink>(
 ) -> Result<(), Refusal>
     requires { S.failed sink.old ≡ false }
     ensures put { OnOk result (GoesOn (S.taken sink.old) buffer.old (S.taken sink.new) buffer.new (preamble_in form (file + 1))) }
-    ensures broken { OnErr result (BreaksIn (S.taken sink.old) buffer.old (S.taken sink.new) (preamble_in form (file + 1))) }
+    ensures partial { OnErr result (IsPartlyAdded (S.taken sink.old) buffer.old (S.taken sink.new) (preamble_in form (file + 1))) }
     ensures stands { OnOk result (S.failed sink.new ≡ false) }
     ensures gave_up { IfErr result (λ refusal. GivesUp (S.failed sink.new) refusal) }
 {
@@ -58,7 +58,7 @@ pub(crate) fn put_end<S: Sink>(
 ) -> Result<(), Refusal>
     requires { S.failed sink.old ≡ false }
     ensures put { OnOk result (GoesOn (S.taken sink.old) buffer.old (S.taken sink.new) buffer.new (end_in form (file + 1) end.mark end.count)) }
-    ensures broken { OnErr result (BreaksIn (S.taken sink.old) buffer.old (S.taken sink.new) (end_in form (file + 1) end.mark end.count)) }
+    ensures partial { OnErr result (IsPartlyAdded (S.taken sink.old) buffer.old (S.taken sink.new) (end_in form (file + 1) end.mark end.count)) }
     ensures stands { OnOk result (S.failed sink.new ≡ false) }
     ensures gave_up { IfErr result (λ refusal. GivesUp (S.failed sink.new) refusal) }
 {

@@ -17,7 +17,7 @@ pub fn status_of(mark: Mark) -> u8
 /// The status of a report of answers: 0 where each file ended complete and no record lacks an answer
 /// for want of memory, and else 3.
 pub fn status_of_batch(batch: &Batch) -> u8
-    ensures whole { (result ≡ 0) ↔ All IsFlawlessBook batch.now }
+    ensures flawless { (result ≡ 0) ↔ All IsFlawlessBook batch.now }
     ensures other { result ≢ 0 → result ≡ 3 }
 {
     for file in 0..batch.files() {

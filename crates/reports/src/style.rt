@@ -7,5 +7,5 @@ use common::DrawingKind;
 #[derive(Clone, Copy, Debug, PartialEq, Eq)]
 pub struct Style {
     pub form: Form,
-    pub drawing: DrawingKind,
+    pub drawing_kind: DrawingKind,
 }

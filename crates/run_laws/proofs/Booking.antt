@@ -1,4 +1,4 @@
--- The records and the mark of told bytes are one.
+-- The records and the mark of known bytes are one.
 use Rattle.std.proofs.Common.{◌≡◌, ◌≢◌, ℕ, Bool, List, [], Option, None, Some, unwrap_or, refl, sym, ap, subst, ◌∙◌}
 use Rattle.planar_code.specs.declared.ending.Ending.{Ending}
 use Rattle.planar_code.specs.declared.ending.Ending.TheVariants as ending
@@ -7,9 +7,9 @@ use Rattle.planar_code.proofs.Splits.{split_same}
 use Rattle.streams.specs.declared.frames.Mark.{Mark}
 use Rattle.streams.specs.declared.frames.Mark.TheVariants.{Ended, Io}
 use Rattle.streams.specs.Marks.{IsMarked, IsInterrupted}
-use Rattle.streams.specs.Reading.{IsToldOf}
+use Rattle.streams.specs.Reading.{IsKnownOf}
 use Rattle.common.specs.declared.choice.Choice.{Choice}
-use Rattle.lanes.specs.Opening.{Meaning, told_of, fails_of}
+use Rattle.lanes.specs.Opening.{Meaning, known_of, fails_of}
 use Rattle.entries.specs.Books.{BookModel, IsBook}
 
 -- a mark that is none of want of memory
@@ -36,17 +36,17 @@ same_marked bytes fails records others (Ended end) (Ended end') is is' has has' 
     let same = split_same bytes records others end end' (split_by bytes fails records end has is).1 (split_by bytes fails others end' has' is').1 in
     (same.0, ap Ended same.1)
 
--- what is found in a file that tells these bytes is marked by them
-marked_as_told : (told : Option (List ℕ)) (told_fails : Bool) (all : List ℕ) (records : List (List ℕ)) (mark : Mark) (bytes : List ℕ) (fails : Bool)
-    → told ≡ Some all → IsToldOf told told_fails bytes fails → IsMarked bytes fails records mark → IsMarked all told_fails records mark
-marked_as_told None told_fails all records mark bytes fails e gave marked = absurd (let never : ⊥ = cc e in never)
-marked_as_told (Some told) told_fails all records mark bytes fails e gave marked =
+-- what is found in a file with these known bytes is marked by them
+marked_as_known : (known : Option (List ℕ)) (known_fails : Bool) (all : List ℕ) (records : List (List ℕ)) (mark : Mark) (bytes : List ℕ) (fails : Bool)
+    → known ≡ Some all → IsKnownOf known known_fails bytes fails → IsMarked bytes fails records mark → IsMarked all known_fails records mark
+marked_as_known None known_fails all records mark bytes fails e gave marked = absurd (let never : ⊥ = cc e in never)
+marked_as_known (Some known) known_fails all records mark bytes fails e gave marked =
     let read : bytes ≡ all = sym gave.0 ∙ ap (λ (o : Option (List ℕ)). unwrap_or o []) e in
-    subst (λ (b : List ℕ). IsMarked b told_fails records mark) read
+    subst (λ (b : List ℕ). IsMarked b known_fails records mark) read
     (subst (λ (f : Bool). IsMarked bytes f records mark) (sym gave.1) marked)
 
-pub book_marked : (choice : Choice) (meaning : Meaning) (file : ℕ) (book : BookModel) (bytes : List ℕ) → told_of meaning ≡ Some bytes
+pub book_marked : (choice : Choice) (meaning : Meaning) (file : ℕ) (book : BookModel) (bytes : List ℕ) → known_of meaning ≡ Some bytes
     → (is : IsBook choice meaning file book) → IsMarked bytes (fails_of meaning) is.whole.records book.mark
-book_marked choice meaning file book bytes told is =
+book_marked choice meaning file book bytes known is =
     let found = is.whole.found in
-    marked_as_told (told_of meaning) (fails_of meaning) bytes is.whole.records book.mark found.bytes found.fails told found.gave found.marked
+    marked_as_known (known_of meaning) (fails_of meaning) bytes is.whole.records book.mark found.bytes found.fails known found.gave found.marked

@@ -6,7 +6,7 @@ use Rattle.dissect.specs.DartMaps.{DartMap, IsSound, no_dart}
 use Rattle.dissect.specs.Faces.{In, Below, last_of}
 use Rattle.dissect.specs.Boxes.{BoxesModel, dart_map}
 use Rattle.dissect.specs.Boxed.{IsBoxed, StandOn}
-use Rattle.dissect.specs.Ordered.{IsOrdered}
+use Rattle.dissect.specs.Ordered.{IsMonotone}
 use Rattle.dissect.specs.Rectangle.{HasRectangle, IsBridgedAt, IsInsideChain}
 use Rattle.run_laws.specs.Outside.{RectangleCorners, AreRectangleCorners, LiesBeside, LooksOut}
 use Rattle.run_laws.proofs.Straight.{Goes, path_goes, path_passes}
@@ -23,7 +23,7 @@ in_stands a (x ∷ xs) (y ∷ ys) (inr on) here = inr (in_stands a (x ∷ xs) ys
 abbrev corners_of : ℕ → RectangleCorners
 corners_of v = record { south_west = v + 3; south_east = v + 0; north_east = v + 1; north_west = v + 2 }
 
-module _ (inner w : DartMap) (x y : ℕ → ℕ) (sound : IsSound w) (darts_fit : w.darts ≤ no_dart) (ordered : IsOrdered w x y) (has : HasRectangle inner w) where
+module _ (inner w : DartMap) (x y : ℕ → ℕ) (sound : IsSound w) (darts_fit : w.darts ≤ no_dart) (ordered : IsMonotone w x y) (has : HasRectangle inner w) where
   -- side k goes from the corner before it to its own
   side_goes : (k from : ℕ) → k < 4 → inner.vertices + (k + 3) % 4 ≡ from → Goes k x y from (inner.vertices + k)
   side_goes k from few is =

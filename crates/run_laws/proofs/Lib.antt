@@ -1,6 +1,6 @@
 pub mod OuterFaces
 pub mod Meanings
-pub mod Layouts
+pub mod LeastPoints
 pub mod Straight
 pub mod Enclosing
 pub mod ShortFaces

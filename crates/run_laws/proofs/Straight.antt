@@ -6,7 +6,7 @@ use Rattle.dissect.specs.Faces.{last_of, Below, In}
 use Rattle.dissect.specs.Paths.{Follows, HasPath, turn_to, bends}
 use Rattle.dissect.proofs.StraightPaths.{straight_on}
 use Rattle.dissect.proofs.Backwards.{path_unique}
-use Rattle.dissect.specs.Ordered.{IsOrdered, tail}
+use Rattle.dissect.specs.Ordered.{IsMonotone, tail}
 use Rattle.dissect.specs.Rectangle.{IsInsideChain}
 
 -- the vertex v lies from u in the direction k, straight
@@ -22,7 +22,7 @@ goes_on (suc zero) x y u v t one two = (omega (arith, one.0, two.0), one.1 ∙ t
 goes_on (suc (suc zero)) x y u v t one two = (omega (arith, one.0, two.0), one.1 ∙ two.1)
 goes_on (suc (suc (suc k))) x y u v t one two = (omega (arith, one.0, two.0), one.1 ∙ two.1)
 
-module _ (w : DartMap) (x y : ℕ → ℕ) (sound : IsSound w) (ordered : IsOrdered w x y) where
+module _ (w : DartMap) (x y : ℕ → ℕ) (sound : IsSound w) (ordered : IsMonotone w x y) where
   reverse_way : (a : ℕ) → a < w.darts → (k m : ℕ) → w.direction a ≡ k → (k + 2) % 4 ≡ m → w.direction (w.reverse_dart a) ≡ m
   reverse_way a a_in k m way is = sound.straight a a_in ∙ ap (λ (d : ℕ). (d + 2) % 4) way ∙ is
 

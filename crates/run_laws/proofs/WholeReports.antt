@@ -21,7 +21,7 @@ use Rattle.entries.specs.Answers.{IsLaid}
 use Rattle.drawing_laws.proofs.Drawings.{drawn}
 use Rattle.entries.specs.Books.{BookModel, IsBook, AreBooks}
 use Rattle.reports.specs.Report.{numbered_texts, drawn_text, answer_text, entry_line, end_line, file_line, book_text}
-use Rattle.run_laws.specs.Reports.{IsReport, TellSame, AllTellSame, HasNoMemoryWord}
+use Rattle.run_laws.specs.Reports.{IsReport, AreKnownAlike, AreAllKnownAlike, HasNoMemoryWord}
 use Rattle.run_laws.proofs.Memory.{IsDecided, HasMemory}
 use Rattle.run_laws.proofs.Planes.{one_rule, none_broken}
 use Rattle.run_laws.proofs.LineSizes.{same_sizes}
@@ -72,12 +72,12 @@ whole_book choice records book other are are' marked number =
     (ap₂ end_line marked count)
 
 whole_told : (choice : Choice) (meaning other_meaning : Meaning) (file other_file : ℕ) (book other : BookModel)
-    → IsBook choice meaning file book → IsBook choice other_meaning other_file other → TellSame meaning other_meaning → HasMemory book → HasMemory other
+    → IsBook choice meaning file book → IsBook choice other_meaning other_file other → AreKnownAlike meaning other_meaning → HasMemory book → HasMemory other
     → (number : ℕ) → book_text number book ≡ book_text number other
 whole_told choice meaning other_meaning file other_file book other one two tell has has' number =
-    let marked : IsMarked tell.bytes (fails_of meaning) one.whole.records book.mark = book_marked choice meaning file book tell.bytes tell.told one in
+    let marked : IsMarked tell.bytes (fails_of meaning) one.whole.records book.mark = book_marked choice meaning file book tell.bytes tell.known one in
     let marked' : IsMarked tell.bytes (fails_of meaning) two.whole.records other.mark =
-    subst (λ (f : Bool). IsMarked tell.bytes f two.whole.records other.mark) (sym tell.fails) (book_marked choice other_meaning other_file other tell.bytes tell.told_too two) in
+    subst (λ (f : Bool). IsMarked tell.bytes f two.whole.records other.mark) (sym tell.fails) (book_marked choice other_meaning other_file other tell.bytes tell.known_too two) in
     let same = same_marked tell.bytes (fails_of meaning) one.whole.records two.whole.records book.mark other.mark marked marked' has.mark has'.mark in
     whole_book choice one.whole.records book other
     (decided_by_book choice file 0 one.whole.records book.entries one.whole.each one.answered has.answers)
@@ -86,7 +86,7 @@ whole_told choice meaning other_meaning file other_file book other one two tell 
     same.1 number
 
 pub one_told : (choice : Choice) (meaning other_meaning : Meaning) (file other_file : ℕ) (book other : BookModel)
-    → IsBook choice meaning file book → IsBook choice other_meaning other_file other → TellSame meaning other_meaning
+    → IsBook choice meaning file book → IsBook choice other_meaning other_file other → AreKnownAlike meaning other_meaning
     → (number : ℕ) → HasNoMemoryWord (book_text number book) → HasNoMemoryWord (book_text number other) → book_text number book ≡ book_text number other
 one_told choice meaning other_meaning file other_file book other one two tell number none none' =
     whole_told choice meaning other_meaning file other_file book other one two tell
@@ -94,7 +94,7 @@ one_told choice meaning other_meaning file other_file book other one two tell nu
 
 whole_books : (choice : Choice) (meaning other_meaning : ℕ → Meaning) (first number : ℕ) (books others : List BookModel)
     → AreBooks choice meaning first books → AreBooks choice other_meaning first others → length books ≡ length others
-    → ((k : ℕ) → k < length books → TellSame (meaning (first + k)) (other_meaning (first + k)))
+    → ((k : ℕ) → k < length books → AreKnownAlike (meaning (first + k)) (other_meaning (first + k)))
     → All HasMemory books → All HasMemory others
     → numbered_texts book_text number books ≡ numbered_texts book_text number others
 whole_books choice meaning other_meaning first number [] [] are are' count tell has has' = refl
@@ -104,16 +104,16 @@ whole_books choice meaning other_meaning first number (book ∷ books) (other �
     let here : first + 0 ≡ first = omega arith in
     ap₂ (λ (text : List ℕ) (rest : List ℕ). text ++ rest)
     (whole_told choice (meaning first) (other_meaning first) first first book other are.0 are'.0
-    (subst (λ (n : ℕ). TellSame (meaning n) (other_meaning n)) here (tell 0 (omega arith)))
+    (subst (λ (n : ℕ). AreKnownAlike (meaning n) (other_meaning n)) here (tell 0 (omega arith)))
     (has 0 book (omega arith)) (has' 0 other (omega arith)) number)
     (whole_books choice meaning other_meaning (first + 1) (number + 1) books others are.1 are'.1 (omega (arith, count))
     (λ k inside.
     let there : first + suc k ≡ first + 1 + k = omega arith in
-    subst (λ (n : ℕ). TellSame (meaning n) (other_meaning n)) there (tell (suc k) (omega (arith, inside))))
+    subst (λ (n : ℕ). AreKnownAlike (meaning n) (other_meaning n)) there (tell (suc k) (omega (arith, inside))))
     (λ k d inside. has (suc k) d (omega (arith, inside))) (λ k d inside. has' (suc k) d (omega (arith, inside))))
 
 pub whole_texts : (choice : Choice) (meaning other_meaning : ℕ → Meaning) (files : ℕ) (text other : List ℕ)
-    → IsReport choice meaning files text → IsReport choice other_meaning files other → AllTellSame files meaning other_meaning
+    → IsReport choice meaning files text → IsReport choice other_meaning files other → AreAllKnownAlike files meaning other_meaning
     → HasNoMemoryWord text → HasNoMemoryWord other → text ≡ other
 whole_texts choice meaning other_meaning files text other one two tell none none' =
     let are = one.of_files in
@@ -122,6 +122,6 @@ whole_texts choice meaning other_meaning files text other one two tell none none
     ∙ whole_books choice meaning other_meaning 0 1 one.books two.books are.each are'.each (are.count ∙ sym are'.count)
     (λ k inside.
     let there : k ≡ 0 + k = omega arith in
-    subst (λ (n : ℕ). TellSame (meaning n) (other_meaning n)) there (tell k (omega (arith, inside, are.count))))
+    subst (λ (n : ℕ). AreKnownAlike (meaning n) (other_meaning n)) there (tell k (omega (arith, inside, are.count))))
     (books_have_memory text one.books one.text_is none) (books_have_memory other two.books two.text_is none')
     ∙ sym two.text_is

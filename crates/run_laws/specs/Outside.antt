@@ -6,7 +6,7 @@ use Rattle.ortho_rep.specs.Shapes.{ShapeModel}
 use Rattle.dissect.specs.DartMaps.{DartMap}
 use Rattle.dissect.specs.Boxes.{BoxesModel, dart_map}
 use Rattle.dissect.specs.Boxed.{IsMapOfShape}
-use Rattle.dissect.specs.Ordered.{IsOrdered}
+use Rattle.dissect.specs.Ordered.{IsMonotone}
 use Rattle.drawing_laws.specs.Parts.{IsPart}
 
 -- four vertices that are the corners of a rectangle along the axes
@@ -59,5 +59,5 @@ pub record LooksOut (p : PlaneModel) (shape : ShapeModel) (b : BoxesModel) : Typ
   -- in whatever coordinates, the corners are those of a rectangle, and the foot, on a side of it, lies straight across from that turn
   pub corners : RectangleCorners
   pub foot : ℕ
-  pub rectangle : (x y : ℕ → ℕ) → IsOrdered (dart_map b) x y → AreRectangleCorners x y corners
-  pub before : (x y : ℕ → ℕ) → IsOrdered (dart_map b) x y → LiesBeside x y corners foot (enclosed_map.head right)
+  pub rectangle : (x y : ℕ → ℕ) → IsMonotone (dart_map b) x y → AreRectangleCorners x y corners
+  pub before : (x y : ℕ → ℕ) → IsMonotone (dart_map b) x y → LiesBeside x y corners foot (enclosed_map.head right)

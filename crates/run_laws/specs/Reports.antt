@@ -1,7 +1,7 @@
 -- Which texts are reports of right books, and when two runs are about the same bytes.
 use Rattle.std.specs.Prelude.{◌≡◌, ◌≢◌, ℕ, ◌<◌, List, ◌++◌, Some, codes}
 use Rattle.common.specs.declared.choice.Choice.{Choice}
-use Rattle.lanes.specs.Opening.{Meaning, told_of, fails_of}
+use Rattle.lanes.specs.Opening.{Meaning, known_of, fails_of}
 use Rattle.entries.specs.Books.{BookModel}
 use Rattle.entries.specs.AllBooks.{AreAllBooks}
 use Rattle.reports.specs.Report.{report_text}
@@ -12,16 +12,16 @@ pub record IsReport (choice : Choice) (meaning : ℕ → Meaning) (files : ℕ) 
   pub of_files : AreAllBooks choice meaning files books
   pub text_is : text ≡ report_text books
 
--- two files tell the same bytes, and both fail behind them or both end
-pub record TellSame (meaning other : Meaning) : Type 0 where
+-- the same bytes are known of two files, and both fail behind them or both end
+pub record AreKnownAlike (meaning other : Meaning) : Type 0 where
   pub bytes : List ℕ
-  pub told : told_of meaning ≡ Some bytes
-  pub told_too : told_of other ≡ Some bytes
+  pub known : known_of meaning ≡ Some bytes
+  pub known_too : known_of other ≡ Some bytes
   pub fails : fails_of meaning ≡ fails_of other
 
 -- so do each two of so many files that have the same number
-abbrev pub AllTellSame : ℕ → (ℕ → Meaning) → (ℕ → Meaning) → Type 0
-AllTellSame files meaning other = (file : ℕ) → file < files → TellSame (meaning file) (other file)
+abbrev pub AreAllKnownAlike : ℕ → (ℕ → Meaning) → (ℕ → Meaning) → Type 0
+AreAllKnownAlike files meaning other = (file : ℕ) → file < files → AreKnownAlike (meaning file) (other file)
 
 -- the word "memory" stands nowhere in the text
 abbrev pub HasNoMemoryWord : List ℕ → Type 0

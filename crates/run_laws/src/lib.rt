@@ -1,10 +1,10 @@
-//! Laws of layouts, reports and whole runs, each as the contract of a function that does nothing: what a laid answer
+//! Laws of answers, reports and whole runs, each as the contract of a function that does nothing: what a laid answer
 //! says in plain terms, that faces, coordinates and reports leave no choice open, and how large things may be.
 #![tactic(auto)]
 
 mod bends;
 mod laid;
-mod layout;
+mod least_points;
 mod limits;
 mod outer;
 mod outside;
@@ -15,7 +15,7 @@ mod supplies;
 
 pub use bends::{boxes_are_few, laid_bends};
 pub use laid::laid_means;
-pub use layout::one_layout;
+pub use least_points::least_points_are_unique;
 pub use limits::{network_limits, plane_limits, record_limits};
 pub use outer::{one_best, one_greatest};
 pub use outside::outer_face_looks_out;

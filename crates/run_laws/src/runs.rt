@@ -19,7 +19,7 @@ pub fn same_whole_runs()
         → book_text number book ≡ book_text number other }
 {}
 
-/// What `write_batch` adds to a sink that tells its text, in the form of a report, is the report of right books.
+/// What `write_batch` adds to a sink whose text is known, in the form of a report, is the report of right books.
 pub fn written_is_report()
     ensures { (choice : Choice) (meaning : ℕ → Meaning) (files status : ℕ) (start now : List ℕ)
         → IsAllWritten choice meaning Form.Report files (Some start) (Some now) status

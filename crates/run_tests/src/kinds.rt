@@ -51,10 +51,10 @@ fn figures_of(
     rt: &impl Abort,
     alloc: Global,
     bytes: &[u8],
-    drawing: DrawingKind,
+    drawing_kind: DrawingKind,
 ) -> Option<(u32, u32)> {
     let rec = record_of(alloc, bytes).expect(rt, "a record");
-    let entry = staged(alloc, rec, Choice::First, drawing);
+    let entry = staged(alloc, rec, Choice::First, drawing_kind);
     figures(&entry.answer)
 }
 

@@ -5,7 +5,7 @@
 #[cfg(test)]
 mod as_made;
 #[cfg(test)]
-mod broken;
+mod failing;
 #[cfg(test)]
 mod files;
 #[cfg(test)]

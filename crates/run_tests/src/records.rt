@@ -85,9 +85,9 @@ fn expect(rt: &impl Abort, answer: &Answer, said: Said) {
 fn check(rt: &impl Abort, alloc: Global, bytes: &[u8], choice: Choice, said: Said) {
     let rec = record_of(alloc, bytes).expect(rt, "a record");
     expect_entry(rt, answer(alloc, 63, 999_999, rec, choice), said);
-    for drawing in [DrawingKind::Quick, DrawingKind::Short] {
+    for drawing_kind in [DrawingKind::Quick, DrawingKind::Short] {
         let rec = record_of(alloc, bytes).expect(rt, "a record");
-        expect_entry(rt, staged(alloc, rec, choice, drawing), said);
+        expect_entry(rt, staged(alloc, rec, choice, drawing_kind), said);
     }
 }
 
@@ -103,13 +103,18 @@ fn pass<S: Staged>(alloc: Global, staged: S) -> S::Next {
 }
 
 /// The entry of a record with this drawing, stage by stage.
-pub(crate) fn staged(alloc: Global, rec: Record, choice: Choice, drawing: DrawingKind) -> Entry {
+pub(crate) fn staged(
+    alloc: Global,
+    rec: Record,
+    choice: Choice,
+    drawing_kind: DrawingKind,
+) -> Entry {
     let framed = Framed {
         task: Task {
             file: 7,
             ordinal: 2,
             choice,
-            drawing,
+            drawing_kind,
         },
         purpose: Keeping,
         rec,

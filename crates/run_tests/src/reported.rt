@@ -98,13 +98,13 @@ pub(crate) const THREE: Files = Files {
 /// The report, of quick drawings.
 pub(crate) const QUICK: Style = Style {
     form: Form::Report,
-    drawing: DrawingKind::Quick,
+    drawing_kind: DrawingKind::Quick,
 };
 
 /// The report, of short drawings.
 pub(crate) const SHORT: Style = Style {
     form: Form::Report,
-    drawing: DrawingKind::Short,
+    drawing_kind: DrawingKind::Short,
 };
 
 /// The report of them.

@@ -100,7 +100,7 @@ fn a_face_turned_out(rt: HostRuntime) {
     let mut plane = plane_of(&rt, rt.alloc(), &TENTH);
     same(&rt, (plane.outer(), plane.face_count()), (0, 9));
     if 2 < plane.face_count() {
-        plane.turn_out(2);
+        plane.set_outer(2);
     }
     same(&rt, (plane.outer(), plane.face_count()), (2, 9));
 }

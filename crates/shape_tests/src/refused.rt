@@ -155,7 +155,7 @@ fn expect_other_face(rt: &impl Abort, plane: &Plane, mut net: FaceNet)
     requires { IsFaceNetOf plane.now net }
 {
     assert!(rt; plane.face_count() > 1);
-    net.turn_out(plane, 1);
+    net.set_outer(plane, 1);
     let network = net.network();
     same(rt, network.supplies(), [2, 2, 2, 1, -7].as_slice());
 }

@@ -60,7 +60,7 @@ impl FaceSearch {
         }
     }
 
-    /// Looks for a path, and returns whether there is one. Each path that is asked for in a plane has another dart as its end.
+    /// Looks for a path, and returns whether there is one. Each path that is asked for in a plane has a different dart as its end.
     pub(crate) fn finds(
         &mut self,
         plane: &Plane,

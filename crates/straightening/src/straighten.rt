@@ -15,7 +15,7 @@ use faces::Plane;
 use ortho_rep::{Prices, Shape};
 use std::alloc::{AllocError, Global};
 
-/// What straightening works in, to be lent to one shape after another. It has about 5 KB, and none of them on the heap.
+/// What straightening works in, to be lent to one shape after another. It takes about 5 KB, none of it on the heap.
 /// What it holds between two calls is of no use.
 #[derive(Drop)]
 pub struct Scratch {

@@ -39,9 +39,9 @@ length-running read records (After count rest) s running =
 length-running read records (Failed f) s running = absurd (running f refl)
 
 -- so no source is read in more rounds
-pub few_rounds : (told : Option (List ℕ)) (told_fails : Bool) (rounds : ℕ) (to_come : Option (List ℕ)) (fails : Bool) (records : List (List ℕ)) (state : FramerState)
-    → IsBeingRead told told_fails rounds to_come fails records state → rounds ≤ 15 + 65026 * 1000001
-few_rounds told told_fails rounds to_come fails records state r =
+pub few_rounds : (known : Option (List ℕ)) (known_fails : Bool) (rounds : ℕ) (to_come : Option (List ℕ)) (fails : Bool) (records : List (List ℕ)) (state : FramerState)
+    → IsBeingRead known known_fails rounds to_come fails records state → rounds ≤ 15 + 65026 * 1000001
+few_rounds known known_fails rounds to_come fails records state r =
     let went = r.went in omega (arith, length-running r.read records state r.stands r.running)
 
 -- at no state are there more than 1,000,000 records

@@ -135,8 +135,8 @@ found_some found mark is = subst (λ o. IsSome o) (sym is) refl
 pub found_same : (found : Option Mark) (mark other : Mark) → found ≡ Some mark → found ≡ Some other → mark ≡ other
 found_same found mark other is is' = ap (λ o. unwrap_or o other) (sym is ∙ is')
 
-pub found_as : (told : Option (List ℕ)) (fails : Bool) (records others : List (List ℕ)) (mark other : Mark) → records ≡ others → mark ≡ other → IsFoundIn told fails others other → IsFoundIn told fails records mark
-found_as told fails records others mark other same is found = subst (λ rs. IsFoundIn told fails rs mark) (sym same) (subst (λ m. IsFoundIn told fails others m) (sym is) found)
+pub found_as : (known : Option (List ℕ)) (fails : Bool) (records others : List (List ℕ)) (mark other : Mark) → records ≡ others → mark ≡ other → IsFoundIn known fails others other → IsFoundIn known fails records mark
+found_as known fails records others mark other same is found = subst (λ rs. IsFoundIn known fails rs mark) (sym same) (subst (λ m. IsFoundIn known fails others m) (sym is) found)
 
 -- one more message of records
 pub gave_records : (earlier : List (List ℕ)) (messages : List ReadMessage) (batch : _) → GiveRecords earlier messages → GiveRecords (earlier ++ batch.items) (messages ++ Records batch ∷ [])

@@ -13,7 +13,7 @@ use Rattle.streams.specs.declared.frames.Mark.{Mark}
 use Rattle.streams.specs.declared.frames.Mark.TheVariants as mark
 use Rattle.streams.specs.Tap.{IsAtItsEnd, IsAtItsFailure}
 use Rattle.streams.specs.Marks.{IsMarked, IsInterrupted}
-use Rattle.streams.specs.Reading.{IsToldOf, IsFoundIn, IsBeingRead, IsReadToItsEnd}
+use Rattle.streams.specs.Reading.{IsKnownOf, IsFoundIn, IsBeingRead, IsReadToItsEnd}
 use Rattle.streams.proofs.Marks.{split_stands, open_stands, failed_not_open, beginning_stands}
 
 -- nothing was given
@@ -28,28 +28,28 @@ consumed_both (Some x) None c xs ys p q = absurd p
 consumed_both (Some x) (Some y) None xs ys p q = absurd q
 consumed_both (Some x) (Some y) (Some z) xs ys p q = p ∙ ap (λ l. xs ++ l) q ∙ sym (append_assoc xs ys z)
 
--- at its end a source has given all that it told
-told_at_end : (told to_come : Option (List ℕ)) (told_fails fails : Bool) (read : List ℕ) → Consumes told to_come read → fails ≡ told_fails
-    → IsAtItsEnd to_come fails → IsToldOf told told_fails read false
-told_at_end None to_come told_fails fails read took same at = tt
-told_at_end (Some xs) None told_fails fails read took same at = absurd took
-told_at_end (Some xs) (Some ys) told_fails fails read took same at =
+-- at its end a source has given all its known bytes
+told_at_end : (known to_come : Option (List ℕ)) (known_fails fails : Bool) (read : List ℕ) → Consumes known to_come read → fails ≡ known_fails
+    → IsAtItsEnd to_come fails → IsKnownOf known known_fails read false
+told_at_end None to_come known_fails fails read took same at = tt
+told_at_end (Some xs) None known_fails fails read took same at = absurd took
+told_at_end (Some xs) (Some ys) known_fails fails read took same at =
     (took ∙ ap (λ l. read ++ l) at.0 ∙ append-nil read, sym same ∙ at.1)
 
 -- the same where it fails
-told_at_failure : (told to_come : Option (List ℕ)) (told_fails fails : Bool) (read : List ℕ) → Consumes told to_come read → fails ≡ told_fails
-    → IsAtItsFailure to_come fails → IsToldOf told told_fails read true
-told_at_failure None to_come told_fails fails read took same at = tt
-told_at_failure (Some xs) None told_fails fails read took same at = absurd took
-told_at_failure (Some xs) (Some ys) told_fails fails read took same at =
+told_at_failure : (known to_come : Option (List ℕ)) (known_fails fails : Bool) (read : List ℕ) → Consumes known to_come read → fails ≡ known_fails
+    → IsAtItsFailure to_come fails → IsKnownOf known known_fails read true
+told_at_failure None to_come known_fails fails read took same at = tt
+told_at_failure (Some xs) None known_fails fails read took same at = absurd took
+told_at_failure (Some xs) (Some ys) known_fails fails read took same at =
     (took ∙ ap (λ l. read ++ l) at.0 ∙ append-nil read, sym same ∙ at.1)
 
--- where reading stops, some bytes may be left; where the source told its bytes, they are all of them
-told_so_far : (told to_come : Option (List ℕ)) (told_fails : Bool) (read : List ℕ) → Consumes told to_come read
-    → (left : List ℕ) × (fails : Bool) × IsToldOf told told_fails (read ++ left) fails
-told_so_far None to_come told_fails read took = ([], false, tt)
-told_so_far (Some xs) None told_fails read took = absurd took
-told_so_far (Some xs) (Some ys) told_fails read took = (ys, told_fails, (took, refl))
+-- where reading stops, some bytes may be left; where the source's bytes are known, they are all of them
+told_so_far : (known to_come : Option (List ℕ)) (known_fails : Bool) (read : List ℕ) → Consumes known to_come read
+    → (left : List ℕ) × (fails : Bool) × IsKnownOf known known_fails (read ++ left) fails
+told_so_far None to_come known_fails read took = ([], false, tt)
+told_so_far (Some xs) None known_fails read took = absurd took
+told_so_far (Some xs) (Some ys) known_fails read took = (ys, known_fails, (took, refl))
 
 -- a split, where the source is not cut short, gives the records and the mark
 pub marked_split : (bytes : List ℕ) (fails : Bool) (records : List (List ℕ)) (end : Ending) → (IsInterrupted bytes fails → ⊥) → IsSplit bytes records end
@@ -63,31 +63,31 @@ marked_split bytes fails records ending.Many whole split = (whole, split)
 marked_split bytes fails records ending.Memory whole split = λ all end other. ([], (split_same bytes all records end _ other split).0 ∙ sym (append-nil records))
 
 -- the source ended
-pub read_to_its_end : (told to_come : Option (List ℕ)) (told_fails fails : Bool) (rounds : ℕ) (records : List (List ℕ)) (state : FramerState)
-    → IsBeingRead told told_fails rounds to_come fails records state → IsAtItsEnd to_come fails → IsReadToItsEnd told told_fails records state
-read_to_its_end told to_come told_fails fails rounds records state r at = record {
+pub read_to_its_end : (known to_come : Option (List ℕ)) (known_fails fails : Bool) (rounds : ℕ) (records : List (List ℕ)) (state : FramerState)
+    → IsBeingRead known known_fails rounds to_come fails records state → IsAtItsEnd to_come fails → IsReadToItsEnd known known_fails records state
+read_to_its_end known to_come known_fails fails rounds records state r at = record {
   read = r.read;
-  gave = told_at_end told to_come told_fails fails r.read r.took r.same at;
+  gave = told_at_end known to_come known_fails fails r.read r.took r.same at;
   stands = r.stands;
 }
 
 -- the source failed
-pub found_failed : (told to_come : Option (List ℕ)) (told_fails fails : Bool) (rounds : ℕ) (records : List (List ℕ)) (state : FramerState)
-    → IsBeingRead told told_fails rounds to_come fails records state → IsAtItsFailure to_come fails → IsFoundIn told told_fails records mark.Io
-found_failed told to_come told_fails fails rounds records state r at = record {
+pub found_failed : (known to_come : Option (List ℕ)) (known_fails fails : Bool) (rounds : ℕ) (records : List (List ℕ)) (state : FramerState)
+    → IsBeingRead known known_fails rounds to_come fails records state → IsAtItsFailure to_come fails → IsFoundIn known known_fails records mark.Io
+found_failed known to_come known_fails fails rounds records state r at = record {
   bytes = r.read;
   fails = true;
-  gave = told_at_failure told to_come told_fails fails r.read r.took r.same at;
+  gave = told_at_failure known to_come known_fails fails r.read r.took r.same at;
   marked = ((refl, open_stands r.read records state r.stands r.running), split_stands r.read records state r.stands);
 }
 
 -- the framer took the piece
-pub read_more : (told before after : Option (List ℕ)) (told_fails fails now_fails : Bool) (rounds : ℕ) (earlier old new : List (List ℕ)) (state now_state : FramerState) (piece : List ℕ)
-    → 0 < length piece → IsBeingRead told told_fails rounds before fails (earlier ++ old) state → Consumes before after piece → now_fails ≡ fails
-    → Feeds state piece old new now_state (Ok tt) → IsBeingRead told told_fails (rounds + 1) after now_fails (earlier ++ new) now_state
-read_more told before after told_fails fails now_fails rounds earlier old new state now_state piece some r took same f = record {
+pub read_more : (known before after : Option (List ℕ)) (known_fails fails now_fails : Bool) (rounds : ℕ) (earlier old new : List (List ℕ)) (state now_state : FramerState) (piece : List ℕ)
+    → 0 < length piece → IsBeingRead known known_fails rounds before fails (earlier ++ old) state → Consumes before after piece → now_fails ≡ fails
+    → Feeds state piece old new now_state (Ok tt) → IsBeingRead known known_fails (rounds + 1) after now_fails (earlier ++ new) now_state
+read_more known before after known_fails fails now_fails rounds earlier old new state now_state piece some r took same f = record {
   read = r.read ++ piece;
-  took = consumed_both told before after r.read piece r.took took;
+  took = consumed_both known before after r.read piece r.took took;
   same = same ∙ r.same;
   stands = subst (λ rs. StandsAt (r.read ++ piece) rs now_state) (append_assoc earlier old f.added ∙ ap (λ rs. earlier ++ rs) (sym f.appended))
       (f.reads.1 r.read (earlier ++ old) r.stands);
@@ -96,15 +96,15 @@ read_more told before after told_fails fails now_fails rounds earlier old new st
 }
 
 -- a fault of the bytes, however they go on
-found_faulted : (told before after : Option (List ℕ)) (told_fails fails : Bool) (rounds : ℕ) (earlier old new : List (List ℕ)) (state : FramerState) (piece : List ℕ) (f : FeedFault)
-    → IsBeingRead told told_fails rounds before fails (earlier ++ old) state → Consumes before after piece
+found_faulted : (known before after : Option (List ℕ)) (known_fails fails : Bool) (rounds : ℕ) (earlier old new : List (List ℕ)) (state : FramerState) (piece : List ℕ) (f : FeedFault)
+    → IsBeingRead known known_fails rounds before fails (earlier ++ old) state → Consumes before after piece
     → (added : List (List ℕ)) → new ≡ old ++ added → Goes state piece added (Failed f)
-    → IsFoundIn told told_fails (earlier ++ new) (mark.Ended (ending_of f))
-found_faulted told before after told_fails fails rounds earlier old new state piece f r took added appended goes =
+    → IsFoundIn known known_fails (earlier ++ new) (mark.Ended (ending_of f))
+found_faulted known before after known_fails fails rounds earlier old new state piece f r took added appended goes =
     let records : (earlier ++ old) ++ added ≡ earlier ++ new = append_assoc earlier old added ∙ ap (λ rs. earlier ++ rs) (sym appended) in
     let stands : StandsAt (r.read ++ piece) (earlier ++ new) (Failed f) =
     subst (λ rs. StandsAt (r.read ++ piece) rs (Failed f)) records (goes r.read (earlier ++ old) r.stands) in
-    let so_far = told_so_far told after told_fails (r.read ++ piece) (consumed_both told before after r.read piece r.took took) in
+    let so_far = told_so_far known after known_fails (r.read ++ piece) (consumed_both known before after r.read piece r.took took) in
     record {
       bytes = (r.read ++ piece) ++ so_far.0;
       fails = so_far.1;
@@ -113,12 +113,12 @@ found_faulted told before after told_fails fails rounds earlier old new state pi
     }
 
 -- want of memory for one more record
-found_wanting : (told before after : Option (List ℕ)) (told_fails fails : Bool) (rounds : ℕ) (earlier old new : List (List ℕ)) (state : FramerState) (piece : List ℕ)
-    → IsBeingRead told told_fails rounds before fails (earlier ++ old) state → Consumes before after piece
+found_wanting : (known before after : Option (List ℕ)) (known_fails fails : Bool) (rounds : ℕ) (earlier old new : List (List ℕ)) (state : FramerState) (piece : List ℕ)
+    → IsBeingRead known known_fails rounds before fails (earlier ++ old) state → Consumes before after piece
     → (added : List (List ℕ)) → new ≡ old ++ added → LosesRecord state piece added
-    → IsFoundIn told told_fails (earlier ++ new) (mark.Ended ending.Memory)
-found_wanting told before after told_fails fails rounds earlier old new state piece r took added appended loses =
-    let so_far = told_so_far told after told_fails (r.read ++ piece) (consumed_both told before after r.read piece r.took took) in
+    → IsFoundIn known known_fails (earlier ++ new) (mark.Ended ending.Memory)
+found_wanting known before after known_fails fails rounds earlier old new state piece r took added appended loses =
+    let so_far = told_so_far known after known_fails (r.read ++ piece) (consumed_both known before after r.read piece r.took took) in
     let stands = loses.goes r.read (earlier ++ old) r.stands in
     let bytes : (r.read ++ piece) ++ so_far.0 ≡ (r.read ++ loses.front) ++ (loses.back ++ so_far.0) =
     ap (λ l. (r.read ++ l) ++ so_far.0) loses.parts ∙ ap (λ l. l ++ so_far.0) (sym (append_assoc r.read loses.front loses.back)) ∙ append_assoc (r.read ++ loses.front) loses.back so_far.0 in
@@ -133,27 +133,27 @@ found_wanting told before after told_fails fails rounds earlier old new state pi
     }
 
 -- the framer read no further
-pub found_stopped : (told before after : Option (List ℕ)) (told_fails fails : Bool) (rounds : ℕ) (earlier old new : List (List ℕ)) (state now_state : FramerState) (piece : List ℕ) (f : FeedFault)
-    → IsBeingRead told told_fails rounds before fails (earlier ++ old) state → Consumes before after piece
-    → Feeds state piece old new now_state (Err f) → IsFoundIn told told_fails (earlier ++ new) (mark.Ended (ending_of f))
-found_stopped told before after told_fails fails rounds earlier old new state now_state piece fault.Memory r took feeds =
+pub found_stopped : (known before after : Option (List ℕ)) (known_fails fails : Bool) (rounds : ℕ) (earlier old new : List (List ℕ)) (state now_state : FramerState) (piece : List ℕ) (f : FeedFault)
+    → IsBeingRead known known_fails rounds before fails (earlier ++ old) state → Consumes before after piece
+    → Feeds state piece old new now_state (Err f) → IsFoundIn known known_fails (earlier ++ new) (mark.Ended (ending_of f))
+found_stopped known before after known_fails fails rounds earlier old new state now_state piece fault.Memory r took feeds =
     elim feeds.reads.1 [
       | inl failed ↦ absurd (r.running fault.Memory failed.0)
-      | inr loses ↦ found_wanting told before after told_fails fails rounds earlier old new state piece r took feeds.added feeds.appended loses
+      | inr loses ↦ found_wanting known before after known_fails fails rounds earlier old new state piece r took feeds.added feeds.appended loses
     ]
-found_stopped told before after told_fails fails rounds earlier old new state now_state piece fault.Header r took feeds =
-    found_faulted told before after told_fails fails rounds earlier old new state piece fault.Header r took feeds.added feeds.appended (subst (Goes state piece feeds.added) feeds.reads.0 feeds.reads.1)
-found_stopped told before after told_fails fails rounds earlier old new state now_state piece fault.Large r took feeds =
-    found_faulted told before after told_fails fails rounds earlier old new state piece fault.Large r took feeds.added feeds.appended (subst (Goes state piece feeds.added) feeds.reads.0 feeds.reads.1)
-found_stopped told before after told_fails fails rounds earlier old new state now_state piece fault.Oversize r took feeds =
-    found_faulted told before after told_fails fails rounds earlier old new state piece fault.Oversize r took feeds.added feeds.appended (subst (Goes state piece feeds.added) feeds.reads.0 feeds.reads.1)
-found_stopped told before after told_fails fails rounds earlier old new state now_state piece fault.Many r took feeds =
-    found_faulted told before after told_fails fails rounds earlier old new state piece fault.Many r took feeds.added feeds.appended (subst (Goes state piece feeds.added) feeds.reads.0 feeds.reads.1)
+found_stopped known before after known_fails fails rounds earlier old new state now_state piece fault.Header r took feeds =
+    found_faulted known before after known_fails fails rounds earlier old new state piece fault.Header r took feeds.added feeds.appended (subst (Goes state piece feeds.added) feeds.reads.0 feeds.reads.1)
+found_stopped known before after known_fails fails rounds earlier old new state now_state piece fault.Large r took feeds =
+    found_faulted known before after known_fails fails rounds earlier old new state piece fault.Large r took feeds.added feeds.appended (subst (Goes state piece feeds.added) feeds.reads.0 feeds.reads.1)
+found_stopped known before after known_fails fails rounds earlier old new state now_state piece fault.Oversize r took feeds =
+    found_faulted known before after known_fails fails rounds earlier old new state piece fault.Oversize r took feeds.added feeds.appended (subst (Goes state piece feeds.added) feeds.reads.0 feeds.reads.1)
+found_stopped known before after known_fails fails rounds earlier old new state now_state piece fault.Many r took feeds =
+    found_faulted known before after known_fails fails rounds earlier old new state piece fault.Many r took feeds.added feeds.appended (subst (Goes state piece feeds.added) feeds.reads.0 feeds.reads.1)
 
 -- no framer was to be had
-pub found_nothing : (told : Option (List ℕ)) (told_fails : Bool) (records : List (List ℕ)) → records ≡ [] → IsFoundIn told told_fails records (mark.Ended ending.Memory)
-found_nothing told told_fails records none =
-    let so_far = told_so_far told told told_fails [] (consumed_none told) in
+pub found_nothing : (known : Option (List ℕ)) (known_fails : Bool) (records : List (List ℕ)) → records ≡ [] → IsFoundIn known known_fails records (mark.Ended ending.Memory)
+found_nothing known known_fails records none =
+    let so_far = told_so_far known known known_fails [] (consumed_none known) in
     record {
       bytes = so_far.0;
       fails = so_far.1;
@@ -162,9 +162,9 @@ found_nothing told told_fails records none =
     }
 
 -- the framer's ending is the source's
-pub found_ended : (told : Option (List ℕ)) (told_fails : Bool) (records : List (List ℕ)) (state : FramerState) (end : Ending) → IsReadToItsEnd told told_fails records state
-    → ((stream : List ℕ) (rs : List (List ℕ)) → StandsAt stream rs state → IsSplit stream rs end) → IsFoundIn told told_fails records (mark.Ended end)
-found_ended told told_fails records state end r finish = record {
+pub found_ended : (known : Option (List ℕ)) (known_fails : Bool) (records : List (List ℕ)) (state : FramerState) (end : Ending) → IsReadToItsEnd known known_fails records state
+    → ((stream : List ℕ) (rs : List (List ℕ)) → StandsAt stream rs state → IsSplit stream rs end) → IsFoundIn known known_fails records (mark.Ended end)
+found_ended known known_fails records state end r finish = record {
   bytes = r.read;
   fails = false;
   gave = r.gave;
@@ -172,34 +172,34 @@ found_ended told told_fails records state end r finish = record {
 }
 
 -- before the first read
-pub nothing_read : (told : Option (List ℕ)) (told_fails : Bool) (records : List (List ℕ)) (state : FramerState) → records ≡ [] → state ≡ Early []
-    → IsBeingRead told told_fails 0 told told_fails records state
-nothing_read told told_fails records state none is =
+pub nothing_read : (known : Option (List ℕ)) (known_fails : Bool) (records : List (List ℕ)) (state : FramerState) → records ≡ [] → state ≡ Early []
+    → IsBeingRead known known_fails 0 known known_fails records state
+nothing_read known known_fails records state none is =
     let some : HEADER ≢ [] = λ e. cc in
     let stands : StandsAt [] records (Early []) = record { none = none; same = refl; missing = HEADER; more = some; whole = refl } in
     record {
       read = [];
-      took = consumed_none told;
+      took = consumed_none known;
       same = refl;
       stands = subst (StandsAt [] records) (sym is) stands;
       running = λ f e. let both : Early [] ≡ Failed f = sym is ∙ e in cc;
       went = omega arith;
     }
 
--- a source that told its bytes gave these
-pub found_told : (told : Option (List ℕ)) (told_fails : Bool) (records : List (List ℕ)) (found : Mark) → IsFoundIn told told_fails records found
-    → (bytes : List ℕ) → told ≡ Some bytes → IsMarked bytes told_fails records found
-found_told told told_fails records found f bytes is =
-    let gave : IsToldOf (Some bytes) told_fails f.bytes f.fails = subst (λ (t : Option (List ℕ)). IsToldOf t told_fails f.bytes f.fails) is f.gave in
-    subst (λ b. IsMarked b told_fails records found) (sym gave.0) (subst (λ b. IsMarked f.bytes b records found) (sym gave.1) f.marked)
+-- a source whose bytes are known gave these
+pub found_known : (known : Option (List ℕ)) (known_fails : Bool) (records : List (List ℕ)) (found : Mark) → IsFoundIn known known_fails records found
+    → (bytes : List ℕ) → known ≡ Some bytes → IsMarked bytes known_fails records found
+found_known known known_fails records found f bytes is =
+    let gave : IsKnownOf (Some bytes) known_fails f.bytes f.fails = subst (λ (t : Option (List ℕ)). IsKnownOf t known_fails f.bytes f.fails) is f.gave in
+    subst (λ b. IsMarked b known_fails records found) (sym gave.0) (subst (λ b. IsMarked f.bytes b records found) (sym gave.1) f.marked)
 
 -- any source gave some bytes
-pub found_untold : (told : Option (List ℕ)) (told_fails : Bool) (records : List (List ℕ)) (found : Mark) → IsFoundIn told told_fails records found
+pub found_unknown : (known : Option (List ℕ)) (known_fails : Bool) (records : List (List ℕ)) (found : Mark) → IsFoundIn known known_fails records found
     → (bytes : List ℕ) × ((fails : Bool) × IsMarked bytes fails records found)
-found_untold told told_fails records found f = (f.bytes, (f.fails, f.marked))
+found_unknown known known_fails records found f = (f.bytes, (f.fails, f.marked))
 
 -- no new records yet
-pub nothing_new : (told to_come : Option (List ℕ)) (told_fails fails : Bool) (rounds : ℕ) (records new : List (List ℕ)) (state : FramerState) → new ≡ []
-    → IsBeingRead told told_fails rounds to_come fails records state → IsBeingRead told told_fails rounds to_come fails (records ++ new) state
-nothing_new told to_come told_fails fails rounds records new state none r =
-    subst (λ rs. IsBeingRead told told_fails rounds to_come fails rs state) (sym (ap (λ l. records ++ l) none ∙ append-nil records)) r
+pub nothing_new : (known to_come : Option (List ℕ)) (known_fails fails : Bool) (rounds : ℕ) (records new : List (List ℕ)) (state : FramerState) → new ≡ []
+    → IsBeingRead known known_fails rounds to_come fails records state → IsBeingRead known known_fails rounds to_come fails (records ++ new) state
+nothing_new known to_come known_fails fails rounds records new state none r =
+    subst (λ rs. IsBeingRead known known_fails rounds to_come fails rs state) (sym (ap (λ l. records ++ l) none ∙ append-nil records)) r

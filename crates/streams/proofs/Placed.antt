@@ -1,4 +1,4 @@
--- Records that were read of a source stand at their places in what it tells.
+-- Records that were read of a source stand at their places in its known bytes.
 use Rattle.std.proofs.Common.{◌≡◌, ℕ, ◌+◌, Bool, List, [], ◌∷◌, ◌++◌, Option, None, Some, length, refl, sym, ap, subst, ◌∙◌, append_assoc, append-nil, length-append, arith}
 use Rattle.std.specs.Prelude.{⊤}
 use Rattle.planar_code.specs.declared.ending.Ending.{Ending}
@@ -15,32 +15,32 @@ use Rattle.streams.specs.Reading.{IsFoundIn, IsBeingRead, IsReadToItsEnd, LeadsT
 use Rattle.streams.specs.Placing.{IsAt, IsPlaced, EachAt, ArePlaced}
 use Rattle.streams.proofs.Marks.{beginning_stands}
 
--- the records are the first of those of the bytes that a source tells
+-- the records are the first of those of a source's known bytes
 abbrev pub AreFirst : Option (List ℕ) → List (List ℕ) → Type 0
 AreFirst None records = ⊤
-AreFirst (Some told) records = (all : List (List ℕ)) (end : Ending) → IsSplit told all end → IsBeginningOf records all
+AreFirst (Some known) records = (all : List (List ℕ)) (end : Ending) → IsSplit known all end → IsBeginningOf records all
 
-placed_untold : (first : ℕ) (records : List (List ℕ)) → ArePlaced None first records
-placed_untold first [] = tt
-placed_untold first (bytes ∷ records) = (tt, placed_untold (first + 1) records)
+placed_unknown : (first : ℕ) (records : List (List ℕ)) → ArePlaced None first records
+placed_unknown first [] = tt
+placed_unknown first (bytes ∷ records) = (tt, placed_unknown (first + 1) records)
 
-placed_told : (told : List ℕ) (found records : List (List ℕ)) → AreFirst (Some told) (found ++ records) → ArePlaced (Some told) (length found) records
-placed_told told found [] first = tt
-placed_told told found (bytes ∷ records) first =
-    let more : AreFirst (Some told) ((found ++ bytes ∷ []) ++ records) =
+placed_known : (known : List ℕ) (found records : List (List ℕ)) → AreFirst (Some known) (found ++ records) → ArePlaced (Some known) (length found) records
+placed_known known found [] first = tt
+placed_known known found (bytes ∷ records) first =
+    let more : AreFirst (Some known) ((found ++ bytes ∷ []) ++ records) =
     λ all end split. let f = first all end split in (f.0, f.1 ∙ ap (λ l. l ++ f.0) (sym (append_assoc found (bytes ∷ []) records))) in (
       λ all end split. let f = first all end split in
           record { front = found; rest = records ++ f.0; parts = f.1 ∙ append_assoc found (bytes ∷ records) f.0; before = refl },
-      subst (λ n. ArePlaced (Some told) n records) (length-append found (bytes ∷ [])) (placed_told told (found ++ bytes ∷ []) records more),
+      subst (λ n. ArePlaced (Some known) n records) (length-append found (bytes ∷ [])) (placed_known known (found ++ bytes ∷ []) records more),
     )
 
 -- the last of them stand after the others
-pub placed_after : (told : Option (List ℕ)) (found records : List (List ℕ)) → AreFirst told (found ++ records) → ArePlaced told (length found) records
-placed_after None found records first = placed_untold (length found) records
-placed_after (Some told) found records first = placed_told told found records first
+pub placed_after : (known : Option (List ℕ)) (found records : List (List ℕ)) → AreFirst known (found ++ records) → ArePlaced known (length found) records
+placed_after None found records first = placed_unknown (length found) records
+placed_after (Some known) found records first = placed_known known found records first
 
-pub placed_from : (told : Option (List ℕ)) (found records : List (List ℕ)) (place : ℕ) → place ≡ length found → AreFirst told (found ++ records) → ArePlaced told place records
-placed_from told found records place is first = subst (λ n. ArePlaced told n records) (sym is) (placed_after told found records first)
+pub placed_from : (known : Option (List ℕ)) (found records : List (List ℕ)) (place : ℕ) → place ≡ length found → AreFirst known (found ++ records) → ArePlaced known place records
+placed_from known found records place is first = subst (λ n. ArePlaced known n records) (sym is) (placed_after known found records first)
 
 same_first : (bytes : List ℕ) (records all : List (List ℕ)) (end other : Ending) → IsSplit bytes records other → IsSplit bytes all end → IsBeginningOf records all
 same_first bytes records all end other mine split = ([], (split_same bytes all records end other split mine).0 ∙ sym (append-nil records))
@@ -57,30 +57,30 @@ marked_first bytes fails records (Ended ending.Oversize) m all end split = same_
 marked_first bytes fails records (Ended ending.Many) m all end split = same_first bytes records all end ending.Many m.1 split
 marked_first bytes fails records (Ended ending.Memory) m all end split = m all end split
 
-pub first_found : (told : Option (List ℕ)) (fails : Bool) (records : List (List ℕ)) (mark : Mark) → IsFoundIn told fails records mark → AreFirst told records
+pub first_found : (known : Option (List ℕ)) (fails : Bool) (records : List (List ℕ)) (mark : Mark) → IsFoundIn known fails records mark → AreFirst known records
 first_found None fails records mark f = tt
-first_found (Some told) fails records mark f = λ all end split.
+first_found (Some known) fails records mark f = λ all end split.
     marked_first f.bytes f.fails records mark f.marked all end (subst (λ t. IsSplit t all end) f.gave.0 split)
 
-first_read : (told : Option (List ℕ)) (told_fails : Bool) (rounds : ℕ) (to_come : Option (List ℕ)) (fails : Bool) (records : List (List ℕ)) (state : FramerState)
-    → IsBeingRead told told_fails rounds to_come fails records state → AreFirst told records
-first_read None told_fails rounds to_come fails records state r = tt
-first_read (Some told) told_fails rounds None fails records state r = absurd r.took
-first_read (Some told) told_fails rounds (Some left) fails records state r = λ all end split.
+first_read : (known : Option (List ℕ)) (known_fails : Bool) (rounds : ℕ) (to_come : Option (List ℕ)) (fails : Bool) (records : List (List ℕ)) (state : FramerState)
+    → IsBeingRead known known_fails rounds to_come fails records state → AreFirst known records
+first_read None known_fails rounds to_come fails records state r = tt
+first_read (Some known) known_fails rounds None fails records state r = absurd r.took
+first_read (Some known) known_fails rounds (Some left) fails records state r = λ all end split.
     beginning_stands r.read left records state r.stands all end (subst (λ t. IsSplit t all end) r.took split)
 
-first_ended : (told : Option (List ℕ)) (told_fails : Bool) (records : List (List ℕ)) (state : FramerState) → IsReadToItsEnd told told_fails records state → AreFirst told records
-first_ended None told_fails records state r = tt
-first_ended (Some told) told_fails records state r = λ all end split.
+first_ended : (known : Option (List ℕ)) (known_fails : Bool) (records : List (List ℕ)) (state : FramerState) → IsReadToItsEnd known known_fails records state → AreFirst known records
+first_ended None known_fails records state r = tt
+first_ended (Some known) known_fails records state r = λ all end split.
     beginning_stands r.read [] records state r.stands all end (subst (λ t. IsSplit t all end) (r.gave.0 ∙ sym (append-nil r.read)) split)
 
 -- the records that one more read led to
-pub first_step : (told : Option (List ℕ)) (told_fails : Bool) (rounds : ℕ) (to_come : Option (List ℕ)) (fails : Bool) (records : List (List ℕ)) (state : FramerState) (led : PieceOutcome)
-    → LeadsTo told told_fails rounds to_come fails records state led → AreFirst told records
-first_step told told_fails rounds to_come fails records state step.More leads = first_read told told_fails (rounds + 1) to_come fails records state leads
-first_step told told_fails rounds to_come fails records state step.Ended leads = first_ended told told_fails records state leads
-first_step told told_fails rounds to_come fails records state step.Failed leads = first_found told told_fails records Io leads
-first_step told told_fails rounds to_come fails records state (step.Faulted fault) leads = first_found told told_fails records (Ended _) leads
+pub first_step : (known : Option (List ℕ)) (known_fails : Bool) (rounds : ℕ) (to_come : Option (List ℕ)) (fails : Bool) (records : List (List ℕ)) (state : FramerState) (led : PieceOutcome)
+    → LeadsTo known known_fails rounds to_come fails records state led → AreFirst known records
+first_step known known_fails rounds to_come fails records state step.More leads = first_read known known_fails (rounds + 1) to_come fails records state leads
+first_step known known_fails rounds to_come fails records state step.Ended leads = first_ended known known_fails records state leads
+first_step known known_fails rounds to_come fails records state step.Failed leads = first_found known known_fails records Io leads
+first_step known known_fails rounds to_come fails records state (step.Faulted fault) leads = first_found known known_fails records (Ended _) leads
 
 -- of records in a row, the one after the first ones
 pub each_at : (fits : ℕ → List ℕ → Type 0) (first : ℕ) (before : List (List ℕ)) (bytes : List ℕ) (rest : List (List ℕ)) → EachAt fits first (before ++ bytes ∷ rest)

@@ -13,21 +13,21 @@ GiveRecords records [] = records ≡ []
 GiveRecords records (Records batch ∷ messages) = (rest : List (List ℕ)) × (records ≡ batch.items ++ rest) × GiveRecords rest messages
 GiveRecords records (_ ∷ messages) = ⊥
 
--- the messages give the records of what was found in a source that told this of itself
+-- the messages give the records of what was found in a source of which this is known
 abbrev pub GivesFound : Option (List ℕ) → Bool → List ReadMessage → Mark → Type 0
-GivesFound told fails messages mark = (records : List (List ℕ)) × GiveRecords records messages × IsFoundIn told fails records mark
+GivesFound known fails messages mark = (records : List (List ℕ)) × GiveRecords records messages × IsFoundIn known fails records mark
 
 -- all messages of a reader: these records in order, then this one mark, then one stop
 abbrev pub IsTold : List (List ℕ) → Mark → List ReadMessage → Type 0
 IsTold records mark messages = (front : List ReadMessage) × (messages ≡ front ++ End mark ∷ Stop ∷ []) × GiveRecords records front
 
--- all messages of the reader of a source that told this of itself
+-- all messages of the reader of a source of which this is known
 abbrev pub TellsOf : Option (List ℕ) → Bool → List ReadMessage → Type 0
-TellsOf told fails messages = (records : List (List ℕ)) × (mark : Mark) × IsTold records mark messages × IsFoundIn told fails records mark
+TellsOf known fails messages = (records : List (List ℕ)) × (mark : Mark) × IsTold records mark messages × IsFoundIn known fails records mark
 
 -- the giver that a reader gives back gave all messages to the link that it had
 abbrev pub GivesBack : Option (List ℕ) → Bool → Giver ReadMessage → Option (Giver ReadMessage) → Type 0
-GivesBack told fails giver result = IfSome result (λ after. GivesToSame giver after × TellsOf told fails (given after))
+GivesBack known fails giver result = IfSome result (λ after. GivesToSame giver after × TellsOf known fails (given after))
 
 -- there is no stop among the messages
 abbrev pub GoOn : List ReadMessage → Type 0

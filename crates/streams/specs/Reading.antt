@@ -9,44 +9,44 @@ use Rattle.streams.specs.declared.reading.PieceOutcome.{PieceOutcome}
 use Rattle.streams.specs.declared.reading.PieceOutcome.TheVariants.{More, Ended, Failed, Faulted}
 use Rattle.streams.specs.Marks.{IsMarked}
 
--- what a source told of itself is true of these bytes and of this failing; one that told nothing may have given any
-abbrev pub IsToldOf : Option (List ℕ) → Bool → List ℕ → Bool → Type 0
-IsToldOf None told_fails bytes fails = ⊤
-IsToldOf (Some told) told_fails bytes fails = (told ≡ bytes) × (told_fails ≡ fails)
+-- what is known beforehand of a source is true of these bytes and of this failing; one of which nothing is known may have given any
+abbrev pub IsKnownOf : Option (List ℕ) → Bool → List ℕ → Bool → Type 0
+IsKnownOf None known_fails bytes fails = ⊤
+IsKnownOf (Some known) known_fails bytes fails = (known ≡ bytes) × (known_fails ≡ fails)
 
--- the records and the mark are those of bytes that the source may have given, and where it told its bytes, of these
-pub record IsFoundIn (told : Option (List ℕ)) (told_fails : Bool) (records : List (List ℕ)) (found : Mark) : Type 0 where
+-- the records and the mark are those of bytes that the source may have given, and where its bytes are known, of these
+pub record IsFoundIn (known : Option (List ℕ)) (known_fails : Bool) (records : List (List ℕ)) (found : Mark) : Type 0 where
   pub bytes : List ℕ
   pub fails : Bool
-  pub gave : IsToldOf told told_fails bytes fails
+  pub gave : IsKnownOf known known_fails bytes fails
   pub marked : IsMarked bytes fails records found
 
 -- bytes that were read of the source in so many rounds led to these records and to this state; the others are to come. Each round read
 -- a byte at least
-pub record IsBeingRead (told : Option (List ℕ)) (told_fails : Bool) (rounds : ℕ) (to_come : Option (List ℕ)) (fails : Bool) (records : List (List ℕ)) (state : FramerState) : Type 0 where
+pub record IsBeingRead (known : Option (List ℕ)) (known_fails : Bool) (rounds : ℕ) (to_come : Option (List ℕ)) (fails : Bool) (records : List (List ℕ)) (state : FramerState) : Type 0 where
   pub read : List ℕ
-  pub took : Consumes told to_come read
-  pub same : fails ≡ told_fails
+  pub took : Consumes known to_come read
+  pub same : fails ≡ known_fails
   pub stands : StandsAt read records state
   pub running : HasNotFailed state
   pub went : rounds ≤ length read
 
 -- all bytes of the source were read, and it ended
-pub record IsReadToItsEnd (told : Option (List ℕ)) (told_fails : Bool) (records : List (List ℕ)) (state : FramerState) : Type 0 where
+pub record IsReadToItsEnd (known : Option (List ℕ)) (known_fails : Bool) (records : List (List ℕ)) (state : FramerState) : Type 0 where
   pub read : List ℕ
-  pub gave : IsToldOf told told_fails read false
+  pub gave : IsKnownOf known known_fails read false
   pub stands : StandsAt read records state
 
 -- what one more read led to
 abbrev pub LeadsTo : Option (List ℕ) → Bool → ℕ → Option (List ℕ) → Bool → List (List ℕ) → FramerState → PieceOutcome → Type 0
-LeadsTo told told_fails rounds to_come fails records state More = IsBeingRead told told_fails (rounds + 1) to_come fails records state
-LeadsTo told told_fails rounds to_come fails records state Ended = IsReadToItsEnd told told_fails records state
-LeadsTo told told_fails rounds to_come fails records state Failed = IsFoundIn told told_fails records mark.Io
-LeadsTo told told_fails rounds to_come fails records state (Faulted fault) = IsFoundIn told told_fails records (mark.Ended (ending_of fault))
+LeadsTo known known_fails rounds to_come fails records state More = IsBeingRead known known_fails (rounds + 1) to_come fails records state
+LeadsTo known known_fails rounds to_come fails records state Ended = IsReadToItsEnd known known_fails records state
+LeadsTo known known_fails rounds to_come fails records state Failed = IsFoundIn known known_fails records mark.Io
+LeadsTo known known_fails rounds to_come fails records state (Faulted fault) = IsFoundIn known known_fails records (mark.Ended (ending_of fault))
 
 -- Whatever was read of the source before, and whatever records were taken out of the list by then.
 abbrev pub ReadsOn : Option (List ℕ) → Bool → List (List ℕ) → FramerState → Option (List ℕ) → Bool → List (List ℕ) → FramerState → PieceOutcome → Type 0
 ReadsOn to_come fails records state now now_fails now_records now_state step =
-    (told : Option (List ℕ)) (told_fails : Bool) (rounds : ℕ) (earlier : List (List ℕ))
-    → IsBeingRead told told_fails rounds to_come fails (earlier ++ records) state
-    → LeadsTo told told_fails rounds now now_fails (earlier ++ now_records) now_state step
+    (known : Option (List ℕ)) (known_fails : Bool) (rounds : ℕ) (earlier : List (List ℕ))
+    → IsBeingRead known known_fails rounds to_come fails (earlier ++ records) state
+    → LeadsTo known known_fails rounds now now_fails (earlier ++ now_records) now_state step

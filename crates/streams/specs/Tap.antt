@@ -1,4 +1,4 @@
--- Where a tap stands that has no byte to give. A tap that does not tell its bytes claims nothing.
+-- Where a tap stands that has no byte to give. A tap whose bytes are not known claims nothing.
 use Rattle.std.specs.Prelude.{◌≡◌, ℕ, Bool, true, false, List, [], Option, None, Some, ⊤}
 
 -- no byte comes, and the tap ends

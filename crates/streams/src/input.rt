@@ -9,8 +9,8 @@ pub struct TapFault;
 
 /// A source of bytes, read in pieces.
 ///
-/// For proofs a tap has the bytes that are still to come, where it tells them, and whether it
-/// fails after the last of them or ends. A real file tells nothing.
+/// For proofs a tap has the bytes that are still to come, where they are known, and whether it
+/// fails after the last of them or ends. Of a real file nothing is known.
 pub trait Tap: Drop {
     ghost to_come: { Self → Option (List ℕ) };
 

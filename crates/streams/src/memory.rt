@@ -5,7 +5,7 @@ ghost use Rattle.streams.specs.Tap.{IsAtItsEnd, IsAtItsFailure};
 
 use super::input::{Tap, TapFault};
 
-/// A source of bytes in memory, of which a read gives at most a chosen number. It tells its bytes,
+/// A source of bytes in memory, of which a read gives at most a chosen number. Its bytes are known,
 /// and then ends.
 #[derive(Drop)]
 pub struct MemTap {

@@ -10,7 +10,7 @@ pub struct SinkFault;
 
 /// A place that takes text, a piece at a time and not always a whole piece.
 ///
-/// For proofs a sink has the bytes that it took, where it tells them, and whether it has failed.
+/// For proofs a sink has the bytes that it took, where they are known, and whether it has failed.
 pub trait Sink {
     ghost taken: { Self → Option (List ℕ) };
 
@@ -43,7 +43,7 @@ impl<W: Write> IoSink<W> {
     /// A sink over this writer. It has taken what the writer contains, and has not failed.
     pub fn new(writer: W) -> IoSink<W>
         ensures taken { ⟦<IoSink<W> as Sink>⟧.taken result ≡ W.contents writer }
-        ensures whole { ⟦<IoSink<W> as Sink>⟧.failed result ≡ false }
+        ensures intact { ⟦<IoSink<W> as Sink>⟧.failed result ≡ false }
     {
         IoSink {
             writer,

@@ -57,11 +57,11 @@ pub fn run_frames<R: Threads + Wait + Sync, T: Tap + Send>(
 ) -> Result<Frames, BatchFault>
     requires least { 1 ≤ capacity }
     requires most { capacity ≤ MAX_CAPACITY }
-    ensures told { IfOk result (λ found. (bytes : List ℕ) → T.to_come source ≡ Some bytes
+    ensures known { IfOk result (λ found. (bytes : List ℕ) → T.to_come source ≡ Some bytes
         → IsMarked bytes (T.fails source) found.records found.mark) }
 
-    // A source that does not tell its bytes gave some bytes, and then ended or failed.
-    ensures untold { IfOk result (λ found. (bytes : List ℕ)
+    // A source whose bytes are not known gave some bytes, and then ended or failed.
+    ensures unknown { IfOk result (λ found. (bytes : List ℕ)
         × ((fails : Bool) × IsMarked bytes fails found.records found.mark)) }
     ensures one_source { IfErr result (λ fault.
         (fault ≢ BatchFault.TooManyFiles) × (fault ≢ BatchFault.BadLanes)) }
@@ -145,7 +145,7 @@ fn gather<R: Wait>(
 fn settle<R: Wait>(rt: &R, gathered: GatheredRecords, giver: Giver<ReadMessage>) -> Frames
     requires ends { AreEnds giver gathered.taker }
     requires all { GathersAll gathered.records.items gathered.mark (taken gathered.taker) }
-    requires told { (records : List (List ℕ)) × (mark : Mark) × IsTold records mark (given giver) }
+    requires known { (records : List (List ℕ)) × (mark : Mark) × IsTold records mark (given giver) }
     ensures { (records : List (List ℕ)) (mark : Mark) → IsTold records mark (given giver)
         → (result.records ≡ records) × (result.mark ≡ mark) }
 {

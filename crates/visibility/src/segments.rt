@@ -108,7 +108,7 @@ impl Segments {
     }
 
     /// Adds a segment with this coordinate that begins and ends at the vertex or corner with this place, and
-    /// gives back its own place among all. Places from 65,535 on are all that one.
+    /// gives back its own place among all. A place above 65,535 is kept as 65,535.
     pub(crate) fn add_at(&mut self, coordinate: u32, place: u16) -> Result<u16, AllocError> {
         self.add(coordinate, place, place, 0)
     }

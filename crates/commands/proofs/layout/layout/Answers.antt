@@ -9,8 +9,8 @@ returns-in_default-clause-begun g c =
     let asked = c.args.asked.now in
     begun_by_nothing asked.choice (meanings (g.I.Opener.meaning c.args.input.now 0) asked.names.items) asked.style.form (vec_len asked.names) (g.S.Sink.taken c.args.out.now)
 
-pub returns-in-Ok-write_batch-clause-reported : goal.returns-in-Ok-write_batch-clause-reported
-returns-in-Ok-write_batch-clause-reported g c =
+pub returns-in-Ok-write_batch-clause-written : goal.returns-in-Ok-write_batch-clause-written
+returns-in-Ok-write_batch-clause-written g c =
     let asked = c.args.asked.now in
     let all = c.in-Ok-write_batch.ensures.written in
     laid_out (meanings (g.I.Opener.meaning c.args.input.now 0)) asked.choice asked.style.form asked.names.items c.as_slice-names.result.now c.in-Ok.files (vec_len asked.names)

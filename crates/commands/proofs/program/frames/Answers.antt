@@ -9,17 +9,17 @@ use Rattle.commands.proofs.program.frames.Goals as goal
 marked_alike : (bytes : List ℕ) (fails also : Bool) (records : List (List ℕ)) (mark : Mark) → fails ≡ also → IsMarked bytes fails records mark → IsMarked bytes also records mark
 marked_alike bytes fails also records mark same marked = rw same at marked
 
-pub returns-clause-reported : goal.returns-clause-reported
-returns-clause-reported g c =
-    let untold = c.in_ok-found.ensures.untold in
+pub returns-clause-written : goal.returns-clause-written
+returns-clause-written g c =
+    let unknown = c.in_ok-found.ensures.unknown in
     record {
       found = c.in_ok-found.found;
-      bytes = untold.0;
-      fails = untold.1.0;
-      marked = untold.1.1;
-      told = λ bytes told.
-          let tells = c.in_ok-source.ensures.told bytes told in
-          marked_alike bytes _ _ _ _ tells.1 (c.in_ok-found.ensures.told bytes tells.0);
+      bytes = unknown.0;
+      fails = unknown.1.0;
+      marked = unknown.1.1;
+      known = λ bytes known.
+          let tells = c.in_ok-source.ensures.known bytes known in
+          marked_alike bytes _ _ _ _ tells.1 (c.in_ok-found.ensures.known bytes tells.0);
       text = search rules;
       whole = search rules;
       complete = search rules;
@@ -28,15 +28,15 @@ returns-clause-reported g c =
 
 pub returns-in_err-write_frames-clause-begun : goal.returns-in_err-write_frames-clause-begun
 returns-in_err-write_frames-clause-begun g c =
-    let untold = c.in_ok-found.ensures.untold in
+    let unknown = c.in_ok-found.ensures.unknown in
     let taken = g.S.Sink.taken in
     on_err c.from_residual-in_err-write_frames.result (inr (record {
       found = c.in_ok-found.found;
-      bytes = untold.0;
-      fails = untold.1.0;
-      marked = untold.1.1;
-      told = λ bytes told.
-          let tells = c.in_ok-source.ensures.told bytes told in
-          marked_alike bytes _ _ _ _ tells.1 (c.in_ok-found.ensures.told bytes tells.0);
+      bytes = unknown.0;
+      fails = unknown.1.0;
+      marked = unknown.1.1;
+      known = λ bytes known.
+          let tells = c.in_ok-source.ensures.known bytes known in
+          marked_alike bytes _ _ _ _ tells.1 (c.in_ok-found.ensures.known bytes tells.0);
       text = front_of (taken c.args.out.now) (taken c.write_frames.new.sink) _ (frames_text c.in_ok-found.found) c.in_err-write_frames.field-0.0 c.in_err-write_frames.ensures;
     }))

@@ -1,15 +1,15 @@
 use Rattle.std.proofs.Common.{rules, ◌≡◌, ◌∙◌, List, OnOk, IfErr, false, arith, ap, subst, sym}
 use Rattle.lanes.specs.Notes.{Note}
 use Rattle.lanes.specs.Files.{AreToldWhole}
-use Rattle.lane_runs.specs.Faults.{EndsRun}
+use Rattle.lane_runs.specs.Faults.{HoldsOnRunFault}
 use Rattle.printing.specs.declared.refusal.Refusal.{Refusal}
 use Rattle.printing.specs.Written.{GivesUp}
-use Rattle.printing.specs.Holding.{form_of, choice_of, files_of, LinesHold, LinesBreakOff}
+use Rattle.printing.specs.Holding.{form_of, choice_of, files_of, LinesHold, ArePartialLines}
 use Rattle.printing.specs.Whole.{IsAllWritten, IsBegun}
 use Rattle.printing.proofs.Ordering.{begun_none}
 use Rattle.printing.proofs.Held.{left_off_held}
 use Rattle.commands.proofs.Begun.{ended_with, begun_lines}
-use Rattle.commands.proofs.Taking.{takes_known}
+use Rattle.commands.proofs.Accepting.{accepts_known}
 use Rattle.commands.proofs.text.write_files.Goals as goal
 
 pub returns-in-Ok-finish-clause-written : goal.returns-in-Ok-finish-clause-written
@@ -46,7 +46,7 @@ returns-in-Err-finish-clause-begun g c =
     let form : form_of texts.lines ≡ c.args.style.form = stays.2.form ∙ ap form_of c.new-texts.ensures.lines ∙ c.in-Ok.ensures.form in
     let files : files_of texts.lines ≡ c.args.run.now.files = stays.2.files ∙ ap files_of c.new-texts.ensures.lines ∙ c.in-Ok.ensures.files in
     let start : texts.start.value ≡ c.args.sink.now = sym stays.1 ∙ c.new-texts.ensures.start in
-    let left = c.in-Err-finish.ensures.broken g.J.Meant.meaning told.0 told.1.1 in
+    let left = c.in-Err-finish.ensures.partial g.J.Meant.meaning told.0 told.1.1 in
     subst (λ s. ∥ IsBegun c.args.run.now.choice (g.O.Opener.meaning c.args.run.now.opener.now) c.args.style.form c.args.run.now.files (taken c.args.sink.now) (taken s) ∥₁) (search rules)
     (subst (λ b. ∥ IsBegun c.args.run.now.choice (g.O.Opener.meaning c.args.run.now.opener.now) c.args.style.form c.args.run.now.files (taken b) (taken c.finish.new.self.0) ∥₁) start
     (subst (λ m. ∥ IsBegun c.args.run.now.choice m c.args.style.form c.args.run.now.files (taken texts.start.value) (taken c.finish.new.self.0) ∥₁) c.requires.told
@@ -57,21 +57,21 @@ returns-in-Err-clause-begun g c =
     let taken = g.S.Sink.taken in
     let texts = c.run_into-texts.result in
     let stays = c.run_into-texts.ensures.stays in
-    let Left : Type 0 = (ns : List Note) × LinesBreakOff g.J.Meant.meaning (taken texts.start.value) (taken texts.sink.now) texts.lines ns in
+    let Left : Type 0 = (ns : List Note) × ArePartialLines g.J.Meant.meaning (taken texts.start.value) (taken texts.sink.now) texts.lines ns in
     let gave_up : Refusal → Type 0 = λ refusal. GivesUp (g.S.Sink.failed texts.sink.now) refusal × Left in
     let holds : List Note → Type 0 = λ ns. (g.S.Sink.failed texts.sink.now ≡ false) × LinesHold g.J.Meant.meaning (taken texts.start.value) (taken texts.sink.now) texts.lines ns in
-    let ended = subst (λ r. IfErr r (EndsRun gave_up holds)) c.in-Err.is c.run_into-texts.ensures.ended in
+    let failed = subst (λ r. IfErr r (HoldsOnRunFault gave_up holds)) c.in-Err.is c.run_into-texts.ensures.failed in
     let choice : choice_of texts.lines ≡ c.args.run.now.choice = stays.2.choice ∙ ap choice_of c.new-texts.ensures.lines ∙ c.in-Ok.ensures.choice in
     let form : form_of texts.lines ≡ c.args.style.form = stays.2.form ∙ ap form_of c.new-texts.ensures.lines ∙ c.in-Ok.ensures.form in
     let files : files_of texts.lines ≡ c.args.run.now.files = stays.2.files ∙ ap files_of c.new-texts.ensures.lines ∙ c.in-Ok.ensures.files in
     let start : texts.start.value ≡ c.args.sink.now = sym stays.1 ∙ c.new-texts.ensures.start in
     let left : Left =
-    ended_with gave_up holds c.in-Err.fault (λ refusal gave. gave.1) (λ ns held. (ns, left_off_held g.J.Meant.meaning (taken texts.start.value) (taken texts.sink.now) texts.lines ns held.1)) ended in
+    ended_with gave_up holds c.in-Err.fault (λ refusal gave. gave.1) (λ ns held. (ns, left_off_held g.J.Meant.meaning (taken texts.start.value) (taken texts.sink.now) texts.lines ns held.1)) failed in
     subst (λ s. ∥ IsBegun c.args.run.now.choice (g.O.Opener.meaning c.args.run.now.opener.now) c.args.style.form c.args.run.now.files (taken c.args.sink.now) (taken s) ∥₁) (search rules)
     (subst (λ s. ∥ IsBegun c.args.run.now.choice (g.O.Opener.meaning c.args.run.now.opener.now) c.args.style.form c.args.run.now.files (taken c.args.sink.now) (taken s) ∥₁) (sym c.let_go.ensures)
     (subst (λ b. ∥ IsBegun c.args.run.now.choice (g.O.Opener.meaning c.args.run.now.opener.now) c.args.style.form c.args.run.now.files (taken b) (taken texts.sink.now) ∥₁) start
     (subst (λ m. ∥ IsBegun c.args.run.now.choice m c.args.style.form c.args.run.now.files (taken texts.start.value) (taken texts.sink.now) ∥₁) c.requires.told
     (begun_lines c.args.run.now.choice g.J.Meant.meaning c.args.style.form c.args.run.now.files (taken texts.start.value) (taken texts.sink.now) texts.lines choice form files left.0 left.1))))
 
-pub run_into-texts-requires-clause-takes : goal.run_into-texts-requires-clause-takes
-run_into-texts-requires-clause-takes g c κs within = takes_known _ _ c.requires.told
+pub run_into-texts-requires-clause-accepts : goal.run_into-texts-requires-clause-accepts
+run_into-texts-requires-clause-accepts g c κs within = accepts_known _ _ c.requires.told

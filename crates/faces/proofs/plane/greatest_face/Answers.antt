@@ -5,11 +5,11 @@ use Rattle.faces.specs.Greatest.{IsFirstGreatest}
 use Rattle.faces.proofs.Greatest.{best_first}
 use Rattle.faces.proofs.plane.greatest_face.Goals as goal
 
-pub degree_of-most-requires : goal.degree_of-most-requires
-degree_of-most-requires c = λ other f h. omega (arith, h.named 0 (darts_some c.args.graph.now c.requires))
+pub face_degree-most-requires : goal.face_degree-most-requires
+face_degree-most-requires c = λ other f h. omega (arith, h.named 0 (darts_some c.args.graph.now c.requires))
 
 pub loop-face-init : goal.loop-face-init
-loop-face-init c = λ face f h. best_first _ face _ (c.degree_of-most.ensures face f h)
+loop-face-init c = λ face f h. best_first _ face _ (c.face_degree-most.ensures face f h)
 
 pub returns : goal.returns
 returns c =

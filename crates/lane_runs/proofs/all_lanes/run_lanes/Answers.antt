@@ -1,19 +1,19 @@
 use Rattle.std.proofs.Common.{◌≡◌, true, vec_len, subst, arith}
 use Rattle.ruled_lanes.specs.TicketSeats.{limit_of, has_ended, IsSeatOf}
-use Rattle.lane_runs.specs.Running.{HasEnded}
-use Rattle.lane_runs.specs.Taking.{TakesAll}
+use Rattle.lane_runs.specs.Running.{LeavesConsumer}
+use Rattle.lane_runs.specs.Accepting.{AcceptsAll}
 use Rattle.lane_runs.proofs.Seats.{drawn_once}
 use Rattle.lane_runs.proofs.all_lanes.run_lanes.Goals as goal
 
 pub returns-in-Ok-ran-clause-told : goal.returns-in-Ok-ran-clause-told
 returns-in-Ok-ran-clause-told g c =
     let tickets = c.in-Ok.tickets in
-    let all = subst (HasEnded g.C.Consumer.holds g.C.Consumer.gave_up c.args.run.now.choice (g.O.Opener.meaning c.args.run.now.opener.now) tickets (vec_len c.in-Ok.seats) c.run_seats-consumer.result.0)
+    let all = subst (LeavesConsumer g.C.Consumer.holds g.C.Consumer.gave_up c.args.run.now.choice (g.O.Opener.meaning c.args.run.now.opener.now) tickets (vec_len c.in-Ok.seats) c.run_seats-consumer.result.0)
     c.in-Ok-ran.is c.run_seats-consumer.ensures.ended in
     let once = drawn_once (λ s. IsSeatOf tickets s × (has_ended s ≡ true)) c.in-Ok-ran.seats.items c.close.result (limit_of tickets) c.args.run.now.files (λ s is. is.1) all.1
     (omega (arith, all.0, c.in-Ok.ensures.seats.0, c.args.run.now.some)) c.in-Ok.ensures.limits.0 c.close.ensures.each_once c.close.ensures.ended in
     (all.2.0, all.2.1, λ file below. all.2.2 file (once file below))
 
-pub run_seats-consumer-requires-clause-takes : goal.run_seats-consumer-requires-clause-takes
-unfolding TakesAll
-run_seats-consumer-requires-clause-takes g c κs within = c.requires.takes
+pub run_seats-consumer-requires-clause-accepts : goal.run_seats-consumer-requires-clause-accepts
+unfolding AcceptsAll
+run_seats-consumer-requires-clause-accepts g c κs within = c.requires.accepts

@@ -1,5 +1,5 @@
 use Rattle.std.proofs.Common.{arith}
-use Rattle.ortho_rep.proofs.Tries.{turned_again, incumbent_turned, tried_turned, tried_turning, tried_next, no_bounds, best_of}
+use Rattle.ortho_rep.proofs.Tries.{moved_again, incumbent_moved, tried_moved, tried_moving, tried_next, no_bounds, best_of}
 use Rattle.ortho_rep.proofs.best.best_incumbent.Goals as goal
 
 pub bends_and_bounds-bends-requires-clause-bounds : goal.bends_and_bounds-bends-requires-clause-bounds
@@ -14,12 +14,12 @@ loop-face-preserved c =
     let known = c.loop-face.invariant in
     let tried = c.visit-moving.ensures in
     record {
-      turned = turned_again plane was is was.outer is.outer known.turned tried.turned;
+      outer_moved = moved_again plane was is was.outer is.outer known.outer_moved tried.outer_moved;
       moving = tried.moving;
       incumbent = tried.incumbent;
       bounds = tried.bounds;
       best = tried_next is c.visit-moving.new.incumbent other c.loop-face.face tried.no_worse
-          (λ f b. tried_turning was is is.outer other.bends other.face f tried.turned (known.best f b))
+          (λ f b. tried_moving was is is.outer other.bends other.face f tried.outer_moved (known.best f b))
           tried.tried;
     }
 
@@ -30,5 +30,5 @@ returns-clause-best c =
     let incumbent = c.loop-face.incumbent in
     let known = c.loop-face.invariant in
     best_of plane incumbent
-    (incumbent_turned plane was was.outer incumbent known.turned known.incumbent)
-    (λ f b. tried_turned plane was was.outer incumbent.bends incumbent.face f known.turned (known.best f (omega (arith, c.face_count-faces.ensures.value))))
+    (incumbent_moved plane was was.outer incumbent known.outer_moved known.incumbent)
+    (λ f b. tried_moved plane was was.outer incumbent.bends incumbent.face f known.outer_moved (known.best f (omega (arith, c.face_count-faces.ensures.value))))

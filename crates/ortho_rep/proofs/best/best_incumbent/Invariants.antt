@@ -5,7 +5,7 @@ use Rattle.ortho_rep.proofs.best.best_incumbent.Given as goal
 
 abbrev pub invariant-loop-face : goal.invariant-loop-face
 invariant-loop-face l = record {
-  turned : l.plane ≡ with_outer l.fn.plane l.plane.outer;
+  outer_moved : l.plane ≡ with_outer l.fn.plane l.plane.outer;
   moving : IsMoving l.plane l.moving;
   incumbent : IsIncumbent l.plane l.incumbent;
   bounds : AreBounds l.plane l.bounds;

@@ -5,7 +5,7 @@ use Rattle.ortho_rep.proofs.best.tour.Given as goal
 
 abbrev pub invariant-loop-step : goal.invariant-loop-step
 invariant-loop-step l = record {
-  turned : l.plane ≡ with_outer l.fn.plane l.plane.outer;
+  outer_moved : l.plane ≡ with_outer l.fn.plane l.plane.outer;
   moving : IsMoving l.plane l.moving;
   incumbent : IsIncumbent l.plane l.incumbent;
   bounds : AreBounds l.plane l.bounds;

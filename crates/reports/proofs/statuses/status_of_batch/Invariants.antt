@@ -6,5 +6,5 @@ use Rattle.reports.proofs.statuses.status_of_batch.Given as goal
 abbrev pub invariant-loop-file : goal.invariant-loop-file
 invariant-loop-file l = record {
   end : l.file-end ≡ length l.batch;
-  whole : (k : ℕ) (d : BookModel) → k < l.file → IsFlawlessBook (slice_index_or l.batch k d);
+  flawless : (k : ℕ) (d : BookModel) → k < l.file → IsFlawlessBook (slice_index_or l.batch k d);
 }

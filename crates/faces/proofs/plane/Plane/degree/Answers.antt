@@ -3,6 +3,6 @@ use Rattle.embedding.proofs.Unique.{one_count}
 use Rattle.faces.specs.Planes.{PlaneModel}
 use Rattle.faces.proofs.plane.Plane.degree.Goals as goal
 
-pub degree_of-requires : goal.degree_of-requires
-degree_of-requires c =
+pub face_degree-requires : goal.face_degree-requires
+face_degree-requires c =
     λ other f h. omega (arith, c.requires, ap (λ (m : PlaneModel). m.faces) c.self.view_is, one_count _ _ _ other _ f c.self.invariant.faces h)

@@ -13,5 +13,5 @@ join_lanes-requires-clause-idle g c = λ κs within. idle_still c.args.gatherer 
 pub join_lanes-requires-clause-stopped : goal.join_lanes-requires-clause-stopped
 join_lanes-requires-clause-stopped g c = λ κs within lane below. c.in-Ok.ensures.stopped lane (omega (arith, below, c.len-lanes.ensures, c.requires.lanes))
 
-pub returns-in-Err-clause-ended : goal.returns-in-Err-clause-ended
-returns-in-Err-clause-ended g c = ended_so _ _ _ _ c.from.ensures c.in-Ok.ensures.told
+pub returns-in-Err-clause-failed : goal.returns-in-Err-clause-failed
+returns-in-Err-clause-failed g c = ended_so _ _ _ _ c.from.ensures c.in-Ok.ensures.told

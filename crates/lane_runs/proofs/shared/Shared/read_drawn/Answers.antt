@@ -1,17 +1,17 @@
 use Rattle.lanes.specs.declared.message.Message.TheVariants.{End}
-use Rattle.lane_runs.specs.Taking.{TakesAll}
+use Rattle.lane_runs.specs.Accepting.{AcceptsAll}
 use Rattle.lanes.proofs.Passing.{notes-after}
 use Rattle.lane_runs.proofs.shared.Shared.read_drawn.Goals as goal
 
 pub read_file-requires-clause-accepted : goal.read_file-requires-clause-accepted
-unfolding TakesAll
-read_file-requires-clause-accepted g c κs within = λ place bytes placed. c.requires.takes.records c.args.file place bytes placed
+unfolding AcceptsAll
+read_file-requires-clause-accepted g c κs within = λ place bytes placed. c.requires.accepts.records c.args.file place bytes placed
 
 pub end-known-requires : goal.end-known-requires
-unfolding TakesAll
+unfolding AcceptsAll
 end-known-requires g c =
     let keeps = c.in-Ok.ensures.kept in
-    c.requires.takes.marks c.args.file _ _ (record { records = keeps.records; counted = keeps.counted; found = keeps.found })
+    c.requires.accepts.marks c.args.file _ _ (record { records = keeps.records; counted = keeps.counted; found = keeps.found })
 
 pub returns-clause-told : goal.returns-clause-told
 returns-clause-told g c = record {

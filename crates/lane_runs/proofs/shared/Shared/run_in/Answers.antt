@@ -20,7 +20,7 @@ pub returns-in-Ok : goal.returns-in-Ok
 returns-in-Ok g c = record {
   ended = all_ended g.C.Consumer.holds g.C.Consumer.gave_up c.args.self.now.run.now.choice (g.O.Opener.meaning c.args.self.now.run.now.opener.now) c.args.self.now.tickets.now
       (vec_len c.in-Ok.running) (vec_len c.args.seats) c.finish_lanes.new.consumer c.finish_lanes.result
-      c.in-Ok.ensures.count c.finish_lanes.ensures.count c.finish_lanes.ensures.seats c.finish_lanes.ensures.told c.finish_lanes.ensures.ended;
+      c.in-Ok.ensures.count c.finish_lanes.ensures.count c.finish_lanes.ensures.seats c.finish_lanes.ensures.told c.finish_lanes.ensures.failed;
   stays = c.finish_lanes.ensures.stays;
 }
 

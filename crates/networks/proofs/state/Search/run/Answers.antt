@@ -1,6 +1,6 @@
 use Rattle.std.proofs.Common.{◌≡◌, ◌≤◌, ◌+◌, arith, refl, ◌∙◌}
 use Rattle.std.specs.Prelude.{length}
-use Rattle.networks.specs.Search.{first_of, arcs_of, orders, looked, degree}
+use Rattle.networks.specs.Search.{first_of, arcs_of, orders, looked, out_degree}
 use Rattle.networks.proofs.Searching.{served_still, looked_ordered, looked_scanned, looked_few}
 use Rattle.networks.proofs.state.Search.run.Goals as goal
 
@@ -40,7 +40,7 @@ nodes-preserved c =
     let t = c.goes_on.new.self in
     let u = c.scan.new.self in
     let one : looked (first_of g) (orders t) t.scanned ≡ looked (first_of g) (orders s) s.scanned = looked_ordered g s t i.search o in
-    let two : looked (first_of g) (orders u) u.scanned ≡ looked (first_of g) (orders t) t.scanned + degree (first_of g) (orders t t.scanned) = looked_scanned g t u o.search (c.goes_on.ensures.more c.nodes-test.true) f.search f.kept f.scanned in
+    let two : looked (first_of g) (orders u) u.scanned ≡ looked (first_of g) (orders t) t.scanned + out_degree (first_of g) (orders t t.scanned) = looked_scanned g t u o.search (c.goes_on.ensures.more c.nodes-test.true) f.search f.kept f.scanned in
     record {
       search = f.search;
       list = f.list ∙ o.list ∙ i.list;

@@ -4,7 +4,7 @@ use Rattle.printing.specs.Waits.{ChangesAt, IsCountedOne}
 use Rattle.printing.proofs.Adding.{written_current, written_behind}
 use Rattle.printing.proofs.SucceedsOrFails.{ok_then}
 use Rattle.std.proofs.Common.{inl, inr}
-use Rattle.printing.proofs.Breaking.{breaks_written, breaks_line}
+use Rattle.printing.proofs.Partial.{partial_written, partial_line}
 use Rattle.printing.proofs.SucceedsOrFails.{err_then, err_any}
 use Rattle.printing.proofs.run_lines.Lines.add.Goals as goal
 
@@ -27,23 +27,23 @@ returns-clause-added g c = λ start before after entry is more was.
     written_behind self.form start (g.S.Sink.taken c.args.sink.now) self.buffer c.args.file self.current self.waiting.items c.count_one.new.waiting.items c.keep_line.new.waiting.items
     before after entry c.args.line.now c.requires.below behind is more c.in_ok-count_one.ensures.counted c.in_ok-more.ensures.kept was
 
-pub returns-in_err-count_one-clause-broken : goal.returns-in_err-count_one-clause-broken
-returns-in_err-count_one-clause-broken g c =
+pub returns-in_err-count_one-clause-partial : goal.returns-in_err-count_one-clause-partial
+returns-in_err-count_one-clause-partial g c =
     let self = c.args.self.now in
     err_any c.from_residual.result (λ start before after entry is more was.
-    inl (breaks_written self.form start (g.S.Sink.taken c.args.sink.now) self.buffer self.current self.waiting.items before was))
+    inl (partial_written self.form start (g.S.Sink.taken c.args.sink.now) self.buffer self.current self.waiting.items before was))
 
-pub returns-then-file-self-clause-broken : goal.returns-then-file-self-clause-broken
-returns-then-file-self-clause-broken g c =
+pub returns-then-file-self-clause-partial : goal.returns-then-file-self-clause-partial
+returns-then-file-self-clause-partial g c =
     let self = c.args.self.now in
     let at : c.args.file ≡ self.current = c.if-file-self.true in
     let below : self.current < length self.waiting.items = subst (λ k. k < length self.waiting.items) at c.requires.below in
-    err_then c.put.result c.put.ensures.broken (λ breaks start before after entry is more was.
-    inr (breaks_line self.form start (g.S.Sink.taken c.args.sink.now) (g.S.Sink.taken c.put.new.sink) self.buffer self.current self.waiting.items before after
+    err_then c.put.result c.put.ensures.partial (λ breaks start before after entry is more was.
+    inr (partial_line self.form start (g.S.Sink.taken c.args.sink.now) (g.S.Sink.taken c.put.new.sink) self.buffer self.current self.waiting.items before after
     entry c.args.line.now below is (subst (λ k. HasEntryMore k entry before after) at more) breaks was))
 
-pub returns-in_err-more-clause-broken : goal.returns-in_err-more-clause-broken
-returns-in_err-more-clause-broken g c =
+pub returns-in_err-more-clause-partial : goal.returns-in_err-more-clause-partial
+returns-in_err-more-clause-partial g c =
     let self = c.args.self.now in
     err_any c.from_residual-in_err-more.result (λ start before after entry is more was.
-    inl (breaks_written self.form start (g.S.Sink.taken c.args.sink.now) self.buffer self.current self.waiting.items before was))
+    inl (partial_written self.form start (g.S.Sink.taken c.args.sink.now) self.buffer self.current self.waiting.items before was))

@@ -1,7 +1,7 @@
 use Rattle.std.proofs.Common.{sym, ◌∙◌}
 use Rattle.printing.proofs.SucceedsOrFails.{ok_then}
 use Rattle.std.proofs.Common.{inl}
-use Rattle.printing.proofs.Breaking.{breaks_written}
+use Rattle.printing.proofs.Partial.{partial_written}
 use Rattle.printing.proofs.SucceedsOrFails.{err_then}
 use Rattle.printing.proofs.run_lines.Lines.add_lacking.Goals as goal
 
@@ -10,12 +10,12 @@ returns-in-Ok-clause-added g c =
     ok_then c.add.result c.add.ensures.added (λ added start before after entry of_it at lacks more was.
     added start before after entry (sym (c.as_slice.ensures.value ∙ c.in-Ok.ensures entry of_it at lacks)) more was)
 
-pub returns-in-Ok-clause-broken : goal.returns-in-Ok-clause-broken
-returns-in-Ok-clause-broken g c =
-    err_then c.add.result c.add.ensures.broken (λ broken start before after entry of_it at lacks more was.
-    broken start before after entry (sym (c.as_slice.ensures.value ∙ c.in-Ok.ensures entry of_it at lacks)) more was)
+pub returns-in-Ok-clause-partial : goal.returns-in-Ok-clause-partial
+returns-in-Ok-clause-partial g c =
+    err_then c.add.result c.add.ensures.partial (λ partial start before after entry of_it at lacks more was.
+    partial start before after entry (sym (c.as_slice.ensures.value ∙ c.in-Ok.ensures entry of_it at lacks)) more was)
 
-pub returns-in-Err-clause-broken : goal.returns-in-Err-clause-broken
-returns-in-Err-clause-broken g c = λ start before after entry of_it at lacks more was.
+pub returns-in-Err-clause-partial : goal.returns-in-Err-clause-partial
+returns-in-Err-clause-partial g c = λ start before after entry of_it at lacks more was.
     let self = c.args.self.now in
-    inl (breaks_written self.form start (g.S.Sink.taken c.args.sink.now) self.buffer self.current self.waiting.items before was)
+    inl (partial_written self.form start (g.S.Sink.taken c.args.sink.now) self.buffer self.current self.waiting.items before was)

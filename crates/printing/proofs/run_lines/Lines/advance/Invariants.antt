@@ -7,7 +7,7 @@ abbrev pub invariant-loop-mark : goal.invariant-loop-mark
 invariant-loop-mark g l = record {
   stands : g.S.Sink.failed l.sink ≡ false;
   same : AreLinesOf l.initial.self l.self;
-  whole : l.self.whole ≡ l.initial.self.whole;
+  flawless : l.self.flawless ≡ l.initial.self.flawless;
   written : (start : Option (List ℕ)) (came : ℕ → Came) → LinesWrite start (g.S.Sink.taken l.initial.sink) l.initial.self came → LinesWrite start (g.S.Sink.taken l.sink) l.self came;
 }
 

@@ -1,6 +1,6 @@
 use Rattle.printing.proofs.Moving.{written_begun}
 use Rattle.printing.proofs.SucceedsOrFails.{ok_then}
-use Rattle.printing.proofs.Breaking.{breaks_first, breaks_lines}
+use Rattle.printing.proofs.Partial.{partial_first, partial_lines}
 use Rattle.printing.proofs.SucceedsOrFails.{err_then, err_any}
 use Rattle.printing.proofs.run_lines.Lines.begin.Goals as goal
 
@@ -14,19 +14,19 @@ returns-clause-begun g c =
     written_begun self.form start old mid new self.buffer c.put_preamble.new.buffer c.put.new.buffer self.current self.waiting.items c.take_lines-lines.new.waiting.items came
     c.take_lines-lines.result c.requires.below c.in_ok-put_preamble.ensures.put c.take_lines-lines.ensures.lines c.take_lines-lines.ensures.taken goes was)
 
-pub returns-in_err-put_preamble-clause-broken : goal.returns-in_err-put_preamble-clause-broken
-returns-in_err-put_preamble-clause-broken g c =
+pub returns-in_err-put_preamble-clause-partial : goal.returns-in_err-put_preamble-clause-partial
+returns-in_err-put_preamble-clause-partial g c =
     let self = c.args.self.now in
     err_any c.from_residual.result (λ start came was.
-    breaks_first self.form start (g.S.Sink.taken c.args.sink.now) (g.S.Sink.taken c.put_preamble.new.sink) self.buffer self.current self.waiting.items came c.requires.below
-    c.in_err-put_preamble.ensures.broken was)
+    partial_first self.form start (g.S.Sink.taken c.args.sink.now) (g.S.Sink.taken c.put_preamble.new.sink) self.buffer self.current self.waiting.items came c.requires.below
+    c.in_err-put_preamble.ensures.partial was)
 
-pub returns-clause-broken : goal.returns-clause-broken
-returns-clause-broken g c =
+pub returns-clause-partial : goal.returns-clause-partial
+returns-clause-partial g c =
     let self = c.args.self.now in
     let old = g.S.Sink.taken c.args.sink.now in
     let mid = g.S.Sink.taken c.put_preamble.new.sink in
     let new = g.S.Sink.taken c.put.new.sink in
-    err_then c.put.result c.put.ensures.broken (λ breaks start came was.
-    breaks_lines self.form start old mid new self.buffer c.put_preamble.new.buffer self.current self.waiting.items came c.take_lines-lines.result
+    err_then c.put.result c.put.ensures.partial (λ breaks start came was.
+    partial_lines self.form start old mid new self.buffer c.put_preamble.new.buffer self.current self.waiting.items came c.take_lines-lines.result
     c.requires.below c.in_ok-put_preamble.ensures.put c.take_lines-lines.ensures.lines breaks was)

@@ -7,7 +7,7 @@ use Rattle.printing.proofs.SucceedsOrFails.{ok_both}
 use Rattle.printing.proofs.Held.{left_off_end}
 use Rattle.printing.proofs.SucceedsOrFails.{err_then}
 use Rattle.std.proofs.Common.{sym, subst, inl}
-use Rattle.printing.specs.Holding.{LinesBreakOff}
+use Rattle.printing.specs.Holding.{ArePartialLines}
 use Rattle.printing.proofs.Held.{left_off_held, left_off_as}
 use Rattle.printing.proofs.run_lines.Lines.end.Goals as goal
 use Rattle.printing.proofs.run_lines.Lines.end.Goals.{then-not-is_to_come-via-then-not-is_to_come, then-not-is_to_come-via-else-not-is_to_come+then-not-keep_mark}
@@ -17,7 +17,7 @@ returns-clause-held g c =
     let before = c.args.self.now in
     let file = c.args.file in
     let waiting = c.keep_mark.new.waiting in
-    let mid : Lines = record { form = before.form; choice = before.choice; buffer = before.buffer; current = before.current; waiting = waiting; held = before.held; whole = c.is_whole_with-self.result } in
+    let mid : Lines = record { form = before.form; choice = before.choice; buffer = before.buffer; current = before.current; waiting = waiting; held = before.held; flawless = c.is_flawless_with-self.result } in
     let after = c.advance.new.self in
     let old = g.S.Sink.taken c.args.sink.now in
     let from : before.current ≤ file = search rules in
@@ -27,16 +27,16 @@ returns-clause-held g c =
     let mark_is : c.args.known.mark ≡ c.args.mark = search rules in
     ok_both c.advance.result c.advance.ensures.written c.advance.ensures.unended (λ moves unended start ns held.
     held_end g.J.Meant.meaning start old (g.S.Sink.taken c.advance.new.sink) before mid after ns file c.args.mark c.advance.ensures.same (record { form = refl; choice = refl; files = kept.count })
-    below (λ other. (kept.here other).unmarked) (λ other. end_as g.J.Meant.meaning c.args.known.file file _ c.args.known.count c.args.known.mark c.args.mark file_is (kept.here other).counted mark_is c.args.known.is_end) from c.is_whole_with-self.ensures c.advance.ensures.whole
+    below (λ other. (kept.here other).unmarked) (λ other. end_as g.J.Meant.meaning c.args.known.file file _ c.args.known.count c.args.known.mark c.args.mark file_is (kept.here other).counted mark_is c.args.known.is_end) from c.is_flawless_with-self.ensures c.advance.ensures.flawless
     (λ came next more was. written_marked before.form start old before.buffer file before.current before.waiting.items waiting.items came next c.args.known.count c.args.mark below from more kept was)
     (moves start) unended held)
 
-pub returns-clause-broken : goal.returns-clause-broken
-returns-clause-broken g c =
+pub returns-clause-partial : goal.returns-clause-partial
+returns-clause-partial g c =
     let before = c.args.self.now in
     let file = c.args.file in
     let waiting = c.keep_mark.new.waiting in
-    let mid : Lines = record { form = before.form; choice = before.choice; buffer = before.buffer; current = before.current; waiting = waiting; held = before.held; whole = c.is_whole_with-self.result } in
+    let mid : Lines = record { form = before.form; choice = before.choice; buffer = before.buffer; current = before.current; waiting = waiting; held = before.held; flawless = c.is_flawless_with-self.result } in
     let after = c.advance.new.self in
     let old = g.S.Sink.taken c.args.sink.now in
     let from : before.current ≤ file = search rules in
@@ -44,23 +44,23 @@ returns-clause-broken g c =
     let kept : ChangesAt file (GetsMark c.args.known.count c.args.mark) before.waiting.items waiting.items = search rules in
     let file_is : c.args.known.file ≡ file = search rules in
     let mark_is : c.args.known.mark ≡ c.args.mark = search rules in
-    err_then c.advance.result c.advance.ensures.broken (λ broken start ns held.
+    err_then c.advance.result c.advance.ensures.partial (λ partial start ns held.
     left_off_end g.J.Meant.meaning start old (g.S.Sink.taken c.advance.new.sink) before mid after ns file c.args.mark c.advance.ensures.same (record { form = refl; choice = refl; files = kept.count })
     below (λ other. end_as g.J.Meant.meaning c.args.known.file file _ c.args.known.count c.args.known.mark c.args.mark file_is (kept.here other).counted mark_is c.args.known.is_end) from
     (λ came next more was. written_marked before.form start old before.buffer file before.current before.waiting.items waiting.items came next c.args.known.count c.args.mark below from more kept was)
-    (broken start) held)
+    (partial start) held)
 
-pub returns-then-not-is_to_come-clause-broken : goal.returns-then-not-is_to_come-clause-broken
-returns-then-not-is_to_come-clause-broken g c = λ start ns held.
+pub returns-then-not-is_to_come-clause-partial : goal.returns-then-not-is_to_come-clause-partial
+returns-then-not-is_to_come-clause-partial g c = λ start ns held.
     let before = c.args.self.now in
     let now = g.S.Sink.taken c.args.sink.now in
     let here = left_off_held g.J.Meant.meaning start now before ns held in
     elim c.then-not-is_to_come.branch [
-      | then-not-is_to_come-via-then-not-is_to_come w ↦ inl (subst (λ l. LinesBreakOff g.J.Meant.meaning start now l ns) (sym w.self-is) here)
+      | then-not-is_to_come-via-then-not-is_to_come w ↦ inl (subst (λ l. ArePartialLines g.J.Meant.meaning start now l ns) (sym w.self-is) here)
       | then-not-is_to_come-via-else-not-is_to_come+then-not-keep_mark w ↦
-          let mid : Lines = record { form = before.form; choice = before.choice; buffer = before.buffer; current = before.current; waiting = w.keep_mark.new.waiting; held = before.held; whole = before.whole } in
-          inl (subst (λ l. LinesBreakOff g.J.Meant.meaning start now l ns) (sym w.self-is) (left_off_as g.J.Meant.meaning start now before mid ns (record { form = refl; choice = refl; files = w.keep_mark.ensures.count }) here))
+          let mid : Lines = record { form = before.form; choice = before.choice; buffer = before.buffer; current = before.current; waiting = w.keep_mark.new.waiting; held = before.held; flawless = before.flawless } in
+          inl (subst (λ l. ArePartialLines g.J.Meant.meaning start now l ns) (sym w.self-is) (left_off_as g.J.Meant.meaning start now before mid ns (record { form = refl; choice = refl; files = w.keep_mark.ensures.count }) here))
     ]
 
-pub returns-then-known-file-clause-broken : goal.returns-then-known-file-clause-broken
-returns-then-known-file-clause-broken g c = λ start ns held. inl (left_off_held g.J.Meant.meaning start (g.S.Sink.taken c.args.sink.now) c.args.self.now ns held)
+pub returns-then-known-file-clause-partial : goal.returns-then-known-file-clause-partial
+returns-then-known-file-clause-partial g c = λ start ns held. inl (left_off_held g.J.Meant.meaning start (g.S.Sink.taken c.args.sink.now) c.args.self.now ns held)

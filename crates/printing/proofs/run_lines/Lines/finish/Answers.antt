@@ -1,7 +1,7 @@
 use Rattle.std.proofs.Common.{◌≡◌, ◌↔◌, true, arith, sym, ◌∙◌}
 use Rattle.std.proofs.lemmas.Bool.{false≢true}
 use Rattle.printing.proofs.Finishing.{all_written}
-use Rattle.printing.proofs.Breaking.{writes_front}
+use Rattle.printing.proofs.Partial.{writes_front}
 use Rattle.printing.proofs.Held.{left_off_finish}
 use Rattle.printing.proofs.SucceedsOrFails.{err_any}
 use Rattle.printing.proofs.run_lines.Lines.finish.Goals as goal
@@ -9,7 +9,7 @@ use Rattle.printing.proofs.run_lines.Lines.finish.Goals.{then-self, else-self}
 
 pub returns-clause-written : goal.returns-clause-written
 returns-clause-written g c = λ start choice known meaning ns held have.
-    let says : (c.if-self.result ≡ 0) ↔ (c.args.self.whole ≡ true) =
+    let says : (c.if-self.result ≡ 0) ↔ (c.args.self.flawless ≡ true) =
     elim c.if-self.branch [
       | then-self w ↦ (λ _. w.if-self.true, λ _. w.result-is)
       | else-self w ↦ (
@@ -18,10 +18,10 @@ returns-clause-written g c = λ start choice known meaning ns held have.
       )
     ] in
     all_written choice c.args.self.choice meaning known c.args.self.form start (g.S.Sink.taken c.args.sink.now) (g.S.Sink.taken c.flush.new.sink) c.args.self.buffer c.args.self.current
-    c.args.self.waiting.items c.args.self.whole ns c.if-self.result have held c.in_ok-flush.ensures.writes.1 says
+    c.args.self.waiting.items c.args.self.flawless ns c.if-self.result have held c.in_ok-flush.ensures.writes.1 says
 
-pub returns-in_err-flush-clause-broken : goal.returns-in_err-flush-clause-broken
-returns-in_err-flush-clause-broken g c =
+pub returns-in_err-flush-clause-partial : goal.returns-in_err-flush-clause-partial
+returns-in_err-flush-clause-partial g c =
     let old = g.S.Sink.taken c.args.sink.now in
     let new = g.S.Sink.taken c.flush.new.sink in
     err_any c.from_residual.result (λ meaning start ns held.

@@ -4,7 +4,7 @@ use Rattle.printing.specs.FormLines.{IsLineOf, line_in}
 use Rattle.printing.specs.Came.{IsFlawlessSoFar}
 use Rattle.printing.proofs.Held.{comes_next, held_item, lacking}
 use Rattle.printing.proofs.SucceedsOrFails.{ok_then, ok_both}
-use Rattle.printing.proofs.FlawlessBooks.{whole_item, whole_lacking}
+use Rattle.printing.proofs.FlawlessBooks.{flawless_item, whole_lacking}
 use Rattle.printing.proofs.Held.{left_off_held, left_off_item}
 use Rattle.printing.proofs.SucceedsOrFails.{err_then}
 use Rattle.printing.proofs.run_lines.Lines.line.Goals as goal
@@ -26,7 +26,7 @@ returns-in-Some-clause-held g c =
     ok_then c.add.result c.add.ensures.added (λ added start ns held.
     held_item g.J.Meant.meaning start (g.S.Sink.taken c.args.sink.now) (g.S.Sink.taken c.add.new.sink) before after ns file entry c.add.ensures.same.same c.add.ensures.same.current below from comes
     (λ came next more was. added start came next entry line more was)
-    (λ came next more was. subst (λ b. (b ≡ true) ↔ ((k : ℕ) → k < length before.waiting.items → IsFlawlessSoFar (next k))) (sym c.add.ensures.same.whole) (whole_item (length before.waiting.items) file entry came next before.whole below has.0 more was))
+    (λ came next more was. subst (λ b. (b ≡ true) ↔ ((k : ℕ) → k < length before.waiting.items → IsFlawlessSoFar (next k))) (sym c.add.ensures.same.flawless) (flawless_item (length before.waiting.items) file entry came next before.flawless below has.0 more was))
     held)
 
 pub returns-clause-held : goal.returns-clause-held
@@ -46,8 +46,8 @@ returns-clause-held g c =
     (λ came next more was. subst (λ b. (b ≡ true) ↔ ((k : ℕ) → k < length before.waiting.items → IsFlawlessSoFar (next k))) (sym lacks) (whole_lacking (length before.waiting.items) file entry came next below refl more))
     held)
 
-pub returns-in-Some-clause-broken : goal.returns-in-Some-clause-broken
-returns-in-Some-clause-broken g c =
+pub returns-in-Some-clause-partial : goal.returns-in-Some-clause-partial
+returns-in-Some-clause-partial g c =
     let entry = entry_of c.args.printed.file c.args.printed.ordinal c.args.printed.rec.value c.args.printed.choice c.args.printed.answer.value c.args.printed.answers in
     let file = c.args.printed.file in
     let before = c.args.self.now in
@@ -60,12 +60,12 @@ returns-in-Some-clause-broken g c =
     let choice : c.args.printed.choice ≡ before.choice = search rules in
     let comes = comes_next before.choice c.args.printed.choice (g.J.Meant.meaning file) file c.args.printed.ordinal before.waiting.items entry refl refl refl choice
     c.args.printed.rec_is c.args.printed.placed (c.is_next.ensures.next (search rules)) in
-    err_then c.add.result c.add.ensures.broken (λ broken start ns held.
+    err_then c.add.result c.add.ensures.partial (λ partial start ns held.
     left_off_item g.J.Meant.meaning start (g.S.Sink.taken c.args.sink.now) (g.S.Sink.taken c.add.new.sink) before after ns file entry c.add.ensures.same.same below from comes
-    (λ came next more was. broken start came next entry line more was) held)
+    (λ came next more was. partial start came next entry line more was) held)
 
-pub returns-clause-broken : goal.returns-clause-broken
-returns-clause-broken g c =
+pub returns-clause-partial : goal.returns-clause-partial
+returns-clause-partial g c =
     let entry = lacking (entry_of c.args.printed.file c.args.printed.ordinal c.args.printed.rec.value c.args.printed.choice c.args.printed.answer.value c.args.printed.answers) in
     let file = c.args.printed.file in
     let before = c.args.self.now in
@@ -75,9 +75,9 @@ returns-clause-broken g c =
     let choice : c.args.printed.choice ≡ before.choice = search rules in
     let comes = comes_next before.choice c.args.printed.choice (g.J.Meant.meaning file) file c.args.printed.ordinal before.waiting.items entry refl refl refl choice
     c.args.printed.rec_is c.args.printed.placed (c.is_next.ensures.next (search rules)) in
-    err_then c.add_lacking.result c.add_lacking.ensures.broken (λ broken start ns held.
+    err_then c.add_lacking.result c.add_lacking.ensures.partial (λ partial start ns held.
     left_off_item g.J.Meant.meaning start (g.S.Sink.taken c.args.sink.now) (g.S.Sink.taken c.add_lacking.new.sink) before after ns file entry c.add_lacking.ensures.same below from comes
-    (λ came next more was. broken start came next entry refl refl refl more was) held)
+    (λ came next more was. partial start came next entry refl refl refl more was) held)
 
-pub returns-then-ne-clause-broken : goal.returns-then-ne-clause-broken
-returns-then-ne-clause-broken g c = λ start ns held. inl (left_off_held g.J.Meant.meaning start (g.S.Sink.taken c.args.sink.now) c.args.self.now ns held)
+pub returns-then-ne-clause-partial : goal.returns-then-ne-clause-partial
+returns-then-ne-clause-partial g c = λ start ns held. inl (left_off_held g.J.Meant.meaning start (g.S.Sink.taken c.args.sink.now) c.args.self.now ns held)

@@ -6,5 +6,5 @@ pub returns-clause-written : goal.returns-clause-written
 returns-clause-written g c =
     IfOk-weaker c.finish.result _ _ (λ status f choice known meaning ns. f (g.S.Sink.taken c.args.self.start.value) choice known meaning ns) c.finish.ensures.written
 
-pub returns-clause-broken : goal.returns-clause-broken
-returns-clause-broken g c = err_then c.finish.result c.finish.ensures.broken (λ broken meaning. broken meaning (g.S.Sink.taken c.args.self.start.value))
+pub returns-clause-partial : goal.returns-clause-partial
+returns-clause-partial g c = err_then c.finish.result c.finish.ensures.partial (λ partial meaning. partial meaning (g.S.Sink.taken c.args.self.start.value))
