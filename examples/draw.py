@@ -1,5 +1,5 @@
 #!/usr/bin/env python3
-"""Draws named parts and their connections along horizontal and vertical lines, with the fewest bends."""
+"""Draws named vertices and their connections along horizontal and vertical lines, with the fewest bends."""
 from __future__ import annotations
 
 import argparse
@@ -40,7 +40,7 @@ CONVERTED = {".png": "png", ".pdf": "pdf"}
 def command_line() -> argparse.Namespace:
     parser = argparse.ArgumentParser(description=__doc__ + "\n\n" + TEXT, epilog=STATUSES,
                                      formatter_class=argparse.RawDescriptionHelpFormatter)
-    parser.add_argument("graph", metavar="GRAPH", help="the file of parts and connections, or - for standard input")
+    parser.add_argument("graph", metavar="GRAPH", help="the file of vertices and connections, or - for standard input")
     parser.add_argument("-o", "--output", metavar="OUT", required=True, help="the picture: .svg, .png or .pdf, or -")
     parser.add_argument("--format", choices=sorted(FORMATS), help="what GRAPH is, where its name does not say it")
     parser.add_argument("--outer", metavar="NAME,NAME,..", help="the outer face is the one with these names on it")

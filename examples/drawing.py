@@ -1,4 +1,4 @@
-"""Draws placed components as SVG: each part a box as wide as its name, each connection from border to border.
+"""Draws placed components as SVG: each vertex a box as wide as its name, each connection from border to border.
 
 Rows keep their order from top to bottom. In each row what stands on it keeps its order from left to right, and boxes
 and lines keep apart: these distances are all that columns have to keep, so each column stands in the middle between the
@@ -12,7 +12,7 @@ import math
 import unicodedata
 from xml.sax.saxutils import escape
 
-from named_graphs import Part
+from named_graphs import Vertex
 from placing import Edge, Placed
 from planarbend import Point
 
@@ -74,7 +74,7 @@ def text_of(text: str) -> str:
 
 @dataclasses.dataclass(frozen=True)
 class Box:
-    """The box of a part: the lines of its name, and half its width and height."""
+    """The box of a vertex: the lines of its name, and half its width and height."""
     lines: list[str]
     across: float
     upright: float
@@ -91,24 +91,24 @@ class Component:
 
     def __init__(self, placed: Placed) -> None:
         self.placed = placed
-        self.boxes = {part: Box.of(name) for part, name in placed.names.items()}
+        self.boxes = {vertex: Box.of(name) for vertex, name in placed.names.items()}
         drawn = [point for path in placed.paths.values() for point in path] + list(placed.points.values())
         self.columns = sorted({x for x, _ in drawn})
         self.rows = sorted({y for _, y in drawn}, reverse=True)
         self.across = {}
-        for part, point in placed.points.items():
-            self.across[point] = self.boxes[part].across
+        for vertex, point in placed.points.items():
+            self.across[point] = self.boxes[vertex].across
         self.x = self._columns()
         self.y = self._rows()
         self.width = max(self.x[x] + self.across.get((x, y), 0) for x, y in drawn)
-        tallest = [box.upright for part, box in self.boxes.items() if placed.points[part][1] == self.rows[-1]]
+        tallest = [box.upright for vertex, box in self.boxes.items() if placed.points[vertex][1] == self.rows[-1]]
         self.height = self.y[self.rows[-1]] + max(tallest, default=0)
 
     def _rows(self) -> dict[int, float]:
         """The place of each row: rows keep apart by the highest of their boxes."""
         upright: dict[int, float] = collections.defaultdict(float)
-        for part, (_, y) in self.placed.points.items():
-            upright[y] = max(upright[y], self.boxes[part].upright)
+        for vertex, (_, y) in self.placed.points.items():
+            upright[y] = max(upright[y], self.boxes[vertex].upright)
         found, place = {}, upright[self.rows[0]]
         for row, below in itertools.zip_longest(self.rows, self.rows[1:]):
             found[row] = place
@@ -149,7 +149,7 @@ class Component:
     def line(self, edge: Edge) -> list[tuple[float, float]]:
         """The points of a connection, from border to border."""
         places = [self.place(point) for point in self.placed.paths[edge]]
-        tail, head = (self.boxes[part] for part in edge)
+        tail, head = (self.boxes[vertex] for vertex in edge)
         return [at_border(tail, places[0], places[1]), *places[1:-1], at_border(head, places[-1], places[-2])]
 
 
@@ -218,7 +218,7 @@ class Sheet:
     def _placed_boxes(self) -> list[tuple[Box, float, float]]:
         found = []
         for one, left, top in self.shown:
-            for part, point in one.placed.points.items():
+            for vertex, point in one.placed.points.items():
                 x, y = one.place(point)
-                found.append((one.boxes[part], x + left + MARGIN, y + top + MARGIN))
+                found.append((one.boxes[vertex], x + left + MARGIN, y + top + MARGIN))
         return found

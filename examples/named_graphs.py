@@ -1,4 +1,4 @@
-"""Reads graphs of named parts: lists of connections, GraphML, DOT, and the node-link JSON of networkx; says by name
+"""Reads graphs of named vertices: lists of connections, GraphML, DOT, and the node-link JSON of networkx; says by name
 what cannot be drawn."""
 from __future__ import annotations
 
@@ -11,10 +11,10 @@ import sys
 from collections.abc import Callable, Hashable, Iterator
 from typing import Any
 
-MOST_CONNECTIONS = 4  # of one part
+MOST_CONNECTIONS = 4  # of one vertex
 MOST_NAMED = 8  # names that a message lists
 
-Part = Hashable
+Vertex = Hashable
 
 SEPARATOR = re.compile(r"\s(--|->)\s")
 NAME = re.compile(r'\s*("(?:[^"\\]|\\.)*"|.+?)\s*(?:\s(--|->)\s|$)')
@@ -28,20 +28,20 @@ class Unusable(Exception):
 
 @dataclasses.dataclass
 class NamedGraph:
-    """Parts in the order in which they were met, each with its name, and their connections; of a directed graph also
+    """Vertices in the order in which they were met, each with its name, and their connections; of a directed graph also
     which way each arrow goes."""
-    names: dict[Part, str] = dataclasses.field(default_factory=dict)
-    edges: list[tuple[Part, Part]] = dataclasses.field(default_factory=list)
-    arrows: set[tuple[Part, Part]] = dataclasses.field(default_factory=set)  # from tail to head
+    names: dict[Vertex, str] = dataclasses.field(default_factory=dict)
+    edges: list[tuple[Vertex, Vertex]] = dataclasses.field(default_factory=list)
+    arrows: set[tuple[Vertex, Vertex]] = dataclasses.field(default_factory=set)  # from tail to head
 
-    def add_part(self, part: Part, name: str | None = None) -> None:
-        if name is not None or part not in self.names:
-            self.names[part] = name if name is not None else str(part)
+    def add_vertex(self, vertex: Vertex, name: str | None = None) -> None:
+        if name is not None or vertex not in self.names:
+            self.names[vertex] = name if name is not None else str(vertex)
 
-    def add_edge(self, tail: Part, head: Part, is_arrow: bool) -> None:
-        """Adds a connection. Two arrows that go both ways between two parts are one line with two heads."""
-        self.add_part(tail)
-        self.add_part(head)
+    def add_edge(self, tail: Vertex, head: Vertex, is_arrow: bool) -> None:
+        """Adds a connection. Two arrows that go both ways between two vertices are one line with two heads."""
+        self.add_vertex(tail)
+        self.add_vertex(head)
         if is_arrow:
             is_way_back = (head, tail) in self.arrows and (tail, head) not in self.arrows
             self.arrows.add((tail, head))
@@ -49,37 +49,37 @@ class NamedGraph:
                 return
         self.edges.append((tail, head))
 
-    def name_of(self, word: str) -> Part:
-        """The part of this name."""
-        found = [part for part, name in self.names.items() if name == word or str(part) == word]
+    def name_of(self, word: str) -> Vertex:
+        """The vertex of this name."""
+        found = [vertex for vertex, name in self.names.items() if name == word or str(vertex) == word]
         if not found:
-            raise Unusable(f"no part is named {word}")
+            raise Unusable(f"no vertex is named {word}")
         if len(found) > 1:
-            raise Unusable(f"{len(found)} parts are named {word}")
+            raise Unusable(f"{len(found)} vertices are named {word}")
         return found[0]
 
-    def edge_name(self, edge: tuple[Part, Part]) -> str:
-        return " -- ".join(self.names[part] for part in edge)
+    def edge_name(self, edge: tuple[Vertex, Vertex]) -> str:
+        return " -- ".join(self.names[vertex] for vertex in edge)
 
     def look_at(self) -> None:
-        """Raises `Unusable` where a connection or a part cannot be drawn."""
+        """Raises `Unusable` where a connection or a vertex cannot be drawn."""
         if not self.names:
-            raise Unusable("it names no part")
+            raise Unusable("it names no vertex")
         loops = {self.names[tail] for tail, head in self.edges if tail == head}
         if loops:
-            raise Unusable(f"a part cannot be joined to itself: {listed(sorted(loops))}")
+            raise Unusable(f"a vertex cannot be joined to itself: {listed(sorted(loops))}")
         count = collections.Counter(frozenset(edge) for edge in self.edges)
         doubles = [self.edge_name(edge) for edge in self.edges if count.pop(frozenset(edge), 0) > 1]
         if doubles:
-            raise Unusable(f"two parts can be joined once: {listed(doubles)}")
-        around: dict[Part, list[str]] = collections.defaultdict(list)
+            raise Unusable(f"two vertices can be joined once: {listed(doubles)}")
+        around: dict[Vertex, list[str]] = collections.defaultdict(list)
         for tail, head in self.edges:
             around[tail].append(self.names[head])
             around[head].append(self.names[tail])
-        many = [f"{self.names[part]} has {len(others)} connections ({listed(others)})"
-                for part, others in around.items() if len(others) > MOST_CONNECTIONS]
+        many = [f"{self.names[vertex]} has {len(others)} connections ({listed(others)})"
+                for vertex, others in around.items() if len(others) > MOST_CONNECTIONS]
         if many:
-            raise Unusable(f"a part can have {MOST_CONNECTIONS} connections at most: {'; '.join(many)}")
+            raise Unusable(f"a vertex can have {MOST_CONNECTIONS} connections at most: {'; '.join(many)}")
 
 
 def listed(names: list[str]) -> str:
@@ -117,7 +117,7 @@ def of_list(text: str) -> NamedGraph:
         if not line.strip():
             continue
         names, between = names_of(line, place)
-        graph.add_part(names[0])
+        graph.add_vertex(names[0])
         for tail, separator, head in zip(names, between, names[1:]):
             graph.add_edge(tail, head, separator == "->")
     return graph
@@ -131,8 +131,8 @@ def of_graphml(text: str) -> NamedGraph:
     except Exception as error:  # of the parser of XML or of networkx, which names no kinds
         raise Unusable(f"not GraphML: {error}") from None
     graph = NamedGraph()
-    for part, data in found.nodes(data=True):
-        graph.add_part(part, label_of(data) or str(part))
+    for vertex, data in found.nodes(data=True):
+        graph.add_vertex(vertex, label_of(data) or str(vertex))
     for tail, head in found.edges():
         graph.add_edge(tail, head, found.is_directed())
     return graph
@@ -145,7 +145,7 @@ def of_json(text: str) -> NamedGraph:
         edges = found.get("links", found.get("edges"))
         graph = NamedGraph()
         for node in found["nodes"]:
-            graph.add_part(hashable(node["id"]), label_of(node) or str(node["id"]))
+            graph.add_vertex(hashable(node["id"]), label_of(node) or str(node["id"]))
         for edge in edges:
             graph.add_edge(hashable(edge["source"]), hashable(edge["target"]), bool(found.get("directed")))
     except (ValueError, KeyError, TypeError, AttributeError) as error:
@@ -153,12 +153,12 @@ def of_json(text: str) -> NamedGraph:
     return graph
 
 
-def hashable(part: Any) -> Part:
-    return tuple(map(hashable, part)) if isinstance(part, list) else part
+def hashable(vertex: Any) -> Vertex:
+    return tuple(map(hashable, vertex)) if isinstance(vertex, list) else vertex
 
 
 def label_of(data: dict[str, Any]) -> str:
-    """The name that a part's data give it, or none."""
+    """The name that a vertex's data give it, or none."""
     return next((str(data[key]) for key in ("label", "name") if data.get(key) not in (None, "")), "")
 
 
@@ -176,19 +176,19 @@ def of_dot(text: str) -> NamedGraph:
     return graph
 
 
-def add_dot(graph: NamedGraph, part: Any, is_directed: bool) -> None:
+def add_dot(graph: NamedGraph, dot: Any, is_directed: bool) -> None:
     """Adds the nodes and edges of a graph or subgraph of pydot."""
-    for node in part.get_nodes():
+    for node in dot.get_nodes():
         name = node.get_name()
         if name not in ("node", "edge", "graph", '"\\n"', '"\\r\\n"'):
             label = node.get_label() if hasattr(node, "get_label") else None
             plain = None if label is None or str(label).startswith("<") else dot_name(str(label)).replace("\\n", "\n")
-            graph.add_part(dot_name(name), plain or None)
-    for edge in part.get_edges():
+            graph.add_vertex(dot_name(name), plain or None)
+    for edge in dot.get_edges():
         for tail in dot_ends(edge.get_source()):
             for head in dot_ends(edge.get_destination()):
                 graph.add_edge(tail, head, is_directed)
-    for inner in part.get_subgraphs():
+    for inner in dot.get_subgraphs():
         add_dot(graph, inner, is_directed)
 
 

@@ -1,4 +1,4 @@
-//! Values in holders that go round: once the value is taken out, the holder goes back and has another one.
+//! Values in holders that go round, as from an object pool: once the value is taken out, the holder goes back.
 ghost use Rattle.std.specs.Prelude.{◌≡◌, true};
 ghost use Rattle.answers.specs.Slots.{is_full};
 

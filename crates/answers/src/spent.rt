@@ -1,4 +1,4 @@
-//! What goes back from a stage of a lane to the one that fills it anew.
+//! A free list: what goes back from a stage of a lane to the one that fills it anew.
 ghost use Rattle.std.specs.Prelude.{◌<◌};
 
 use crossbeam_queue::ArrayQueue;

@@ -1,3 +1,4 @@
+//! Fans: ends that are gone, givers that wait, all lanes at once.
 ghost use Rattle.std.specs.Prelude.{◌≤◌};
 ghost use Rattle.ruled_lanes.specs.declared.limits.TheConstants.{MAX_CAPACITY};
 

@@ -1,3 +1,4 @@
+//! Links: ends that are gone, a giver that waits, messages in order.
 ghost use Rattle.std.specs.Prelude.{◌≤◌};
 ghost use Rattle.ruled_lanes.specs.declared.limits.TheConstants.{MAX_CAPACITY};
 

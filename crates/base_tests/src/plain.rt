@@ -1,5 +1,5 @@
-//! A slow solver to compare with: one unit at a time along a path of least cost, found by going over all
-//! arcs until no label falls. (Bellman and Ford's method.)
+//! A slow solver to compare with: successive shortest paths, one unit at a time, each path found by going over all
+//! arcs until no label falls (Bellman 1958).
 use min_cost_flow::{Arc, Cap, Network};
 use std::alloc::Global;
 use std::process::Abort;

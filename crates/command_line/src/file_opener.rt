@@ -8,7 +8,7 @@ use std::alloc::Global;
 use std::sync::atomic::{AtomicU64, Ordering};
 
 /// Files by their places in a list of names, in which a name may stand more than once: a file's number is the place
-/// of its name. A number past the list is not opened. Files that are opened are counted in `begun`, also where the
+/// of its name. A number past the list is not opened. Files that are opened are counted in `opened`, also where the
 /// open is refused.
 ///
 /// In contracts that is known of a file which `files` says of its name.
@@ -16,7 +16,7 @@ use std::sync::atomic::{AtomicU64, Ordering};
 pub struct FileOpener<'r, 'n, N> {
     pub files: &'r N,
     pub names: &'n [&'n str],
-    pub begun: &'r AtomicU64,
+    pub opened: &'r AtomicU64,
 }
 
 impl<'n, N> FileOpener<'_, 'n, N> {
@@ -37,7 +37,7 @@ impl<N: NamedFiles> Opener for FileOpener<'_, '_, N> {
         let Some(name) = self.name(file) else {
             return Err(OpenFault::Io);
         };
-        self.begun.fetch_add(1, Ordering::SeqCst);
+        self.opened.fetch_add(1, Ordering::SeqCst);
         self.files.open(alloc, name)
     }
 }

@@ -73,20 +73,20 @@ impl<R: Clock, E: io::Write + IsTerminal + Copy> Console for ErrorConsole<R, E> 
 
 /// How lines stand on a console.
 #[derive(Clone, Copy, Debug, PartialEq, Eq)]
-enum LineStyle {
+enum ConsoleMode {
     Hidden,
     WrittenOver,
     Apart,
 }
 
-impl LineStyle {
+impl ConsoleMode {
     /// How lines stand on this console.
-    fn of<C: Console>(progress: Progress, console: &C) -> LineStyle {
+    fn of<C: Console>(progress: Progress, console: &C) -> ConsoleMode {
         match progress {
-            Progress::Nowhere => LineStyle::Hidden,
-            _ if console.is_terminal() => LineStyle::WrittenOver,
-            Progress::OnTerminal => LineStyle::Hidden,
-            Progress::Everywhere => LineStyle::Apart,
+            Progress::Nowhere => ConsoleMode::Hidden,
+            _ if console.is_terminal() => ConsoleMode::WrittenOver,
+            Progress::OnTerminal => ConsoleMode::Hidden,
+            Progress::Everywhere => ConsoleMode::Apart,
         }
     }
 }
@@ -96,12 +96,12 @@ impl LineStyle {
 #[derive(Drop)]
 pub struct Meter<'c, C> {
     console: &'c C,
-    style: LineStyle,
+    mode: ConsoleMode,
     files: usize,
     /// When the run began, by the console's clock.
     start: u64,
-    /// How many files were begun.
-    begun: AtomicU64,
+    /// How many files were opened.
+    opened: AtomicU64,
     /// How many graphs came to the last stage.
     graphs: AtomicU64,
     /// When the last line was written, in milliseconds since the start.
@@ -113,23 +113,23 @@ impl<'c, C: Console> Meter<'c, C> {
     pub fn new(console: &'c C, progress: Progress, files: usize) -> Meter<'c, C> {
         Meter {
             console,
-            style: LineStyle::of(progress, console),
+            mode: ConsoleMode::of(progress, console),
             files,
             start: console.time(),
-            begun: AtomicU64::new(0),
+            opened: AtomicU64::new(0),
             graphs: AtomicU64::new(0),
             last_told: AtomicU64::new(0),
         }
     }
 
-    /// The count of the files that were begun.
-    pub fn begun(&self) -> &AtomicU64 {
-        &self.begun
+    /// The count of the files that were opened.
+    pub fn opened(&self) -> &AtomicU64 {
+        &self.opened
     }
 
     /// Tells how far the run came, where it began a file, and ends the line.
     pub fn finish(&self) {
-        if self.style != LineStyle::Hidden && self.begun.load(Ordering::SeqCst) > 0 {
+        if self.mode != ConsoleMode::Hidden && self.opened.load(Ordering::SeqCst) > 0 {
             self.tell(self.time(), "\n");
         }
     }
@@ -152,7 +152,7 @@ impl<'c, C: Console> Meter<'c, C> {
         if stored_time.is_ok() {
             self.tell(
                 time,
-                if self.style == LineStyle::Apart {
+                if self.mode == ConsoleMode::Apart {
                     "\n"
                 } else {
                     ""
@@ -163,18 +163,18 @@ impl<'c, C: Console> Meter<'c, C> {
 
     /// Writes the line of what was counted in so many milliseconds.
     fn tell(&self, time: u64, end: &str) {
-        let begun = self.begun.load(Ordering::SeqCst);
+        let opened = self.opened.load(Ordering::SeqCst);
         let graphs = self.graphs.load(Ordering::SeqCst);
         let rate = graphs.saturating_mul(1000) / time.max(1);
         // The spaces cover what is left of a longer line.
-        let (front, back) = match self.style {
-            LineStyle::WrittenOver => ("\r", "   "),
+        let (front, back) = match self.mode {
+            ConsoleMode::WrittenOver => ("\r", "   "),
             _ => ("", ""),
         };
         let mut line = ShortLine::new();
         let _ = write!(
             line,
-            "{front}planarbend: {begun} of {} files begun, {graphs} graphs, {rate} a second{back}{end}",
+            "{front}planarbend: {opened} of {} files begun, {graphs} graphs, {rate} a second{back}{end}",
             self.files
         );
         self.console.show(line.text());
@@ -183,7 +183,7 @@ impl<'c, C: Console> Meter<'c, C> {
 
 impl<C: Console + Sync> Gate for Meter<'_, C> {
     fn pass(&self, _lane: u32, stage: Stage, _ordinal: u32) {
-        if stage == Stage::Draw && self.style != LineStyle::Hidden {
+        if stage == Stage::Draw && self.mode != ConsoleMode::Hidden {
             self.graphs.fetch_add(1, Ordering::SeqCst);
             self.tell_in_time();
         }

@@ -64,7 +64,7 @@ where
     let opener = FileOpener {
         files: &named,
         names,
-        begun: meter.begun(),
+        opened: meter.opened(),
     };
     let Ok(files) = u32::try_from(names.len()) else {
         return Err(Fault::Run(BatchFault::TooManyFiles));

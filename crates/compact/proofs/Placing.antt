@@ -7,7 +7,7 @@ use Rattle.dissect.specs.DartMaps.{DartMap, IsSound, no_dart}
 use Rattle.dissect.specs.Paths.{turning_vertices}
 use Rattle.ortho_rep.specs.declared.points.Point.{Point}
 use Rattle.dissect.specs.Boxes.{BoxesModel, HasEdge, dart_map}
-use Rattle.compact.specs.Ordered.{tail, point_at, IsMonotone, IsAlong, AreCorners, AreCornersOf, IsAxisFault, IsCompactFault, AreLeastPoints, AreLeast, AreWithin}
+use Rattle.compact.specs.Ordered.{tail, point_at, IsMonotone, IsAlong, AreCorners, AreCornersOf, IsAxisFault, IsCompactFault, AreLeastPoints, AreLeastOnAxis, AreWithin}
 use Rattle.std.specs.List.{range_with_len}
 use Rattle.ortho_rep.specs.declared.points.TheConstants.{MAX_COORDINATE}
 use Rattle.compact.specs.Neighbours.{AreUnder}
@@ -122,7 +122,7 @@ least_points b x y x1 y1 x2 y2 vertices corners sx1 sy1 sx2 sy2 sound along_x al
 -- coordinates in the order of the darts along an axis that are nowhere above any such are the least, in a list or in a slice of it
 pub least_of : (b : BoxesModel) (k : ℕ) (xs zs : List ℕ) → zs ≡ xs → IsAlong (dart_map b) k (λ v. slice_index zs v) →
     ((y : ℕ → ℕ) → IsAlong (dart_map b) k y → AreUnder b.vertices xs y) → ((v : ℕ) → v < length zs → slice_index zs v ≤ MAX_COORDINATE) →
-    length xs ≡ b.vertices → AreLeast b k xs
+    length xs ≡ b.vertices → AreLeastOnAxis b k xs
 least_of b k xs zs same along under small count = record {
   along = subst (λ (list : List ℕ). IsAlong (dart_map b) k (λ v. slice_index list v)) same along;
   least = under;

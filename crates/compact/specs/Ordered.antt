@@ -48,7 +48,7 @@ across X = 1
 across Y = 2
 
 -- the least coordinates of the vertices that grow along the darts of an axis, within the grid
-pub record AreLeast (b : BoxesModel) (k : ℕ) (coordinates : List ℕ) : Type 0 where
+pub record AreLeastOnAxis (b : BoxesModel) (k : ℕ) (coordinates : List ℕ) : Type 0 where
   pub along : IsAlong (dart_map b) k (λ v. slice_index coordinates v)
   pub least : (y : ℕ → ℕ) → IsAlong (dart_map b) k y → (v : ℕ) → v < b.vertices → slice_index coordinates v ≤ y v
   pub within : AreWithin b.vertices (λ v. slice_index coordinates v)

@@ -1,8 +1,8 @@
-//! The constraint graph of a dissection along an axis (Tamassia 1987), and the least coordinates of its vertices.
+//! The constraint graph of a dissection along an axis (Lengauer 1990), and the least coordinates of its vertices.
 
 ghost use Rattle.std.specs.Prelude.{◌≡◌, ◌≢◌, ◌+◌, ◌*◌, length, slice_index, Some, None, IsTrue, IfOk, IfErr, OnOk, ℕ, ◌<◌, ◌≤◌};
 ghost use Rattle.ortho_rep.specs.declared.points.TheConstants.{MAX_COORDINATE};
-ghost use Rattle.compact.specs.Ordered.{IsAlong, AreAlong, AreLeast, IsAxisFault, IsCompactFault, growth, across};
+ghost use Rattle.compact.specs.Ordered.{IsAlong, AreAlong, AreLeastOnAxis, IsAxisFault, IsCompactFault, growth, across};
 ghost use Rattle.compact.specs.Neighbours.{neighbour, AreNeighbours, HasNeighbours, AreSegments, AreUnder};
 ghost use Rattle.dissect.specs.DartMaps.{IsSound};
 ghost use Rattle.geometry.specs.Directions.{quarters};
@@ -151,7 +151,7 @@ fn relaxed_along(
     requires sound { IsSound (dart_map boxes.now) }
     requires count { length coordinates.items ≡ boxes.now.vertices }
     requires under { (y : ℕ → ℕ) → IsAlong (dart_map boxes.now) (growth axis) y → AreUnder boxes.now.vertices coordinates.items y }
-    ensures along { IfOk result (λ coordinates. AreLeast boxes.now (growth axis) coordinates.items) }
+    ensures along { IfOk result (λ coordinates. AreLeastOnAxis boxes.now (growth axis) coordinates.items) }
     ensures fault { IfErr result (IsAxisFault boxes.now (growth axis)) }
 {
     let Ok(()) = constraints_along(boxes, axis, constraints) else {
@@ -178,8 +178,8 @@ pub fn least_coordinates(
     requires all_neighbours { HasNeighbours (dart_map boxes.now) around.now boxes.now.darts }
     requires around { length around.now ≡ 4 * boxes.now.vertices }
     ensures sound { IfOk result (λ _. IsSound (dart_map boxes.now)) }
-    ensures x { IfOk result (λ found. AreLeast boxes.now 0 found.0.items) }
-    ensures y { IfOk result (λ found. AreLeast boxes.now 1 found.1.items) }
+    ensures x { IfOk result (λ found. AreLeastOnAxis boxes.now 0 found.0.items) }
+    ensures y { IfOk result (λ found. AreLeastOnAxis boxes.now 1 found.1.items) }
     ensures fault { IfErr result (IsCompactFault boxes.now) }
 {
     let Ok(()) = find_segments(around, boxes.vertices(), by_axis) else {

@@ -1,4 +1,4 @@
-//! Longest paths (Tamassia 1987) in topological order (Kahn 1962) over segments: vertices that darts across join.
+//! Longest paths (Lengauer 1990) in topological order (Kahn 1962) over segments: vertices that darts across join.
 
 ghost use Rattle.std.specs.Prelude.{◌≡◌, ◌*◌, ◌^◌, ◌<◌, ℕ, length, OnOk};
 ghost use Rattle.compact.specs.Neighbours.{neighbour, AreVertices, AreEqualIn, AreSegments, AreOwn, IsOnSegment, AreUnder, StayUnder, StayUnderAll};

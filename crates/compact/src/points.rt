@@ -1,4 +1,4 @@
-//! Compaction by longest paths (Tamassia 1987): points for the vertices and the corners of a plane.
+//! Compaction by longest paths (Lengauer 1990): points for the vertices and the corners of a plane.
 
 ghost use Rattle.std.specs.Prelude.{◌≡◌, length, map, slice_index, IfOk, IfErr};
 ghost use Rattle.std.specs.List.{range_with_len};

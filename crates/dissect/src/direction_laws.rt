@@ -1,4 +1,4 @@
-//! Laws of the definitions, each as the contract of a function that does nothing.
+//! A law of directions, as the contract of a function that does nothing.
 
 ghost use Rattle.std.specs.Prelude.{ℕ, List};
 ghost use Rattle.faces.specs.Planes.{IsPlane, PlaneModel};

@@ -1,4 +1,5 @@
-//! A graph search with a stack (Ahuja, Magnanti and Orlin, 1993, section 3.4) for the directions of all darts.
+//! A graph search with a stack (Ahuja, Magnanti and Orlin, Network Flows, 1993, section 3.4) for the directions of all
+//! darts.
 
 ghost use Rattle.std.specs.Prelude.{◌≡◌, ◌+◌, ◌%◌, ◌<◌, ◌≤◌, [], length, replicate, vec_len, IfOk, OnOk, slice_index};
 ghost use Rattle.ortho_rep.specs.declared.strings.TheConstants.{MAX_TURNS};

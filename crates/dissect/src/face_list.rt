@@ -1,4 +1,4 @@
-//! The corners of all faces of a map, listed.
+//! The corners of all faces of a map, listed by tracing each face (Edmonds 1960).
 
 ghost use Rattle.std.specs.Prelude.{◌≡◌, ◌<◌, ◌≤◌, ◌+◌, ℕ, [], IfOk, List, OnOk};
 ghost use Rattle.dissect.specs.FaceNumbers.{HasTurns};

@@ -1,4 +1,4 @@
-//! Laws of the definitions, each as the contract of a function that does nothing.
+//! Laws of the paths of edges, each as the contract of a function that does nothing.
 
 ghost use Rattle.std.specs.Prelude.{◌≡◌, ◌≢◌, ◌<◌, ◌≤◌, ◌⊎◌, ◌+◌, ◌-◌, ◌%◌, ◌++◌, ℕ, List, [], ◌∷◌, length};
 ghost use Rattle.dissect.specs.DartMaps.{DartMap, IsTied, IsSound, IsSubdivided, IsCut, IsCutUp, no_dart};

@@ -1,4 +1,4 @@
-//! The table of a map's darts, whose edges are subdivided and to which chords are added.
+//! The table of a map's darts (half-edges), whose edges are subdivided and to which chords are added.
 
 ghost use Rattle.std.specs.Prelude.{◌≡◌, ◌≢◌, ◌+◌, ◌^◌, ◌<◌, ◌≤◌, vec_len};
 

@@ -1,4 +1,4 @@
-//! Walks round the faces of a map.
+//! Walks round the faces of a map, which are the orbits of `next` (Edmonds 1960).
 
 ghost use Rattle.std.specs.Prelude.{◌≡◌, ◌≢◌, ◌⊎◌, ◌<◌, ◌≤◌, ℕ, [], ◌∷◌, ◌++◌, OnOk, vec_len};
 ghost use Rattle.dissect.specs.FaceNumbers.{AreFaceNumbers, HasTurns};

@@ -1,5 +1,5 @@
 pub mod Coverings
-pub mod Segments
+pub mod PathParts
 pub mod Strips
 pub mod Routing
 pub mod Leaving

@@ -13,7 +13,7 @@ use Rattle.drawing_check.specs.Paths.{point_of}
 use Rattle.drawing_check.specs.Draws.{IsAxis, IsOnAxes, AreOnAxes}
 use Rattle.drawing_check.specs.Shown.{rectangle_between, same_point, strips, Enumerates, Shows}
 use Rattle.drawing_check.proofs.Coverings.{point_is, shows_append, no_repeat_from_apart, apart_from_no_repeat}
-use Rattle.drawing_check.proofs.Segments.{toward_up, toward_down, toward_same, segment_lists}
+use Rattle.drawing_check.proofs.PathParts.{toward_up, toward_down, toward_same, segment_lists}
 
 -- where b lies from a: above, below, right or left
 ways : (a b : Point) → IsAxis a b → (((a.x ≡ b.x) × (a.y < b.y)) ⊎ ((a.x ≡ b.x) × (b.y < a.y))) ⊎ (((a.y ≡ b.y) × (a.x < b.x)) ⊎ ((a.y ≡ b.y) × (b.x < a.x)))

@@ -9,7 +9,7 @@ pub enum CheckFault {
     #[error("a point lies out of the grid")]
     OutOfGrid,
     /// Two consecutive points of a path are equal, or differ in both coordinates.
-    #[error("a segment is not parallel to an axis")]
+    #[error("a part of an edge is not parallel to an axis")]
     NotAxis,
     /// An edge has not as many corners as turns, or a corner or an angle at a vertex is not the
     /// shape's.

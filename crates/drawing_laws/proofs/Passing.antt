@@ -10,7 +10,7 @@ use Rattle.dissect.specs.Paths.{Follows, turn_to, turning_vertices}
 use Rattle.dissect.specs.Ordered.{IsMonotone, tail, point_at}
 use Rattle.drawing_check.specs.Walks.{step_from, distance, walk, interior, AreDistinct}
 use Rattle.drawing_check.proofs.Coverings.{no_repeat_append}
-use Rattle.drawing_check.proofs.Segments.{toward_up, toward_down, toward_same, segment_lists}
+use Rattle.drawing_check.proofs.PathParts.{toward_up, toward_down, toward_same, segment_lists}
 use Rattle.drawing_laws.proofs.Sides.{Goes}
 use Rattle.drawing_laws.proofs.Apart.{Holds}
 use Rattle.drawing_laws.proofs.Lines.{line, line_straight, line_turn, goes_axis, on_straight, on_turn}

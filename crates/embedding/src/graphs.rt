@@ -1,4 +1,4 @@
-//! A graph that keeps rules 1 to 7, with its darts.
+//! A graph that keeps rules 1 to 7, as a combinatorial map (Edmonds 1960): darts, and their order round each vertex.
 
 ghost use Rattle.std.specs.Prelude.{◌≡◌, ℕ, ◌*◌, ◌<◌, ◌≤◌, List, length, IfOk, IfErr, OnOk};
 ghost use Rattle.embedding.specs.declared.graphs.TheConstants.{MAX_DARTS, MAX_EDGES};

@@ -1,5 +1,5 @@
-//! A bit-parallel test of the lists of small graphs, in one scan over their entries. Nearly all lists that keep the
-//! first seven rules are accepted.
+//! A bit-parallel test of the lists of small graphs, on the rows of the adjacency matrix. Nearly all lists that keep
+//! the first seven rules are accepted.
 
 ghost use Rattle.std.specs.Prelude.{◌≡◌, ◌≢◌, ℕ, ◌+◌, ◌<◌, ◌≤◌, Bool, true, [], length, slice_index, slice_index_or, IsTrue, IfSome, OnSome, All, Contains};
 ghost use Rattle.embedding.specs.Rules.{KeepsBefore};

@@ -1,4 +1,4 @@
-//! Laws of the definitions, each as the contract of a function that does nothing.
+//! Laws of faces and their numbers, each as the contract of a function that does nothing.
 
 ghost use Rattle.std.specs.Prelude.{◌≡◌, ◌==◌, ◌<◌, ◌↔◌, ℕ, Bool, List, true};
 ghost use Rattle.common.specs.Sums.{sum_below};

@@ -1,11 +1,12 @@
-//! One lane: four stages. The last one runs on the lane's own thread, which starts a thread for each other one.
+//! One lane: a pipeline of four stages. The last one runs on the lane's own thread, which starts a thread for each
+//! other one.
 ghost use Rattle.std.specs.Prelude.{◌≡◌, ◌∷◌, ◌++◌, [], List, IfOk, IfSome, Some, vec_len};
 ghost use Rattle.ruled_lanes.specs.LinkEnds.{given, taken, AreEnds};
 ghost use Rattle.ruled_lanes.specs.FanEnds.{given_at, GivesToSameLane};
 ghost use Rattle.lanes.specs.declared.message.Message.{Message as AnyMessage};
 ghost use Rattle.lanes.specs.declared.message.Message.TheVariants.{Stop};
 ghost use Rattle.lanes.specs.Notes.{notes, GoOn};
-ghost use Rattle.lanes.specs.Stages.{IsPassedOn};
+ghost use Rattle.lanes.specs.Stages.{IsHandedOn};
 ghost use Rattle.lane_runs.specs.Lanes.{TellsSeat, StartsToRead, StartsLane, LeavesLane};
 ghost use Rattle.lane_runs.specs.Accepting.{AcceptsAll};
 
@@ -145,7 +146,7 @@ impl<L: LaneKind, O: Opener> StartedStages<L, O> {
         requires embedded { AreEnds self.embed.promise.giver.value self.shape.promise.taker.value }
         requires shaped { IfSome drew (AreEnds self.shape.promise.giver.value) }
         ensures { IfSome result (λ seat. (gave : List (AnyMessage L.Entry L.End))
-            → IfSome drew (λ took. IsPassedOn L.Shaped.about L.Entry.about (taken took) gave)
+            → IfSome drew (λ took. IsHandedOn L.Shaped.about L.Entry.about (taken took) gave)
             → TellsSeat L.Entry.about self.read.promise.choice (O.meaning self.read.promise.opener.value)
             self.read.promise.tickets.value seat gave) }
     {

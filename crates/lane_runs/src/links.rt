@@ -5,7 +5,7 @@ ghost use Rattle.ruled_lanes.specs.LinkEnds.{given, taken, AreEnds};
 ghost use Rattle.common.specs.declared.choice.Choice.{Choice};
 ghost use Rattle.lanes.specs.declared.message.Message.{Message as AnyMessage};
 ghost use Rattle.lanes.specs.Opening.{Meaning};
-ghost use Rattle.lanes.specs.Stages.{IsPassedOn};
+ghost use Rattle.lanes.specs.Stages.{IsHandedOn};
 ghost use Rattle.lanes.specs.Files.{TellsDrawn};
 ghost use Rattle.lane_runs.specs.Lanes.{IsNewLink};
 
@@ -74,10 +74,10 @@ pub fn settle_lane<L: LaneKind, R: Wait>(
     requires framed { AreEnds read embed.0 }
     requires embedded { AreEnds embed.1 shape.0 }
     requires shaped { AreEnds shape.1 draw }
-    requires embeds { IsPassedOn L.Framed.about L.Embedded.about (taken embed.0) (given embed.1) }
-    requires shapes { IsPassedOn L.Embedded.about L.Shaped.about (taken shape.0) (given shape.1) }
+    requires embeds { IsHandedOn L.Framed.about L.Embedded.about (taken embed.0) (given embed.1) }
+    requires shapes { IsHandedOn L.Embedded.about L.Shaped.about (taken shape.0) (given shape.1) }
     ensures { (choice : Choice) (meaning : ℕ → Meaning) (drawn : List ℕ) (gave : List (AnyMessage L.Entry L.End))
-        → IsPassedOn L.Shaped.about L.Entry.about (taken draw) gave
+        → IsHandedOn L.Shaped.about L.Entry.about (taken draw) gave
         → TellsDrawn L.Framed.about choice meaning drawn (given read)
         → TellsDrawn L.Entry.about choice meaning drawn gave }
 {

@@ -1,7 +1,7 @@
 //! Stages that are started in threads of their own.
 ghost use Rattle.std.specs.Prelude.{◌≡◌, [], IfOk, IfSome, vec_len};
 ghost use Rattle.ruled_lanes.specs.LinkEnds.{given, taken};
-ghost use Rattle.lanes.specs.Stages.{PassedAll};
+ghost use Rattle.lanes.specs.Stages.{HandedOnAll};
 ghost use Rattle.lane_runs.specs.Lanes.{ReadsSeat, StartsToRead};
 ghost use Rattle.lane_runs.specs.Accepting.{AcceptsAll};
 
@@ -49,7 +49,7 @@ pub struct StagePromise<A: Staged, M: Drop + Send> {
 impl<A: Staged, M: Drop + Send> Promise<Option<(Taker<Message<A, M>>, Giver<Message<A::Next, M>>)>>
     for StagePromise<A, M> {
     ghost kept_by = { λ p result. IfSome result (λ ends.
-        PassedAll A.about A.Next.about p.taker.value p.giver.value ends.0 ends.1) };
+        HandedOnAll A.about A.Next.about p.taker.value p.giver.value ends.0 ends.1) };
 }
 
 /// A stage that runs in a thread of its own.

@@ -7,7 +7,7 @@ use Rattle.lanes.specs.declared.message.Message.{Message}
 use Rattle.lanes.specs.declared.drafts.Draft.{Draft}
 use Rattle.lanes.specs.Notes.{About, Note, note, notes, numbered, GoOn, IsStopped, Item, End, Stop}
 use Rattle.lanes.specs.Opening.{Meaning}
-use Rattle.lanes.specs.Stages.{IsPassedOn}
+use Rattle.lanes.specs.Stages.{IsHandedOn}
 use Rattle.lanes.specs.Drafts.{abouts, mark_after, IsDraft, AreDrafts}
 use Rattle.lanes.specs.Files.{HasFile, HasDrawn, TellsDrawn, IsWholeDraft, AreReady}
 use Rattle.lanes.specs.Fans.{HasStop}
@@ -73,7 +73,7 @@ module _ {A M : Type 0} where
 module _ {A B M : Type 0} where
   -- over a link and a stage behind it
   pub stage_tells : (about : A → About) (next_about : B → About) (choice : Choice) (meaning : ℕ → Meaning) (drawn : List ℕ) (given taken : List (Message A M)) (gave : List (Message B M))
-      → Settles taken given → IsPassedOn about next_about taken gave → TellsDrawn about choice meaning drawn given → TellsDrawn next_about choice meaning drawn gave
+      → Settles taken given → IsHandedOn about next_about taken gave → TellsDrawn about choice meaning drawn given → TellsDrawn next_about choice meaning drawn gave
   stage_tells about next_about choice meaning drawn given taken gave settled passed tells =
       tells_same next_about choice meaning drawn gave (notes about given)
       (passed.same ∙ link_passed about taken given settled passed.stopped tells.stopped) tells.stopped tells.told

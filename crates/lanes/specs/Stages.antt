@@ -8,12 +8,12 @@ use Rattle.lanes.specs.Notes.{About, notes, IsStopped}
 
 module _ {A B M : Type 0} where
   -- one message was given for each that was taken, about the same and in order, up to one stop
-  pub record IsPassedOn (about : A → About) (next_about : B → About) (took : List (Message A M)) (gave : List (Message B M)) : Type 0 where
+  pub record IsHandedOn (about : A → About) (next_about : B → About) (took : List (Message A M)) (gave : List (Message B M)) : Type 0 where
     pub same : notes next_about gave ≡ notes about took
     pub stopped : IsStopped (notes about took)
 
   -- the ends that a stage gives back are those of its links, and it handed on all messages
-  pub record PassedAll (about : A → About) (next_about : B → About) (taker : Taker (Message A M)) (giver : Giver (Message B M)) (took : Taker (Message A M)) (gave : Giver (Message B M)) : Type 0 where
+  pub record HandedOnAll (about : A → About) (next_about : B → About) (taker : Taker (Message A M)) (giver : Giver (Message B M)) (took : Taker (Message A M)) (gave : Giver (Message B M)) : Type 0 where
     pub from_same : TakesFromSame taker took
     pub to_same : GivesToSame giver gave
-    pub passed : IsPassedOn about next_about (taken took) (given gave)
+    pub passed : IsHandedOn about next_about (taken took) (given gave)

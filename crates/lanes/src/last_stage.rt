@@ -4,7 +4,7 @@ ghost use Rattle.ruled_lanes.specs.LinkEnds.{taken, TakesFromSame};
 ghost use Rattle.ruled_lanes.specs.FanEnds.{given_at, GivesToSameLane};
 ghost use Rattle.lanes.specs.declared.message.Message.TheVariants.{Stop};
 ghost use Rattle.lanes.specs.Notes.{notes, GoOn};
-ghost use Rattle.lanes.specs.Stages.{IsPassedOn};
+ghost use Rattle.lanes.specs.Stages.{IsHandedOn};
 
 use crate::gate::Gate;
 use crate::message::Message;
@@ -31,7 +31,7 @@ pub fn run_last_stage<A: Staged, M: Drop, R: Wait, G: Gate>(
     ensures same_lane { GivesToSameLane giver.old giver.new }
     ensures goes_on { GoOn (notes A.Next.about (given_at giver.new)) }
     ensures same_link { IfSome result (λ took. TakesFromSame taker took) }
-    ensures passed { IfSome result (λ took. IsPassedOn A.about A.Next.about (taken took) (given_at giver.new ++ Stop ∷ [])) }
+    ensures handed_on { IfSome result (λ took. IsHandedOn A.about A.Next.about (taken took) (given_at giver.new ++ Stop ∷ [])) }
 {
     let lane = giver.lane();
     for _ in rt.forever() {

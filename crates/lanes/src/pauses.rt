@@ -1,4 +1,4 @@
-//! From which file on reading pauses.
+//! Backpressure: from which file on reading pauses.
 
 use std::sync::Wait;
 use std::sync::atomic::{AtomicU64, Ordering};

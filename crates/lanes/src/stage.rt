@@ -1,7 +1,7 @@
-//! How a stage of a lane runs.
+//! How a stage of a lane, which is a pipeline, runs.
 ghost use Rattle.std.specs.Prelude.{◌≡◌, [], IfSome};
 ghost use Rattle.ruled_lanes.specs.LinkEnds.{given, taken};
-ghost use Rattle.lanes.specs.Stages.{PassedAll};
+ghost use Rattle.lanes.specs.Stages.{HandedOnAll};
 
 use crate::gate::Gate;
 use crate::message::Message;
@@ -31,7 +31,7 @@ pub fn run_stage<A: Staged, M: Drop, R: Wait, G: Gate>(
 ) -> Option<(Taker<Message<A, M>>, Giver<Message<A::Next, M>>)>
     requires none_taken { taken taker ≡ [] }
     requires none_given { given giver ≡ [] }
-    ensures { IfSome result (λ ends. PassedAll A.about A.Next.about taker giver ends.0 ends.1) }
+    ensures { IfSome result (λ ends. HandedOnAll A.about A.Next.about taker giver ends.0 ends.1) }
 {
     let StageWork { lane, mut scratch } = work;
     for _ in rt.forever() {

@@ -1,4 +1,5 @@
-//! The test of a certificate by linear programming duality: weights of pairs bound all lengths from below.
+//! The test of a certificate by linear programming duality (Ahuja, Magnanti and Orlin, Network Flows, 1993, section
+//! 9.4): weights of pairs bound all lengths from below.
 
 ghost use Rattle.std.specs.Prelude.{◌≡◌, ◌<◌, ◌≤◌, ◌↔◌, ℕ, length, true, IfOk};
 ghost use Rattle.least_length.specs.declared.segments.TheConstants.{MAX_WIRES, MAX_SIGHTS};

@@ -1,4 +1,5 @@
-//! Coordinates of least total length, by the primal-dual method (Ahuja, Magnanti and Orlin, 1993, section 9.8).
+//! Coordinates of least total length, by the primal-dual method (Ahuja, Magnanti and Orlin, Network Flows, 1993, section
+//! 9.8).
 
 ghost use Rattle.std.specs.Prelude.{◌≡◌, ◌≤◌, length, true, IfOk, IfSome};
 ghost use Rattle.least_length.specs.declared.segments.TheConstants.{MAX_WIRES};

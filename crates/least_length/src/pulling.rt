@@ -1,4 +1,5 @@
-//! The primal-dual method (Ahuja, Magnanti and Orlin, 1993, section 9.8): wires pull segments until all is in balance.
+//! The primal-dual method (Ahuja, Magnanti and Orlin, Network Flows, 1993, section 9.8): wires pull segments until all is
+//! in balance.
 
 ghost use Rattle.std.specs.Prelude.{◌≡◌, []};
 

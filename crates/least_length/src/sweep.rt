@@ -1,4 +1,4 @@
-//! A sweep along the axis that sees whether segments keep their order.
+//! A sweep along the axis with a frontier (after Shamos and Hoey 1976): whether segments keep their order.
 
 ghost use Rattle.std.specs.Prelude.{◌≡◌, ◌<◌, ◌≤◌, ◌+◌, ◌^◌, ◌↔◌, ℕ, [], length, true, IfOk, slice_index};
 ghost use Rattle.least_length.specs.Lengths.{coordinates_in, HasLevel, KeepsOrder};

@@ -1,4 +1,5 @@
-//! Successive shortest paths (Ahuja, Magnanti and Orlin, 1993) from the flow that is there, as supplies move.
+//! Sensitivity analysis (Ahuja, Magnanti and Orlin, Network Flows, 1993, section 9.11): successive shortest paths from
+//! the flow that is there, as supplies move.
 ghost use Rattle.std.specs.Prelude.{◌≡◌, ◌<◌, ◌≤◌, ◌^◌, IfOk, IfErr, IfSome, IfNone, ℕ, length};
 ghost use Rattle.networks.specs.declared.fault.TheConstants.{MAX_SUPPLY};
 ghost use Rattle.networks.specs.Networks.{NetworkModel, node_count, arc_count, shifted, HasSuppliesInRange, IsNetwork};

@@ -1,4 +1,5 @@
-//! Flow networks: nodes with supplies, and arcs with capacities and costs (Ahuja, Magnanti and Orlin, 1993, section 1.2).
+//! Flow networks (Ahuja, Magnanti and Orlin, Network Flows, 1993, section 1.2): nodes with supplies, and arcs with
+//! capacities and costs.
 ghost use Rattle.std.specs.Prelude.{◌≡◌, ◌<◌, ◌≤◌, IfOk, IfErr};
 ghost use Rattle.networks.specs.declared.fault.TheConstants.{MAX_SUPPLY};
 ghost use Rattle.networks.specs.Networks.{NetworkModel, net_of, node_count, arc_count, arc_at, supply_at, shifted, HasSuppliesInRange, IsNetwork};

@@ -1,4 +1,5 @@
-//! Residual arcs, those that start at a node side by side.
+//! Residual arcs in forward star form (Ahuja, Magnanti and Orlin, Network Flows, 1993, section 2.3): those that start at
+//! a node stand side by side.
 ghost use Rattle.std.specs.Prelude.{◌≡◌, ◌<◌, ◌≤◌, ◌+◌, ◌-◌, ◌^◌, length, ℤ, pos, negsuc, ◌≤ℤ◌};
 ghost use Rattle.networks.specs.ResidualArcs.{end_at, reverse_at, capacity_at, IsRated, IsCosted};
 ghost use Rattle.networks.specs.Residuals.{HasNumber, IsSetTo};

@@ -1,4 +1,5 @@
-//! The best outer face: one flow moved over faces depth first, with bounds by weak duality (Ahuja et al. 1993).
+//! The best outer face: one flow moved over faces depth first, with bounds by weak duality (Ahuja, Magnanti and Orlin,
+//! Network Flows, 1993, section 9.4).
 
 ghost use Rattle.std.specs.Prelude.{◌≡◌, ◌<◌, ◌≤◌, ◌⊎◌, ℕ, pos, ◌+ℤ◌, ◌-ℤ◌, ◌*ℤ◌, ◌≤ℤ◌, ◌^◌, IsTrue, IsFalse, OnOk, IfOk, IfSome, OnErr, length};
 ghost use Rattle.faces.specs.Planes.{darts, with_outer};

@@ -1,4 +1,5 @@
-//! Complementary slackness (Ahuja, Magnanti and Orlin, 1993, section 9.3): whether prices prove a shape least.
+//! Complementary slackness (Ahuja, Magnanti and Orlin, Network Flows, 1993, section 9.3): whether prices prove a shape
+//! least.
 
 ghost use Rattle.std.specs.Prelude.{◌≡◌, ◌<◌, ◌↔◌, pos, ◌+ℤ◌, ◌-ℤ◌, ◌≤ℤ◌, IsTrue};
 ghost use Rattle.faces.specs.Planes.{darts};

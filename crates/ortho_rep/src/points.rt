@@ -30,7 +30,7 @@ pub struct Points {
 
 #[derive(Debug, Drop)]
 enum PointStore {
-    Apart {
+    InTwoLists {
         vertices: Vec<Point>,
         corners: Vec<Vec<Point>>,
     },
@@ -54,7 +54,7 @@ impl Points {
         ensures { result ≡ record { vertices = vertices.items; corners = lists_in corners.items } }
     {
         Points {
-            store: PointStore::Apart { vertices, corners },
+            store: PointStore::InTwoLists { vertices, corners },
         }
     }
 
@@ -83,7 +83,7 @@ impl Points {
     /// of the vertices. It takes none.
     pub fn into_list(self) -> Vec<Point> {
         match self.store {
-            PointStore::Apart {
+            PointStore::InTwoLists {
                 vertices,
                 corners: _,
             } => vertices,
@@ -103,7 +103,7 @@ impl Points {
         ensures { result ≡ length self.now.corners }
     {
         match &self.store {
-            PointStore::Apart { corners, .. } => corners.len(),
+            PointStore::InTwoLists { corners, .. } => corners.len(),
             PointStore::Concatenated(points) => points.edge_count(),
         }
     }
@@ -113,7 +113,7 @@ impl Points {
         ensures { result.now ≡ self.now.vertices }
     {
         match &self.store {
-            PointStore::Apart { vertices, .. } => vertices.as_slice(),
+            PointStore::InTwoLists { vertices, .. } => vertices.as_slice(),
             PointStore::Concatenated(points) => points.vertices(),
         }
     }
@@ -133,7 +133,7 @@ impl Points {
         ensures { result.now ≡ corners_at self.now edge }
     {
         match &self.store {
-            PointStore::Apart { corners, .. } => corners[usize::from(edge)].as_slice(),
+            PointStore::InTwoLists { corners, .. } => corners[usize::from(edge)].as_slice(),
             PointStore::Concatenated(points) => points.corners(edge),
         }
     }

@@ -17,7 +17,7 @@ pub struct Prices {
 
 #[derive(Debug, Drop)]
 enum PriceStore {
-    Apart { vertices: Vec<i32>, faces: Vec<i32> },
+    InTwoLists { vertices: Vec<i32>, faces: Vec<i32> },
     // those of so many vertices, and behind them those of the faces
     Concatenated { prices: Vec<i32>, vertices: usize },
 }
@@ -40,7 +40,7 @@ impl Prices {
         ensures { result ≡ record { vertices = vertices.items; faces = faces.items } }
     {
         Prices {
-            store: PriceStore::Apart { vertices, faces },
+            store: PriceStore::InTwoLists { vertices, faces },
         }
     }
 
@@ -62,7 +62,7 @@ impl Prices {
                 prices,
                 vertices: _,
             } => scratch.lists.prices = prices,
-            PriceStore::Apart {
+            PriceStore::InTwoLists {
                 vertices: _,
                 faces: _,
             } => {}
@@ -74,7 +74,7 @@ impl Prices {
         ensures { result ≡ length self.now.vertices }
     {
         match &self.store {
-            PriceStore::Apart { vertices, .. } => vertices.len(),
+            PriceStore::InTwoLists { vertices, .. } => vertices.len(),
             PriceStore::Concatenated { vertices, .. } => *vertices,
         }
     }
@@ -84,7 +84,7 @@ impl Prices {
         ensures { result ≡ length self.now.faces }
     {
         match &self.store {
-            PriceStore::Apart { faces, .. } => faces.len(),
+            PriceStore::InTwoLists { faces, .. } => faces.len(),
             PriceStore::Concatenated { prices, vertices } => prices.len() - *vertices,
         }
     }
@@ -97,7 +97,7 @@ impl Prices {
     {
         let place = usize::from(vertex) - 1;
         match &self.store {
-            PriceStore::Apart { vertices, .. } => vertices[place],
+            PriceStore::InTwoLists { vertices, .. } => vertices[place],
             PriceStore::Concatenated { prices, .. } => prices[place],
         }
     }
@@ -109,7 +109,7 @@ impl Prices {
     {
         let place = usize::from(face);
         match &self.store {
-            PriceStore::Apart { faces, .. } => faces[place],
+            PriceStore::InTwoLists { faces, .. } => faces[place],
             PriceStore::Concatenated { prices, vertices } => prices[*vertices + place],
         }
     }

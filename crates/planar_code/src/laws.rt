@@ -1,4 +1,4 @@
-//! Laws of the definitions, each as the contract of a function that does nothing.
+//! Laws of records and of how a stream splits into them, each as the contract of a function that does nothing.
 ghost use Rattle.std.specs.Prelude.{codes, ◌≡◌, ℕ, ◌<◌, ◌≤◌, List, [], ◌++◌, length, All};
 ghost use Rattle.planar_code.specs.declared.TheConstants.{MAX_RECORDS};
 ghost use Rattle.planar_code.specs.declared.ending.Ending.{Ending};

@@ -1,4 +1,4 @@
-//! Text that grows without being moved.
+//! Text that grows without being moved, in chunks.
 ghost use Rattle.std.specs.Prelude.{◌≡◌, ◌++◌, [], false, OnOk, OnErr, IfErr};
 ghost use Rattle.printing.specs.Concatenated.{concatenated};
 ghost use Rattle.printing.specs.Written.{GoesOn, IsPartlyAdded, GivesUp};

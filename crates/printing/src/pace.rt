@@ -1,4 +1,4 @@
-//! Which files pause while too much waits.
+//! Backpressure: which files pause while too much waits.
 
 use crate::run_lines::Lines;
 use lanes::Pauses;

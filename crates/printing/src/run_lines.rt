@@ -1,4 +1,4 @@
-//! The lines of a run on their way to a sink.
+//! The lines of a run on their way to a sink: a reorder buffer, since lines of several files come mixed.
 ghost use Rattle.std.specs.Prelude.{◌≡◌, ◌+◌, ◌<◌, ◌≤◌, ◌≢◌, ◌↔◌, ◌∷◌, ◌++◌, ℕ, List, [], Option, None, Some, Err, true, false, IfOk, OnOk, IfErr, IsTrue, IsSome, slice_index_or, length, OnErr, ◌⊎◌};
 ghost use Rattle.streams.specs.declared.frames.Mark.{Mark};
 ghost use Rattle.common.specs.declared.choice.Choice.{Choice};

@@ -1,4 +1,4 @@
-//! The ends of a fan.
+//! The ends of a fan, a bounded queue with a producer for each lane and one consumer.
 ghost use Rattle.std.specs.Prelude.{◌≡◌, ◌<◌};
 ghost use Rattle.crossbeam_channel.specs.Claims.{view, IsSeatAt};
 ghost use Rattle.crossbeam_channel.specs.Ends.{sends_on, receives_on};

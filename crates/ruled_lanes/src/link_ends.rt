@@ -1,4 +1,4 @@
-//! The two ends of a link.
+//! The two ends of a link, a bounded queue with one producer and one consumer.
 ghost use Rattle.std.specs.Prelude.{◌≡◌, true, false, []};
 ghost use Rattle.crossbeam_channel.specs.Claims.{view, IsSeatAt};
 ghost use Rattle.crossbeam_channel.specs.Ends.{sends_on, receives_on};

@@ -1,4 +1,4 @@
-//! Making a fan.
+//! Making a fan, a bounded queue with a producer for each lane and one consumer.
 ghost use Rattle.std.specs.Prelude.{◌≡◌, ◌≤◌, [], All, IfOk, vec_len};
 ghost use Rattle.ruled_lanes.specs.FanEnds.{given_at, gathered, capacity_of_fan, AreGiversOf, StandInOrder};
 

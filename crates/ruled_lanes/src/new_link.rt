@@ -1,4 +1,4 @@
-//! Making a link.
+//! Making a link, a bounded queue with one producer and one consumer.
 ghost use Rattle.std.specs.Prelude.{◌≡◌, ◌≤◌, [], IfOk};
 ghost use Rattle.ruled_lanes.specs.LinkEnds.{given, taken, capacity_of, AreEnds};
 

@@ -1,4 +1,5 @@
-//! Making a shape straighter by cycles of reduced cost 0 (Ahuja, Magnanti and Orlin, 1993, section 9.3).
+//! Making a shape straighter by cycles of reduced cost 0 (Ahuja, Magnanti and Orlin, Network Flows, 1993, section
+//! 9.3).
 
 ghost use Rattle.std.specs.Prelude.{◌≡◌, ◌<◌, ◌≤◌, IfOk, IsTrue, length};
 ghost use Rattle.faces.specs.Planes.{darts};

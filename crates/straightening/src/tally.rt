@@ -1,4 +1,4 @@
-//! Whether a flow is an orthogonal representation.
+//! Whether a flow is an orthogonal representation, by the conditions of Tamassia (1987).
 
 ghost use Rattle.std.specs.Prelude.{◌≡◌, ◌≤◌, ◌<◌, ℕ, IsTrue, length, replicate, slice_index, pos, negsuc, ◌-ℤ◌, if◌then◌else◌};
 ghost use Rattle.faces.specs.Planes.{darts, vertices};

@@ -2,7 +2,7 @@ use Rattle.std.proofs.Common.{◌≡◌, ◌≤◌, ℕ, List, length, slice_ind
 use Rattle.std.proofs.lemmas.List.{take_at}
 use Rattle.compact.specs.declared.constraint_graph.Constraint.{Constraint}
 use Rattle.compact.specs.Constraints.{Satisfies}
-use Rattle.compact.specs.Ordered.{AreLeast, growth}
+use Rattle.compact.specs.Ordered.{AreLeastOnAxis, growth}
 use Rattle.dissect.specs.Boxes.{dart_map}
 use Rattle.compact.proofs.Constraining.{all_along}
 use Rattle.compact.proofs.axis.relaxed_along.Goals as goal
@@ -36,7 +36,7 @@ returns-clause-along c =
     omega (arith, ap (λ (xs : List ℕ). length xs) c.deref_mut.ensures.value, c.requires.count) in
     let room : length found ≡ c.args.coordinates.len = omega (arith, all_satisfied.length, c.deref_mut.ensures.len) in
     let keeps = subst (λ (gs : List Constraint). Satisfies gs x) c.deref.ensures.value (all_satisfied.keeps refl) in
-    subst (λ (xs : List ℕ). AreLeast c.args.boxes.now k xs)
+    subst (λ (xs : List ℕ). AreLeastOnAxis c.args.boxes.now k xs)
     (sym (take_at found _ c.args.coordinates.len room))
     (record {
       along = all_along w k c.constraints_along.new.constraints.items x c.in-Ok.ensures keeps;

@@ -2,7 +2,7 @@
 use Rattle.std.proofs.Common.{IfSome, subst}
 use Rattle.ruled_lanes.specs.LinkEnds.{given, taken}
 use Rattle.ruled_lanes.specs.TicketSeats.{drawn}
-use Rattle.lanes.specs.Stages.{IsPassedOn}
+use Rattle.lanes.specs.Stages.{IsHandedOn}
 use Rattle.lane_runs.specs.Lanes.{ReadsSeat}
 use Rattle.lane_runs.proofs.lane.StartedStages.join.Goals as goal
 
@@ -15,8 +15,8 @@ returns g c = λ gave passed.
     let read : ReadsSeat g.L.Framed.Numbered.about promise.choice (meaning promise.opener.value) promise.tickets.value promise.giver.value all.ends.0 all.ends.1 =
     subst (λ r. IfSome r (λ ends. ReadsSeat g.L.Framed.Numbered.about promise.choice (meaning promise.opener.value) promise.tickets.value promise.giver.value ends.0 ends.1))
     were.first c.join-read.ensures in
-    let drew : IsPassedOn g.L.Shaped.Numbered.about g.L.Entry.Numbered.about (taken all.draw) gave =
-    subst (λ r. IfSome r (λ took. IsPassedOn g.L.Shaped.Numbered.about g.L.Entry.Numbered.about (taken took) gave)) were.fourth passed in
+    let drew : IsHandedOn g.L.Shaped.Numbered.about g.L.Entry.Numbered.about (taken all.draw) gave =
+    subst (λ r. IfSome r (λ took. IsHandedOn g.L.Shaped.Numbered.about g.L.Entry.Numbered.about (taken took) gave)) were.fourth passed in
     record {
       seat_of = read.tells.seat_of;
       ended = read.tells.ended;

@@ -16,4 +16,4 @@ returns-in-Some-clause-told g c =
     subst (λ t. TellsSeat about run.choice (meaning run.opener.now) t c.in-Some.seat gave) started.ensures.tickets
     (subst (λ o. TellsSeat about run.choice (meaning o) promise.tickets.value c.in-Some.seat gave) started.ensures.opener
     (subst (λ x. TellsSeat about x (meaning promise.opener.value) promise.tickets.value c.in-Some.seat gave) started.ensures.choice
-    (c.in-Some.ensures gave c.run_last_stage-drew.ensures.passed)))
+    (c.in-Some.ensures gave c.run_last_stage-drew.ensures.handed_on)))
