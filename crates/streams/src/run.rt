@@ -145,7 +145,7 @@ fn gather<R: Wait>(
 fn settle<R: Wait>(rt: &R, gathered: GatheredRecords, giver: Giver<ReadMessage>) -> Frames
     requires ends { AreEnds giver gathered.taker }
     requires all { GathersAll gathered.records.items gathered.mark (taken gathered.taker) }
-    requires known { (records : List (List ℕ)) × (mark : Mark) × IsTold records mark (given giver) }
+    requires told { (records : List (List ℕ)) × (mark : Mark) × IsTold records mark (given giver) }
     ensures { (records : List (List ℕ)) (mark : Mark) → IsTold records mark (given giver)
         → (result.records ≡ records) × (result.mark ≡ mark) }
 {
