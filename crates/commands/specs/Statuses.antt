@@ -48,7 +48,7 @@ pub record IsTextOfRecords (meaning : Meaning) (old new : Option (List ℕ)) (fa
   pub marked : IsMarked bytes fails found.records found.mark
   pub known : (all : List ℕ) → known_of meaning ≡ Some all → IsMarked all (fails_of meaning) found.records found.mark
   pub text : Appends old new (frames_text found)
-  pub whole : failed ≡ false
+  pub written : failed ≡ false
   pub complete : IsComplete found ↔ (status ≡ 0)
   pub other : status ≢ 0 → status ≡ 3
 
@@ -59,7 +59,7 @@ pub record IsTextOfBooks (choice : Choice) (form : Form) (meaning : ℕ → Mean
   pub of_files : AreAllBooks choice meaning files books
   pub text : Appends old new (text_in form books)
   pub written : failed ≡ false
-  pub whole : All IsFlawlessBook books ↔ (status ≡ 0)
+  pub flawless : All IsFlawlessBook books ↔ (status ≡ 0)
   pub other : status ≢ 0 → status ≡ 3
 
 -- A beginning of the text of the books of the first of so many files, which mean this, was added to the output, or of it and the lines of the next

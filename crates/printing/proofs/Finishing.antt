@@ -40,7 +40,7 @@ mark_told choice meaning file ns came has told =
 book_told : (choice : Choice) (meaning : Meaning) (file : ℕ) (ns : List Note) (came : Came) (has : HasFile choice meaning file ns) → IsToldByNotes file ns came
     → IsBook choice meaning file (record { entries = came.entries; mark = has.mark })
 book_told choice meaning file ns came has told = record {
-  flawless = record {
+  whole = record {
     records = has.records;
     each = told.entries ∙ ap abouts has.told ∙ abouts-end (map Item (numbered choice file 0 has.records)) file has.mark ∙ abouts-items (numbered choice file 0 has.records);
     found = has.found;

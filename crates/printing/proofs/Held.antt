@@ -31,7 +31,7 @@ use Rattle.printing.proofs.FlawlessBooks.{flawless_end}
 use Rattle.printing.proofs.Adding.{written_none}
 use Rattle.printing.proofs.Waits.{some_waiting}
 
--- whether all is whole, of as many files
+-- whether all is flawless, of as many files
 as_many : (before after : ℕ) (flawless : Bool) (came : ℕ → Came) → after ≡ before → ((flawless ≡ true) ↔ ((k : ℕ) → k < before → IsFlawlessSoFar (came k)))
     → ((flawless ≡ true) ↔ ((k : ℕ) → k < after → IsFlawlessSoFar (came k)))
 as_many before after flawless came same was = subst (λ n. (flawless ≡ true) ↔ ((k : ℕ) → k < n → IsFlawlessSoFar (came k))) (sym same) was

@@ -15,7 +15,7 @@ returns-in-Ok-write_batch-clause-written g c =
     let all = c.in-Ok-write_batch.ensures.written in
     laid_out (meanings (g.I.Opener.meaning c.args.input.now 0)) asked.choice asked.style.form asked.names.items c.as_slice-names.result.now c.in-Ok.files (vec_len asked.names)
     (g.S.Sink.taken c.args.out.now) (g.S.Sink.taken c.write_batch.new.sink) c.as_slice-names.ensures.value (search rules) _ _
-    (record { books = all.books; of_files = all.of_files; text = all.text; written = search rules; whole = search rules; other = search rules })
+    (record { books = all.books; of_files = all.of_files; text = all.text; written = search rules; flawless = search rules; other = search rules })
 
 pub returns-in-Err-Run-clause-begun : goal.returns-in-Err-Run-clause-begun
 returns-in-Err-Run-clause-begun g c =

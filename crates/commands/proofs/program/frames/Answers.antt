@@ -21,7 +21,7 @@ returns-clause-written g c =
           let tells = c.in_ok-source.ensures.known bytes known in
           marked_alike bytes _ _ _ _ tells.1 (c.in_ok-found.ensures.known bytes tells.0);
       text = search rules;
-      whole = search rules;
+      written = search rules;
       complete = search rules;
       other = search rules;
     }
