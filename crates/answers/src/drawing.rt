@@ -3,7 +3,7 @@
 ghost use Rattle.std.specs.Prelude.{◌≡◌, ◌*◌, length, IfOk, IfSome};
 ghost use Rattle.faces.specs.Planes.{darts, vertices};
 ghost use Rattle.ortho_rep.specs.Representation.{IsShape};
-ghost use Rattle.compact.specs.Ordered.{AreDirectionsOf};
+ghost use Rattle.compact.specs.Monotone.{AreDirectionsOf};
 ghost use Rattle.drawing_check.specs.Draws.{Draws};
 ghost use Rattle.entries.specs.Drawn.{HasPoints, IsDrawn};
 

@@ -2,7 +2,7 @@
 
 ghost use Rattle.ortho_rep.specs.Representation.{IsShape, IsLeast};
 ghost use Rattle.ortho_rep.specs.Prices.{IsProof};
-ghost use Rattle.compact.specs.Ordered.{AreDirectionsOf};
+ghost use Rattle.compact.specs.Monotone.{AreDirectionsOf};
 ghost use Rattle.std.proofs.Props.{props};
 
 use faces::Plane;

@@ -3,7 +3,7 @@
 ghost use Rattle.std.specs.Prelude.{◌≡◌, ℕ, List, IfOk, OnOk};
 ghost use Rattle.ortho_rep.specs.Representation.{IsShape, IsLeast};
 ghost use Rattle.ortho_rep.specs.Prices.{IsProof};
-ghost use Rattle.compact.specs.Ordered.{AreDirectionsOf};
+ghost use Rattle.compact.specs.Monotone.{AreDirectionsOf};
 ghost use Rattle.answers.specs.Steps.{IsTracedPlane, IsPlaneOf, IsShaped};
 ghost use Rattle.common.specs.declared.choice.Choice.{Choice};
 

@@ -1,4 +1,4 @@
-//! A free list: what goes back from a stage of a lane to the one that fills it anew.
+//! What goes back, by a bounded queue, from a stage of a lane to the one that fills it anew.
 ghost use Rattle.std.specs.Prelude.{◌<◌};
 
 use crossbeam_queue::ArrayQueue;

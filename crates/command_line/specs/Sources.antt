@@ -2,7 +2,7 @@
 use Rattle.std.specs.Prelude.{◌≡◌, ℕ, Bool, true, List, [], Option, Some}
 use Rattle.lanes.specs.Opening as opening
 use Rattle.command_line.specs.declared.source.FileSource.{FileSource}
-use Rattle.command_line.specs.declared.source.FileSource.TheVariants.{Open, Refused}
+use Rattle.command_line.specs.declared.source.FileSource.TheVariants.{Open, Unopened}
 use Rattle.command_line.specs.declared.source.NamedSource.{NamedSource}
 use Rattle.command_line.specs.declared.source.NamedSource.TheVariants.{File, Input}
 
@@ -21,14 +21,14 @@ module _ {F : Type 0} where
   -- the bytes that are to come: of a file that was refused there are none
   abbrev pub opened_to_come : (F → Option (List ℕ)) → FileSource F → Option (List ℕ)
   opened_to_come to_come (Open file) = to_come file
-  opened_to_come to_come Refused = Some []
+  opened_to_come to_come Unopened = Some []
 
   -- a read past the last of them fails
   abbrev pub opened_fails : (F → Bool) → FileSource F → Bool
   opened_fails fails (Open file) = fails file
-  opened_fails fails Refused = true
+  opened_fails fails Unopened = true
 
   -- where a file's bytes are known, they are those of this source
-  abbrev pub Tells : (F → Option (List ℕ)) → (F → Bool) → opening.Meaning → FileSource F → Type 0
-  Tells to_come fails meaning source = (bytes : List ℕ) → opening.known_of meaning ≡ Some bytes
+  abbrev pub IsKnownAs : (F → Option (List ℕ)) → (F → Bool) → opening.Meaning → FileSource F → Type 0
+  IsKnownAs to_come fails meaning source = (bytes : List ℕ) → opening.known_of meaning ≡ Some bytes
       → (opened_to_come to_come source ≡ Some bytes) × (opened_fails fails source ≡ opening.fails_of meaning)

@@ -1,11 +1,11 @@
-//! What ends the program without a whole report, and its exit status.
+//! What ends the program without a whole text, and its exit status.
 ghost use Rattle.std.specs.Prelude.{◌≡◌, ◌⊎◌, ◌↔◌};
 
 use std::io::ErrorKind;
 use streams::{BatchFault, WriteFault};
 use thiserror::Error;
 
-/// Why there is no whole report. The text of each is what the program prints of it behind its own name.
+/// Why there is no whole text. The line of each is what the program prints of it behind its own name.
 #[derive(Clone, Copy, Debug, PartialEq, Eq, Error)]
 pub enum Fault {
     /// There was no memory for the words after the program's name, for the text that helps with them or refuses
@@ -24,12 +24,12 @@ pub enum Fault {
 }
 
 impl Fault {
-    ghost use Rattle.command_line.specs.Refusals.{IsRefusal};
+    ghost use Rattle.command_line.specs.Refusals.{IsMisuse};
 
     /// The program's exit status: 2 where what was asked for is refused, and else 1.
     pub fn status(self) -> u8
-        ensures refused { IsRefusal self → result ≡ 2 }
-        ensures failed { ¬ IsRefusal self → result ≡ 1 }
+        ensures refused { IsMisuse self → result ≡ 2 }
+        ensures failed { ¬ IsMisuse self → result ≡ 1 }
     {
         match self {
             Fault::NotText | Fault::Run(BatchFault::TooManyFiles | BatchFault::BadLanes) => 2,

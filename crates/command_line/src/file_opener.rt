@@ -8,10 +8,10 @@ use std::alloc::Global;
 use std::sync::atomic::{AtomicU64, Ordering};
 
 /// Files by their places in a list of names, in which a name may stand more than once: a file's number is the place
-/// of its name. A number past the list is not opened. Files that are opened are counted in `opened`, also where the
-/// open is refused.
+/// of its name. A number past the list is not opened. Each call of `open` for a name is counted in `opened`, also
+/// where it is refused.
 ///
-/// In contracts that is known of a file which `files` says of its name.
+/// In contracts what is known of a file is what `files` says of its name.
 #[derive(Drop)]
 pub struct FileOpener<'r, 'n, N> {
     pub files: &'r N,

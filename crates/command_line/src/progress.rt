@@ -100,7 +100,7 @@ pub struct Meter<'c, C> {
     files: usize,
     /// When the run began, by the console's clock.
     start: u64,
-    /// How many files were opened.
+    /// How many files were opened, or could not be.
     opened: AtomicU64,
     /// How many graphs came to the last stage.
     graphs: AtomicU64,
@@ -122,7 +122,7 @@ impl<'c, C: Console> Meter<'c, C> {
         }
     }
 
-    /// The count of the files that were opened.
+    /// The count of the files that were opened, or could not be.
     pub fn opened(&self) -> &AtomicU64 {
         &self.opened
     }

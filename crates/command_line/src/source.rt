@@ -1,6 +1,6 @@
 //! Files as sources of a run.
 ghost use Rattle.std.specs.Prelude.{◌≡◌, ◌↔◌, IfOk, IfErr};
-ghost use Rattle.command_line.specs.Sources.{named_to_come, named_fails, opened_to_come, opened_fails, Tells};
+ghost use Rattle.command_line.specs.Sources.{named_to_come, named_fails, opened_to_come, opened_fails, IsKnownAs};
 
 use crate::faults::Fault;
 use crate::named_files::NamedFiles;
@@ -37,7 +37,7 @@ pub enum FileSource<F> {
     /// An open file.
     Open(F),
     /// A file that could not be opened.
-    Refused,
+    Unopened,
 }
 
 impl<F: Tap> Tap for FileSource<F> {
@@ -48,7 +48,7 @@ impl<F: Tap> Tap for FileSource<F> {
     fn read(&mut self, buf: &mut [u8]) -> Result<usize, TapFault> {
         match self {
             FileSource::Open(file) => file.read(buf),
-            FileSource::Refused => Err(TapFault),
+            FileSource::Unopened => Err(TapFault),
         }
     }
 }
@@ -63,13 +63,13 @@ pub fn open_source<N: NamedFiles>(
     alloc: Global,
     name: &str,
 ) -> Result<FileSource<N::Source>, Fault>
-    ensures known { IfOk result (Tells N.Source.to_come N.Source.fails (N.meaning files.now name.now)) }
+    ensures known { IfOk result (IsKnownAs N.Source.to_come N.Source.fails (N.meaning files.now name.now)) }
     ensures memory { IfErr result (λ fault. fault ≡ Fault.Memory) }
 {
     match files.open(alloc, name) {
         Ok(file) => Ok(FileSource::Open(file)),
         Err(OpenFault::Memory) => Err(Fault::Memory),
-        Err(OpenFault::Io) => Ok(FileSource::Refused),
+        Err(OpenFault::Io) => Ok(FileSource::Unopened),
     }
 }
 

@@ -6,8 +6,8 @@ use Rattle.commands.specs.declared.text.TextFault.{TextFault}
 use Rattle.commands.specs.declared.text.TextFault.TheVariants.{Run, Write}
 
 -- there are too many files, or no lanes, or too many
-abbrev pub IsRefusedRun : TextFault → Type 0
-IsRefusedRun (Run TooManyFiles) = ⊤
-IsRefusedRun (Run BadLanes) = ⊤
-IsRefusedRun (Run _) = ⊥
-IsRefusedRun Write = ⊥
+abbrev pub IsMisuseOfRun : TextFault → Type 0
+IsMisuseOfRun (Run TooManyFiles) = ⊤
+IsMisuseOfRun (Run BadLanes) = ⊤
+IsMisuseOfRun (Run _) = ⊥
+IsMisuseOfRun Write = ⊥

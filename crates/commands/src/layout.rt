@@ -1,6 +1,6 @@
 //! What `layout` does.
 ghost use Rattle.std.specs.Prelude.{◌≡◌, ◌<◌, ◌≤◌, ◌⊎◌, ◌↔◌, false, Err, IfOk, IfErr, OnErr, vec_len};
-ghost use Rattle.command_line.specs.Refusals.{IsRefusal};
+ghost use Rattle.command_line.specs.Refusals.{IsMisuse};
 ghost use Rattle.ruled_lanes.specs.declared.limits.TheConstants.{LANES};
 ghost use Rattle.entries.specs.declared.limits.TheConstants.{MAX_FILES};
 ghost use Rattle.command_line.specs.Naming.{meanings};
@@ -20,7 +20,7 @@ pub const CAPACITY: u32 = MAX_CAPACITY;
 /// How many bytes a megabyte has.
 const MEGABYTE: usize = 1_000_000;
 
-/// Writes the answers that are asked for, while the files are read, and gives back the status of the report. The file
+/// Writes the answers that are asked for, while the files are read, and gives back the status of their text. The file
 /// named `-` is the file 0 of `input`. The meter counts files and graphs. Where the text of later files that waits
 /// holds `waiting` megabytes of memory, their reading pauses.
 ///
@@ -54,7 +54,7 @@ where
     ensures too_many { (MAX_FILES < vec_len asked.now.names) ↔ (result ≡ Err (Fault.Run BatchFault.TooManyFiles)) }
     ensures bad_lanes { (((asked.now.lanes ≡ 0) ⊎ (LANES < asked.now.lanes)) × (vec_len asked.now.names ≤ MAX_FILES))
         ↔ (result ≡ Err (Fault.Run BatchFault.BadLanes)) }
-    ensures refused { IfErr result (λ fault. IsRefusal fault → out.new ≡ out.old) }
+    ensures refused { IfErr result (λ fault. IsMisuse fault → out.new ≡ out.old) }
 {
     let names = asked.names.as_slice();
     let named = FilesAndInput {

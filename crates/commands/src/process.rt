@@ -29,7 +29,7 @@ where
     R::Dir: Send,
     requires out_is_intact { S.failed out.old ≡ false }
     requires err_is_intact { E.failed err.old ≡ false }
-    ensures known { exit_status result ≤ 3 }
+    ensures in_range { exit_status result ≤ 3 }
     ensures failed_write { S.failed out.new ≡ true → exit_status result ≡ 1 }
     ensures refused { exit_status result ≡ 2 → out.new ≡ out.old }
 

@@ -4,7 +4,7 @@ ghost use Rattle.std.specs.Borrow.{Bor};
 ghost use Rattle.std.specs.Io.KnownBytes.{Appends};
 ghost use Rattle.common.specs.declared.choice.Choice.{Choice};
 ghost use Rattle.reports.specs.declared.form.Form.{Form};
-ghost use Rattle.command_line.specs.Refusals.{IsRefusal};
+ghost use Rattle.command_line.specs.Refusals.{IsMisuse};
 ghost use Rattle.command_line.specs.Naming.{meaning_of, meanings};
 ghost use Rattle.clap.specs.Words.{kind_of};
 ghost use Rattle.clap.specs.declared.error.kind.ErrorKind.{ErrorKind};
@@ -31,12 +31,12 @@ use std::thread::Threads;
 use streams::{Sink, put_all, run_frames, write_frames};
 
 /// Does what the words after the program's name ask for, and returns the program's exit status.
-/// The file named `-` is standard input, the file 0 of `input`. A report goes to `out`, and the line of a fault
+/// The file named `-` is standard input, the file 0 of `input`. A text goes to `out`, and the line of a fault
 /// to `err`; that this line may fail changes nothing, nor does what `console` writes of the progress of a run.
 ///
-/// The status is 0 for the version, for help and for a whole report in which each file ends complete and
-/// no graph wanted for memory, 3 for any other whole report, 2 for a command line that is refused, and 1
-/// where there is no whole report.
+/// The status is 0 for the version, for help and for a whole text in which each file ends complete and
+/// no graph wanted for memory, 3 for any other whole text, 2 for a command line that is refused, and 1
+/// where there is no whole text.
 pub fn command<
     R: Files + AllocGlobal + Threads + Wait + Sync,
     I: Opener,
@@ -49,13 +49,13 @@ where
     R::Dir: Send,
     requires out_is_intact { S.failed out.old ≡ false }
     requires err_is_intact { E.failed err.old ≡ false }
-    ensures known { result ≤ 3 }
+    ensures in_range { result ≤ 3 }
     ensures failed_write { S.failed out.new ≡ true → result ≡ 1 }
 
-    // Where the command line is refused, nothing is reported.
+    // Where the command line is refused, nothing is written.
     ensures refused { result ≡ 2 → out.new ≡ out.old }
 
-    // Status 3 comes with a whole report: of a file that does not end complete, or of files of which
+    // Status 3 comes with a whole text: of a file that does not end complete, or of files of which
     // one does not or lacks an answer for want of memory.
     ensures written { result ≡ 3
         → ((name : List ℕ)
@@ -102,7 +102,7 @@ where
     }
 }
 
-/// Does what a request asks for, and returns the exit status. It is 0 or 3 only where the whole report
+/// Does what a request asks for, and returns the exit status. It is 0 or 3 only where the whole text
 /// was written, of all files that the request names, and then as `command` says.
 fn perform<
     R: Files + AllocGlobal + Threads + Wait + Sync,
@@ -116,7 +116,7 @@ where
     R::Dir: Send,
     requires out_is_intact { S.failed out.old ≡ false }
     requires err_is_intact { E.failed err.old ≡ false }
-    ensures known { result ≤ 3 }
+    ensures in_range { result ≤ 3 }
     ensures failed_write { S.failed out.new ≡ true → result ≡ 1 }
     ensures refused { result ≡ 2 → out.new ≡ out.old }
     ensures done { (result ≡ 0) ⊎ (result ≡ 3)
@@ -143,8 +143,8 @@ where
 /// Writes the line of a fault, and returns its status.
 fn end_by<E: Sink>(fault: Fault, err: &mut E) -> u8
     requires { E.failed err.old ≡ false }
-    ensures refused { IsRefusal fault → result ≡ 2 }
-    ensures failed { ¬ IsRefusal fault → result ≡ 1 }
+    ensures refused { IsMisuse fault → result ≡ 2 }
+    ensures failed { ¬ IsMisuse fault → result ≡ 1 }
 {
     write_fault(fault, err);
     fault.status()
@@ -163,7 +163,7 @@ where
     requires { S.failed out.old ≡ false }
     ensures written { IfOk result (IsTextOfRecords (meaning_of (I.meaning input.now 0) name.now)
         (S.taken out.old) (S.taken out.new) (S.failed out.new)) }
-    ensures failed { IfErr result (λ fault. ¬ IsRefusal fault) }
+    ensures failed { IfErr result (λ fault. ¬ IsMisuse fault) }
     ensures begun { OnErr result ((out.new ≡ out.old)
         ⊎ IsBegunTextOfRecords (meaning_of (I.meaning input.now 0) name.now) (S.taken out.old) (S.taken out.new)) }
 {
@@ -180,7 +180,7 @@ where
 /// Writes why the command line is refused, and returns the status: 2, or 1 for want of memory.
 fn refuse<E: Sink>(alloc: Global, error: &Error, err: &mut E) -> u8
     requires { E.failed err.old ≡ false }
-    ensures known { (result ≡ 1) ⊎ (result ≡ 2) }
+    ensures in_range { (result ≡ 1) ⊎ (result ≡ 2) }
     ensures memory { kind_of error.now ≡ ErrorKind.OutOfMemory → result ≡ 1 }
 {
     if error.kind() == ErrorKind::OutOfMemory {
@@ -211,7 +211,7 @@ fn show_version<S: Sink, E: Sink>(out: &mut S, err: &mut E) -> u8
 fn show_help<S: Sink, E: Sink>(alloc: Global, help: &Error, out: &mut S, err: &mut E) -> u8
     requires out_is_intact { S.failed out.old ≡ false }
     requires err_is_intact { E.failed err.old ≡ false }
-    ensures known { result ≤ 2 }
+    ensures in_range { result ≤ 2 }
     ensures shown { result ≡ 0 → ((text : List ℕ) × IsNoText text × Appends (S.taken out.old) (S.taken out.new) text) }
     ensures refused { result ≡ 2 → out.new ≡ out.old }
     ensures failed_write { S.failed out.new ≡ true → result ≡ 1 }
@@ -230,7 +230,7 @@ fn show_help<S: Sink, E: Sink>(alloc: Global, help: &Error, out: &mut S, err: &m
     }
 }
 
-/// Whether a text begins as help does, and as no report.
+/// Whether a text begins as help does, and as no text of a run.
 fn begins_as_help(text: &[u8]) -> bool
     ensures no_text { IsTrue result → IsNoText text.now }
     ensures capital { IsTrue result → (65 ≤ slice_index text.now 0) × (slice_index text.now 0 ≤ 90) }

@@ -8,7 +8,7 @@ ghost use Rattle.lane_runs.specs.Faults.{HoldsOnRunFault};
 ghost use Rattle.lane_runs.specs.Accepting.{AcceptsFiles};
 ghost use Rattle.printing.specs.Whole.{IsAllWritten, IsBegun};
 ghost use Rattle.printing.specs.Telling.{AddsNoneUndrawn};
-ghost use Rattle.commands.specs.TextRuns.{IsRefusedRun};
+ghost use Rattle.commands.specs.TextRuns.{IsMisuseOfRun};
 
 use crate::line_lanes::LineLanes;
 use common::Choice;
@@ -76,7 +76,7 @@ pub fn write_batch<R: Threads + Wait + Sync, O: Opener, G: Gate, S: Sink>(
     ensures too_many { (MAX_FILES < files) ↔ (result ≡ Err (TextFault.Run BatchFault.TooManyFiles)) }
     ensures bad_lanes { (((lanes ≡ 0) ⊎ (LANES < lanes)) × (files ≤ MAX_FILES))
         ↔ (result ≡ Err (TextFault.Run BatchFault.BadLanes)) }
-    ensures refused { IfErr result (λ fault. IsRefusedRun fault → sink.new ≡ sink.old) }
+    ensures refused { IfErr result (λ fault. IsMisuseOfRun fault → sink.new ≡ sink.old) }
     ensures failed { (result ≡ Err TextFault.Write) ↔ (S.failed sink.new ≡ true) }
 {
     if files > MAX_FILES {
@@ -116,11 +116,11 @@ fn write_files<J: Meant + Send + Sync, R: Threads + Wait + Sync, O: Opener, G: G
     sink: &mut S,
 ) -> Result<u8, TextFault>
     requires stands { S.failed sink.old ≡ false }
-    requires told { J.meaning ≡ O.meaning run.now.opener.now }
+    requires same_meaning { J.meaning ≡ O.meaning run.now.opener.now }
     ensures written { IfOk result (IsAllWritten run.now.choice (O.meaning run.now.opener.now) style.form run.now.files (S.taken sink.old) (S.taken sink.new)) }
     ensures begun { OnErr result ∥ IsBegun run.now.choice (O.meaning run.now.opener.now) style.form run.now.files (S.taken sink.old) (S.taken sink.new) ∥₁ }
     ensures status { IfOk result (λ status. (status ≡ 0) ⊎ (status ≡ 3)) }
-    ensures began { IfErr result (λ fault. ¬ IsRefusedRun fault) }
+    ensures began { IfErr result (λ fault. ¬ IsMisuseOfRun fault) }
     ensures failed { (result ≡ Err TextFault.Write) ↔ (S.failed sink.new ≡ true) }
 {
     let Ok(lines) = Lines::new(run.alloc, style.form, run.choice, run.files) else {
@@ -152,7 +152,7 @@ fn let_go<S: Sink>(texts: Texts<'_, S, Lines>)
 /// Why a run came to nothing, as it is returned.
 fn fault_of(fault: RunFault<Refusal>) -> TextFault
     ensures write { (result ≡ TextFault.Write) ↔ (fault ≡ RunFault.Refused Refusal.Write) }
-    ensures begun { ¬ IsRefusedRun result }
+    ensures begun { ¬ IsMisuseOfRun result }
 {
     match fault {
         RunFault::Memory | RunFault::Refused(Refusal::Memory) => TextFault::Run(BatchFault::Memory),

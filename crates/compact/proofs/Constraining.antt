@@ -6,7 +6,7 @@ use Rattle.std.proofs.lemmas.List.Elements.{All-append, All-cons, All-nil, All-p
 use Rattle.dissect.specs.DartMaps.{DartMap, IsSound}
 use Rattle.compact.specs.declared.constraint_graph.Constraint.{Constraint}
 use Rattle.compact.specs.Constraints.{Satisfies}
-use Rattle.compact.specs.Ordered.{tail, IsAlong, AreAlong}
+use Rattle.compact.specs.Monotone.{tail, IsAlong, AreAlong}
 
 -- a dart forward or across adds its constraint
 pub one_more : (w : DartMap) (k d : ℕ) (constraints : List Constraint) (least : ℕ) → IsSound w → d < w.darts →

@@ -6,7 +6,7 @@ use Rattle.common.proofs.Sums.{sum_below-changed}
 use Rattle.dissect.specs.DartMaps.{DartMap, IsSound}
 use Rattle.dissect.specs.Faces.{In, Distinct, Below}
 use Rattle.dissect.specs.Turning.{total}
-use Rattle.compact.specs.Ordered.{tail}
+use Rattle.compact.specs.Monotone.{tail}
 
 -- the summands at some places, none of them twice, come to no more than the sum
 some_summands : (n : ℕ) (f : ℕ → ℕ) (xs : List ℕ) → Distinct xs → Below n xs → total (map f xs) ≤ sum_below n f

@@ -7,7 +7,7 @@ use Rattle.dissect.specs.DartMaps.{DartMap, IsSound, no_dart}
 use Rattle.dissect.specs.Paths.{turning_vertices}
 use Rattle.ortho_rep.specs.declared.points.Point.{Point}
 use Rattle.dissect.specs.Boxes.{BoxesModel, HasEdge, dart_map}
-use Rattle.compact.specs.Ordered.{tail, point_at, IsMonotone, IsAlong, AreCorners, AreCornersOf, IsAxisFault, IsCompactFault, AreLeastPoints, AreLeastOnAxis, AreWithin}
+use Rattle.compact.specs.Monotone.{tail, point_at, IsMonotone, IsAlong, AreCorners, AreCornersOf, IsAxisFault, IsCompactFault, AreLeastPoints, AreLeastOnAxis, AreWithin}
 use Rattle.std.specs.List.{range_with_len}
 use Rattle.ortho_rep.specs.declared.points.TheConstants.{MAX_COORDINATE}
 use Rattle.compact.specs.Neighbours.{AreUnder}
@@ -40,28 +40,28 @@ in_order w x y sound along_x along_y = record {
 
 -- coordinates in order keep the axis x
 pub keep_x : (w : DartMap) (x y : ℕ → ℕ) → IsSound w → IsMonotone w x y → IsAlong w 0 x
-keep_x w x y sound ordered = record {
-  forward = λ a a_in way. omega (arith, (ordered.east a a_in way).0);
+keep_x w x y sound monotone = record {
+  forward = λ a a_in way. omega (arith, (monotone.east a a_in way).0);
   across = λ a a_in one two. elim (cases_eq (w.direction a) 1) [
-    | inl north ↦ omega (arith, (ordered.north a a_in north).1)
+    | inl north ↦ omega (arith, (monotone.north a a_in north).1)
     | inr other ↦
         let south : w.direction a ≡ 3 = omega (arith, sound.meeting.quarter a a_in, one, two, other) in
         let back : w.direction (w.reverse_dart a) ≡ 1 = sound.straight a a_in ∙ ap (λ (d : ℕ). (d + 2) % 4) south in
-        let same : x (tail w (w.reverse_dart a)) ≡ x (w.head (w.reverse_dart a)) = (ordered.north (w.reverse_dart a) (sound.tied.reverse_dart_in a a_in) back).1 in
+        let same : x (tail w (w.reverse_dart a)) ≡ x (w.head (w.reverse_dart a)) = (monotone.north (w.reverse_dart a) (sound.tied.reverse_dart_in a a_in) back).1 in
         omega (arith, same, ap x (turned_round w a sound a_in))
   ];
 }
 
 -- and the axis y
 pub keep_y : (w : DartMap) (x y : ℕ → ℕ) → IsSound w → IsMonotone w x y → IsAlong w 1 y
-keep_y w x y sound ordered = record {
-  forward = λ a a_in way. omega (arith, (ordered.north a a_in way).0);
+keep_y w x y sound monotone = record {
+  forward = λ a a_in way. omega (arith, (monotone.north a a_in way).0);
   across = λ a a_in one two. elim (cases_eq (w.direction a) 0) [
-    | inl east ↦ omega (arith, (ordered.east a a_in east).1)
+    | inl east ↦ omega (arith, (monotone.east a a_in east).1)
     | inr other ↦
         let west : w.direction a ≡ 2 = omega (arith, sound.meeting.quarter a a_in, one, two, other) in
         let back : w.direction (w.reverse_dart a) ≡ 0 = sound.straight a a_in ∙ ap (λ (d : ℕ). (d + 2) % 4) west in
-        let same : y (tail w (w.reverse_dart a)) ≡ y (w.head (w.reverse_dart a)) = (ordered.east (w.reverse_dart a) (sound.tied.reverse_dart_in a a_in) back).1 in
+        let same : y (tail w (w.reverse_dart a)) ≡ y (w.head (w.reverse_dart a)) = (monotone.east (w.reverse_dart a) (sound.tied.reverse_dart_in a a_in) back).1 in
         omega (arith, same, ap y (turned_round w a sound a_in))
   ];
 }
@@ -79,14 +79,14 @@ pub record IsCornersOf (b : BoxesModel) (x y : ℕ → ℕ) (e : ℕ) (points : 
 
 -- what a fault of one axis says of both
 pub x_fault : (b : BoxesModel) (fault : CompactFault) → IsAxisFault b 0 fault → IsCompactFault b fault
-x_fault b Wide wide = λ x y ordered.
-    let (v, v_in, far) = wide.1 x (keep_x (dart_map b) x y wide.0 ordered) in
+x_fault b Wide wide = λ x y monotone.
+    let (v, v_in, far) = wide.1 x (keep_x (dart_map b) x y wide.0 monotone) in
     (v, v_in, inl far)
 x_fault b Memory fault = tt
 
 pub y_fault : (b : BoxesModel) (fault : CompactFault) → IsAxisFault b 1 fault → IsCompactFault b fault
-y_fault b Wide wide = λ x y ordered.
-    let (v, v_in, far) = wide.1 y (keep_y (dart_map b) x y wide.0 ordered) in
+y_fault b Wide wide = λ x y monotone.
+    let (v, v_in, far) = wide.1 y (keep_y (dart_map b) x y wide.0 monotone) in
     (v, v_in, inr far)
 y_fault b Memory fault = tt
 
@@ -103,9 +103,9 @@ least_points b x y x1 y1 x2 y2 vertices corners sx1 sy1 sx2 sy2 sound along_x al
     record {
       x = λ v. slice_index x v;
       y = λ v. slice_index y v;
-      ordered = in_order (dart_map b) (λ v. slice_index x v) (λ v. slice_index y v) sound along_x along_y;
-      x_least = λ x1 y1 ordered. least_x x1 (keep_x (dart_map b) x1 y1 sound ordered);
-      y_least = λ x1 y1 ordered. least_y y1 (keep_y (dart_map b) x1 y1 sound ordered);
+      monotone = in_order (dart_map b) (λ v. slice_index x v) (λ v. slice_index y v) sound along_x along_y;
+      x_least = λ x1 y1 monotone. least_x x1 (keep_x (dart_map b) x1 y1 sound monotone);
+      y_least = λ x1 y1 monotone. least_y y1 (keep_y (dart_map b) x1 y1 sound monotone);
       x_within = within_x;
       y_within = within_y;
       taken = record {

@@ -6,7 +6,7 @@ use Rattle.std.proofs.lemmas.List.Elements.{All-replicate}
 use Rattle.dissect.specs.DartMaps.{DartMap, IsSound}
 use Rattle.compact.specs.declared.axis.Axis.{Axis}
 use Rattle.compact.specs.declared.axis.Axis.TheVariants.{X, Y}
-use Rattle.compact.specs.Ordered.{tail, growth, across, IsAcross, IsAlong}
+use Rattle.compact.specs.Monotone.{tail, growth, across, IsAcross, IsAlong}
 use Rattle.compact.specs.Neighbours.{neighbour, AreNeighbours, HasNeighbours, Grow, StayEqual, AreVertices, AreEqualIn, AreSegments, IsOnSegment, AreUnder, StayUnder}
 use Rattle.compact.proofs.OneWay.{one_leaves}
 

@@ -7,7 +7,7 @@ use Rattle.dissect.specs.Faces.{last_of}
 use Rattle.dissect.specs.Paths.{IsPath, turn_to, turning_vertices}
 use Rattle.dissect.proofs.Reading.{all_below}
 use Rattle.dissect.proofs.DartsInFront.{behind, one_back, path_back}
-use Rattle.compact.specs.Ordered.{vertices_along}
+use Rattle.compact.specs.Monotone.{vertices_along}
 
 -- the places where the walk turns in front of d, the nearest first
 abbrev pub vertices_back : DartMap → ℕ → List ℕ → List ℕ

@@ -1,3 +1,3 @@
 pub mod Constraints
-pub mod Ordered
+pub mod Monotone
 pub mod Neighbours

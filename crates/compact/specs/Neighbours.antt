@@ -1,7 +1,7 @@
 -- Steps from vertex to vertex along one direction, and coordinates that are raised along them.
 use Rattle.std.specs.Prelude.{◌≡◌, ℕ, ◌+◌, ◌*◌, ◌<◌, ◌≤◌, List, length, slice_index}
 use Rattle.dissect.specs.DartMaps.{DartMap}
-use Rattle.compact.specs.Ordered.{tail}
+use Rattle.compact.specs.Monotone.{tail}
 
 -- the neighbours in direction d, in a list with four entries for each vertex
 abbrev pub neighbour : List ℕ → ℕ → ℕ → ℕ

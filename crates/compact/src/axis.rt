@@ -2,7 +2,7 @@
 
 ghost use Rattle.std.specs.Prelude.{◌≡◌, ◌≢◌, ◌+◌, ◌*◌, length, slice_index, Some, None, IsTrue, IfOk, IfErr, OnOk, ℕ, ◌<◌, ◌≤◌};
 ghost use Rattle.ortho_rep.specs.declared.points.TheConstants.{MAX_COORDINATE};
-ghost use Rattle.compact.specs.Ordered.{IsAlong, AreAlong, AreLeastOnAxis, IsAxisFault, IsCompactFault, growth, across};
+ghost use Rattle.compact.specs.Monotone.{IsAlong, AreAlong, AreLeastOnAxis, IsAxisFault, IsCompactFault, growth, across};
 ghost use Rattle.compact.specs.Neighbours.{neighbour, AreNeighbours, HasNeighbours, AreSegments, AreUnder};
 ghost use Rattle.dissect.specs.DartMaps.{IsSound};
 ghost use Rattle.geometry.specs.Directions.{quarters};

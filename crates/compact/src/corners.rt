@@ -3,7 +3,7 @@
 ghost use Rattle.std.specs.Prelude.{◌≡◌, ◌≢◌, ◌<◌, ◌↔◌, ◌++◌, IsTrue, All, length, map, slice_index, OnOk};
 ghost use Rattle.dissect.specs.Paths.{turn_to};
 ghost use Rattle.dissect.specs.Boxes.{dart_map};
-ghost use Rattle.compact.specs.Ordered.{point_at, vertices_along};
+ghost use Rattle.compact.specs.Monotone.{point_at, vertices_along};
 
 use dissect::Boxes;
 use ortho_rep::Point;

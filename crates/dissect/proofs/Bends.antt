@@ -3,7 +3,7 @@ use Rattle.std.proofs.Common.{◌≡◌, ◌≢◌, ℕ, ◌+◌, ◌-◌, ◌%�
 use Rattle.std.proofs.lemmas.Bool.{cases_eq}
 use Rattle.dissect.specs.DartMaps.{DartMap, no_dart, IsTied, IsSubdivided}
 use Rattle.dissect.specs.Faces.{last_of, Below}
-use Rattle.dissect.specs.Paths.{Follows, HasPath, HasPaths, turn_to, bends}
+use Rattle.dissect.specs.Paths.{Follows, HasPath, HasPaths, turn_to, path_quarters}
 use Rattle.dissect.proofs.Lengthening.{
   turn_then,
   turn_then-some,
@@ -80,18 +80,18 @@ after_last w e way bend new bent a (b ∷ bs) at below follows = absurd (bent.la
 
 -- the rest of a path that does not end with e
 pub other_longer : (w : DartMap) (e way bend : ℕ) (new : DartMap) → IsBent w e way bend new → (a : ℕ) (rest : List ℕ) → a < w.darts →
-    Below w.darts rest → Follows w a rest → last_of a rest ≢ e → IsLonger w new a rest (bends w a rest)
+    Below w.darts rest → Follows w a rest → last_of a rest ≢ e → IsLonger w new a rest (path_quarters w a rest)
 other_longer w e way bend new bent a [] a_in below follows other = longer_end w new a
 other_longer w e way bend new bent a (b ∷ bs) a_in below follows other =
     let longer = other_longer w e way bend new bent b bs below.0 below.1 follows.2 other in
     let not_e : b ≢ e = λ at. other (ap (last_of b) (after_last w e way bend new bent b bs at below.1 follows.2) ∙ at) in
     let not_t : b ≢ w.reverse_dart e = not_first w e way bend new bent a b a_in follows.0 in
-    longer_kept w new a b bs (bends w b bs) (split_keeps w e way bend new bent.subdivide) a_in follows
+    longer_kept w new a b bs (path_quarters w b bs) (split_keeps w e way bend new bent.subdivide) a_in follows
     (split_kept w e way bend new bent.tied bent.subdivide b below.0 not_e not_t) longer
 
 -- the rest of the path that ends with e
 pub last_longer : (w : DartMap) (e way bend : ℕ) (new : DartMap) → IsBent w e way bend new → (a : ℕ) (rest : List ℕ) → a < w.darts →
-    Below w.darts rest → Follows w a rest → a ≢ e → last_of a rest ≡ e → IsLonger w new a rest (bends w a rest ++ (bend ∷ []))
+    Below w.darts rest → Follows w a rest → a ≢ e → last_of a rest ≡ e → IsLonger w new a rest (path_quarters w a rest ++ (bend ∷ []))
 last_longer w e way bend new bent a [] a_in below follows not_e last = absurd (not_e last)
 last_longer w e way bend new bent a (b ∷ bs) a_in below follows not_e last =
     let keeps = split_keeps w e way bend new bent.subdivide in
@@ -102,18 +102,18 @@ last_longer w e way bend new bent a (b ∷ bs) a_in below follows not_e last =
           let doubled : IsDoubled w new b w.darts bend =
           subst (λ (k : ℕ). IsDoubled w new k w.darts bend) (sym at) (bend_doubled w e way bend new bent) in
           let longer : IsLonger w new b bs [] = subst (λ (zs : List ℕ). IsLonger w new b zs []) (sym end) (longer_end w new b) in
-          let same : turn_then turn (turn_then bend []) ≡ bends w a (b ∷ bs) ++ (bend ∷ []) =
+          let same : turn_then turn (turn_then bend []) ≡ path_quarters w a (b ∷ bs) ++ (bend ∷ []) =
           ap (turn_then turn) (bend_turns bend [] bent.turn)
           ∙ turn_then-append turn [] (bend ∷ [])
-          ∙ ap (λ (zs : List ℕ). turn_then turn (bends w b zs) ++ (bend ∷ [])) (sym end) in
-          longer_turns w new a (b ∷ bs) (turn_then turn (turn_then bend [])) (bends w a (b ∷ bs) ++ (bend ∷ [])) same
+          ∙ ap (λ (zs : List ℕ). turn_then turn (path_quarters w b zs) ++ (bend ∷ [])) (sym end) in
+          longer_turns w new a (b ∷ bs) (turn_then turn (turn_then bend [])) (path_quarters w a (b ∷ bs) ++ (bend ∷ [])) same
           (longer_doubled w new a b w.darts bend bs [] keeps a_in follows doubled longer)
       | inr other ↦
           let longer = last_longer w e way bend new bent b bs below.0 below.1 follows.2 other last in
           let not_t : b ≢ w.reverse_dart e = not_first w e way bend new bent a b a_in follows.0 in
-          longer_turns w new a (b ∷ bs) (turn_then turn (bends w b bs ++ (bend ∷ []))) (bends w a (b ∷ bs) ++ (bend ∷ []))
-          (turn_then-append turn (bends w b bs) (bend ∷ []))
-          (longer_kept w new a b bs (bends w b bs ++ (bend ∷ [])) keeps a_in follows
+          longer_turns w new a (b ∷ bs) (turn_then turn (path_quarters w b bs ++ (bend ∷ []))) (path_quarters w a (b ∷ bs) ++ (bend ∷ []))
+          (turn_then-append turn (path_quarters w b bs) (bend ∷ []))
+          (longer_kept w new a b bs (path_quarters w b bs ++ (bend ∷ [])) keeps a_in follows
           (split_kept w e way bend new bent.tied bent.subdivide b below.0 other not_t) longer)
     ]
 
@@ -130,7 +130,7 @@ bend_path w e way bend new bent reverse_dart turns apart old =
           subst (λ (k : ℕ). IsDoubled w new k w.darts bend) (sym at) (bend_doubled w e way bend new bent) in
           let longer : IsLonger w new f old.rest [] =
           subst (λ (zs : List ℕ). IsLonger w new f zs []) (sym end) (longer_end w new f) in
-          let none : [] ≡ turns = ap (bends w f) (sym end) ∙ old.turns in
+          let none : [] ≡ turns = ap (path_quarters w f) (sym end) ∙ old.turns in
           path_turns new e reverse_dart (turn_then bend []) (turns ++ (bend ∷ []))
           (bend_turns bend [] bent.turn ∙ ap (λ (ts : List ℕ). ts ++ (bend ∷ [])) none)
           (path_doubled w new e reverse_dart f w.darts bend old.rest [] old.path old.back doubled longer)
@@ -138,7 +138,7 @@ bend_path w e way bend new bent reverse_dart turns apart old =
           let not_t : f ≢ w.reverse_dart e = λ at. apart (sym old.back ∙ ap w.reverse_dart at ∙ bent.tied.reverse_dart_back e bent.e_in) in
           path_kept w new e reverse_dart f old.rest (turns ++ (bend ∷ [])) old.path old.back
           (split_kept w e way bend new bent.tied bent.subdivide f old.path.first_in not_e not_t)
-          (longer_turns w new f old.rest (bends w f old.rest ++ (bend ∷ [])) (turns ++ (bend ∷ []))
+          (longer_turns w new f old.rest (path_quarters w f old.rest ++ (bend ∷ [])) (turns ++ (bend ∷ []))
           (ap (λ (ts : List ℕ). ts ++ (bend ∷ [])) old.turns)
           (last_longer w e way bend new bent f old.rest old.path.first_in old.path.rest_in old.path.follows not_e old.path.ends))
     ]
@@ -153,7 +153,7 @@ bend_path_back w e way bend new bent d turns apart old =
     subst (λ (k : ℕ). IsDoubled w new k (w.darts + 1) (4 - bend)) (sym at) (bend_doubled_back w e way bend new bent) in
     path_turns new d e (turn_then (4 - bend) turns) ((4 - bend) ∷ turns) (bend_turns_back bend turns bent.turn)
     (path_doubled w new d e f (w.darts + 1) (4 - bend) old.rest turns old.path old.back doubled
-    (longer_turns w new f old.rest (bends w f old.rest) turns old.turns
+    (longer_turns w new f old.rest (path_quarters w f old.rest) turns old.turns
     (other_longer w e way bend new bent f old.rest old.path.first_in old.path.rest_in old.path.follows
     (λ h. apart (sym old.path.ends ∙ h)))))
 
@@ -167,7 +167,7 @@ bend_path_other w e way bend new bent d reverse_dart turns apart reverse_dart_ap
     let not_t : f ≢ w.reverse_dart e = λ at. reverse_dart_apart (sym old.back ∙ ap w.reverse_dart at ∙ bent.tied.reverse_dart_back e bent.e_in) in
     path_kept w new d reverse_dart f old.rest turns old.path old.back
     (split_kept w e way bend new bent.tied bent.subdivide f old.path.first_in not_e not_t)
-    (longer_turns w new f old.rest (bends w f old.rest) turns old.turns
+    (longer_turns w new f old.rest (path_quarters w f old.rest) turns old.turns
     (other_longer w e way bend new bent f old.rest old.path.first_in old.path.rest_in old.path.follows
     (λ h. apart (sym old.path.ends ∙ h))))
 

@@ -251,9 +251,9 @@ cut_chains v w d e way new has cut =
     (split_chains v w e (w.direction e) 2 cut.middle has cut.e_in cut.subdivide) cut.fits.d_in cut.fits.f_in
     (cut_tied w d e way new has.tied cut) cut.chord
 
-pub grows_chains : (v : ℕ) (w new : DartMap) → HasChains v w → IsCutUp w new → HasChains v new
-grows_chains v w new has same = has
-grows_chains v w new has (further mid last d e way grows cut) = cut_chains v mid d e way last (grows_chains v w mid has grows) cut
+pub cut_up_chains : (v : ℕ) (w new : DartMap) → HasChains v w → IsCutUp w new → HasChains v new
+cut_up_chains v w new has same = has
+cut_up_chains v w new has (further mid last d e way cut_up cut) = cut_chains v mid d e way last (cut_up_chains v w mid has cut_up) cut
 
 -- a rectangle beside the map keeps the chains
 pub surround_chains : (v : ℕ) (w new : DartMap) → HasChains v w → IsSurrounded w new → HasChains v new
@@ -267,8 +267,8 @@ surround_chains v w new has f =
 -- and so do its bridge and the cuts after it
 pub enclosed_chains : (v : ℕ) (w : DartMap) (outside : ℕ) (new : DartMap) → HasChains v w → IsEnclosed w outside new → HasChains v new
 enclosed_chains v w outside new has e =
-    grows_chains v e.bridged new
-    (cut_chains v e.surrounded e.right (w.darts + e.side) e.direction e.bridged (surround_chains v w e.surrounded has e.surround) e.bridge) e.grows
+    cut_up_chains v e.bridged new
+    (cut_chains v e.surrounded e.right (w.darts + e.side) e.direction e.bridged (surround_chains v w e.surrounded has e.surround) e.bridge) e.cut_up
 
 -- where no dart stands before another, there are no chains
 pub plain_chains : (v : ℕ) (w : DartMap) → IsTied w → ((a : ℕ) → a < w.darts → w.head a < w.vertices) → v ≤ w.vertices →

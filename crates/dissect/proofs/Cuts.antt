@@ -3,11 +3,11 @@ use Rattle.std.proofs.Common.{◌≡◌, ℕ, ◌<◌, ◌≤◌, ◌⊎◌, ◌
 use Rattle.std.proofs.lemmas.Bool.{cases_lt}
 use Rattle.dissect.specs.DartMaps.{DartMap, no_dart, IsTied, IsChord, IsCut, IsCutUp, same, further}
 use Rattle.dissect.specs.Faces.{Below}
-use Rattle.dissect.specs.Paths.{Follows, HasPath, HasPaths, bends}
+use Rattle.dissect.specs.Paths.{Follows, HasPath, HasPaths, path_quarters}
 use Rattle.dissect.proofs.Splitting.{by_age, split_tied}
 use Rattle.dissect.proofs.Lengthening.{KeepsHeads, IsKept, IsLonger, longer_end, longer_kept, path_kept, longer_turns}
 use Rattle.dissect.proofs.Splits.{split_paths}
-use Rattle.dissect.proofs.StayingConnected.{grows_tied}
+use Rattle.dissect.proofs.StayingConnected.{cut_up_tied}
 
 -- a map to which darts were added that stand before none and have none before them
 pub record IsBeside (w new : DartMap) : Type 0 where
@@ -16,10 +16,10 @@ pub record IsBeside (w new : DartMap) : Type 0 where
   pub fresh : (a : ℕ) → a < new.darts → w.darts ≤ a → new.before a ≡ no_dart
 
 pub beside_longer : (w new : DartMap) → IsBeside w new → (a : ℕ) (rest : List ℕ) → a < w.darts → Below w.darts rest → Follows w a rest →
-    IsLonger w new a rest (bends w a rest)
+    IsLonger w new a rest (path_quarters w a rest)
 beside_longer w new beside a [] a_in below follows = longer_end w new a
 beside_longer w new beside a (b ∷ bs) a_in below follows =
-    longer_kept w new a b bs (bends w b bs) beside.keeps a_in follows (beside.kept b below.0)
+    longer_kept w new a b bs (path_quarters w b bs) beside.keeps a_in follows (beside.kept b below.0)
     (beside_longer w new beside b bs below.0 below.1 follows.2)
 
 pub beside_paths : (w new : DartMap) (n : ℕ) (reverse_dart : ℕ → ℕ) (quarters : ℕ → List ℕ) → IsBeside w new →
@@ -36,7 +36,7 @@ beside_paths w new n reverse_dart quarters beside has = record {
     path : (d reverse_dart : ℕ) (turns : List ℕ) → HasPath w d reverse_dart turns → HasPath new d reverse_dart turns
     path d reverse_dart turns old =
         path_kept w new d reverse_dart old.first old.rest turns old.path old.back (beside.kept old.first old.path.first_in)
-        (longer_turns w new old.first old.rest (bends w old.first old.rest) turns old.turns
+        (longer_turns w new old.first old.rest (path_quarters w old.first old.rest) turns old.turns
         (beside_longer w new beside old.first old.rest old.path.first_in old.path.rest_in old.path.follows))
 
     as_before : (a : ℕ) → new.before a ≡ w.before a → (w.before a ≡ no_dart) ⊎ ((n ≤ w.before a) × (w.before a < w.darts)) →
@@ -90,14 +90,14 @@ cut_quarters w d e way new quarters cut a l =
     (omega (arith, chord.direction_there, cut.fits.direction_quarter)) (omega (arith, chord.direction_back))
     a (omega (arith, chord.darts))
 
-pub grows_quarters : (w new : DartMap) → AreQuarters w → IsCutUp w new → AreQuarters new
-grows_quarters w new quarters same = quarters
-grows_quarters w new quarters (further mid last d e way grows cut) =
-    cut_quarters mid d e way last (grows_quarters w mid quarters grows) cut
+pub cut_up_quarters : (w new : DartMap) → AreQuarters w → IsCutUp w new → AreQuarters new
+cut_up_quarters w new quarters same = quarters
+cut_up_quarters w new quarters (further mid last d e way cut_up cut) =
+    cut_quarters mid d e way last (cut_up_quarters w mid quarters cut_up) cut
 
-pub grows_paths : (w new : DartMap) (n : ℕ) (reverse_dart : ℕ → ℕ) (quarters : ℕ → List ℕ) → IsTied w → AreQuarters w → IsCutUp w new →
+pub cut_up_paths : (w new : DartMap) (n : ℕ) (reverse_dart : ℕ → ℕ) (quarters : ℕ → List ℕ) → IsTied w → AreQuarters w → IsCutUp w new →
     HasPaths w n reverse_dart quarters → HasPaths new n reverse_dart quarters
-grows_paths w new n reverse_dart quarters tied four same has = has
-grows_paths w new n reverse_dart quarters tied four (further mid last d e way grows cut) has =
-    cut_paths mid d e way last n reverse_dart quarters (grows_tied w mid tied grows) (grows_quarters w mid four grows e cut.e_in) cut
-    (grows_paths w mid n reverse_dart quarters tied four grows has)
+cut_up_paths w new n reverse_dart quarters tied four same has = has
+cut_up_paths w new n reverse_dart quarters tied four (further mid last d e way cut_up cut) has =
+    cut_paths mid d e way last n reverse_dart quarters (cut_up_tied w mid tied cut_up) (cut_up_quarters w mid four cut_up e cut.e_in) cut
+    (cut_up_paths w mid n reverse_dart quarters tied four cut_up has)

@@ -26,14 +26,14 @@ keeps_on w mid new one two = record {
   direction = λ a a_in. two.direction a (omega (arith, a_in, one.more)) ∙ one.direction a a_in;
 }
 
-pub grows_keeps : (w new : DartMap) → IsCutUp w new → Keeps w new
-grows_keeps w _ same = record {
+pub cut_up_keeps : (w new : DartMap) → IsCutUp w new → Keeps w new
+cut_up_keeps w _ same = record {
   more = omega (arith);
   more_vertices = omega (arith);
   head = λ a a_in. refl;
   direction = λ a a_in. refl;
 }
-grows_keeps w new (further mid _ d e way grows cut) = keeps_on w mid new (grows_keeps w mid grows) (cut_keeps mid d e way new cut)
+cut_up_keeps w new (further mid _ d e way cut_up cut) = keeps_on w mid new (cut_up_keeps w mid cut_up) (cut_keeps mid d e way new cut)
 
 pub surround_keeps : (w new : DartMap) → IsSurrounded w new → Keeps w new
 surround_keeps w new surround = record {
@@ -47,4 +47,4 @@ pub enclosed_keeps : (w : DartMap) (outside : ℕ) (new : DartMap) → IsEnclose
 enclosed_keeps w outside new e =
     keeps_on w e.bridged new
     (keeps_on w e.surrounded e.bridged (surround_keeps w e.surrounded e.surround) (cut_keeps e.surrounded e.right (w.darts + e.side) e.direction e.bridged e.bridge))
-    (grows_keeps e.bridged new e.grows)
+    (cut_up_keeps e.bridged new e.cut_up)

@@ -3,7 +3,7 @@ use Rattle.std.proofs.Common.{◌≡◌, ◌≢◌, ℕ, ◌+◌, ◌-◌, ◌%�
 use Rattle.std.proofs.lemmas.Bool.{cases_eq, eq-eqb, ne_eqb, cond-true, cond-false}
 use Rattle.dissect.specs.DartMaps.{DartMap}
 use Rattle.dissect.specs.Faces.{last_of, Below, In}
-use Rattle.dissect.specs.Paths.{Follows, IsPath, HasPath, turn_to, bends}
+use Rattle.dissect.specs.Paths.{Follows, IsPath, HasPath, turn_to, path_quarters}
 
 -- a turn in front of others, where it is one
 abbrev pub turn_then : ℕ → List ℕ → List ℕ
@@ -54,7 +54,7 @@ pub record IsLonger (w new : DartMap) (a : ℕ) (rest turns : List ℕ) : Type 0
   pub inside : Below new.darts list
   pub follows : Follows new a list
   pub last : last_of a list ≡ last_of a rest
-  pub turning : bends new a list ≡ turns
+  pub turning : path_quarters new a list ≡ turns
   pub holds : (b : ℕ) → In b rest → In b list
 
 -- what the longer list holds, behind the same dart
@@ -74,7 +74,7 @@ longer_kept w new a b bs turns keeps a_in follows kept longer =
       inside = (kept.inside, longer.inside);
       follows = (kept.before ∙ follows.0, kept.head ∙ follows.1 ∙ sym (keeps.head a a_in), longer.follows);
       last = longer.last;
-      turning = ap (λ (k : ℕ). turn_then k (bends new b longer.list)) same_turn
+      turning = ap (λ (k : ℕ). turn_then k (path_quarters new b longer.list)) same_turn
           ∙ ap (λ (ts : List ℕ). turn_then (turn_to w a b) ts) longer.turning;
       holds = λ c here. holds_behind c b bs longer.list longer.holds here;
     }
@@ -96,8 +96,8 @@ longer_doubled w new a b front turn bs turns keeps a_in follows doubled longer =
         (doubled.behind, doubled.meets, longer.follows),
       );
       last = longer.last;
-      turning = ap (λ (k : ℕ). turn_then k (turn_then (turn_to new front b) (bends new b longer.list))) same_turn
-          ∙ ap (λ (k : ℕ). turn_then (turn_to w a b) (turn_then k (bends new b longer.list))) doubled.turns
+      turning = ap (λ (k : ℕ). turn_then k (turn_then (turn_to new front b) (path_quarters new b longer.list))) same_turn
+          ∙ ap (λ (k : ℕ). turn_then (turn_to w a b) (turn_then k (path_quarters new b longer.list))) doubled.turns
           ∙ ap (λ (ts : List ℕ). turn_then (turn_to w a b) (turn_then turn ts)) longer.turning;
       holds = λ c here. inr (holds_behind c b bs longer.list longer.holds here);
     }
@@ -136,7 +136,7 @@ path_doubled w new end reverse_dart first front turn rest turns path back double
     ends = longer.last ∙ path.ends;
   };
   back = doubled.reverse_dart ∙ back;
-  turns = ap (λ (k : ℕ). turn_then k (bends new first longer.list)) doubled.turns
+  turns = ap (λ (k : ℕ). turn_then k (path_quarters new first longer.list)) doubled.turns
       ∙ ap (λ (ts : List ℕ). turn_then turn ts) longer.turning;
 }
 

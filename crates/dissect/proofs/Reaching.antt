@@ -68,20 +68,20 @@ cut_reaches w d e way new tied cut reaches =
     cut.fits.d_in cut.fits.f_in cut.chord
     (split_reaches w e (w.direction e) cut.middle cut.subdivide tied cut.e_in reaches)
 
-pub grows_sound : (w last : DartMap) → IsSound w → IsCutUp w last → IsSound last
-grows_sound w last sound same = sound
-grows_sound w last sound (further mid new d e way more cut) = cut_sound mid d e way new (grows_sound w mid sound more) cut
+pub cut_up_sound : (w last : DartMap) → IsSound w → IsCutUp w last → IsSound last
+cut_up_sound w last sound same = sound
+cut_up_sound w last sound (further mid new d e way more cut) = cut_sound mid d e way new (cut_up_sound w mid sound more) cut
 
-pub grows_reaches : (w last : DartMap) → IsSound w → IsCutUp w last → ReachesCorners w → ReachesCorners last
-grows_reaches w last sound same reaches = reaches
-grows_reaches w last sound (further mid new d e way more cut) reaches =
-    cut_reaches mid d e way new (grows_sound w mid sound more).tied cut (grows_reaches w mid sound more reaches)
+pub cut_up_reaches : (w last : DartMap) → IsSound w → IsCutUp w last → ReachesCorners w → ReachesCorners last
+cut_up_reaches w last sound same reaches = reaches
+cut_up_reaches w last sound (further mid new d e way more cut) reaches =
+    cut_reaches mid d e way new (cut_up_sound w mid sound more).tied cut (cut_up_reaches w mid sound more reaches)
 
 -- each cut adds a vertex and takes one from what goes beyond straight
 pub cut_vertices : (w : DartMap) (d e way : ℕ) (new : DartMap) → IsCut w d e way new → new.vertices + reflex_turns new ≡ w.vertices + reflex_turns w
 cut_vertices w d e way new cut = omega (arith, cut_reflex_turns w d e way new cut, cut.chord.vertices, cut.subdivide.vertices)
 
-pub grows_vertices : (w last : DartMap) → IsCutUp w last → last.vertices + reflex_turns last ≡ w.vertices + reflex_turns w
-grows_vertices w last same = refl
-grows_vertices w last (further mid new d e way more cut) =
-    cut_vertices mid d e way new cut ∙ grows_vertices w mid more
+pub cut_up_vertices : (w last : DartMap) → IsCutUp w last → last.vertices + reflex_turns last ≡ w.vertices + reflex_turns w
+cut_up_vertices w last same = refl
+cut_up_vertices w last (further mid new d e way more cut) =
+    cut_vertices mid d e way new cut ∙ cut_up_vertices w mid more

@@ -15,16 +15,16 @@ use Rattle.dissect.proofs.Stacks.{IsTop, tops_put, tops_set}
 use Rattle.dissect.proofs.Finishing.{scan_done, turned_waiting, length-map_angle}
 use Rattle.dissect.proofs.Rotating.{rising_turned}
 
-pub grows_on : (a b c : DartMap) → IsCutUp a b → IsCutUp b c → IsCutUp a c
-grows_on a b c first same = first
-grows_on a b c first (further mid new d e way more cut) = further mid new d e way (grows_on a b mid first more) cut
+pub cut_up_on : (a b c : DartMap) → IsCutUp a b → IsCutUp b c → IsCutUp a c
+cut_up_on a b c first same = first
+cut_up_on a b c first (further mid new d e way more cut) = further mid new d e way (cut_up_on a b mid first more) cut
 
 -- cutting goes on where it stopped
 pub scan_on : (w0 w new : DartMap) (face : List ℕ) (st rest st' rest' : List ℕ) → IsFaceCutting w0 face w st rest →
     IsFaceCutting w (down st rest) new st' rest' → IsFaceCutting w0 face new st' rest'
 scan_on w0 w new face st rest st' rest' first second = record {
   sound = second.sound;
-  grows = grows_on w0 w new first.grows second.grows;
+  cut_up = cut_up_on w0 w new first.cut_up second.cut_up;
   waiting = λ o rs wait. second.waiting o rs (first.waiting o rs wait);
   hopeful = second.hopeful;
   rising = second.rising;
@@ -34,7 +34,7 @@ scan_on w0 w new face st rest st' rest' first second = record {
 pub scan_here : (w0 w : DartMap) (face : List ℕ) (st rest : List ℕ) → IsFaceCutting w0 face w st rest → IsFaceCutting w (down st rest) w st rest
 scan_here w0 w face st rest face_cutting = record {
   sound = face_cutting.sound;
-  grows = same;
+  cut_up = same;
   waiting = λ o rs wait. wait;
   hopeful = face_cutting.hopeful;
   rising = face_cutting.rising;
@@ -103,7 +103,7 @@ pub reading_begins : (w0 : DartMap) (face : List ℕ) (room m : ℕ) (xs : List 
 reading_begins w0 face room m xs sound o rs wait space peak said darts = record {
   face_cutting = record {
     sound = sound;
-    grows = same;
+    cut_up = same;
     waiting = λ o rs wait. subst (λ (zs : List ℕ). AreWaiting w0 o (zs ∷ rs)) (sym said)
         (turned_waiting w0 (take m face) (drop m face) o rs
         (subst (λ (zs : List ℕ). AreWaiting w0 o (zs ∷ rs)) (sym (take-append-drop m face)) wait));

@@ -10,9 +10,9 @@ use Rattle.dissect.proofs.Splits.{split_doubled}
 use Rattle.dissect.proofs.StayingConnected.{cut_tied}
 use Rattle.dissect.proofs.Cuts.{AreQuarters, cut_quarters, chord_beside}
 use Rattle.dissect.proofs.SurroundedPaths.{surrounded_tied, surrounded_quarters}
-use Rattle.dissect.proofs.Sides.{HasChain, beside_chain, cut_chain, grows_chain}
+use Rattle.dissect.proofs.Sides.{HasChain, beside_chain, cut_chain, cut_up_chain}
 use Rattle.dissect.specs.Rectangle.{HasRectangle, IsBridgedAt}
-use Rattle.dissect.proofs.Keeping.{Keeps, cut_keeps, grows_keeps, keeps_on}
+use Rattle.dissect.proofs.Keeping.{Keeps, cut_keeps, cut_up_keeps, keeps_on}
 
 module _ (w : DartMap) (outside : ℕ) (new : DartMap) (tied : IsTied w) (four : AreQuarters w) (e : IsEnclosed w outside new) where
   abbrev n : ℕ
@@ -36,15 +36,15 @@ module _ (w : DartMap) (outside : ℕ) (new : DartMap) (tied : IsTied w) (four :
   -- a chain of the surrounded map is one of the last
   surrounded_chain : (end reverse_dart held : ℕ) → HasChain e.surrounded end reverse_dart held [] → HasChain new end reverse_dart held []
   surrounded_chain end reverse_dart held chain =
-      grows_chain e.bridged new end reverse_dart held [] tied_bridged four_bridged e.grows
+      cut_up_chain e.bridged new end reverse_dart held [] tied_bridged four_bridged e.cut_up
       (cut_chain e.surrounded e.right side_dart e.direction e.bridged end reverse_dart held [] tied_surrounded (four_surrounded side_dart e.bridge.e_in) e.bridge chain)
 
   -- and so is a chain of the connected map
   bridged_chain : (end reverse_dart held : ℕ) → HasChain e.bridged end reverse_dart held [] → HasChain new end reverse_dart held []
-  bridged_chain end reverse_dart held chain = grows_chain e.bridged new end reverse_dart held [] tied_bridged four_bridged e.grows chain
+  bridged_chain end reverse_dart held chain = cut_up_chain e.bridged new end reverse_dart held [] tied_bridged four_bridged e.cut_up chain
 
   keeps_bridged : Keeps e.bridged new
-  keeps_bridged = grows_keeps e.bridged new e.grows
+  keeps_bridged = cut_up_keeps e.bridged new e.cut_up
 
   keeps_surrounded : Keeps e.surrounded new
   keeps_surrounded = keeps_on e.surrounded e.bridged new (cut_keeps e.surrounded e.right side_dart e.direction e.bridged e.bridge) keeps_bridged

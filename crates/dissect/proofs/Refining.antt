@@ -13,7 +13,7 @@ use Rattle.dissect.specs.Turning.{total}
 use Rattle.dissect.specs.Faces.{Stretches, HasFourCorners, In, Distinct, Below, concatenated, AreWaiting, ReachesCorners, slices_of}
 use Rattle.dissect.proofs.Stretching.{stretch_direct, Stretches-inside}
 use Rattle.dissect.proofs.Scanning.{stretch_direction, cut_sound, cut_reflex_turns}
-use Rattle.dissect.proofs.Reaching.{cut_reaches, grows_sound, grows_reaches, cut_vertices, grows_vertices}
+use Rattle.dissect.proofs.Reaching.{cut_reaches, cut_up_sound, cut_up_reaches, cut_vertices, cut_up_vertices}
 use Rattle.dissect.specs.Listed.{AreFlat, AreMergedFaces, AreListed, detour}
 use Rattle.dissect.proofs.Orbits.{distinct_few}
 use Rattle.dissect.proofs.Turns.{listed_sum, turns_reach}
@@ -189,7 +189,7 @@ bridge_ready w surrounded right side way new sound j inner outer corners counts 
 pub enclosed_by : (w : DartMap) (outside : ℕ) (surrounded : DartMap) (right side way : ℕ) (new last : DartMap) →
     ((face_number : ℕ → ℕ) → AreFaceNumbers w face_number → face_number right ≡ face_number outside) → IsConnecting w surrounded right side way new → IsCutUp new last →
     IsEnclosed w outside last
-enclosed_by w outside surrounded right side way new last same_face j grows = record {
+enclosed_by w outside surrounded right side way new last same_face j cut_up = record {
   surrounded = surrounded;
   surround = j.surround;
   bridged = new;
@@ -200,23 +200,23 @@ enclosed_by w outside surrounded right side way new last same_face j grows = rec
   same_face = same_face;
   side_in = j.side_in;
   bridge = j.bridge;
-  grows = grows;
+  cut_up = cut_up;
 }
 
 pub enclosed_reaches : (w surrounded : DartMap) (right side way : ℕ) (new last : DartMap) (face_number : ℕ → ℕ) (outer : ℕ) → IsSound w → HasTurns w face_number outer →
     IsConnecting w surrounded right side way new → IsCutUp new last → ReachesCorners last
-enclosed_reaches w surrounded right side way new last face_number outer sound turns j grows =
-    grows_reaches new last (bridge_sound w surrounded right side way new sound j) grows
+enclosed_reaches w surrounded right side way new last face_number outer sound turns j cut_up =
+    cut_up_reaches new last (bridge_sound w surrounded right side way new sound j) cut_up
     (cut_reaches surrounded right (w.darts + side) way new (surround_tied w surrounded j.surround sound.tied) j.bridge
     (surround_reaches w surrounded j.surround sound.tied (turns_reach w face_number outer sound.tied turns)))
 
 pub enclosed_few : (w surrounded : DartMap) (right side way : ℕ) (new last : DartMap) → IsSound w → IsConnecting w surrounded right side way new → IsCutUp new last →
     AreWaiting last (w.darts + 4) [] → last.vertices ≤ w.vertices + reflex_turns w + 4
-enclosed_few w surrounded right side way new last sound j grows done =
-    let last_sound = grows_sound new last (bridge_sound w surrounded right side way new sound j) grows in
+enclosed_few w surrounded right side way new last sound j cut_up done =
+    let last_sound = cut_up_sound new last (bridge_sound w surrounded right side way new sound j) cut_up in
     omega (
       arith,
-      grows_vertices new last grows,
+      cut_up_vertices new last cut_up,
       cut_vertices surrounded right (w.darts + side) way new j.bridge,
       surround_reflex_turns w surrounded j.surround,
       j.surround.vertices,

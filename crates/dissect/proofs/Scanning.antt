@@ -135,7 +135,7 @@ pub scan_reads : (w0 w : DartMap) (face : List ℕ) (c : ℕ) (st rest : List �
     IsFaceCutting w0 face w (c ∷ st) rest
 scan_reads w0 w face c st rest face_cutting = record {
   sound = face_cutting.sound;
-  grows = face_cutting.grows;
+  cut_up = face_cutting.cut_up;
   waiting = face_cutting.waiting;
   hopeful = subst (λ (k : ℕ). Hopeful (total (map w.angle rest)) k (map w.angle (c ∷ st))) (length-map_angle w rest)
       (hopeful_reads (w.angle c) (map w.angle rest) (map w.angle st)
@@ -263,7 +263,7 @@ scan_cut_straight w0 face w d c1 c way st rest o rs new face_cutting wait left_f
     hopeful_cut_straight (total (map w.angle rest)) (length rest) (w.angle d) (map w.angle st) three hopeful in
     record {
       sound = cut_sound w d (w.next c) way new face_cutting.sound cut;
-      grows = further w new d (w.next c) way face_cutting.grows cut;
+      cut_up = further w new d (w.next c) way face_cutting.cut_up cut;
       waiting = λ o2 rs2 wait2.
           let bite2 = scan_bites w0 face w d c1 c way st rest o2 rs2 new face_cutting wait2 left_first left cut in
           subst (λ (zs : List ℕ). AreWaiting new o2 (zs ∷ rs2)) (sym (down_append st ((w.darts + 2) ∷ rest)))
@@ -292,7 +292,7 @@ scan_cut_turning w0 face w d c1 c way st rest o rs new face_cutting wait left_fi
     hopeful_cut_turning (total (map w.angle rest)) (length rest) (w.angle d) (new.angle d) (map w.angle st) four three hopeful in
     record {
       sound = cut_sound w d (w.next c) way new face_cutting.sound cut;
-      grows = further w new d (w.next c) way face_cutting.grows cut;
+      cut_up = further w new d (w.next c) way face_cutting.cut_up cut;
       waiting = λ o2 rs2 wait2.
           let bite2 = scan_bites w0 face w d c1 c way st rest o2 rs2 new face_cutting wait2 left_first left cut in
           subst (λ (zs : List ℕ). AreWaiting new o2 (zs ∷ rs2)) (sym (down_append st (d ∷ (w.darts + 2) ∷ rest)))

@@ -3,7 +3,7 @@ use Rattle.std.proofs.Common.{◌≡◌, ◌≢◌, ℕ, ◌+◌, ◌-◌, ◌%�
 use Rattle.std.proofs.lemmas.Bool.{cases_eq}
 use Rattle.dissect.specs.DartMaps.{DartMap, no_dart, IsTied, IsSubdivided}
 use Rattle.dissect.specs.Faces.{Below}
-use Rattle.dissect.specs.Paths.{Follows, HasPath, HasPaths, bends}
+use Rattle.dissect.specs.Paths.{Follows, HasPath, HasPaths, path_quarters}
 use Rattle.dissect.proofs.Splitting.{by_place}
 use Rattle.dissect.proofs.Lengthening.{KeepsHeads, IsKept, IsDoubled, IsLonger, longer_end, longer_kept, longer_doubled, path_kept, path_doubled, longer_turns}
 
@@ -74,20 +74,20 @@ split_ends w n e way bend new few e_in tied subdivide ends a l =
 
 -- where the subdivision does not turn, the rest of a path has the turns that it had
 pub split_longer : (w : DartMap) (e way : ℕ) (new : DartMap) → IsTied w → e < w.darts → way < 4 → IsSubdivided w e way 2 new →
-    (a : ℕ) (rest : List ℕ) → a < w.darts → Below w.darts rest → Follows w a rest → IsLonger w new a rest (bends w a rest)
+    (a : ℕ) (rest : List ℕ) → a < w.darts → Below w.darts rest → Follows w a rest → IsLonger w new a rest (path_quarters w a rest)
 split_longer w e way new tied e_in quarter subdivide a [] a_in below follows = longer_end w new a
 split_longer w e way new tied e_in quarter subdivide a (b ∷ bs) a_in below follows =
     let longer = split_longer w e way new tied e_in quarter subdivide b bs below.0 below.1 follows.2 in
     let keeps = split_keeps w e way 2 new subdivide in
     elim (cases_eq b e) [
-      | inl at ↦ longer_doubled w new a b w.darts 0 bs (bends w b bs) keeps a_in follows
+      | inl at ↦ longer_doubled w new a b w.darts 0 bs (path_quarters w b bs) keeps a_in follows
           (subst (λ (k : ℕ). IsDoubled w new k w.darts 0) (sym at)
           (split_doubled w e way 2 0 new tied e_in quarter (omega arith) refl subdivide)) longer
       | inr not_e ↦ elim (cases_eq b (w.reverse_dart e)) [
-        | inl at ↦ longer_doubled w new a b (w.darts + 1) 0 bs (bends w b bs) keeps a_in follows
+        | inl at ↦ longer_doubled w new a b (w.darts + 1) 0 bs (path_quarters w b bs) keeps a_in follows
             (subst (λ (k : ℕ). IsDoubled w new k (w.darts + 1) 0) (sym at)
             (split_doubled_back w e way 2 0 new tied e_in quarter (omega arith) refl subdivide)) longer
-        | inr not_t ↦ longer_kept w new a b bs (bends w b bs) keeps a_in follows
+        | inr not_t ↦ longer_kept w new a b bs (path_quarters w b bs) keeps a_in follows
             (split_kept w e way 2 new tied subdivide b below.0 not_e not_t) longer
       ]
     ]
@@ -104,7 +104,7 @@ split_paths w e way new n reverse_dart quarters tied e_in quarter subdivide has 
     path : (d reverse_dart : ℕ) (turns : List ℕ) → HasPath w d reverse_dart turns → HasPath new d reverse_dart turns
     path d reverse_dart turns old =
         let f : ℕ = old.first in
-        let longer = longer_turns w new f old.rest (bends w f old.rest) turns old.turns
+        let longer = longer_turns w new f old.rest (path_quarters w f old.rest) turns old.turns
         (split_longer w e way new tied e_in quarter subdivide f old.rest old.path.first_in old.path.rest_in old.path.follows) in
         elim (cases_eq f e) [
           | inl at ↦ path_doubled w new d reverse_dart f w.darts 0 old.rest turns old.path old.back

@@ -140,13 +140,13 @@ cut_extended w d e way new tied cut =
     (chord_extended cut.middle d w.darts way new
     (split_tied w e (w.direction e) 2 cut.middle tied cut.e_in cut.subdivide) cut.fits cut.chord)
 
-pub grows_tied : (w new : DartMap) → IsTied w → IsCutUp w new → IsTied new
-grows_tied w new tied same = tied
-grows_tied w new tied (further mid last d e way grows cut) =
-    cut_tied mid d e way last (grows_tied w mid tied grows) cut
+pub cut_up_tied : (w new : DartMap) → IsTied w → IsCutUp w new → IsTied new
+cut_up_tied w new tied same = tied
+cut_up_tied w new tied (further mid last d e way cut_up cut) =
+    cut_tied mid d e way last (cut_up_tied w mid tied cut_up) cut
 
-pub grows_extended : (w new : DartMap) → IsTied w → IsCutUp w new → IsExtended w new
-grows_extended w new tied same = extended_same w
-grows_extended w new tied (further mid last d e way grows cut) =
-    extended_on w mid last (grows_extended w mid tied grows)
-    (cut_extended mid d e way last (grows_tied w mid tied grows) cut)
+pub cut_up_extended : (w new : DartMap) → IsTied w → IsCutUp w new → IsExtended w new
+cut_up_extended w new tied same = extended_same w
+cut_up_extended w new tied (further mid last d e way cut_up cut) =
+    extended_on w mid last (cut_up_extended w mid tied cut_up)
+    (cut_extended mid d e way last (cut_up_tied w mid tied cut_up) cut)

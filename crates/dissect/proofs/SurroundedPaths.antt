@@ -5,8 +5,8 @@ use Rattle.dissect.specs.DartMaps.{DartMap, no_dart, IsTied, IsCut}
 use Rattle.dissect.specs.Paths.{HasPaths, IsConnected}
 use Rattle.dissect.specs.Surrounds.{IsSurrounded, IsEnclosed}
 use Rattle.dissect.proofs.Splitting.{split_tied}
-use Rattle.dissect.proofs.StayingConnected.{IsClosedUnder, by_next, by_reverse_dart, extended_connected, chord_extended, cut_tied, cut_extended, grows_extended}
-use Rattle.dissect.proofs.Cuts.{IsBeside, beside_paths, cut_paths, AreQuarters, cut_quarters, grows_paths}
+use Rattle.dissect.proofs.StayingConnected.{IsClosedUnder, by_next, by_reverse_dart, extended_connected, chord_extended, cut_tied, cut_extended, cut_up_extended}
+use Rattle.dissect.proofs.Cuts.{IsBeside, beside_paths, cut_paths, AreQuarters, cut_quarters, cut_up_paths}
 
 -- a fact at each dart of a surrounded map: at the old ones, at the four inside the rectangle and at the four outside it
 pub by_side : (n : ℕ) (P : ℕ → Type 0) → ((a : ℕ) → a < n → P a) → ((k : ℕ) → k < 4 → P (n + k)) →
@@ -97,7 +97,7 @@ enclosed_paths w outside new n reverse_dart quarters tied four e has =
     let four_surrounded : AreQuarters e.surrounded = surrounded_quarters w e.surrounded four e.surround in
     let tied_bridged = cut_tied e.surrounded e.right (w.darts + e.side) e.direction e.bridged tied_surrounded e.bridge in
     let four_bridged : AreQuarters e.bridged = cut_quarters e.surrounded e.right (w.darts + e.side) e.direction e.bridged four_surrounded e.bridge in
-    grows_paths e.bridged new n reverse_dart quarters tied_bridged four_bridged e.grows
+    cut_up_paths e.bridged new n reverse_dart quarters tied_bridged four_bridged e.cut_up
     (cut_paths e.surrounded e.right (w.darts + e.side) e.direction e.bridged n reverse_dart quarters tied_surrounded
     (four_surrounded (w.darts + e.side) e.bridge.e_in) e.bridge
     (surround_paths w e.surrounded n reverse_dart quarters tied e.surround has))
@@ -207,5 +207,5 @@ pub enclosed_connected : (w : DartMap) (outside : ℕ) (new : DartMap) → IsTie
 enclosed_connected w outside new tied connected e =
     let tied_surrounded = surrounded_tied w e.surrounded tied e.surround in
     let tied_bridged = cut_tied e.surrounded e.right (w.darts + e.side) e.direction e.bridged tied_surrounded e.bridge in
-    extended_connected e.bridged new (grows_extended e.bridged new tied_bridged e.grows)
+    extended_connected e.bridged new (cut_up_extended e.bridged new tied_bridged e.cut_up)
     (bridge_connected w e.surrounded e.right e.side e.direction e.bridged tied connected e.surround e.right_in e.side_in e.bridge)

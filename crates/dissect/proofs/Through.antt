@@ -9,8 +9,8 @@ use Rattle.dissect.proofs.Splitting.{split_tied}
 use Rattle.dissect.proofs.Backwards.{path_unique}
 use Rattle.dissect.proofs.Lengthening.{KeepsHeads, IsKept, IsDoubled}
 use Rattle.dissect.proofs.Splits.{split_keeps, split_kept, split_doubled, split_doubled_back}
-use Rattle.dissect.proofs.StayingConnected.{grows_tied, cut_tied}
-use Rattle.dissect.proofs.Cuts.{IsBeside, chord_beside, AreQuarters, cut_quarters, grows_quarters}
+use Rattle.dissect.proofs.StayingConnected.{cut_up_tied, cut_tied}
+use Rattle.dissect.proofs.Cuts.{IsBeside, chord_beside, AreQuarters, cut_quarters, cut_up_quarters}
 use Rattle.dissect.proofs.SurroundedPaths.{surrounded_tied, surrounded_quarters, surrounded_beside}
 use Rattle.dissect.specs.Boxed.{StandOn}
 
@@ -129,12 +129,12 @@ cut_through w d e way new end held tied quarter cut old =
     step_through cut.middle new end held (beside_step cut.middle new (chord_beside cut.middle d w.darts way new tied_middle cut.chord))
     (step_through w cut.middle end held (split_step w e (w.direction e) cut.middle tied cut.e_in quarter cut.subdivide) old)
 
-grows_through : (w new : DartMap) (end : ℕ) (held : List ℕ) → IsTied w → AreQuarters w → IsCutUp w new → GoesThrough w end held →
+cut_up_through : (w new : DartMap) (end : ℕ) (held : List ℕ) → IsTied w → AreQuarters w → IsCutUp w new → GoesThrough w end held →
     GoesThrough new end held
-grows_through w new end held tied four same old = old
-grows_through w new end held tied four (further mid last d e way grows cut) old =
-    cut_through mid d e way last end held (grows_tied w mid tied grows) (grows_quarters w mid four grows e cut.e_in) cut
-    (grows_through w mid end held tied four grows old)
+cut_up_through w new end held tied four same old = old
+cut_up_through w new end held tied four (further mid last d e way cut_up cut) old =
+    cut_through mid d e way last end held (cut_up_tied w mid tied cut_up) (cut_up_quarters w mid four cut_up e cut.e_in) cut
+    (cut_up_through w mid end held tied four cut_up old)
 
 enclosed_through : (w : DartMap) (outside : ℕ) (new : DartMap) (end : ℕ) (held : List ℕ) → IsTied w → AreQuarters w →
     IsEnclosed w outside new → GoesThrough w end held → GoesThrough new end held
@@ -144,7 +144,7 @@ enclosed_through w outside new end held tied four e old =
     let four_surrounded = surrounded_quarters w e.surrounded four e.surround in
     let tied_bridged = cut_tied e.surrounded e.right side e.direction e.bridged tied_surrounded e.bridge in
     let four_bridged = cut_quarters e.surrounded e.right side e.direction e.bridged four_surrounded e.bridge in
-    grows_through e.bridged new end held tied_bridged four_bridged e.grows
+    cut_up_through e.bridged new end held tied_bridged four_bridged e.cut_up
     (cut_through e.surrounded e.right side e.direction e.bridged end held tied_surrounded (four_surrounded side e.bridge.e_in) e.bridge
     (step_through w e.surrounded end held (beside_step w e.surrounded (surrounded_beside w e.surrounded tied e.surround)) old))
 

@@ -18,7 +18,7 @@ tops xs (suc h) = slice_index xs h ∷ tops xs h
 -- the rest are those of the face
 pub record IsFaceCutting (w0 : DartMap) (face : List ℕ) (w : DartMap) (st rest : List ℕ) : Type 0 where
   pub sound : IsSound w
-  pub grows : IsCutUp w0 w
+  pub cut_up : IsCutUp w0 w
   pub waiting : (o : ℕ) (rs : List (List ℕ)) → AreWaiting w0 o (face ∷ rs) → AreWaiting w o (down st rest ∷ rs)
   pub hopeful : Hopeful (total (map w.angle rest)) (length rest) (map w.angle st)
   pub rising : Rising (map w.angle rest)

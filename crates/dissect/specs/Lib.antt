@@ -17,5 +17,5 @@ pub mod Bends
 pub mod Boxes
 pub mod Rectangle
 pub mod Boxed
-pub mod Ordered
+pub mod Monotone
 pub mod DirectionLists

@@ -21,9 +21,9 @@ abbrev pub turn_to : DartMap → ℕ → ℕ → ℕ
 turn_to w a b = (w.direction (w.reverse_dart b) + 6 - w.direction a) % 4
 
 -- the turns along a path, straight places left out: 1 for a quarter to the left, 3 for one to the right
-abbrev pub bends : DartMap → ℕ → List ℕ → List ℕ
-bends w a [] = []
-bends w a (b ∷ bs) = if turn_to w a b == 0 then bends w b bs else turn_to w a b ∷ bends w b bs
+abbrev pub path_quarters : DartMap → ℕ → List ℕ → List ℕ
+path_quarters w a [] = []
+path_quarters w a (b ∷ bs) = if turn_to w a b == 0 then path_quarters w b bs else turn_to w a b ∷ path_quarters w b bs
 
 -- the vertices at which a path turns, in order
 abbrev pub turning_vertices : DartMap → ℕ → List ℕ → List ℕ
@@ -37,7 +37,7 @@ pub record HasPath (w : DartMap) (end reverse_dart : ℕ) (quarters : List ℕ) 
   pub rest : List ℕ
   pub path : IsPath w end first rest
   pub back : w.reverse_dart first ≡ reverse_dart
-  pub turns : bends w first rest ≡ quarters
+  pub turns : path_quarters w first rest ≡ quarters
 
 -- the first n darts of the map end the edges of the plane: each has its path, and none of them stands before another dart
 pub record HasPaths (w : DartMap) (n : ℕ) (reverse_dart : ℕ → ℕ) (quarters : ℕ → List ℕ) : Type 0 where

@@ -43,4 +43,4 @@ pub record IsEnclosed (w : DartMap) (outer : ℕ) (new : DartMap) : Type 0 where
   pub same_face : (face_number : ℕ → ℕ) → AreFaceNumbers w face_number → face_number right ≡ face_number outer
   pub side_in : side < 4
   pub bridge : IsCut surrounded right (w.darts + side) direction bridged
-  pub grows : IsCutUp bridged new
+  pub cut_up : IsCutUp bridged new

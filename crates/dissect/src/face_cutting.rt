@@ -120,7 +120,7 @@ pub fn cut_face(table: &mut DartTable, ring: &mut [u32])
     requires space { HasRoom (dart_map_of table.old) (room table.old) }
     requires few { length ring.old < 2 ^ 32 }
     ensures sound { IsSound (dart_map_of table.new) }
-    ensures grows { IsCutUp (dart_map_of table.old) (dart_map_of table.new) }
+    ensures cut_up { IsCutUp (dart_map_of table.old) (dart_map_of table.new) }
     ensures waiting { (o : ℕ) (rs : List (List ℕ)) → AreWaiting (dart_map_of table.old) o (ring.old ∷ rs) → AreWaiting (dart_map_of table.new) o rs }
     ensures space { HasRoom (dart_map_of table.new) (room table.new) }
     ensures room { room table.new ≡ room table.old }
@@ -146,7 +146,7 @@ pub fn cut_faces(table: &mut DartTable, corners: &mut [u32], counts: &[u32])
     requires all { sum counts.now ≡ length corners.old }
     requires few { length corners.old < 2 ^ 32 }
     ensures sound { IsSound (dart_map_of table.new) }
-    ensures grows { IsCutUp (dart_map_of table.old) (dart_map_of table.new) }
+    ensures cut_up { IsCutUp (dart_map_of table.old) (dart_map_of table.new) }
     ensures done { (o : ℕ) → AreWaiting (dart_map_of table.old) o (slices_of corners.old counts.now) → AreWaiting (dart_map_of table.new) o [] }
     ensures space { HasRoom (dart_map_of table.new) (room table.new) }
     ensures room { room table.new ≡ room table.old }

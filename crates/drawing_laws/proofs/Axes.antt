@@ -2,7 +2,7 @@
 use Rattle.std.proofs.Common.{◌≡◌, ◌≢◌, ◌⊎◌, ℕ, zero, suc, ◌+◌, ◌-◌, ◌<◌, ◌≤◌, ◌∙◌, cond, ltb, arith, sym, ap, subst, inl, inr, lt-ltb, le-ltb}
 use Rattle.std.proofs.lemmas.Bool.{cases_eq, cases_lt, cond-true, cond-false}
 use Rattle.dissect.specs.DartMaps.{DartMap}
-use Rattle.dissect.specs.Ordered.{tail}
+use Rattle.dissect.specs.Monotone.{tail}
 use Rattle.common.specs.Sums.{sum_below}
 use Rattle.drawing_laws.specs.Least.{HasNoGap}
 use Rattle.drawing_laws.proofs.Raising.{AreLow, IsShort, least_above}

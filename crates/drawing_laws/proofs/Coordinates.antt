@@ -6,7 +6,7 @@ use Rattle.common.proofs.Sums.{sum_below-same, sum_below-lt, sum_below-one}
 use Rattle.dissect.specs.DartMaps.{DartMap, IsSound}
 use Rattle.dissect.specs.Paths.{IsConnected}
 use Rattle.dissect.specs.Boxes.{HasBoxFaces, BoxesModel, AreBoxes, dart_map}
-use Rattle.dissect.specs.Ordered.{IsMonotone}
+use Rattle.dissect.specs.Monotone.{IsMonotone}
 use Rattle.dissect.proofs.Reordered.{sum_at, sum_at-add, sum_at-same}
 use Rattle.dissect.proofs.Trees.{Connections}
 use Rattle.drawing_laws.proofs.Growing.{Growth, growth, way_sum, way_root, way_step, by_growth}
@@ -184,8 +184,8 @@ module _ (w : DartMap) (sound : IsSound w) (connected : IsConnected w) (cut : Ha
       let g : (e : ℕ) → Growth (forward w e) = λ e. growth (forward w e) sound.meeting.head_in in
       (coordinate g, grows g, stays g)
 
-pub ordered : (w : DartMap) → IsSound w → IsConnected w → HasBoxFaces w → (x : ℕ → ℕ) × (y : ℕ → ℕ) × IsMonotone w x y
-ordered w sound connected cut =
+pub monotone : (w : DartMap) → IsSound w → IsConnected w → HasBoxFaces w → (x : ℕ → ℕ) × (y : ℕ → ℕ) × IsMonotone w x y
+monotone w sound connected cut =
     let (x, x_grows, x_stays) = coordinates w sound connected cut in
     let (y, y_grows, y_stays) = coordinates (rotated w 3) (rotated_sound w 3 sound) connected (rotated_cut w 3 cut) in (
       x,
@@ -202,5 +202,5 @@ ordered w sound connected cut =
       },
     )
 
-pub boxes_ordered : (b : BoxesModel) → AreBoxes b → (x : ℕ → ℕ) × (y : ℕ → ℕ) × IsMonotone (dart_map b) x y
-boxes_ordered b boxes = ordered (dart_map b) boxes.sound boxes.connected boxes.faces
+pub boxes_monotone : (b : BoxesModel) → AreBoxes b → (x : ℕ → ℕ) × (y : ℕ → ℕ) × IsMonotone (dart_map b) x y
+boxes_monotone b boxes = monotone (dart_map b) boxes.sound boxes.connected boxes.faces

@@ -5,11 +5,11 @@ use Rattle.faces.specs.Planes.{PlaneModel}
 use Rattle.ortho_rep.specs.Shapes.{ShapeModel}
 use Rattle.dissect.specs.DartMaps.{DartMap, IsSound}
 use Rattle.dissect.specs.Faces.{Below, last_of}
-use Rattle.dissect.specs.Paths.{HasPath, turn_to, bends}
+use Rattle.dissect.specs.Paths.{HasPath, turn_to, path_quarters}
 use Rattle.dissect.proofs.StraightPaths.{straight_on}
 use Rattle.dissect.specs.Boxes.{BoxesModel, dart_map}
 use Rattle.dissect.specs.Boxed.{IsBoxed}
-use Rattle.dissect.specs.Ordered.{IsMonotone}
+use Rattle.dissect.specs.Monotone.{IsMonotone}
 use Rattle.dissect.specs.Rectangle.{HasRectangle}
 use Rattle.drawing_laws.specs.Cells.{CoversCell, IsCoveredOnce, IsWithin}
 use Rattle.drawing_laws.proofs.Sides.{Goes}
@@ -20,18 +20,18 @@ use Rattle.drawing_laws.proofs.Rows.{Covers, box_upright, round_goes, cover_some
 
 module _ (w : DartMap) (sound : IsSound w) where
   -- where the walk from a to b does not turn, and goes on without a turn
-  pub no_turn : (a b : ℕ) (bs : List ℕ) → bends w a (b ∷ bs) ≡ [] → (turn_to w a b ≡ 0) × (bends w b bs ≡ [])
+  pub no_turn : (a b : ℕ) (bs : List ℕ) → path_quarters w a (b ∷ bs) ≡ [] → (turn_to w a b ≡ 0) × (path_quarters w b bs ≡ [])
   no_turn a b bs straight =
       let t : ℕ = turn_to w a b in
       elim (cases_eq t 0) [
-        | inl none ↦ (none, sym (cond-true {A = List ℕ} (eqb t 0) (bends w b bs) (t ∷ bends w b bs) (eq-eqb t 0 none)) ∙ straight)
+        | inl none ↦ (none, sym (cond-true {A = List ℕ} (eqb t 0) (path_quarters w b bs) (t ∷ path_quarters w b bs) (eq-eqb t 0 none)) ∙ straight)
         | inr some ↦
-            let first : t ∷ bends w b bs ≡ [] =
-            sym (cond-false {A = List ℕ} (eqb t 0) (bends w b bs) (t ∷ bends w b bs) (ne_eqb t 0 some)) ∙ straight in
+            let first : t ∷ path_quarters w b bs ≡ [] =
+            sym (cond-false {A = List ℕ} (eqb t 0) (path_quarters w b bs) (t ∷ path_quarters w b bs) (ne_eqb t 0 some)) ∙ straight in
             absurd (cc first)
       ]
 
-  chain_way : (a : ℕ) (rest : List ℕ) → a < w.darts → Below w.darts rest → bends w a rest ≡ [] → w.direction (last_of a rest) ≡ w.direction a
+  chain_way : (a : ℕ) (rest : List ℕ) → a < w.darts → Below w.darts rest → path_quarters w a rest ≡ [] → w.direction (last_of a rest) ≡ w.direction a
   chain_way a [] a_in below straight = refl
   chain_way a (b ∷ bs) a_in below straight =
       let (none, further) = no_turn a b bs straight in
@@ -68,14 +68,14 @@ module _ (w : DartMap) (sound : IsSound w) where
 
 -- ---- cells
 
-module _ (w : DartMap) (sound : IsSound w) (x y : ℕ → ℕ) (ordered : IsMonotone w x y) where
+module _ (w : DartMap) (sound : IsSound w) (x y : ℕ → ℕ) (monotone : IsMonotone w x y) where
   -- the box with an upper right corner, by its four corners
   box_covers : (c i j : ℕ) → CoversCell w x y c i j → (corner : ℕ → ℕ) × IsRound w 3 1 corner × Covers w x y corner i j × (corner 1 ≡ c)
   box_covers c i j covers =
       let box = covers.box in
       let corner = corners_of w c box.four in
       let round = left_round w sound c box.inside box.four box.north in
-      let up = box_upright w sound x y ordered corner round in (
+      let up = box_upright w sound x y monotone corner round in (
         corner,
         round,
         record {
@@ -89,7 +89,7 @@ module _ (w : DartMap) (sound : IsSound w) (x y : ℕ → ℕ) (ordered : IsMono
 
   covers_box : (corner : ℕ → ℕ) (i j : ℕ) → IsRound w 3 1 corner → Covers w x y corner i j → CoversCell w x y (corner 1) i j
   covers_box corner i j round covers =
-      let up = box_upright w sound x y ordered corner round in
+      let up = box_upright w sound x y monotone corner round in
       record {
         box = record {
           inside = round.inside 1 (omega arith);
@@ -120,11 +120,11 @@ module _ (w : DartMap) (sound : IsSound w) (x y : ℕ → ℕ) (ordered : IsMono
       let around = faces.around in
       let south_west : w.head (around 2) ≡ inner.vertices + 3 = rectangle_corner w sound inner has faces 0 2 (inner.vertices + 3) (omega arith) refl refl in
       let north_east : w.head (around 0) ≡ inner.vertices + 1 = rectangle_corner w sound inner has faces 2 0 (inner.vertices + 1) (omega arith) refl refl in
-      let west : Goes 1 x y (w.head (around 2)) (w.head (around 1)) = round_goes w sound x y ordered 1 3 around faces.outside 1 (omega arith) in
-      let south : Goes 2 x y (w.head (around 3)) (w.head (around 2)) = round_goes w sound x y ordered 1 3 around faces.outside 2 (omega arith) in
-      let east : Goes 3 x y (w.head (around 0)) (w.head (around 3)) = round_goes w sound x y ordered 1 3 around faces.outside 3 (omega arith) in
+      let west : Goes 1 x y (w.head (around 2)) (w.head (around 1)) = round_goes w sound x y monotone 1 3 around faces.outside 1 (omega arith) in
+      let south : Goes 2 x y (w.head (around 3)) (w.head (around 2)) = round_goes w sound x y monotone 1 3 around faces.outside 2 (omega arith) in
+      let east : Goes 3 x y (w.head (around 0)) (w.head (around 3)) = round_goes w sound x y monotone 1 3 around faces.outside 3 (omega arith) in
       let (corner, round, covers) =
-      cover_some w sound x y ordered faces i j
+      cover_some w sound x y monotone faces i j
       (omega (arith, within.left, west.1, ap x south_west))
       (omega (arith, within.right, east.1, ap x north_east))
       (omega (arith, within.below, south.1, ap y south_west))
@@ -134,11 +134,11 @@ module _ (w : DartMap) (sound : IsSound w) (x y : ℕ → ℕ) (ordered : IsMono
         covers = covers_box corner i j round covers;
         only = λ c other.
             let (corner', round', covers', at) = box_covers c i j other in
-            sym at ∙ cover_one w sound x y ordered faces corner' corner i j round' round covers' covers 1 (omega arith);
+            sym at ∙ cover_one w sound x y monotone faces corner' corner i j round' round covers' covers 1 (omega arith);
       }
 
 pub covered_once : (p : PlaneModel) (shape : ShapeModel) (b : BoxesModel) (x y : ℕ → ℕ) → (boxed : IsBoxed p shape b) → IsMonotone (dart_map b) x y
     → (i j : ℕ) → IsWithin x y (boxed.enclosed.enclosed_map.vertices + 3) (boxed.enclosed.enclosed_map.vertices + 1) i j → IsCoveredOnce (dart_map b) x y i j
-covered_once p shape b x y boxed ordered i j within =
+covered_once p shape b x y boxed monotone i j within =
     let sound = boxed.boxes.sound in
-    covered_within (dart_map b) sound x y ordered boxed.enclosed.enclosed_map boxed.enclosed.rectangle (are_faces (dart_map b) sound boxed.boxes.faces) i j within
+    covered_within (dart_map b) sound x y monotone boxed.enclosed.enclosed_map boxed.enclosed.rectangle (are_faces (dart_map b) sound boxed.boxes.faces) i j within

@@ -9,7 +9,7 @@ use Rattle.ortho_rep.specs.Representation.{IsLeast}
 use Rattle.drawing_check.specs.Draws.{Draws}
 use Rattle.dissect.specs.Boxes.{BoxesModel}
 use Rattle.dissect.specs.Boxed.{IsBoxed}
-use Rattle.drawing_laws.proofs.Coordinates.{boxes_ordered}
+use Rattle.drawing_laws.proofs.Coordinates.{boxes_monotone}
 use Rattle.entries.specs.declared.cause.Cause.{Cause}
 use Rattle.entries.specs.Drawn.{ShowsCause, HasPoints}
 use Rattle.entries.specs.declared.answer.Answer.{Answer}
@@ -24,8 +24,8 @@ use Rattle.drawing_laws.proofs.WideOnly.{shown_wide}
 -- some coordinates are in the order of the boxes
 some_order : (plane : PlaneModel) (shape : ShapeModel) (b : BoxesModel) → IsBoxed plane shape b → ¬ HasNoCoordinates b
 some_order plane shape b boxed none =
-    let (x, y, ordered) = boxes_ordered b boxed.boxes in
-    none x y ordered
+    let (x, y, monotone) = boxes_monotone b boxed.boxes in
+    none x y monotone
 
 pub none_shown : (plane : PlaneModel) (shape : ShapeModel) (b : BoxesModel) (cause : Cause)
     → IsPlane plane → IsLeast plane shape → IsBoxed plane shape b → ¬ ShowsCause plane shape b cause

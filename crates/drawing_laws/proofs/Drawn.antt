@@ -19,7 +19,7 @@ use Rattle.dissect.specs.Faces.{In, Distinct, Below, last_of}
 use Rattle.dissect.specs.Paths.{HasPath, IsPath, turn_to, turning_vertices}
 use Rattle.dissect.specs.Boxes.{BoxesModel, dart_map}
 use Rattle.dissect.specs.Boxed.{IsBoxed}
-use Rattle.dissect.specs.Ordered.{IsMonotone, AreWithin, AreTaken, AreLeastPoints, point_at}
+use Rattle.dissect.specs.Monotone.{IsMonotone, AreWithin, AreTaken, AreLeastPoints, point_at}
 use Rattle.drawing_check.specs.declared.fault.CheckFault.{CheckFault}
 use Rattle.drawing_check.specs.declared.fault.CheckFault.TheVariants.{OutOfGrid, NotAxis, WrongTurn, Meet, Memory}
 use Rattle.drawing_check.specs.Faults.{IsFirstFault}
@@ -84,7 +84,7 @@ ways_left (suc n) k few =
 -- ---- the points of a shape
 
 module _ (p : PlaneModel) (shape : ShapeModel) (b : BoxesModel) (plane : IsPlane p) (boxed : IsBoxed p shape b) (x y : ℕ → ℕ)
-    (ordered : IsMonotone (dart_map b) x y) (points : PointsModel) (taken : AreTaken b x y points) where
+    (monotone : IsMonotone (dart_map b) x y) (points : PointsModel) (taken : AreTaken b x y points) where
   path_of : (d : ℕ) → d < darts p → HasPath (dart_map b) d (reverse_dart p d) (map angle_of (turns_at shape d))
   path_of d d_in = boxed.paths.paths d d_in
 
@@ -139,7 +139,7 @@ module _ (p : PlaneModel) (shape : ShapeModel) (b : BoxesModel) (plane : IsPlane
       → Goes ((dart_map b).direction (path_of d d_in).first) x y ((dart_map b).head ((dart_map b).reverse_dart (path_of d d_in).first)) ((dart_map b).head (path_of d d_in).first)
   first_goes d d_in =
       let has = path_of d d_in in
-      dart_goes (dart_map b) boxed.boxes.sound x y ordered ((dart_map b).direction has.first) has.first has.path.first_in refl
+      dart_goes (dart_map b) boxed.boxes.sound x y monotone ((dart_map b).direction has.first) has.first has.path.first_in refl
 
   -- ---- axes and turns
 
@@ -147,14 +147,14 @@ module _ (p : PlaneModel) (shape : ShapeModel) (b : BoxesModel) (plane : IsPlane
   path_axes d d_in lesser =
       let has = path_of d d_in in
       subst IsOnAxes (sym (line_is d d_in lesser))
-      (line_axes (dart_map b) boxed.boxes.sound x y ordered ((dart_map b).head ((dart_map b).reverse_dart has.first)) has.first has.rest
+      (line_axes (dart_map b) boxed.boxes.sound x y monotone ((dart_map b).head ((dart_map b).reverse_dart has.first)) has.first has.rest
       has.path.first_in has.path.rest_in has.path.follows (first_goes d d_in))
 
   path_turning : (d : ℕ) → d < darts p → is_lesser p d ≡ true → IsTurning (path_along p points d) (turns_at shape d)
   path_turning d d_in lesser =
       let has = path_of d d_in in
       subst (λ (path : List Point). IsTurning path (turns_at shape d)) (sym (line_is d d_in lesser))
-      (line_turning (dart_map b) boxed.boxes.sound x y ordered ((dart_map b).head ((dart_map b).reverse_dart has.first)) has.first has.rest (turns_at shape d)
+      (line_turning (dart_map b) boxed.boxes.sound x y monotone ((dart_map b).head ((dart_map b).reverse_dart has.first)) has.first has.rest (turns_at shape d)
       has.path.first_in has.path.rest_in has.path.follows (first_goes d d_in) has.turns)
 
   -- the direction in which a path sets out
@@ -169,7 +169,7 @@ module _ (p : PlaneModel) (shape : ShapeModel) (b : BoxesModel) (plane : IsPlane
       let has = path_of d d_in in
       leaving-lesser p points d lesser
       ∙ ap (λ (path : List Point). direction_of path 0) (line_is d d_in lesser)
-      ∙ line_way (dart_map b) boxed.boxes.sound x y ordered ((dart_map b).head ((dart_map b).reverse_dart has.first)) has.first has.rest
+      ∙ line_way (dart_map b) boxed.boxes.sound x y monotone ((dart_map b).head ((dart_map b).reverse_dart has.first)) has.first has.rest
       has.path.first_in has.path.rest_in has.path.follows (first_goes d d_in)
       ∙ ap way_of (first_way d d_in)
 
@@ -183,7 +183,7 @@ module _ (p : PlaneModel) (shape : ShapeModel) (b : BoxesModel) (plane : IsPlane
       omega (arith, length-append (map (point_at x y) (turning_vertices (dart_map b) has.first has.rest)) (point_at x y ((dart_map b).head (last_of has.first has.rest)) ∷ [])) in
       leaving-reverse_dart p points d n (plane_ends p plane) d_in lesser (ap length is ∙ size)
       ∙ ap (λ (path : List Point). direction_between (point_of path (n + 1)) (point_of path n)) is
-      ∙ line_back (dart_map b) boxed.boxes.sound x y ordered n u has.first has.rest has.path.first_in has.path.rest_in has.path.follows (first_goes d d_in) size
+      ∙ line_back (dart_map b) boxed.boxes.sound x y monotone n u has.first has.rest has.path.first_in has.path.rest_in has.path.follows (first_goes d d_in) size
       ∙ ap (λ (e : ℕ). way_of (((dart_map b).direction e + 2) % 4)) has.path.ends
 
   -- a dart leaves in the direction opposite to that in which its reverse arrives in the boxes
@@ -241,7 +241,7 @@ module _ (p : PlaneModel) (shape : ShapeModel) (b : BoxesModel) (plane : IsPlane
   path_met d d_in lesser q within =
       let has = path_of d d_in in
       let end = has.path.ends in
-      elim (line_met (dart_map b) boxed.boxes.sound x y ordered ((dart_map b).head ((dart_map b).reverse_dart has.first)) has.first has.rest q
+      elim (line_met (dart_map b) boxed.boxes.sound x y monotone ((dart_map b).head ((dart_map b).reverse_dart has.first)) has.first has.rest q
       has.path.first_in has.path.rest_in has.path.follows (path_distinct d d_in) (first_goes d d_in)
       (subst (λ (path : List Point). Contains (interior path) q) (line_is d d_in lesser) within)) [
         | inl (passes, before) ↦
@@ -255,8 +255,8 @@ module _ (p : PlaneModel) (shape : ShapeModel) (b : BoxesModel) (plane : IsPlane
       let has = path_of d d_in in
       let distinct = path_distinct d d_in in
       subst (λ (path : List Point). AreDistinct (interior path)) (sym (line_is d d_in lesser))
-      (line_once (dart_map b) boxed.boxes.sound x y ordered (IsPart (dart_map b) d)
-      (λ z c px py one two passes passes'. one_path p shape b plane boxed x y ordered d z c px py d_in one two passes passes')
+      (line_once (dart_map b) boxed.boxes.sound x y monotone (IsPart (dart_map b) d)
+      (λ z c px py one two passes passes'. one_path p shape b plane boxed x y monotone d z c px py d_in one two passes passes')
       ((dart_map b).head ((dart_map b).reverse_dart has.first)) has.first has.rest (λ z. z ≡ has.first)
       has.path.first_in has.path.rest_in has.path.follows distinct (first_goes d d_in)
       (λ z at. path_part d d_in z (inl at))
@@ -304,7 +304,7 @@ module _ (p : PlaneModel) (shape : ShapeModel) (b : BoxesModel) (plane : IsPlane
       let (z, part, passes, before) = path_met d here.0 here.1 q one in
       let (c, part', passes', before') = path_met e there.0 there.1 q two in
       two_edges d e here there less
-      (two_paths p shape b plane boxed x y ordered d e z c q.x q.y here.0 there.0 part part' passes before passes'))
+      (two_paths p shape b plane boxed x y monotone d e z c q.x q.y here.0 there.0 part part' passes before passes'))
 
   increasing : AllPairs (λ (d e : ℕ). d < e) (lesser_darts p)
   increasing =
@@ -327,7 +327,7 @@ module _ (p : PlaneModel) (shape : ShapeModel) (b : BoxesModel) (plane : IsPlane
       let i_in : i < b.old = omega (arith, less, j_in) in
       let points_same : point_at x y i ≡ point_at x y j = sym (point_k i q i_in) ∙ same ∙ point_k j q j_in in
       let one : i ≡ j =
-      vertex_one p shape b plane boxed x y ordered i j (omega (arith, i_in, boxed.old)) (omega (arith, j_in, boxed.old))
+      vertex_one p shape b plane boxed x y monotone i j (omega (arith, i_in, boxed.old)) (omega (arith, j_in, boxed.old))
       (ap (λ (r : Point). r.x) points_same) (ap (λ (r : Point). r.y) points_same) in
       omega (arith, one, less)
 
@@ -341,7 +341,7 @@ module _ (p : PlaneModel) (shape : ShapeModel) (b : BoxesModel) (plane : IsPlane
       let (e, among, met) = met_in (lesser_darts p) q path in
       let edge : IsEdge e = All-contains IsEdge (lesser_darts p) e all_edges among in
       let (z, part, passes, before) = path_met e edge.0 edge.1 (point_at x y v) (subst (λ (r : Point). Contains (interior (path_along p points e)) r) (sym is) met) in
-      off_path p shape b plane boxed x y ordered e z v edge.0 (omega (arith, v_in, boxed.old)) part passes before)
+      off_path p shape b plane boxed x y monotone e z v edge.0 (omega (arith, v_in, boxed.old)) part passes before)
 
   -- ---- the grid
 
@@ -396,7 +396,7 @@ drawn_passes p shape points drawn Memory first = refl
 pub least_points_draw : (p : PlaneModel) (shape : ShapeModel) (b : BoxesModel) (points : PointsModel) → IsPlane p → IsBoxed p shape b
     → AreLeastPoints b points → Draws p shape points
 least_points_draw p shape b points plane boxed laid =
-    draws p shape b plane boxed laid.x laid.y laid.ordered points laid.taken laid.x_within laid.y_within
+    draws p shape b plane boxed laid.x laid.y laid.monotone points laid.taken laid.x_within laid.y_within
 
 pub least_points_passed : (p : PlaneModel) (shape : ShapeModel) (b : BoxesModel) (points : PointsModel) → IsPlane p → IsBoxed p shape b
     → AreLeastPoints b points → (fault : CheckFault) → IsFirstFault p shape points fault → fault ≡ Memory

@@ -8,10 +8,10 @@ use Rattle.ortho_rep.specs.declared.turn.Turn.{Turn}
 use Rattle.ortho_rep.specs.declared.turn.Turn.TheVariants.{Left, Right}
 use Rattle.dissect.specs.DartMaps.{DartMap, IsSound}
 use Rattle.dissect.specs.Faces.{Below, last_of}
-use Rattle.dissect.specs.Paths.{Follows, turn_to, bends, turning_vertices}
+use Rattle.dissect.specs.Paths.{Follows, turn_to, path_quarters, turning_vertices}
 use Rattle.dissect.proofs.StraightPaths.{straight_on, turned_on}
 use Rattle.dissect.specs.Steps.{angle_of}
-use Rattle.dissect.specs.Ordered.{IsMonotone, point_at}
+use Rattle.dissect.specs.Monotone.{IsMonotone, point_at}
 use Rattle.drawing_check.specs.Paths.{point_of}
 use Rattle.drawing_check.specs.Draws.{IsAxis, IsOnAxes, IsTurning, direction_between, direction_of, turned}
 use Rattle.drawing_laws.proofs.Sides.{Goes, goes_on, goes_leads, dart_goes}
@@ -30,13 +30,13 @@ line_turn w x y u a b bs some =
     ap (λ (places : List ℕ). point_at x y u ∷ (map (point_at x y) places ++ point_at x y (w.head (last_of b bs)) ∷ []))
     (cond-false {A = List ℕ} (eqb (turn_to w a b) 0) (turning_vertices w b bs) (w.head a ∷ turning_vertices w b bs) (ne_eqb (turn_to w a b) 0 some))
 
-bends_straight : (w : DartMap) (a b : ℕ) (bs : List ℕ) → turn_to w a b ≡ 0 → bends w a (b ∷ bs) ≡ bends w b bs
+bends_straight : (w : DartMap) (a b : ℕ) (bs : List ℕ) → turn_to w a b ≡ 0 → path_quarters w a (b ∷ bs) ≡ path_quarters w b bs
 bends_straight w a b bs none =
-    cond-true {A = List ℕ} (eqb (turn_to w a b) 0) (bends w b bs) (turn_to w a b ∷ bends w b bs) (eq-eqb (turn_to w a b) 0 none)
+    cond-true {A = List ℕ} (eqb (turn_to w a b) 0) (path_quarters w b bs) (turn_to w a b ∷ path_quarters w b bs) (eq-eqb (turn_to w a b) 0 none)
 
-bends_turn : (w : DartMap) (a b : ℕ) (bs : List ℕ) → turn_to w a b ≢ 0 → bends w a (b ∷ bs) ≡ turn_to w a b ∷ bends w b bs
+bends_turn : (w : DartMap) (a b : ℕ) (bs : List ℕ) → turn_to w a b ≢ 0 → path_quarters w a (b ∷ bs) ≡ turn_to w a b ∷ path_quarters w b bs
 bends_turn w a b bs some =
-    cond-false {A = List ℕ} (eqb (turn_to w a b) 0) (bends w b bs) (turn_to w a b ∷ bends w b bs) (ne_eqb (turn_to w a b) 0 some)
+    cond-false {A = List ℕ} (eqb (turn_to w a b) 0) (path_quarters w b bs) (turn_to w a b ∷ path_quarters w b bs) (ne_eqb (turn_to w a b) 0 some)
 
 -- ---- directions by their numbers
 
@@ -116,7 +116,7 @@ turning_more q path turn turns first behind = record {
 
 -- ---- the path
 
-module _ (w : DartMap) (sound : IsSound w) (x y : ℕ → ℕ) (ordered : IsMonotone w x y) where
+module _ (w : DartMap) (sound : IsSound w) (x y : ℕ → ℕ) (monotone : IsMonotone w x y) where
   -- a straight place is passed
   pub on_straight : (u a b : ℕ) → a < w.darts → b < w.darts → w.head (w.reverse_dart b) ≡ w.head a → turn_to w a b ≡ 0
       → Goes (w.direction a) x y u (w.head a) → (w.direction b ≡ w.direction a) × Goes (w.direction b) x y u (w.head b)
@@ -126,12 +126,12 @@ module _ (w : DartMap) (sound : IsSound w) (x y : ℕ → ℕ) (ordered : IsMono
       let k : ℕ = w.direction b in (
         way,
         goes_on k x y u (w.head a) (w.head b) (subst (λ (d : ℕ). Goes d x y u (w.head a)) (sym way) goes)
-            (goes_leads k x y (w.head a) (w.head b) (subst (λ (v : ℕ). Goes k x y v (w.head b)) from (dart_goes w sound x y ordered k b b_in refl))),
+            (goes_leads k x y (w.head a) (w.head b) (subst (λ (v : ℕ). Goes k x y v (w.head b)) from (dart_goes w sound x y monotone k b b_in refl))),
       )
 
   -- behind a turn the next dart goes on from there
   pub on_turn : (a b : ℕ) → b < w.darts → w.head (w.reverse_dart b) ≡ w.head a → Goes (w.direction b) x y (w.head a) (w.head b)
-  on_turn a b b_in from = subst (λ (v : ℕ). Goes (w.direction b) x y v (w.head b)) from (dart_goes w sound x y ordered (w.direction b) b b_in refl)
+  on_turn a b b_in from = subst (λ (v : ℕ). Goes (w.direction b) x y v (w.head b)) from (dart_goes w sound x y monotone (w.direction b) b b_in refl)
 
   pub line_axes : (u a : ℕ) (rest : List ℕ) → a < w.darts → Below w.darts rest → Follows w a rest → Goes (w.direction a) x y u (w.head a)
       → IsOnAxes (line w x y u a rest)
@@ -207,7 +207,7 @@ module _ (w : DartMap) (sound : IsSound w) (x y : ℕ → ℕ) (ordered : IsMono
 
   -- the path turns as its bends say
   pub line_turning : (u a : ℕ) (rest : List ℕ) (turns : List Turn) → a < w.darts → Below w.darts rest → Follows w a rest
-      → Goes (w.direction a) x y u (w.head a) → bends w a rest ≡ map angle_of turns → IsTurning (line w x y u a rest) turns
+      → Goes (w.direction a) x y u (w.head a) → path_quarters w a rest ≡ map angle_of turns → IsTurning (line w x y u a rest) turns
   line_turning u a [] [] a_in below follows goes is = record { corners = refl; each = λ k within. absurd (omega (arith, within)) }
   line_turning u a [] (turn ∷ turns) a_in below follows goes is = absurd (omega (arith, ap length is))
   line_turning u a (b ∷ bs) turns a_in below follows goes is =
@@ -221,14 +221,14 @@ module _ (w : DartMap) (sound : IsSound w) (x y : ℕ → ℕ) (ordered : IsMono
             (λ rest same. line_turning (w.head a) b bs rest below.0 below.1 follows.2 (on_turn a b below.0 follows.1) same)
       ]
     where
-      by_turns : (turns : List Turn) → turn_to w a b ≢ 0 → turn_to w a b ∷ bends w b bs ≡ map angle_of turns
-          → ((rest : List Turn) → bends w b bs ≡ map angle_of rest → IsTurning (line w x y (w.head a) b bs) rest)
+      by_turns : (turns : List Turn) → turn_to w a b ≢ 0 → turn_to w a b ∷ path_quarters w b bs ≡ map angle_of turns
+          → ((rest : List Turn) → path_quarters w b bs ≡ map angle_of rest → IsTurning (line w x y (w.head a) b bs) rest)
           → IsTurning (line w x y u a (b ∷ bs)) turns
       by_turns [] some is later = absurd (omega (arith, ap length is))
       by_turns (turn ∷ turns) some is later =
           let q = sound.meeting.quarter in
           let first : turn_to w a b ≡ angle_of turn = ap (λ (xs : List ℕ). get_or xs 0 0) is in
-          let behind : bends w b bs ≡ map angle_of turns = ap (λ (xs : List ℕ). drop 1 xs) is in
+          let behind : path_quarters w b bs ≡ map angle_of turns = ap (λ (xs : List ℕ). drop 1 xs) is in
           let on = on_turn a b below.0 follows.1 in
           let path : List Point = line w x y (w.head a) b bs in
           let way : w.direction b ≡ (w.direction a + angle_of turn) % 4 =

@@ -10,7 +10,7 @@ use Rattle.dissect.specs.DartMaps.{DartMap}
 use Rattle.dissect.specs.Faces.{Below}
 use Rattle.dissect.specs.Paths.{turn_to, turning_vertices}
 use Rattle.dissect.specs.Boxes.{BoxesModel, AreBoxes, dart_map}
-use Rattle.dissect.specs.Ordered.{IsMonotone, AreLeastPoints, point_at}
+use Rattle.dissect.specs.Monotone.{IsMonotone, AreLeastPoints, point_at}
 use Rattle.drawing_laws.specs.Least.{AreLeast, AreBelow, HasLeast, HasNoGap, IsBelow}
 use Rattle.drawing_laws.proofs.Axes.{Follow, HasEnds, least_following, no_gap, few_numbers}
 
@@ -40,7 +40,7 @@ least_exist b x y boxes o =
       lx.0,
       ly.0,
       record {
-        ordered = in_order b lx.0 ly.0 lx.1 ly.1;
+        monotone = in_order b lx.0 ly.0 lx.1 ly.1;
         x_least = λ x1 y1 o1. lx.2 x1 (x_follows b x1 y1 o1);
         y_least = λ x1 y1 o1. ly.2 y1 (y_follows b x1 y1 o1);
       },
@@ -48,13 +48,13 @@ least_exist b x y boxes o =
 
 pub x_has_no_gap : (b : BoxesModel) (x y : ℕ → ℕ) → AreBoxes b → AreLeast b x y → HasNoGap b.vertices x
 x_has_no_gap b x y boxes least =
-    no_gap (dart_map b) 0 1 x (ends_of b boxes) (x_follows b x y least.ordered)
-    (λ x1 has. least.x_least x1 y (in_order b x1 y has (y_follows b x y least.ordered)))
+    no_gap (dart_map b) 0 1 x (ends_of b boxes) (x_follows b x y least.monotone)
+    (λ x1 has. least.x_least x1 y (in_order b x1 y has (y_follows b x y least.monotone)))
 
 pub y_has_no_gap : (b : BoxesModel) (x y : ℕ → ℕ) → AreBoxes b → AreLeast b x y → HasNoGap b.vertices y
 y_has_no_gap b x y boxes least =
-    no_gap (dart_map b) 1 0 y (ends_of b boxes) (y_follows b x y least.ordered)
-    (λ y1 has. least.y_least x y1 (in_order b x y1 (x_follows b x y least.ordered) has))
+    no_gap (dart_map b) 1 0 y (ends_of b boxes) (y_follows b x y least.monotone)
+    (λ y1 has. least.y_least x y1 (in_order b x y1 (x_follows b x y least.monotone) has))
 
 pub least_are_few : (b : BoxesModel) (x y : ℕ → ℕ) → AreBoxes b → AreLeast b x y
     → (v : ℕ) → v < b.vertices → (x v < b.vertices) × (y v < b.vertices)
@@ -64,7 +64,7 @@ least_are_few b x y boxes least v inside =
 -- ---- points
 
 pub laid_least : (b : BoxesModel) (points : PointsModel) → (laid : AreLeastPoints b points) → AreLeast b laid.x laid.y
-laid_least b points laid = record { ordered = laid.ordered; x_least = laid.x_least; y_least = laid.y_least }
+laid_least b points laid = record { monotone = laid.monotone; x_least = laid.x_least; y_least = laid.y_least }
 
 -- what holds of the points of all vertices of boxes holds of the points at which a path turns
 all_places : (w : DartMap) (P : Point → Type 0) (x y : ℕ → ℕ) → ((a : ℕ) → a < w.darts → P (point_at x y (w.head a)))

@@ -8,7 +8,7 @@ use Rattle.ortho_rep.specs.Shapes.{ShapeModel}
 use Rattle.dissect.specs.DartMaps.{DartMap, IsSound}
 use Rattle.dissect.specs.Boxes.{BoxesModel, dart_map}
 use Rattle.dissect.specs.Boxed.{IsBoxed}
-use Rattle.dissect.specs.Ordered.{IsMonotone, tail}
+use Rattle.dissect.specs.Monotone.{IsMonotone, tail}
 use Rattle.drawing_laws.proofs.Rounds.{AreFaces, are_faces}
 use Rattle.drawing_laws.proofs.Apart.{Holds, vertices_apart, vertex_outside, darts_apart}
 use Rattle.drawing_laws.proofs.Passing.{PassesAt, IsBefore, passes_holds}
@@ -28,7 +28,7 @@ arrival w sound v v_in =
     )
 
 module _ (p : PlaneModel) (shape : ShapeModel) (b : BoxesModel) (plane : IsPlane p) (boxed : IsBoxed p shape b) (x y : ℕ → ℕ)
-    (ordered : IsMonotone (dart_map b) x y) where
+    (monotone : IsMonotone (dart_map b) x y) where
   faces : AreFaces (dart_map b)
   faces = are_faces (dart_map b) boxed.boxes.sound boxed.boxes.faces
 
@@ -36,7 +36,7 @@ module _ (p : PlaneModel) (shape : ShapeModel) (b : BoxesModel) (plane : IsPlane
   inside_alone : (z c px py : ℕ) → z < b.darts → c < b.darts → Holds ((dart_map b).direction z) x y px py (tail (dart_map b) z) ((dart_map b).head z)
       → px ≡ x ((dart_map b).head c) → py ≡ y ((dart_map b).head c) → ⊥
   inside_alone z c px py z_in c_in holds column row =
-      vertex_outside (dart_map b) boxed.boxes.sound x y ordered faces z c z_in c_in
+      vertex_outside (dart_map b) boxed.boxes.sound x y monotone faces z c z_in c_in
       (subst (λ (k : ℕ). Holds ((dart_map b).direction z) x y k (y ((dart_map b).head c)) (tail (dart_map b) z) ((dart_map b).head z)) column
       (subst (λ (k : ℕ). Holds ((dart_map b).direction z) x y px k (tail (dart_map b) z) ((dart_map b).head z)) row holds))
 
@@ -47,13 +47,13 @@ module _ (p : PlaneModel) (shape : ShapeModel) (b : BoxesModel) (plane : IsPlane
   meet z c px py z_in c_in one two =
       elim (passes_holds ((dart_map b).direction z) x y px py (tail (dart_map b) z) ((dart_map b).head z) one) [
         | inl holds ↦ elim (passes_holds ((dart_map b).direction c) x y px py (tail (dart_map b) c) ((dart_map b).head c) two) [
-          | inl holds' ↦ inl (darts_apart (dart_map b) boxed.boxes.sound x y ordered faces px py z c z_in c_in holds holds')
+          | inl holds' ↦ inl (darts_apart (dart_map b) boxed.boxes.sound x y monotone faces px py z c z_in c_in holds holds')
           | inr (column, row) ↦ absurd (inside_alone z c px py z_in c_in holds column row)
         ]
         | inr (column, row) ↦ elim (passes_holds ((dart_map b).direction c) x y px py (tail (dart_map b) c) ((dart_map b).head c) two) [
           | inl holds' ↦ absurd (inside_alone c z px py c_in z_in holds' column row)
           | inr (column', row') ↦ inr (
-            vertices_apart (dart_map b) boxed.boxes.sound x y ordered faces z c z_in c_in (sym column ∙ column') (sym row ∙ row'),
+            vertices_apart (dart_map b) boxed.boxes.sound x y monotone faces z c z_in c_in (sym column ∙ column') (sym row ∙ row'),
             column,
             row,
           )
@@ -107,7 +107,7 @@ module _ (p : PlaneModel) (shape : ShapeModel) (b : BoxesModel) (plane : IsPlane
         | inl holds ↦ inside_alone z a (x v) (y v) z_in a_in holds (ap x (sym at)) (ap y (sym at))
         | inr (column, row) ↦
             let there : (dart_map b).head z ≡ v =
-            vertices_apart (dart_map b) boxed.boxes.sound x y ordered faces z a z_in a_in (sym column ∙ ap x (sym at)) (sym row ∙ ap y (sym at)) ∙ at in
+            vertices_apart (dart_map b) boxed.boxes.sound x y monotone faces z a z_in a_in (sym column ∙ ap x (sym at)) (sym row ∙ ap y (sym at)) ∙ at in
             before column row (end_alone p shape b plane boxed d z d_in part (omega (arith, there, v_in)))
       ]
 
@@ -118,5 +118,5 @@ module _ (p : PlaneModel) (shape : ShapeModel) (b : BoxesModel) (plane : IsPlane
       let (a, a_in, at) = arrival (dart_map b) boxed.boxes.sound u (omega (arith, old, boxed.old, u_in)) in
       let (c, c_in, at') = arrival (dart_map b) boxed.boxes.sound v (omega (arith, old, boxed.old, v_in)) in
       sym at
-      ∙ vertices_apart (dart_map b) boxed.boxes.sound x y ordered faces a c a_in c_in (ap x at ∙ column ∙ ap x (sym at')) (ap y at ∙ row ∙ ap y (sym at'))
+      ∙ vertices_apart (dart_map b) boxed.boxes.sound x y monotone faces a c a_in c_in (ap x at ∙ column ∙ ap x (sym at')) (ap y at ∙ row ∙ ap y (sym at'))
       ∙ at'

@@ -7,7 +7,7 @@ use Rattle.ortho_rep.specs.declared.points.Point.{Point}
 use Rattle.dissect.specs.DartMaps.{DartMap, IsSound}
 use Rattle.dissect.specs.Faces.{Below, last_of, In, Distinct}
 use Rattle.dissect.specs.Paths.{Follows, turn_to, turning_vertices}
-use Rattle.dissect.specs.Ordered.{IsMonotone, tail, point_at}
+use Rattle.dissect.specs.Monotone.{IsMonotone, tail, point_at}
 use Rattle.drawing_check.specs.Walks.{step_from, distance, walk, interior, AreDistinct}
 use Rattle.drawing_check.proofs.Coverings.{no_repeat_append}
 use Rattle.drawing_check.proofs.PathParts.{toward_up, toward_down, toward_same, segment_lists}
@@ -140,7 +140,7 @@ inner_turn w x y u a b bs some =
     ap interior (line_turn w x y u a b bs some)
     ∙ inner_more (point_at x y u) (point_at x y (w.head a)) (point_at x y (w.head (last_of b bs))) (map (point_at x y) (turning_vertices w b bs))
 
-module _ (w : DartMap) (sound : IsSound w) (x y : ℕ → ℕ) (ordered : IsMonotone w x y) where
+module _ (w : DartMap) (sound : IsSound w) (x y : ℕ → ℕ) (monotone : IsMonotone w x y) where
   pub line_met : (u a : ℕ) (rest : List ℕ) (q : Point) → a < w.darts → Below w.darts rest → Follows w a rest → Distinct (a ∷ rest)
       → Goes (w.direction a) x y u (w.head a) → Contains (interior (line w x y u a rest)) q → IsMet w x y u a rest q.x q.y
   line_met u a [] q a_in below follows distinct goes within =
@@ -154,8 +154,8 @@ module _ (w : DartMap) (sound : IsSound w) (x y : ℕ → ℕ) (ordered : IsMono
       let not_last : a ≢ last_of b bs = λ e. distinct.0 (subst (λ (z : ℕ). In z (b ∷ bs)) (sym e) (last_on b bs)) in
       elim (cases_eq (turn_to w a b) 0) [
         | inl none ↦
-            let (way, on) = on_straight w sound x y ordered u a b a_in below.0 follows.1 none goes in
-            let next : Goes (w.direction b) x y (w.head a) (w.head b) = on_turn w sound x y ordered a b below.0 follows.1 in
+            let (way, on) = on_straight w sound x y monotone u a b a_in below.0 follows.1 none goes in
+            let next : Goes (w.direction b) x y (w.head a) (w.head b) = on_turn w sound x y monotone a b below.0 follows.1 in
             elim (line_met u b bs q below.0 below.1 follows.2 distinct.1 on (subst (λ (path : List Point). Contains (interior path) q) (line_straight w x y u a b bs none) within)) [
               | inl (passes, before) ↦ elim (passes_split (w.direction b) x y q.x q.y u (w.head a) (w.head b) next passes) [
                 | inl first ↦ inl (subst (λ (k : ℕ). Passes k x y q.x q.y u (w.head a)) way first, λ ex ey. not_last)
@@ -164,7 +164,7 @@ module _ (w : DartMap) (sound : IsSound w) (x y : ℕ → ℕ) (ordered : IsMono
               | inr (z, inside, passes, before) ↦ inr (z, inr inside, passes, before)
             ]
         | inr some ↦
-            let next : Goes (w.direction b) x y (w.head a) (w.head b) = on_turn w sound x y ordered a b below.0 follows.1 in
+            let next : Goes (w.direction b) x y (w.head a) (w.head b) = on_turn w sound x y monotone a b below.0 follows.1 in
             elim (Contains-append_cases (walk (point_at x y u) (point_at x y (w.head a)) (distance (point_at x y u) (point_at x y (w.head a)))) (interior (line w x y (w.head a) b bs)) q
             (subst (λ (ps : List Point). Contains ps q) (inner_turn w x y u a b bs some) within)) [
               | inl first ↦ inl (
@@ -188,12 +188,12 @@ module _ (w : DartMap) (sound : IsSound w) (x y : ℕ → ℕ) (ordered : IsMono
   line_once all one u a [] first a_in below follows distinct goes in_first in_rest apart covers =
       walk_once (w.direction a) x y u (w.head a) (distance (point_at x y u) (point_at x y (w.head a)) - 1) goes (omega arith)
   line_once all one u a (b ∷ bs) first a_in below follows distinct goes in_first in_rest apart covers =
-      let next : Goes (w.direction b) x y (w.head a) (w.head b) = on_turn w sound x y ordered a b below.0 follows.1 in
+      let next : Goes (w.direction b) x y (w.head a) (w.head b) = on_turn w sound x y monotone a b below.0 follows.1 in
       let here : (px py : ℕ) → Passes (w.direction b) x y px py (w.head a) (w.head b) → PassesAt w x y px py b =
       λ px py passes. subst (λ (v : ℕ). Passes (w.direction b) x y px py v (w.head b)) (sym follows.1) passes in
       elim (cases_eq (turn_to w a b) 0) [
         | inl none ↦
-            let (way, on) = on_straight w sound x y ordered u a b a_in below.0 follows.1 none goes in
+            let (way, on) = on_straight w sound x y monotone u a b a_in below.0 follows.1 none goes in
             subst (λ (path : List Point). AreDistinct (interior path)) (sym (line_straight w x y u a b bs none))
             (line_once all one u b bs (λ z. first z ⊎ (z ≡ b)) below.0 below.1 follows.2 distinct.1 on
             (λ z this. elim this [ inl early ↦ in_first z early | inr at ↦ subst all (sym at) (in_rest b (inl refl)) ])

@@ -11,7 +11,7 @@ use Rattle.ortho_rep.specs.Points.{PointsModel}
 use Rattle.drawing_check.specs.Draws.{AreInGrid, IsInGrid}
 use Rattle.dissect.specs.Boxes.{BoxesModel, AreBoxes}
 use Rattle.dissect.specs.Boxed.{IsBoxed}
-use Rattle.dissect.specs.Ordered.{AreLeastPoints, FitsNoGrid, point_at}
+use Rattle.dissect.specs.Monotone.{AreLeastPoints, FitsNoGrid, point_at}
 use Rattle.entries.specs.declared.cause.Cause.{Cause}
 use Rattle.entries.specs.declared.cause.Cause.TheVariants.{Wide, OutOfGrid, NotAxis, WrongTurn, Meet}
 use Rattle.entries.specs.Drawn.{ShowsCause}
@@ -31,7 +31,7 @@ never_out plane shape b boxed fails = fails.first (laid_in_grid b fails.points b
 no_order : (b : BoxesModel) → AreBoxes b → b.vertices ≤ MAX_COORDINATE + 1 → FitsNoGrid b → HasNoCoordinates b
 no_order b boxes few none x y o =
     let l = least_exist b x y boxes o in
-    let (v, inside, wide) = none l.0 l.1 l.2.ordered in
+    let (v, inside, wide) = none l.0 l.1 l.2.monotone in
     elim wide [
       | inl beyond ↦ omega (arith, beyond, few, (least_are_few b l.0 l.1 boxes l.2 v inside).0)
       | inr beyond ↦ omega (arith, beyond, few, (least_are_few b l.0 l.1 boxes l.2 v inside).1)

@@ -4,7 +4,7 @@ use Rattle.std.proofs.Common.{◌≡◌, ◌≢◌, ℕ, zero, suc, ◌+◌, ◌
 use Rattle.std.proofs.lemmas.Bool.{cases_lt}
 use Rattle.dissect.specs.DartMaps.{DartMap, IsSound}
 use Rattle.dissect.specs.Faces.{IsCorner}
-use Rattle.dissect.specs.Ordered.{IsMonotone, tail}
+use Rattle.dissect.specs.Monotone.{IsMonotone, tail}
 use Rattle.drawing_laws.proofs.Sides.{Goes, Spans, IsOn, on_one, keeps_way, tail_back, dart_goes, stretch_goes, side_spans, side_wide, side_once, side_leads}
 use Rattle.drawing_laws.proofs.Rounds.{IsRound, AreFaces, box_same}
 
@@ -43,7 +43,7 @@ pub record IsUpright (w : DartMap) (x y : ℕ → ℕ) (corner : ℕ → ℕ) : 
   pub bottom : y (w.head (corner 3)) ≡ y (w.head (corner 0))
   pub top : y (w.head (corner 1)) ≡ y (w.head (corner 2))
 
-module _ (w : DartMap) (sound : IsSound w) (x y : ℕ → ℕ) (ordered : IsMonotone w x y) where
+module _ (w : DartMap) (sound : IsSound w) (x y : ℕ → ℕ) (monotone : IsMonotone w x y) where
   -- ---- one face
 
   pub round_corner : (back angle : ℕ) (corner : ℕ → ℕ) → IsRound w back angle corner → angle ≢ 2 → (k : ℕ) → k < 4 → IsCorner w (corner k)
@@ -53,7 +53,7 @@ module _ (w : DartMap) (sound : IsSound w) (x y : ℕ → ℕ) (ordered : IsMono
   pub round_goes : (back angle : ℕ) (corner : ℕ → ℕ) → IsRound w back angle corner → (k : ℕ) → k < 4
       → Goes k x y (w.head (corner ((k + back) % 4))) (w.head (corner k))
   round_goes back angle corner round k few =
-      stretch_goes w sound x y ordered k (corner ((k + back) % 4)) (corner k)
+      stretch_goes w sound x y monotone k (corner ((k + back) % 4)) (corner k)
       (round.inside ((k + back) % 4) (omega arith)) (round.ways k few) (round.sides k few)
 
   pub box_upright : (corner : ℕ → ℕ) → IsRound w 3 1 corner → IsUpright w x y corner
@@ -77,7 +77,7 @@ module _ (w : DartMap) (sound : IsSound w) (x y : ℕ → ℕ) (ordered : IsMono
 
   -- to the north on a box's right side, its coordinate is that of the side
   north_line : (corner : ℕ → ℕ) (back angle a : ℕ) → IsRound w back angle corner → a < w.darts → IsOn w a (corner 1) → x (w.head a) ≡ x (w.head (corner 1))
-  north_line corner back angle a round a_in on = (side_leads w sound x y ordered 1 a (corner 1) a_in (round.ways 1 (omega arith)) on).1
+  north_line corner back angle a round a_in on = (side_leads w sound x y monotone 1 a (corner 1) a_in (round.ways 1 (omega arith)) on).1
 
   -- ---- from dart to dart
 
@@ -87,7 +87,7 @@ module _ (w : DartMap) (sound : IsSound w) (x y : ℕ → ℕ) (ordered : IsMono
   right_dart corner j round low high =
       let spans : Spans 1 x y (j + 1) (w.head (corner 0)) (w.head (corner 1)) = (omega (arith, low), omega (arith, high)) in
       let (a, a_in, on, passes) =
-      side_spans w sound x y ordered 1 (corner 0) (corner 1) (j + 1) (round.inside 0 (omega arith)) (round.ways 1 (omega arith)) (round.sides 1 (omega arith)) spans in (
+      side_spans w sound x y monotone 1 (corner 0) (corner 1) (j + 1) (round.inside 0 (omega arith)) (round.ways 1 (omega arith)) (round.sides 1 (omega arith)) spans in (
         a,
         record { inside = a_in; north = on_way 3 1 corner round 1 a (omega arith) a_in on; low = omega (arith, passes.0); high = omega (arith, passes.1) },
         on,
@@ -98,7 +98,7 @@ module _ (w : DartMap) (sound : IsSound w) (x y : ℕ → ℕ) (ordered : IsMono
   back_crosses j s s_in way low high = record {
     inside = sound.tied.reverse_dart_in s s_in;
     north = omega (arith, sound.straight s s_in, way);
-    low = omega (arith, low, ap y (tail_back w sound x y ordered s s_in));
+    low = omega (arith, low, ap y (tail_back w sound x y monotone s s_in));
     high = high;
   }
 
@@ -108,10 +108,10 @@ module _ (w : DartMap) (sound : IsSound w) (x y : ℕ → ℕ) (ordered : IsMono
       let up = box_upright corner round in
       let spans : Spans 3 x y j (w.head (corner 2)) (w.head (corner 3)) = (omega (arith, low, up.bottom), omega (arith, high, up.top)) in
       let (s, s_in, on, passes) =
-      side_spans w sound x y ordered 3 (corner 2) (corner 3) j (round.inside 2 (omega arith)) (round.ways 3 (omega arith)) (round.sides 3 (omega arith)) spans in
+      side_spans w sound x y monotone 3 (corner 2) (corner 3) j (round.inside 2 (omega arith)) (round.ways 3 (omega arith)) (round.sides 3 (omega arith)) spans in
       let way = on_way 3 1 corner round 3 s (omega arith) s_in on in
-      let line = (side_leads w sound x y ordered 3 s (corner 3) s_in (round.ways 3 (omega arith)) on).1 in
-      let level = (dart_goes w sound x y ordered 3 s s_in way).1 in (
+      let line = (side_leads w sound x y monotone 3 s (corner 3) s_in (round.ways 3 (omega arith)) on).1 in
+      let level = (dart_goes w sound x y monotone 3 s s_in way).1 in (
         w.reverse_dart s,
         back_crosses j s s_in way passes.0 passes.1,
         subst (λ (a : ℕ). IsOn w a (corner 3)) (sym (sound.tied.reverse_dart_back s s_in)) on,
@@ -122,7 +122,7 @@ module _ (w : DartMap) (sound : IsSound w) (x y : ℕ → ℕ) (ordered : IsMono
   pub right_rows : (corner : ℕ → ℕ) (j a : ℕ) → IsRound w 3 1 corner → Crosses w y j a → IsOn w a (corner 1)
       → (y (w.head (corner 0)) ≤ j) × (j < y (w.head (corner 1)))
   right_rows corner j a round crosses on =
-      let wide = side_wide w sound x y ordered 1 (corner 0) a (corner 1) (j + 1) (round.inside 0 (omega arith)) crosses.inside
+      let wide = side_wide w sound x y monotone 1 (corner 0) a (corner 1) (j + 1) (round.inside 0 (omega arith)) crosses.inside
       (round_corner 3 1 corner round (λ e. omega (arith, e)) 0 (omega arith)) (round.ways 1 (omega arith)) (round.sides 1 (omega arith)) on
       (omega (arith, crosses.low), omega (arith, crosses.high)) in
       (omega (arith, wide.0), omega (arith, wide.1))
@@ -131,7 +131,7 @@ module _ (w : DartMap) (sound : IsSound w) (x y : ℕ → ℕ) (ordered : IsMono
   pub crossing_once : (back angle : ℕ) (corner : ℕ → ℕ) (j a b : ℕ) → IsRound w back angle corner → angle ≢ 2 → Crosses w y j a → Crosses w y j b
       → IsOn w a (corner 1) → IsOn w b (corner 1) → a ≡ b
   crossing_once back angle corner j a b round turning one two on_a on_b =
-      side_once w sound x y ordered 1 a b (corner 1) (j + 1) one.inside two.inside (round_corner back angle corner round turning 1 (omega arith))
+      side_once w sound x y monotone 1 a b (corner 1) (j + 1) one.inside two.inside (round_corner back angle corner round turning 1 (omega arith))
       (round.ways 1 (omega arith)) on_a on_b (omega (arith, one.low), omega (arith, one.high)) (omega (arith, two.low), omega (arith, two.high))
 
   -- a step leads to the west
@@ -141,8 +141,8 @@ module _ (w : DartMap) (sound : IsSound w) (x y : ℕ → ℕ) (ordered : IsMono
       let up = box_upright corner step.box in
       let s : ℕ = w.reverse_dart b in
       let s_in = sound.tied.reverse_dart_in b two.inside in
-      let line = (side_leads w sound x y ordered 3 s (corner 3) s_in (step.box.ways 3 (omega arith)) step.left).1 in
-      let level : x (tail w b) ≡ x (w.head b) = (dart_goes w sound x y ordered 1 b two.inside two.north).1 in
+      let line = (side_leads w sound x y monotone 3 s (corner 3) s_in (step.box.ways 3 (omega arith)) step.left).1 in
+      let level : x (tail w b) ≡ x (w.head b) = (dart_goes w sound x y monotone 1 b two.inside two.north).1 in
       omega (arith, up.wide, line, level, north_line corner 3 1 a step.box one.inside step.right)
 
   -- and no two steps lead to one dart
@@ -296,9 +296,9 @@ module _ (w : DartMap) (sound : IsSound w) (x y : ℕ → ℕ) (ordered : IsMono
         let around = faces.around in
         let round = faces.outside in
         let (s, s_in, on, passes) =
-        side_spans w sound x y ordered 3 (around 0) (around 3) j (round.inside 0 (omega arith)) (round.ways 3 (omega arith)) (round.sides 3 (omega arith)) (low, high) in
+        side_spans w sound x y monotone 3 (around 0) (around 3) j (round.inside 0 (omega arith)) (round.ways 3 (omega arith)) (round.sides 3 (omega arith)) (low, high) in
         let way = on_way 1 3 around round 3 s (omega arith) s_in on in
-        let line = (side_leads w sound x y ordered 3 s (around 3) s_in (round.ways 3 (omega arith)) on).1 in
-        let level = (dart_goes w sound x y ordered 3 s s_in way).1 in
+        let line = (side_leads w sound x y monotone 3 s (around 3) s_in (round.ways 3 (omega arith)) on).1 in
+        let level = (dart_goes w sound x y monotone 3 s s_in way).1 in
         let a : ℕ = w.reverse_dart s in
         cover_from i j (x (w.head a) + 1) a (omega arith) (back_crosses j s s_in way passes.0 passes.1) (omega (arith, right, level, line)) left

@@ -4,7 +4,7 @@ use Rattle.std.proofs.lemmas.Bool.{cases_eq, cases_lt, cases_order}
 use Rattle.dissect.specs.DartMaps.{DartMap, IsTied, IsSound}
 use Rattle.dissect.specs.Faces.{IsCorner, StretchesIn, Stretches}
 use Rattle.dissect.proofs.Stretching.{stretch_back, steps_back}
-use Rattle.dissect.specs.Ordered.{IsMonotone, tail}
+use Rattle.dissect.specs.Monotone.{IsMonotone, tail}
 
 -- ---- coordinates along a direction
 
@@ -163,7 +163,7 @@ module _ (w : DartMap) (sound : IsSound w) where
   pub next_tail : (a : ℕ) → a < w.darts → tail w (w.next a) ≡ w.head a
   next_tail a a_in = sound.meeting.meets a a_in
 
-  module _ (x y : ℕ → ℕ) (ordered : IsMonotone w x y) where
+  module _ (x y : ℕ → ℕ) (monotone : IsMonotone w x y) where
     reverse_way : (a k m : ℕ) → a < w.darts → w.direction a ≡ k → (k + 2) % 4 ≡ m → w.direction (w.reverse_dart a) ≡ m
     reverse_way a k m a_in way is = sound.straight a a_in ∙ ap (λ (d : ℕ). (d + 2) % 4) way ∙ is
 
@@ -172,13 +172,13 @@ module _ (w : DartMap) (sound : IsSound w) where
 
     -- a dart goes in its direction
     pub dart_goes : (k a : ℕ) → a < w.darts → w.direction a ≡ k → Goes k x y (tail w a) (w.head a)
-    dart_goes zero a a_in way = ordered.east a a_in way
-    dart_goes (suc zero) a a_in way = ordered.north a a_in way
+    dart_goes zero a a_in way = monotone.east a a_in way
+    dart_goes (suc zero) a a_in way = monotone.north a a_in way
     dart_goes (suc (suc zero)) a a_in way =
-        let back = ordered.east (w.reverse_dart a) (sound.tied.reverse_dart_in a a_in) (reverse_way a 2 0 a_in way refl) in
+        let back = monotone.east (w.reverse_dart a) (sound.tied.reverse_dart_in a a_in) (reverse_way a 2 0 a_in way refl) in
         (omega (arith, back.0, ap x (tail_back a a_in)), omega (arith, back.1, ap y (tail_back a a_in)))
     dart_goes (suc (suc (suc zero))) a a_in way =
-        let back = ordered.north (w.reverse_dart a) (sound.tied.reverse_dart_in a a_in) (reverse_way a 3 1 a_in way refl) in
+        let back = monotone.north (w.reverse_dart a) (sound.tied.reverse_dart_in a a_in) (reverse_way a 3 1 a_in way refl) in
         (omega (arith, back.0, ap y (tail_back a a_in)), omega (arith, back.1, ap x (tail_back a a_in)))
     dart_goes (suc (suc (suc (suc k)))) a a_in way = absurd (omega (arith, way, sound.meeting.quarter a a_in))
 

@@ -3,11 +3,11 @@ use Rattle.std.specs.Prelude.{◌≡◌, ℕ, ◌<◌, ◌≤◌, All}
 use Rattle.ortho_rep.specs.declared.points.Point.{Point}
 use Rattle.ortho_rep.specs.Points.{PointsModel}
 use Rattle.dissect.specs.Boxes.{BoxesModel, dart_map}
-use Rattle.dissect.specs.Ordered.{IsMonotone}
+use Rattle.dissect.specs.Monotone.{IsMonotone}
 
 -- coordinates that grow along the darts of the boxes, and no others that do are lower at any vertex
 pub record AreLeast (b : BoxesModel) (x y : ℕ → ℕ) : Type 0 where
-  pub ordered : IsMonotone (dart_map b) x y
+  pub monotone : IsMonotone (dart_map b) x y
   pub x_least : (x1 y1 : ℕ → ℕ) → IsMonotone (dart_map b) x1 y1 → (v : ℕ) → v < b.vertices → x v ≤ x1 v
   pub y_least : (x1 y1 : ℕ → ℕ) → IsMonotone (dart_map b) x1 y1 → (v : ℕ) → v < b.vertices → y v ≤ y1 v
 

@@ -11,7 +11,7 @@ ghost use Rattle.ortho_rep.specs.Representation.{IsLeast};
 ghost use Rattle.drawing_check.specs.Draws.{AreInGrid};
 ghost use Rattle.dissect.specs.Boxes.{BoxesModel, AreBoxes};
 ghost use Rattle.dissect.specs.Boxed.{IsBoxed};
-ghost use Rattle.dissect.specs.Ordered.{AreLeastPoints};
+ghost use Rattle.dissect.specs.Monotone.{AreLeastPoints};
 ghost use Rattle.entries.specs.declared.cause.Cause.{Cause};
 ghost use Rattle.entries.specs.Drawn.{ShowsCause};
 ghost use Rattle.entries.specs.Answers.{IsLaid};

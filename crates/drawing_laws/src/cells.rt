@@ -5,7 +5,7 @@ ghost use Rattle.faces.specs.Planes.{PlaneModel};
 ghost use Rattle.ortho_rep.specs.Shapes.{ShapeModel};
 ghost use Rattle.dissect.specs.Boxes.{BoxesModel, dart_map};
 ghost use Rattle.dissect.specs.Boxed.{IsBoxed};
-ghost use Rattle.dissect.specs.Ordered.{IsMonotone};
+ghost use Rattle.dissect.specs.Monotone.{IsMonotone};
 ghost use Rattle.drawing_laws.specs.Cells.{IsWithin, IsCoveredOnce};
 
 /// Where boxes dissect a shape, exactly one of them covers each unit cell of the rectangle round them, in any coordinates that grow

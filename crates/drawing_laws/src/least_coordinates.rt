@@ -3,7 +3,7 @@
 ghost use Rattle.std.specs.Prelude.{ℕ, ◌<◌};
 ghost use Rattle.ortho_rep.specs.Points.{PointsModel};
 ghost use Rattle.dissect.specs.Boxes.{BoxesModel, AreBoxes, dart_map};
-ghost use Rattle.dissect.specs.Ordered.{IsMonotone, AreLeastPoints};
+ghost use Rattle.dissect.specs.Monotone.{IsMonotone, AreLeastPoints};
 ghost use Rattle.drawing_laws.specs.Least.{AreLeast, AreBelow, HasLeast, HasNoGap};
 
 /// The least coordinates that grow along the darts of boxes have no gap: if no vertex had some coordinate below that of another,
@@ -21,7 +21,7 @@ pub fn least_coordinates_exist()
     ensures { (b : BoxesModel) (x y : ℕ → ℕ) → AreBoxes b → IsMonotone (dart_map b) x y → HasLeast b }
 {}
 
-/// So the coordinates of least points are less than the number of vertices of its boxes.
+/// So the coordinates of least points are less than the number of vertices of the boxes.
 pub fn least_points_have_no_gap()
     ensures { (b : BoxesModel) (points : PointsModel) → AreBoxes b → AreLeastPoints b points → AreBelow b.vertices points }
 {}

@@ -21,6 +21,6 @@ pub use drawn_answers::{answers_are_drawn, laid_answers_are_drawn, no_cause_is_s
 pub use least_coordinates::{
     least_coordinates_exist, least_coordinates_have_no_gap, least_points_have_no_gap,
 };
-pub use orders::coordinates_in_order_exist;
+pub use orders::monotone_coordinates_exist;
 pub use planarity::{least_points_pass, monotone_coordinates_draw};
 pub use prices::{least_is_priced, least_shape_exists};

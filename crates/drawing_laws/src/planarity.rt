@@ -21,7 +21,7 @@ ghost use Rattle.ortho_rep.specs.Shapes.{ShapeModel};
 ghost use Rattle.ortho_rep.specs.Points.{PointsModel};
 ghost use Rattle.dissect.specs.Boxes.{BoxesModel, dart_map};
 ghost use Rattle.dissect.specs.Boxed.{IsBoxed};
-ghost use Rattle.dissect.specs.Ordered.{IsMonotone, AreWithin, AreTaken, AreLeastPoints};
+ghost use Rattle.dissect.specs.Monotone.{IsMonotone, AreWithin, AreTaken, AreLeastPoints};
 ghost use Rattle.drawing_check.specs.declared.fault.CheckFault.{CheckFault};
 ghost use Rattle.drawing_check.specs.declared.fault.CheckFault.TheVariants.{Memory};
 ghost use Rattle.drawing_check.specs.Draws.{Draws};

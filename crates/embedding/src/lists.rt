@@ -31,7 +31,7 @@ impl<'a> Model for Lists<'a> {
     ghost invariant = { λ l. HoldsLists l.bytes.now l.starts l.count };
 }
 
-/// Where each of the lists begins, in one scan over their bytes. Each byte might be the last of its
+/// Where each of the lists begins, in one pass over their bytes. Each byte might be the last of its
 /// list, so the place behind it is written, and stays where it is the last.
 fn starts_in(bytes: &[u8]) -> [u16; 256]
     requires spelt { bytes.now ≡ flat_map ended (lists_in bytes.now) }
@@ -50,7 +50,7 @@ fn starts_in(bytes: &[u8]) -> [u16; 256]
 }
 
 impl<'a> Lists<'a> {
-    /// The lists of a record, in one scan over its bytes.
+    /// The lists of a record, in one pass over its bytes.
     pub(crate) fn of(rec: &'a Record) -> Lists<'a>
         ensures value { result ≡ lists_of rec.now }
         ensures few { length result < 256 }

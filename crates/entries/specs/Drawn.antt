@@ -5,7 +5,7 @@ use Rattle.ortho_rep.specs.Shapes.{ShapeModel}
 use Rattle.ortho_rep.specs.Points.{PointsModel}
 use Rattle.dissect.specs.Boxes.{BoxesModel}
 use Rattle.dissect.specs.Boxed.{IsBoxed}
-use Rattle.dissect.specs.Ordered.{AreLeastPoints, FitsNoGrid}
+use Rattle.dissect.specs.Monotone.{AreLeastPoints, FitsNoGrid}
 use Rattle.drawing_check.specs.declared.fault.CheckFault.{CheckFault}
 use Rattle.drawing_check.specs.declared.fault.CheckFault.TheVariants as fault
 use Rattle.drawing_check.specs.Draws.{Draws}

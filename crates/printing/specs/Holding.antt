@@ -10,7 +10,7 @@ use Rattle.printing.specs.Came.{Came, IsToldByNotes, IsFlawlessSoFar}
 use Rattle.printing.specs.Orders.{IsInOrder}
 use Rattle.printing.specs.Written.{AreWritten, AreRemaining, IsPartialText}
 
--- What the notes tell of each file, which means this, is in order, and is written or waits. The current file, the first that has not ended, has no mark. And it is known whether all is whole so far.
+-- What the notes tell of each file, which means this, is in order, and is written or waits. The current file, the first that has not ended, has no mark. And it is known whether all is flawless so far.
 pub record HoldsNotes (choice : Choice) (meaning : ℕ → Meaning) (form : Form) (start now : Option (List ℕ)) (buffer : List ℕ) (current : ℕ) (waiting : List Waiting) (flawless : Bool) (ns : List Note) : Type 0 where
   pub came : ℕ → Came
   pub told : (file : ℕ) → file < length waiting → IsToldByNotes file ns (came file)
@@ -19,7 +19,7 @@ pub record HoldsNotes (choice : Choice) (meaning : ℕ → Meaning) (form : Form
   pub unended : current < length waiting → (came current).mark ≡ None
   pub all_flawless : (flawless ≡ true) ↔ ((file : ℕ) → file < length waiting → IsFlawlessSoFar (came file))
 
--- What the notes tell of each of so many files, which means this, is in order, and the text of it was left off.
+-- What the notes tell of each of so many files, which means this, is in order, and a part of its text was added.
 pub record ArePartialNotes (choice : Choice) (meaning : ℕ → Meaning) (form : Form) (files : ℕ) (start now : Option (List ℕ)) (ns : List Note) : Type 0 where
   pub came : ℕ → Came
   pub told : (file : ℕ) → file < files → IsToldByNotes file ns (came file)
@@ -48,7 +48,7 @@ LinesRemain start now lines came = AreRemaining lines.form start now lines.buffe
 abbrev pub LinesHold : (ℕ → Meaning) → Option (List ℕ) → Option (List ℕ) → Lines → List Note → Type 0
 LinesHold meaning start now lines ns = HoldsNotes lines.choice meaning lines.form start now lines.buffer lines.current lines.waiting.items lines.flawless ns
 
--- the text of what the notes tell was left off
+-- a part of the text of what the notes tell was added
 abbrev pub ArePartialLines : (ℕ → Meaning) → Option (List ℕ) → Option (List ℕ) → Lines → List Note → Type 0
 ArePartialLines meaning start now lines ns = ArePartialNotes lines.choice meaning lines.form (length lines.waiting.items) start now ns
 
@@ -63,7 +63,7 @@ pub record AreLinesOf (before after : Lines) : Type 0 where
   pub choice : after.choice ≡ before.choice
   pub files : length after.waiting.items ≡ length before.waiting.items
 
--- the first file that has not ended, and whether all is whole so far, are those of before, too
+-- the first file that has not ended, and whether all is flawless so far, are those of before, too
 pub record StandAt (before after : Lines) : Type 0 where
   pub same : AreLinesOf before after
   pub current : after.current ≡ before.current

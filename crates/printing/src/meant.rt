@@ -16,7 +16,7 @@ impl Meant for Brand {
     ghost meaning = { λ _. Silent };
 }
 
-/// How a file has ended: its type keeps that a file which means what `J` tells of this number has so many records and
+/// How a file has ended: its type keeps that a file of which `J` means this by its number has so many records and
 /// this mark.
 #[derive(Drop)]
 pub struct KnownEnd<J: Meant> {
@@ -30,7 +30,7 @@ pub struct KnownEnd<J: Meant> {
     pub ghost is_end: { ∥ IsEndAt (J.meaning file) count mark ∥₁ } by { Prim.hlevel props },
 }
 
-/// The end of a file, kept with what `J` tells of it.
+/// The end of a file, kept with what `J` means by its number.
 pub fn known_end<J: Meant>(file: u32, end: SourceEnd) -> KnownEnd<J>
     requires { IsEndAt (J.meaning file) end.count end.mark }
 {

@@ -47,7 +47,7 @@ impl<T: Drop> LaneGiver<T> {
     ) -> LaneGiver<T>
         requires seated { IsSeatAt (sends_on sender) pass }
         requires role { view pass ≡ giver lane (given_in (view pass)) }
-        requires known { lane < LANES }
+        requires in_range { lane < LANES }
         ensures { (result.sender ≡ sender) × (result.pass ≡ pass) × (result.lane ≡ lane) }
     {
         LaneGiver { sender, pass, lane }
@@ -56,7 +56,7 @@ impl<T: Drop> LaneGiver<T> {
     /// The number of its lane, which is below `LANES`.
     pub fn lane(&self) -> u32
         ensures lane { result ≡ lane_of self.now }
-        ensures known { result < LANES }
+        ensures in_range { result < LANES }
     {
         self.lane
     }

@@ -6,7 +6,7 @@ use Rattle.dissect.specs.DartMaps.{DartMap, IsSound, no_dart}
 use Rattle.dissect.specs.Faces.{In, Below, last_of}
 use Rattle.dissect.specs.Boxes.{BoxesModel, dart_map}
 use Rattle.dissect.specs.Boxed.{IsBoxed, StandOn}
-use Rattle.dissect.specs.Ordered.{IsMonotone}
+use Rattle.dissect.specs.Monotone.{IsMonotone}
 use Rattle.dissect.specs.Rectangle.{HasRectangle, IsBridgedAt, IsInsideChain}
 use Rattle.run_laws.specs.Outside.{RectangleCorners, AreRectangleCorners, LiesBeside, LooksOut}
 use Rattle.run_laws.proofs.Straight.{Goes, path_goes, path_passes}
@@ -23,13 +23,13 @@ in_stands a (x ∷ xs) (y ∷ ys) (inr on) here = inr (in_stands a (x ∷ xs) ys
 abbrev corners_of : ℕ → RectangleCorners
 corners_of v = record { south_west = v + 3; south_east = v + 0; north_east = v + 1; north_west = v + 2 }
 
-module _ (inner w : DartMap) (x y : ℕ → ℕ) (sound : IsSound w) (darts_fit : w.darts ≤ no_dart) (ordered : IsMonotone w x y) (has : HasRectangle inner w) where
+module _ (inner w : DartMap) (x y : ℕ → ℕ) (sound : IsSound w) (darts_fit : w.darts ≤ no_dart) (monotone : IsMonotone w x y) (has : HasRectangle inner w) where
   -- side k goes from the corner before it to its own
   side_goes : (k from : ℕ) → k < 4 → inner.vertices + (k + 3) % 4 ≡ from → Goes k x y from (inner.vertices + k)
   side_goes k from few is =
       subst (λ (u : ℕ). Goes k x y u (inner.vertices + k)) (has.corners k few ∙ is)
       (subst (λ (u : ℕ). Goes k x y (w.head (inner.darts + 4 + k)) u) (has.inside k few)
-      (path_goes w x y sound ordered k (inner.darts + k) (inner.darts + 4 + k) (has.sides k few).there (has.directions k few) few))
+      (path_goes w x y sound monotone k (inner.darts + k) (inner.darts + 4 + k) (has.sides k few).there (has.directions k few) few))
 
   are_corners : AreRectangleCorners x y (corners_of inner.vertices)
   are_corners =
@@ -57,7 +57,7 @@ module _ (inner w : DartMap) (x y : ℕ → ℕ) (sound : IsSound w) (darts_fit 
     bridge_goes k few way =
         subst (λ (u : ℕ). Goes k x y u (w.head (inner.darts + 8))) bridged.from
         (subst (λ (u : ℕ). Goes k x y (w.head (inner.darts + 11)) u) bridged.to
-        (path_goes w x y sound ordered k (inner.darts + 10) (inner.darts + 11) bridged.chain.there way few))
+        (path_goes w x y sound monotone k (inner.darts + 10) (inner.darts + 11) bridged.chain.there way few))
 
     -- and that place lies between the corners of the side
     foot_between : (k from : ℕ) → k < 4 → inner.vertices + (k + 3) % 4 ≡ from → k ≡ bridged.side
@@ -65,7 +65,7 @@ module _ (inner w : DartMap) (x y : ℕ → ℕ) (sound : IsSound w) (darts_fit 
     foot_between k from few is at =
         let on : IsInsideChain w (inner.darts + k) (inner.darts + 8) =
         subst (λ (j : ℕ). IsInsideChain w (inner.darts + j) (inner.darts + 8)) (sym at) bridged.on_side in
-        let (to, further) = path_passes w x y sound ordered k (inner.darts + k) (inner.darts + 4 + k) (inner.darts + 8) darts_fit (has.sides k few).there (has.directions k few) few on in (
+        let (to, further) = path_passes w x y sound monotone k (inner.darts + k) (inner.darts + 4 + k) (inner.darts + 8) darts_fit (has.sides k few).there (has.directions k few) few on in (
           subst (λ (u : ℕ). Goes k x y u (w.head (inner.darts + 8))) (has.corners k few ∙ is) to,
           subst (λ (u : ℕ). Goes k x y (w.head (inner.darts + 8)) u) (has.inside k few) further,
         )
@@ -126,8 +126,8 @@ looks_out p shape b boxed =
           (e.outer ∙ sym outer ∙ sym (e.of_shape.faces.faces d d_in)) here;
       corners = corners_of e.enclosed_map.vertices;
       foot = (dart_map b).head (n + 8);
-      rectangle = λ x y ordered. are_corners e.enclosed_map (dart_map b) x y sound darts_fit ordered e.rectangle;
-      before = λ x y ordered.
+      rectangle = λ x y monotone. are_corners e.enclosed_map (dart_map b) x y sound darts_fit monotone e.rectangle;
+      before = λ x y monotone.
           subst (λ (u : ℕ). LiesBeside x y (corners_of e.enclosed_map.vertices) ((dart_map b).head (n + 8)) u) (e.heads e.right e.right_in)
-          (looks e.enclosed_map (dart_map b) x y sound darts_fit ordered e.rectangle e.right e.bridge e.bridge.side refl e.bridge.side_in);
+          (looks e.enclosed_map (dart_map b) x y sound darts_fit monotone e.rectangle e.right e.bridge e.bridge.side refl e.bridge.side_in);
     }

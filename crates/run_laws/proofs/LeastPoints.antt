@@ -10,7 +10,7 @@ use Rattle.dissect.specs.Paths.{turn_to, turning_vertices}
 use Rattle.ortho_rep.specs.declared.points.Point.{Point}
 use Rattle.ortho_rep.specs.Points.{PointsModel}
 use Rattle.dissect.specs.Boxes.{BoxesModel, AreBoxes, dart_map}
-use Rattle.dissect.specs.Ordered.{AreLeastPoints, point_at}
+use Rattle.dissect.specs.Monotone.{AreLeastPoints, point_at}
 
 -- where two pairs of numbers agree at the vertices of a map, the points of a path's turns do
 turns_agree : (w : DartMap) (x y x1 y1 : ℕ → ℕ) → ((a : ℕ) → a < w.darts → point_at x y (w.head a) ≡ point_at x1 y1 (w.head a))
@@ -45,8 +45,8 @@ vertices_agree x y x1 y1 n agree =
 numbers_agree : (b : BoxesModel) (points others : PointsModel) (one : AreLeastPoints b points) (two : AreLeastPoints b others)
     → (v : ℕ) → v < b.vertices → point_at one.x one.y v ≡ point_at two.x two.y v
 numbers_agree b points others one two v inside =
-    let first : one.x v ≡ two.x v = omega (arith, one.x_least two.x two.y two.ordered v inside, two.x_least one.x one.y one.ordered v inside) in
-    let second : one.y v ≡ two.y v = omega (arith, one.y_least two.x two.y two.ordered v inside, two.y_least one.x one.y one.ordered v inside) in
+    let first : one.x v ≡ two.x v = omega (arith, one.x_least two.x two.y two.monotone v inside, two.x_least one.x one.y one.monotone v inside) in
+    let second : one.y v ≡ two.y v = omega (arith, one.y_least two.x two.y two.monotone v inside, two.y_least one.x one.y one.monotone v inside) in
     ap (λ (k : ℕ). point_at (λ _. k) one.y v) first ∙ ap (λ (k : ℕ). point_at two.x (λ _. k) v) second
 
 -- and so are the corners of each edge

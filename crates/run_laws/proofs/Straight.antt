@@ -3,10 +3,10 @@ use Rattle.std.proofs.Common.{◌≡◌, ℕ, zero, suc, ◌+◌, ◌%◌, ◌<�
 use Rattle.std.proofs.lemmas.Bool.{cases_eq, eq-eqb, ne_eqb, cond-true, cond-false}
 use Rattle.dissect.specs.DartMaps.{DartMap, IsSound, no_dart}
 use Rattle.dissect.specs.Faces.{last_of, Below, In}
-use Rattle.dissect.specs.Paths.{Follows, HasPath, turn_to, bends}
+use Rattle.dissect.specs.Paths.{Follows, HasPath, turn_to, path_quarters}
 use Rattle.dissect.proofs.StraightPaths.{straight_on}
 use Rattle.dissect.proofs.Backwards.{path_unique}
-use Rattle.dissect.specs.Ordered.{IsMonotone, tail}
+use Rattle.dissect.specs.Monotone.{IsMonotone, tail}
 use Rattle.dissect.specs.Rectangle.{IsInsideChain}
 
 -- the vertex v lies from u in the direction k, straight
@@ -22,7 +22,7 @@ goes_on (suc zero) x y u v t one two = (omega (arith, one.0, two.0), one.1 ∙ t
 goes_on (suc (suc zero)) x y u v t one two = (omega (arith, one.0, two.0), one.1 ∙ two.1)
 goes_on (suc (suc (suc k))) x y u v t one two = (omega (arith, one.0, two.0), one.1 ∙ two.1)
 
-module _ (w : DartMap) (x y : ℕ → ℕ) (sound : IsSound w) (ordered : IsMonotone w x y) where
+module _ (w : DartMap) (x y : ℕ → ℕ) (sound : IsSound w) (monotone : IsMonotone w x y) where
   reverse_way : (a : ℕ) → a < w.darts → (k m : ℕ) → w.direction a ≡ k → (k + 2) % 4 ≡ m → w.direction (w.reverse_dart a) ≡ m
   reverse_way a a_in k m way is = sound.straight a a_in ∙ ap (λ (d : ℕ). (d + 2) % 4) way ∙ is
 
@@ -31,25 +31,25 @@ module _ (w : DartMap) (x y : ℕ → ℕ) (sound : IsSound w) (ordered : IsMono
 
   -- a dart goes in its direction
   dart_goes : (k a : ℕ) → a < w.darts → w.direction a ≡ k → k < 4 → Goes k x y (tail w a) (w.head a)
-  dart_goes zero a a_in way few = ordered.east a a_in way
-  dart_goes (suc zero) a a_in way few = ordered.north a a_in way
+  dart_goes zero a a_in way few = monotone.east a a_in way
+  dart_goes (suc zero) a a_in way few = monotone.north a a_in way
   dart_goes (suc (suc zero)) a a_in way few =
-      let back = ordered.east (w.reverse_dart a) (sound.tied.reverse_dart_in a a_in) (reverse_way a a_in 2 0 way refl) in
+      let back = monotone.east (w.reverse_dart a) (sound.tied.reverse_dart_in a a_in) (reverse_way a a_in 2 0 way refl) in
       (omega (arith, back.0, ap x (tail_back a a_in)), omega (arith, back.1, ap y (tail_back a a_in)))
   dart_goes (suc (suc (suc zero))) a a_in way few =
-      let back = ordered.north (w.reverse_dart a) (sound.tied.reverse_dart_in a a_in) (reverse_way a a_in 3 1 way refl) in
+      let back = monotone.north (w.reverse_dart a) (sound.tied.reverse_dart_in a a_in) (reverse_way a a_in 3 1 way refl) in
       (omega (arith, back.0, ap y (tail_back a a_in)), omega (arith, back.1, ap x (tail_back a a_in)))
   dart_goes (suc (suc (suc (suc k)))) a a_in way few = absurd (omega (arith, few))
 
   -- where the walk from a to b does not turn, and goes on without a turn
-  no_turn : (a b : ℕ) (bs : List ℕ) → bends w a (b ∷ bs) ≡ [] → (turn_to w a b ≡ 0) × (bends w b bs ≡ [])
+  no_turn : (a b : ℕ) (bs : List ℕ) → path_quarters w a (b ∷ bs) ≡ [] → (turn_to w a b ≡ 0) × (path_quarters w b bs ≡ [])
   no_turn a b bs straight =
       let t : ℕ = turn_to w a b in
       elim (cases_eq t 0) [
-        | inl none ↦ (none, sym (cond-true {A = List ℕ} (eqb t 0) (bends w b bs) (t ∷ bends w b bs) (eq-eqb t 0 none)) ∙ straight)
+        | inl none ↦ (none, sym (cond-true {A = List ℕ} (eqb t 0) (path_quarters w b bs) (t ∷ path_quarters w b bs) (eq-eqb t 0 none)) ∙ straight)
         | inr some ↦
-            let first : t ∷ bends w b bs ≡ [] =
-            sym (cond-false {A = List ℕ} (eqb t 0) (bends w b bs) (t ∷ bends w b bs) (ne_eqb t 0 some)) ∙ straight in
+            let first : t ∷ path_quarters w b bs ≡ [] =
+            sym (cond-false {A = List ℕ} (eqb t 0) (path_quarters w b bs) (t ∷ path_quarters w b bs) (ne_eqb t 0 some)) ∙ straight in
             absurd (cc first)
       ]
 
@@ -58,7 +58,7 @@ module _ (w : DartMap) (x y : ℕ → ℕ) (sound : IsSound w) (ordered : IsMono
       straight_on w a b sound.straight (sound.meeting.quarter a a_in) (sound.meeting.quarter b b_in) b_in none ∙ way
 
   -- a chain goes in the direction of its first dart, and its last dart has that direction too
-  chain_goes : (k a : ℕ) (rest : List ℕ) → a < w.darts → Below w.darts rest → Follows w a rest → bends w a rest ≡ [] → w.direction a ≡ k → k < 4
+  chain_goes : (k a : ℕ) (rest : List ℕ) → a < w.darts → Below w.darts rest → Follows w a rest → path_quarters w a rest ≡ [] → w.direction a ≡ k → k < 4
       → (w.direction (last_of a rest) ≡ k) × Goes k x y (tail w a) (w.head (last_of a rest))
   chain_goes k a [] a_in below follows straight way few = (way, dart_goes k a a_in way few)
   chain_goes k a (b ∷ bs) a_in below follows straight way few =
@@ -70,7 +70,7 @@ module _ (w : DartMap) (x y : ℕ → ℕ) (sound : IsSound w) (ordered : IsMono
       )
 
   -- a place before its end lies between
-  chain_passes : (k a z : ℕ) (rest : List ℕ) → a < w.darts → Below w.darts rest → Follows w a rest → bends w a rest ≡ [] → w.direction a ≡ k → k < 4
+  chain_passes : (k a z : ℕ) (rest : List ℕ) → a < w.darts → Below w.darts rest → Follows w a rest → path_quarters w a rest ≡ [] → w.direction a ≡ k → k < 4
       → In z (a ∷ rest) → (z ≡ last_of a rest) ⊎ (Goes k x y (tail w a) (w.head z) × Goes k x y (w.head z) (w.head (last_of a rest)))
   chain_passes k a z [] a_in below follows straight way few here = elim here [ inl at ↦ inl at | inr none ↦ absurd none ]
   chain_passes k a z (b ∷ bs) a_in below follows straight way few (inl at) =

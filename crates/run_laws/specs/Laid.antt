@@ -34,8 +34,8 @@ abbrev pub angle_sum : PlaneModel → (ℕ → ℕ) → ℕ → ℕ
 angle_sum plane angle v = sum_below (darts plane) (λ d. if head plane d == v then angle d else 0)
 
 -- the quarter turns to the left in a walk round face f, less those to the right: along its darts, and 2 less the angle at their heads
-abbrev pub turning : PlaneModel → (ℕ → ℕ) → (ℕ → List Turn) → ℕ → ℤ
-turning plane angle turns f =
+abbrev pub net_turning : PlaneModel → (ℕ → ℕ) → (ℕ → List Turn) → ℕ → ℤ
+net_turning plane angle turns f =
     total_below (darts plane) (λ d. if face_at plane d == f then pos 2 -ℤ pos (angle d) +ℤ pos (lefts (turns d)) -ℤ pos (rights (turns d)) else pos 0)
 
 -- angles and strings of turns, by dart, that are an orthogonal representation of the plane with its outer face
@@ -47,8 +47,8 @@ pub record Represents (plane : PlaneModel) (angle : ℕ → ℕ) (turns : ℕ �
   -- the angles at each vertex are four right angles together
   pub around : (v : ℕ) → 1 ≤ v → v ≤ vertices plane → angle_sum plane angle v ≡ 4
   -- the walk round each inner face turns once to the left, that round the outer face once to the right
-  pub inner : (f : ℕ) → f < plane.faces → f ≢ plane.outer → turning plane angle turns f ≡ pos 4
-  pub outer : (f : ℕ) → f < plane.faces → f ≡ plane.outer → turning plane angle turns f ≡ negsuc 3
+  pub inner : (f : ℕ) → f < plane.faces → f ≢ plane.outer → net_turning plane angle turns f ≡ pos 4
+  pub outer : (f : ℕ) → f < plane.faces → f ≡ plane.outer → net_turning plane angle turns f ≡ negsuc 3
 
 -- the bends of strings of turns: half the sum of their lengths, since a dart and its reverse bend at the same places
 abbrev pub bends : PlaneModel → (ℕ → List Turn) → ℕ

@@ -6,7 +6,7 @@ use Rattle.ortho_rep.specs.Shapes.{ShapeModel}
 use Rattle.dissect.specs.DartMaps.{DartMap}
 use Rattle.dissect.specs.Boxes.{BoxesModel, dart_map}
 use Rattle.dissect.specs.Boxed.{IsMapOfShape}
-use Rattle.dissect.specs.Ordered.{IsMonotone}
+use Rattle.dissect.specs.Monotone.{IsMonotone}
 use Rattle.drawing_laws.specs.Parts.{IsPart}
 
 -- four vertices that are the corners of a rectangle along the axes

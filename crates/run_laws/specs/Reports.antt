@@ -19,7 +19,7 @@ pub record AreKnownAlike (meaning other : Meaning) : Type 0 where
   pub known_too : known_of other ≡ Some bytes
   pub fails : fails_of meaning ≡ fails_of other
 
--- so do each two of so many files that have the same number
+-- so it is for each two of so many files that have the same number
 abbrev pub AreAllKnownAlike : ℕ → (ℕ → Meaning) → (ℕ → Meaning) → Type 0
 AreAllKnownAlike files meaning other = (file : ℕ) → file < files → AreKnownAlike (meaning file) (other file)
 

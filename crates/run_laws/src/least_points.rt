@@ -3,7 +3,7 @@
 ghost use Rattle.std.specs.Prelude.{◌≡◌};
 ghost use Rattle.ortho_rep.specs.Points.{PointsModel};
 ghost use Rattle.dissect.specs.Boxes.{BoxesModel, AreBoxes};
-ghost use Rattle.dissect.specs.Ordered.{AreLeastPoints};
+ghost use Rattle.dissect.specs.Monotone.{AreLeastPoints};
 
 /// The coordinates of boxes leave no choice open: two lists of least points of the same boxes are equal, since each takes the
 /// least numbers that grow along the darts.

@@ -7,7 +7,7 @@ returns-then-asks-clause-drawn g c = inl (printed_drawn _ _ _ _ c.show_version.e
 
 pub returns-in-Ok-clause-drawn : goal.returns-in-Ok-clause-drawn
 returns-in-Ok-clause-drawn g c =
-    inl (performed_drawn g.S.Sink.taken _ _ _ _ _ _ c.perform.ensures.known c.perform.ensures.refused c.perform.ensures.done c.perform.ensures.begun)
+    inl (performed_drawn g.S.Sink.taken _ _ _ _ _ _ c.perform.ensures.in_range c.perform.ensures.refused c.perform.ensures.done c.perform.ensures.begun)
 
 pub returns-in-Err-clause-drawn : goal.returns-in-Err-clause-drawn
 returns-in-Err-clause-drawn g c = none_or_help (g.S.Sink.taken c.args.out.now)

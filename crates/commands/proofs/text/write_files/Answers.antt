@@ -49,7 +49,7 @@ returns-in-Err-finish-clause-begun g c =
     let left = c.in-Err-finish.ensures.partial g.J.Meant.meaning told.0 told.1.1 in
     subst (λ s. ∥ IsBegun c.args.run.now.choice (g.O.Opener.meaning c.args.run.now.opener.now) c.args.style.form c.args.run.now.files (taken c.args.sink.now) (taken s) ∥₁) (search rules)
     (subst (λ b. ∥ IsBegun c.args.run.now.choice (g.O.Opener.meaning c.args.run.now.opener.now) c.args.style.form c.args.run.now.files (taken b) (taken c.finish.new.self.0) ∥₁) start
-    (subst (λ m. ∥ IsBegun c.args.run.now.choice m c.args.style.form c.args.run.now.files (taken texts.start.value) (taken c.finish.new.self.0) ∥₁) c.requires.told
+    (subst (λ m. ∥ IsBegun c.args.run.now.choice m c.args.style.form c.args.run.now.files (taken texts.start.value) (taken c.finish.new.self.0) ∥₁) c.requires.same_meaning
     (begun_lines c.args.run.now.choice g.J.Meant.meaning c.args.style.form c.args.run.now.files (taken texts.start.value) (taken c.finish.new.self.0) texts.lines choice form files told.0 left)))
 
 pub returns-in-Err-clause-begun : goal.returns-in-Err-clause-begun
@@ -70,8 +70,8 @@ returns-in-Err-clause-begun g c =
     subst (λ s. ∥ IsBegun c.args.run.now.choice (g.O.Opener.meaning c.args.run.now.opener.now) c.args.style.form c.args.run.now.files (taken c.args.sink.now) (taken s) ∥₁) (search rules)
     (subst (λ s. ∥ IsBegun c.args.run.now.choice (g.O.Opener.meaning c.args.run.now.opener.now) c.args.style.form c.args.run.now.files (taken c.args.sink.now) (taken s) ∥₁) (sym c.let_go.ensures)
     (subst (λ b. ∥ IsBegun c.args.run.now.choice (g.O.Opener.meaning c.args.run.now.opener.now) c.args.style.form c.args.run.now.files (taken b) (taken texts.sink.now) ∥₁) start
-    (subst (λ m. ∥ IsBegun c.args.run.now.choice m c.args.style.form c.args.run.now.files (taken texts.start.value) (taken texts.sink.now) ∥₁) c.requires.told
+    (subst (λ m. ∥ IsBegun c.args.run.now.choice m c.args.style.form c.args.run.now.files (taken texts.start.value) (taken texts.sink.now) ∥₁) c.requires.same_meaning
     (begun_lines c.args.run.now.choice g.J.Meant.meaning c.args.style.form c.args.run.now.files (taken texts.start.value) (taken texts.sink.now) texts.lines choice form files left.0 left.1))))
 
 pub run_into-texts-requires-clause-accepts : goal.run_into-texts-requires-clause-accepts
-run_into-texts-requires-clause-accepts g c κs within = accepts_known _ _ c.requires.told
+run_into-texts-requires-clause-accepts g c κs within = accepts_known _ _ c.requires.same_meaning

@@ -1,6 +1,6 @@
 use Rattle.std.proofs.Common.{◌≡◌, ◌≢◌, ◌+◌, ◌∙◌, ◌⊎◌, ◌<◌, ℕ, Vec, Global, arith, subst, sym, ap}
 use Rattle.compact.specs.declared.constraint_graph.Constraint.{Constraint}
-use Rattle.compact.specs.Ordered.{AreAlong, growth}
+use Rattle.compact.specs.Monotone.{AreAlong, growth}
 use Rattle.geometry.specs.Directions.{quarters}
 use Rattle.dissect.specs.Boxes.{dart_map}
 use Rattle.compact.proofs.Constraining.{one_pushed, none_more, constraint_found, no_constraint_found}

@@ -1,4 +1,4 @@
-use Rattle.compact.specs.Ordered.{AreAlong, growth}
+use Rattle.compact.specs.Monotone.{AreAlong, growth}
 use Rattle.dissect.specs.Boxes.{dart_map}
 use Rattle.compact.proofs.axis.constraints_along.Given as goal
 

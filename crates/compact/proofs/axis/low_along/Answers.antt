@@ -1,7 +1,7 @@
 use Rattle.std.proofs.Common.{◌∙◌, ◌≡◌, ℕ, List, length, arith, subst, sym}
 use Rattle.std.proofs.lemmas.List.{take_at}
 use Rattle.dissect.specs.Boxes.{dart_map}
-use Rattle.compact.specs.Ordered.{IsAlong, growth}
+use Rattle.compact.specs.Monotone.{IsAlong, growth}
 use Rattle.compact.specs.Neighbours.{neighbour, AreUnder, StayUnderAll}
 use Rattle.compact.proofs.Stepping.{grow_ahead, equal_across, growth_few, across_far, zeros_under}
 use Rattle.compact.proofs.axis.low_along.Goals as goal

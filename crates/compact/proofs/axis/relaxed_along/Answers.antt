@@ -2,7 +2,7 @@ use Rattle.std.proofs.Common.{◌≡◌, ◌≤◌, ℕ, List, length, slice_ind
 use Rattle.std.proofs.lemmas.List.{take_at}
 use Rattle.compact.specs.declared.constraint_graph.Constraint.{Constraint}
 use Rattle.compact.specs.Constraints.{Satisfies}
-use Rattle.compact.specs.Ordered.{AreLeastOnAxis, growth}
+use Rattle.compact.specs.Monotone.{AreLeastOnAxis, growth}
 use Rattle.dissect.specs.Boxes.{dart_map}
 use Rattle.compact.proofs.Constraining.{all_along}
 use Rattle.compact.proofs.axis.relaxed_along.Goals as goal

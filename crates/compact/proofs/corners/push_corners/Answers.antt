@@ -4,7 +4,7 @@ use Rattle.std.proofs.lemmas.List.{map_push, take_all}
 use Rattle.ortho_rep.specs.declared.points.Point.{Point}
 use Rattle.dissect.specs.Paths.{turn_to}
 use Rattle.dissect.specs.Boxes.{dart_map}
-use Rattle.compact.specs.Ordered.{point_at, vertices_along}
+use Rattle.compact.specs.Monotone.{point_at, vertices_along}
 use Rattle.compact.proofs.Walking.{vertex_between, between_straight, between_turn, vertices_more, vertices_one}
 use Rattle.compact.proofs.corners.push_corners.Goals as goal
 use Rattle.compact.proofs.corners.push_corners.Goals.{then-is_turn+in_ok-push, else-is_turn}

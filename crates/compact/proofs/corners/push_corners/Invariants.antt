@@ -1,6 +1,6 @@
 use Rattle.std.proofs.Common.{◌≡◌, ◌++◌, map, take, slice_index}
 use Rattle.dissect.specs.Boxes.{dart_map}
-use Rattle.compact.specs.Ordered.{point_at, vertices_along}
+use Rattle.compact.specs.Monotone.{point_at, vertices_along}
 use Rattle.compact.proofs.corners.push_corners.Given as goal
 
 abbrev pub invariant-loop-k : goal.invariant-loop-k

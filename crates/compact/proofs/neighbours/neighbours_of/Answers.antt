@@ -1,7 +1,7 @@
 use Rattle.std.proofs.Common.{◌∙◌, ◌≡◌, ◌+◌, ◌*◌, ◌<◌, ℕ, length, ap, refl, subst, arith}
 use Rattle.std.proofs.lemmas.List.{length-set}
 use Rattle.dissect.specs.Boxes.{dart_map}
-use Rattle.compact.specs.Ordered.{tail}
+use Rattle.compact.specs.Monotone.{tail}
 use Rattle.compact.specs.Neighbours.{HasNeighbours}
 use Rattle.compact.proofs.Stepping.{step_written, step_kept}
 use Rattle.compact.proofs.neighbours.neighbours_of.Goals as goal

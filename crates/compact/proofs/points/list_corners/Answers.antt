@@ -3,7 +3,7 @@ use Rattle.dissect.specs.Paths.{turning_vertices}
 use Rattle.ortho_rep.specs.declared.points.Point.{Point}
 use Rattle.ortho_rep.proofs.PushedLists.{concatenated-starts, concatenated-pushed, concatenated-AreStarts, concatenated-slices_at}
 use Rattle.dissect.specs.Boxes.{dart_map}
-use Rattle.compact.specs.Ordered.{point_at, vertices_along}
+use Rattle.compact.specs.Monotone.{point_at, vertices_along}
 use Rattle.compact.proofs.Walking.{path_below}
 use Rattle.compact.proofs.Placing.{IsCornersOf, one_corners}
 use Rattle.compact.proofs.points.list_corners.Goals as goal

@@ -1,6 +1,6 @@
 use Rattle.std.proofs.Common.{◌≡◌, map, slice_index}
 use Rattle.std.specs.List.{range_with_len}
-use Rattle.compact.specs.Ordered.{point_at}
+use Rattle.compact.specs.Monotone.{point_at}
 use Rattle.compact.proofs.points.vertex_points.Given as goal
 
 abbrev pub invariant-loop-vertex : goal.invariant-loop-vertex

@@ -1,5 +1,5 @@
-use Rattle.dissect.proofs.Reaching.{grows_reaches}
+use Rattle.dissect.proofs.Reaching.{cut_up_reaches}
 use Rattle.dissect.proofs.cut_laws.cuts_reach_corners.Goals as goal
 
 pub returns : goal.returns
-returns c = grows_reaches
+returns c = cut_up_reaches

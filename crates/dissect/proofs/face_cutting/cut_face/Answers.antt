@@ -8,8 +8,8 @@ use Rattle.dissect.proofs.Finishing.{four_corners_done}
 use Rattle.dissect.proofs.Reading.{reading_begins, reading_here, reading_on, reading_done, all_below, all_small, below_turned}
 use Rattle.dissect.proofs.face_cutting.cut_face.Goals as goal
 
-pub returns-then-ring-eq-BOX_CORNERS-clause-grows : goal.returns-then-ring-eq-BOX_CORNERS-clause-grows
-returns-then-ring-eq-BOX_CORNERS-clause-grows c = same
+pub returns-then-ring-eq-BOX_CORNERS-clause-cut_up : goal.returns-then-ring-eq-BOX_CORNERS-clause-cut_up
+returns-then-ring-eq-BOX_CORNERS-clause-cut_up c = same
 
 pub returns-then-ring-eq-BOX_CORNERS-clause-waiting : goal.returns-then-ring-eq-BOX_CORNERS-clause-waiting
 returns-then-ring-eq-BOX_CORNERS-clause-waiting c =

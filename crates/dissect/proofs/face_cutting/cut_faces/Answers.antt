@@ -5,13 +5,13 @@ use borrow.Rule.Slice.PartMut.{put_mid}
 use Rattle.dissect.specs.DartMaps.{same}
 use Rattle.dissect.specs.Tables.{dart_map_of}
 use Rattle.dissect.specs.Faces.{AreWaiting, slices_of}
-use Rattle.dissect.proofs.Reading.{grows_on, pieces_apart, sum_apart, length-mid_of, length-put_mid}
+use Rattle.dissect.proofs.Reading.{cut_up_on, pieces_apart, sum_apart, length-mid_of, length-put_mid}
 use Rattle.dissect.proofs.face_cutting.cut_faces.Goals as goal
 
 pub faces-init : goal.faces-init
 faces-init c = record {
   sound = c.requires.sound;
-  grows = same;
+  cut_up = same;
   waiting = λ o waiting. waiting;
   space = c.requires.space;
   same = refl;
@@ -49,7 +49,7 @@ faces-preserved c =
     drop-put_mid start k xs ys (start + n) (omega arith) (omega (arith, before.left, subdivide)) long in
     record {
       sound = c.cut_face.ensures.sound;
-      grows = grows_on (dart_map_of c.args.table.now) (dart_map_of c.faces.table) (dart_map_of c.cut_face.new.table) before.grows c.cut_face.ensures.grows;
+      cut_up = cut_up_on (dart_map_of c.args.table.now) (dart_map_of c.faces.table) (dart_map_of c.cut_face.new.table) before.cut_up c.cut_face.ensures.cut_up;
       waiting = λ o w0. subst (λ (zs : List ℕ). AreWaiting (dart_map_of c.cut_face.new.table) o (slices_of zs (drop (i + 1) ns))) (sym kept)
           (c.cut_face.ensures.waiting o (slices_of (drop (start + n) xs) (drop (i + 1) ns)) (apart o w0));
       space = c.cut_face.ensures.space;

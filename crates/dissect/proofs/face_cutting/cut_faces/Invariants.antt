@@ -8,7 +8,7 @@ use Rattle.dissect.proofs.face_cutting.cut_faces.Given as goal
 abbrev pub invariant-faces : goal.invariant-faces
 invariant-faces l = record {
   sound : IsSound (dart_map_of l.table);
-  grows : IsCutUp (dart_map_of l.fn.table) (dart_map_of l.table);
+  cut_up : IsCutUp (dart_map_of l.fn.table) (dart_map_of l.table);
   waiting : (o : ℕ) → AreWaiting (dart_map_of l.fn.table) o (slices_of l.fn.corners l.counts) →
       AreWaiting (dart_map_of l.table) o (slices_of (drop l.start l.corners) (drop l.count-index l.counts));
   space : HasRoom (dart_map_of l.table) (room l.table);

@@ -88,7 +88,7 @@ returns-clause-enclosed c =
     c.cut_across.ensures.cut.0 (dart_map_of c.cut_across.new.table) c.requires.sound c.surround.ensures.surrounded c.find_right-right.ensures.inside
     c.cut_side-side.ensures.side c.cut_across.ensures.cut.1 in
     enclosed_by (dart_map_of c.args.table.now) c.args.outer (dart_map_of c.surround.new.table) c.find_right-right.result c.cut_side-side.result
-    c.cut_across.ensures.cut.0 (dart_map_of c.cut_across.new.table) (dart_map_of c.cut_faces.new.table) c.find_right-right.ensures.same j c.cut_faces.ensures.grows
+    c.cut_across.ensures.cut.0 (dart_map_of c.cut_across.new.table) (dart_map_of c.cut_faces.new.table) c.find_right-right.ensures.same j c.cut_faces.ensures.cut_up
 
 pub returns-clause-done : goal.returns-clause-done
 returns-clause-done c k k_in =
@@ -114,7 +114,7 @@ returns-clause-reaches c =
     c.cut_side-side.ensures.side c.cut_across.ensures.cut.1 in
     enclosed_reaches (dart_map_of c.args.table.now) (dart_map_of c.surround.new.table) c.find_right-right.result c.cut_side-side.result
     c.cut_across.ensures.cut.0 (dart_map_of c.cut_across.new.table) (dart_map_of c.cut_faces.new.table) c.requires.turns.0
-    (c.requires.turns.0 c.args.outer) c.requires.sound c.requires.turns.1 j c.cut_faces.ensures.grows
+    (c.requires.turns.0 c.args.outer) c.requires.sound c.requires.turns.1 j c.cut_faces.ensures.cut_up
 
 pub returns-clause-few : goal.returns-clause-few
 returns-clause-few c =
@@ -133,5 +133,5 @@ returns-clause-few c =
     (sym c.as_slice.ensures.value) flat) in
     enclosed_few (dart_map_of c.args.table.now) (dart_map_of c.surround.new.table) c.find_right-right.result c.cut_side-side.result
     c.cut_across.ensures.cut.0 (dart_map_of c.cut_across.new.table) (dart_map_of c.cut_faces.new.table) c.requires.sound j
-    c.cut_faces.ensures.grows
+    c.cut_faces.ensures.cut_up
     (subst (λ (z : ℕ). AreWaiting (dart_map_of c.cut_faces.new.table) z []) (omega arith) (c.cut_faces.ensures.done o ready.waiting))

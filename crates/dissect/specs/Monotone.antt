@@ -38,7 +38,7 @@ pub record AreTaken (b : BoxesModel) (x y : ℕ → ℕ) (points : PointsModel) 
 pub record AreLeastPoints (b : BoxesModel) (points : PointsModel) : Type 0 where
   pub x : ℕ → ℕ
   pub y : ℕ → ℕ
-  pub ordered : IsMonotone (dart_map b) x y
+  pub monotone : IsMonotone (dart_map b) x y
   -- lengths of longest paths
   pub x_least : (x1 y1 : ℕ → ℕ) → IsMonotone (dart_map b) x1 y1 → (v : ℕ) → v < b.vertices → x v ≤ x1 v
   pub y_least : (x1 y1 : ℕ → ℕ) → IsMonotone (dart_map b) x1 y1 → (v : ℕ) → v < b.vertices → y v ≤ y1 v

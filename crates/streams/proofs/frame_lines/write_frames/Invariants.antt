@@ -1,7 +1,7 @@
 use Rattle.std.proofs.Common.{◌≡◌, false, take}
 use Rattle.streams.specs.Sink.{IsInTransit}
 use Rattle.streams.specs.Text.{record_lines}
-use Rattle.streams.proofs.report.write_frames.Given as goal
+use Rattle.streams.proofs.frame_lines.write_frames.Given as goal
 
 abbrev pub invariant-loop-index : goal.invariant-loop-index
 invariant-loop-index g l = record {

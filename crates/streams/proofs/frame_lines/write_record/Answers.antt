@@ -2,7 +2,7 @@ use Rattle.std.proofs.Common.{◌≡◌, Err, subst}
 use Rattle.std.proofs.lemmas.Result.{err_from_is_err_and}
 use Rattle.streams.specs.declared.faults.WriteFault.{WriteFault}
 use Rattle.streams.proofs.Sinks.{room_fails}
-use Rattle.streams.proofs.report.write_end.Goals as goal
+use Rattle.streams.proofs.frame_lines.write_record.Goals as goal
 
 pub returns-in_err-make_room : goal.returns-in_err-make_room
 returns-in_err-make_room g c =

@@ -6,7 +6,7 @@ use Rattle.dissect.specs.Paths.{turning_vertices}
 use Rattle.ortho_rep.specs.declared.points.Point.{Point}
 use Rattle.dissect.specs.Boxes.{BoxesModel, HasEdge, dart_map}
 pub use Rattle.dissect.specs.DirectionLists.{AreDirectionsOf}
-pub use Rattle.dissect.specs.Ordered.{tail, IsMonotone, AreWithin, point_at, AreTaken, AreLeastPoints, FitsNoGrid}
+pub use Rattle.dissect.specs.Monotone.{tail, IsMonotone, AreWithin, point_at, AreTaken, AreLeastPoints, FitsNoGrid}
 use Rattle.compact.specs.declared.axis.Axis.{Axis}
 use Rattle.compact.specs.declared.axis.Axis.TheVariants.{X, Y}
 use Rattle.compact.specs.declared.constraint_graph.Constraint.{Constraint}

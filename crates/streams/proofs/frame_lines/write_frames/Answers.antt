@@ -5,7 +5,7 @@ use Rattle.streams.specs.Sink.{IsInTransit}
 use Rattle.streams.specs.Text.{record_lines, record_line, frames_end_line, frames_text}
 use Rattle.streams.proofs.Lines.{record_lines-next, record_lines-front, record_lines-at, record_lines-all, text_by_parts}
 use Rattle.streams.proofs.Sinks.{line_fails, flushed_whole}
-use Rattle.streams.proofs.report.write_frames.Goals as goal
+use Rattle.streams.proofs.frame_lines.write_frames.Goals as goal
 
 pub returns-in_err-write_record : goal.returns-in_err-write_record
 returns-in_err-write_record g c =
