@@ -103,11 +103,12 @@ def busy_cores():
 def commit():
     """The commit of the checkout in which the program lies, or of this one."""
     place = os.path.dirname(os.path.abspath(os.environ.get("PLANARBEND") or ROOT + "/bench"))
-    for folder in (place, ROOT):
-        found = subprocess.run(["git", "-C", folder, "log", "-1", "--format=%h"], capture_output=True, text=True)
-        if found.returncode == 0:
-            return found.stdout.strip()
-    return "unknown"
+    return commit_of(place) or commit_of(ROOT) or "unknown"
+
+
+def commit_of(folder):
+    """The commit of the checkout that this folder is of; empty where it is of none."""
+    return subprocess.run(["git", "-C", folder, "log", "-1", "--format=%h"], capture_output=True, text=True).stdout.strip()
 
 
 def planarbend():
