@@ -13,9 +13,9 @@ import os
 import sys
 
 sys.dont_write_bytecode = True
-sys.path.insert(0, os.path.join(os.path.dirname(os.path.abspath(__file__)), "../../examples"))
-from planar_code import HEADER, record_of
-from reports import End, File, Graph
+sys.path.insert(0, os.path.join(os.path.dirname(os.path.abspath(__file__)), "../../python"))
+from planarbend.planar_code import HEADER, record_of
+from planarbend.reports import End, File, Graph
 
 
 def circle(count, radius, turn):

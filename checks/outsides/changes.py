@@ -8,7 +8,7 @@ from collections.abc import Callable
 from answers import is_whole
 from expected import BULKY, COMMANDS, EDGE, TRIANGLE, Command, Wrong, split
 from machine import Machine
-from planar_code import HEADER
+from planarbend.planar_code import HEADER
 from system import is_stopped, place_in, wait_for
 
 TRIES = 20  # to see a file while it is read

@@ -5,8 +5,8 @@ from __future__ import annotations
 from collections.abc import Iterable
 from typing import Any, NamedTuple
 
-import planar_code
-from planar_code import HEADER
+from planarbend import planar_code
+from planarbend.planar_code import HEADER
 
 EDGE, TRIANGLE, LONE = b"\2\2\0\1\0", b"\3\2\3\0\3\1\0\1\2\0", b"\1\0"
 BULKY = b"\xff" + 255 * (254 * b"\1" + b"\0")  # the longest record there is; no graph

@@ -8,7 +8,7 @@ from typing import Any
 from answers import is_fault
 from expected import BULKY, COMMANDS, EDGE, FRAMES, IO, LAYOUTS, LONE, TWO, Command, File, split
 from machine import Machine
-from planar_code import HEADER
+from planarbend.planar_code import HEADER
 from system import AS_NOBODY
 
 MOST_FILES = 256

@@ -11,7 +11,7 @@ from typing import Any, NamedTuple
 from answers import Ran, are_same, is_beginning, is_whole, lacks_memory
 from expected import COMMANDS, LOST, MEMORY, THREAD, TRIANGLE, TWO, Command, File, Wrong, expected_events, split
 from machine import Machine
-from planar_code import HEADER
+from planarbend.planar_code import HEADER
 from reading import events_of
 from system import limits
 

@@ -10,7 +10,7 @@ import time
 from answers import is_fault, is_whole
 from expected import EDGE, IO, LAYOUTS, TWO, WRITE, Command, File, Wrong, split
 from machine import Machine
-from planar_code import HEADER
+from planarbend.planar_code import HEADER
 from system import broken_pipe, closing, full_disk
 
 

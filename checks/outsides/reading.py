@@ -5,7 +5,7 @@ import json
 from typing import Any
 
 from expected import Command, Event, Wrong
-from reports import End, File, Line, NoLine, Record, json_line, line_of, of_json
+from planarbend.reports import End, File, Line, NoLine, Record, json_line, line_of, of_json
 
 
 def events_of(command: Command, text: bytes) -> tuple[list[Event], str]:

@@ -12,7 +12,7 @@ from typing import Any
 from answers import Ran, is_fault, is_whole
 from expected import COMMANDS, FRAMES, IO, LAYOUTS, LONE, TWICE, TWO, Command, File, Wrong, split
 from machine import Machine
-from planar_code import HEADER, MOST_RECORDS
+from planarbend.planar_code import HEADER, MOST_RECORDS
 from system import PATIENCE, closing, place_in, wait_for, waiting_bytes
 
 PAUSE = 0.003  # seconds between two bytes of a slow file

@@ -12,9 +12,9 @@ import math
 import unicodedata
 from xml.sax.saxutils import escape
 
-from named_graphs import Vertex
-from placing import Edge, Placed
-from planarbend import Point
+from planarbend.named_graphs import Vertex
+from planarbend.placing import Edge, Placed
+from planarbend.layouts import Point
 
 FONT = 13  # pixels, the letters of a name
 LINE_HEIGHT = 17  # pixels from line to line of a name

@@ -24,11 +24,10 @@ import threading
 from collections.abc import Hashable, Iterable, Iterator, Mapping
 from typing import Any
 
-sys.dont_write_bytecode = True
-from planar_code import HEADER, MOST_NEIGHBOURS, MOST_RECORDS, MOST_VERTICES, Lists, Plane, lists_of, record_of
-from reports import NoLine, json_line
+from planarbend.planar_code import HEADER, MOST_NEIGHBOURS, MOST_RECORDS, MOST_VERTICES, Lists, Plane, lists_of, record_of
+from planarbend.reports import NoLine, json_line
 
-ROOT = os.path.dirname(os.path.dirname(os.path.abspath(__file__)))
+ROOT = os.path.dirname(os.path.dirname(os.path.dirname(os.path.abspath(__file__))))
 BUILT = os.path.join(ROOT, "crates/planarbend/out/planarbend")
 SCRIPT = os.path.join(ROOT, "planarbend")
 

@@ -1,4 +1,3 @@
-#!/usr/bin/env python3
 """Draws how boxes cover the cells of the rectangle round one drawing, as an SVG picture."""
 from __future__ import annotations
 
@@ -7,13 +6,12 @@ import itertools
 import sys
 from collections.abc import Iterator
 
-sys.dont_write_bytecode = True
-from planar_code import Plane
-from svg import Lines, Refused, paths_of, read_lines, read_lists, reason_of, svg
+from planarbend.planar_code import Plane
+from planarbend.svg import Lines, Refused, paths_of, read_lines, read_lists, reason_of, svg
 
 TEXT = """\
   F=crates/corpus/data/families.pc
-  ./planarbend layout --json $F | python3 examples/coverage.py $F 118 --row 3 --point 4,4 > docs/coverage.svg
+  ./planarbend layout --json $F | python3 examples/cover.py $F 118 --row 3 --point 4,4 > docs/coverage.svg
 
 reads JSON lines from standard input, as svg.py does. A rectangle stands round the drawing, one unit away. Each face is
 cut into boxes along x: from each corner of it of three or four right angles a line runs on to the next edge or line.
@@ -195,10 +193,6 @@ def main() -> int:
         cover, vertices = cover_of(words.file, read_lines(sys.stdin, [words.graph]), words.graph)
         print(picture(cover, vertices, words.row, words.point))
     except Refused as refused:
-        print(f"coverage.py: {refused}", file=sys.stderr)
+        print(f"cover.py: {refused}", file=sys.stderr)
         return 1
     return 0
-
-
-if __name__ == "__main__":
-    sys.exit(main())

@@ -6,9 +6,9 @@ import itertools
 from collections.abc import Iterator
 from typing import Any
 
-from named_graphs import NamedGraph, Unusable, Vertex, listed, needed
-from planar_code import MOST_VERTICES, Plane
-from planarbend import Layout, Point, Record, layouts
+from planarbend.named_graphs import NamedGraph, Unusable, Vertex, listed, needed
+from planarbend.planar_code import MOST_VERTICES, Plane
+from planarbend.layouts import Layout, Point, Record, layouts
 
 Rotation = dict[Vertex, list[Vertex]]  # the neighbours of each vertex, clockwise
 Edge = tuple[Vertex, Vertex]

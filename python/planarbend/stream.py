@@ -1,0 +1,225 @@
+"""Lays out a stream of planar_code of any length, and gives one report with one count."""
+from __future__ import annotations
+
+import argparse
+import functools
+import os
+import re
+import subprocess
+import sys
+import threading
+from typing import BinaryIO
+
+from planarbend.planar_code import HEADER, MOST_NEIGHBOURS, MOST_RECORD, MOST_RECORDS
+from planarbend.layouts import NoProgram, program
+
+TEXT = """\
+  geng -c -D4 12 | planarg -p | python3 examples/stream.py
+  geng -c -D4 12 | planarg -p | python3 examples/stream.py --json --outer best
+
+planarbend reads at most a million graphs of a file. This cuts standard input into parts of so many graphs
+while it runs, hands each to a run of `planarbend layout -` with the options given, and writes what they say as
+one report, or as JSON lines, of one file: graphs are counted on from part to part, and the one last line says
+how the whole stream ends. Memory does not grow with the stream.
+
+Needs Python's standard library alone.
+"""
+STATUSES = """\
+status: that of planarbend: 0 where the stream is whole and there was memory for each graph; 3 where it ends otherwise,
+as the last line says; 1 after a fault, which is named on standard error; 2 where the command line is refused
+"""
+PIECE = 1 << 20  # bytes read at a time
+NUMBER = {False: re.compile(rb"^graph (\d+)"), True: re.compile(rb'"graph":(\d+)')}
+END = {False: re.compile(rb"^end (\w+) graphs=(\d+)\n$"),
+       True: re.compile(rb'^\{"end":"(\w+)","file":1,"graphs":(\d+)\}\n$')}
+END_LINE = {False: "end {} graphs={}\n", True: '{{"end":"{}","file":1,"graphs":{}}}\n'}
+FIRST_LINE = {False: b"file 1\n", True: b""}
+
+
+class Fault(Exception):
+    """What ends the whole run, and its status."""
+
+    def __init__(self, status: int) -> None:
+        super().__init__()
+        self.status = status
+
+
+@functools.cache
+def record_of_order(vertices: int) -> re.Pattern[bytes]:
+    """A whole record of so many vertices."""
+    return re.compile(b"%s(?:[^\\0]{0,%d}\\0){%d}" % (re.escape(bytes([vertices])), MOST_NEIGHBOURS, vertices))
+
+
+class Stream:
+    """Standard input behind its header, cut into parts of whole records."""
+
+    def __init__(self, source: BinaryIO) -> None:
+        self.source = source
+        self.held = b""
+        self.is_over = False  # whether the source has ended
+        self.is_noise = False  # whether what is held begins with no record: the rest goes as it is, to be named
+
+    def read_on(self) -> None:
+        piece = self.source.read1(PIECE)
+        self.held += piece
+        self.is_over = not piece
+
+    def has_more(self) -> bool:
+        while not self.held and not self.is_over:
+            self.read_on()
+        return bool(self.held)
+
+    def whole(self, most: int) -> tuple[bytes, int]:
+        """The whole records that are held, at most so many, and their number."""
+        start = count = 0
+        while count < most and start < len(self.held):
+            vertices = self.held[start]
+            match = record_of_order(vertices).match(self.held, start) if vertices else None
+            if match is None:
+                self.is_noise = not vertices or len(self.held) - start >= MOST_RECORD
+                break
+            start, count = match.end(), count + 1
+        records, self.held = self.held[:start], self.held[start:]
+        return records, count
+
+    def feed(self, sink: BinaryIO, most: int) -> None:
+        """Writes the next part, of at most so many records."""
+        while most > 0 and self.has_more():
+            records, count = self.whole(most)
+            most -= count
+            sink.write(records)
+            if self.is_noise or self.is_over:
+                break
+            if not count:
+                self.read_on()
+        if most > 0:  # what is no whole record goes to the run that can still take one, which names it
+            sink.write(self.held)
+            self.held = b""
+            while self.is_noise and not self.is_over:
+                self.read_on()
+                sink.write(self.held)
+                self.held = b""
+
+
+class Report:
+    """The one report: the lines of one part after another, counted on."""
+
+    def __init__(self, sink: BinaryIO, is_json: bool) -> None:
+        self.sink, self.is_json = sink, is_json
+        self.graphs = 0  # of the parts that have ended
+        self.ending = ""  # of the last part
+
+    def begin(self) -> None:
+        self.sink.write(FIRST_LINE[self.is_json])
+
+    def add(self, lines: BinaryIO) -> None:
+        """Adds the lines of a part but for its first and its last."""
+        number, base = NUMBER[self.is_json], self.graphs
+        for line in lines:
+            if line == FIRST_LINE[self.is_json]:
+                continue
+            if match := END[self.is_json].match(line):
+                self.ending, self.graphs = match[1].decode(), base + int(match[2])
+                continue
+            if base and (match := number.search(line)):
+                line = line[:match.start(1)] + b"%d" % (base + int(match[1])) + line[match.end(1):]
+            self.sink.write(line)
+        self.sink.flush()
+
+    def end(self) -> None:
+        self.sink.write(END_LINE[self.is_json].format(self.ending, self.graphs).encode())
+        self.sink.flush()
+
+
+def run_part(words: list[str], stream: Stream, report: Report, most: int) -> int:
+    """One run over the next part: its status."""
+    report.ending = ""
+    with subprocess.Popen(words, stdin=subprocess.PIPE, stdout=subprocess.PIPE) as child:
+        adder = threading.Thread(target=lines_of, args=(report, child))
+        adder.start()
+        try:
+            with child.stdin as sink:
+                sink.write(HEADER)
+                stream.feed(sink, most)
+        except BrokenPipeError:
+            pass  # the run, or the reader of the report, went away
+        adder.join()
+    if not report.ending:
+        raise Fault(max(child.returncode, 0) or 1)
+    return child.returncode
+
+
+def lines_of(report: Report, child: subprocess.Popen[bytes]) -> None:
+    try:
+        report.add(child.stdout)
+    except BrokenPipeError:
+        report.ending = ""
+        child.kill()
+
+
+def run_all(words: list[str], report: Report, most: int) -> int:
+    """All runs: the greatest status."""
+    source = sys.stdin.buffer
+    beginning = source.read(len(HEADER))
+    if beginning != HEADER:
+        return run_whole(words, beginning, source)
+    stream, status = Stream(source), 0
+    report.begin()
+    while True:
+        status = max(status, run_part(words, stream, report, most))
+        if report.ending != "complete" or not stream.has_more():
+            break
+    report.end()
+    return status
+
+
+def run_whole(words: list[str], beginning: bytes, source: BinaryIO) -> int:
+    """One run over a stream that is no planar_code, which says so."""
+    with subprocess.Popen(words, stdin=subprocess.PIPE) as child:
+        try:
+            child.stdin.write(beginning)
+            child.stdin.close()
+        except BrokenPipeError:
+            pass
+    return child.returncode
+
+
+def positive(word: str) -> int:
+    """A whole number from 1 to what planarbend reads of a file."""
+    if not word.isdecimal() or not 1 <= int(word) <= MOST_RECORDS:
+        raise argparse.ArgumentTypeError(f"from 1 to {MOST_RECORDS:,}")
+    return int(word)
+
+
+def command_line() -> argparse.Namespace:
+    parser = argparse.ArgumentParser(description=__doc__ + "\n\n" + TEXT, epilog=STATUSES,
+                                     formatter_class=argparse.RawDescriptionHelpFormatter)
+    parser.add_argument("--json", action="store_true", help="JSON lines in place of the report")
+    parser.add_argument("--outer", choices=["first", "best"], default="first", help="the outer face (first)")
+    parser.add_argument("-k", "--records", metavar="K", type=positive, default=MOST_RECORDS,
+                        help=f"graphs of a part ({MOST_RECORDS})")
+    return parser.parse_args()
+
+
+def main() -> int:
+    words = command_line()
+    options = ["--outer", words.outer] + (["--json"] if words.json else [])
+    try:
+        return run_all([program(), "layout", *options, "-"], Report(sys.stdout.buffer, words.json), words.records)
+    except NoProgram as fault:
+        print(f"stream.py: {fault}", file=sys.stderr)
+        return 1
+    except Fault as fault:
+        return fault.status
+
+
+def run() -> int:
+    """Runs the command: its status, also after a closed output or an interrupt."""
+    try:
+        status = main()
+    except BrokenPipeError:
+        status = 1
+    except KeyboardInterrupt:
+        status = 130
+    os.dup2(os.open(os.devnull, os.O_WRONLY), sys.stdout.fileno())
+    return status
