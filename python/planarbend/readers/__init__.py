@@ -1,28 +1,22 @@
 """Reads graphs from files: `read` finds the format from the content."""
 from __future__ import annotations
 
+from collections.abc import Callable
+
 from planarbend.graph import Graph
+from planarbend.readers.dot import read_dot
+from planarbend.readers.fault import Fault, ReadError
+from planarbend.readers.forms import form_of
+from planarbend.readers.kicad import read_board, read_netlist
+from planarbend.readers.lists import read_list
+from planarbend.readers.networks import read_gml, read_graph6, read_graphml, read_json
 
+__all__ = ["FORMS", "ReadError", "read"]
 
-class ReadError(Exception):
-    """A file that cannot be read as a graph.
-
-    Parameters
-    ----------
-    file : str
-        The name of the file.
-    line : int or None
-        The line at fault, counted from 1, if one is known.
-    reason : str
-        What is wrong, in words.
-    """
-
-    def __init__(self, file: str, line: int | None, reason: str) -> None:
-        super().__init__(f"{file}: line {line}: {reason}" if line else f"{file}: {reason}")
-        self.file, self.line, self.reason = file, line, reason
-
-
-FORMS: tuple[str, ...] = ()  # what --format takes
+READERS: dict[str, Callable[[bytes], Graph]] = {
+    "list": read_list, "dot": read_dot, "graphml": read_graphml, "gml": read_gml, "json": read_json,
+    "graph6": read_graph6, "netlist": read_netlist, "board": read_board}
+FORMS: tuple[str, ...] = tuple(READERS)  # what --format takes
 
 
 def read(data: bytes, name: str, form: str | None = None) -> Graph:
@@ -33,17 +27,29 @@ def read(data: bytes, name: str, form: str | None = None) -> Graph:
     data : bytes
         The whole file.
     name : str
-        Its name, for messages and to break ties.
+        Its name, for messages, and for its ending where the content has no mark of its own (graph6 without its header).
     form : str, optional
         One of `FORMS`; found from the content by default.
 
     Returns
     -------
     Graph
+        With at least one vertex, vertices and edges in the file's order where its format keeps one.
 
     Raises
     ------
     ReadError
-        If the file is not of this format, or of none that is known.
+        The file is not of this format, or of none that is known, or names no vertex; or the library or program that
+        reads its format is missing.
+    ValueError
+        `form` is not one of `FORMS`.
     """
-    raise ReadError(name, None, "no reader is built in")
+    if form is not None and form not in READERS:
+        raise ValueError(f"no such format: {form} (there are {', '.join(FORMS)})")
+    try:
+        graph = READERS[form or form_of(data, name)](data)
+        if not graph.vertices:
+            raise Fault("the file names no vertex")
+    except Fault as fault:
+        raise ReadError(name, fault.line, fault.reason) from None
+    return graph

@@ -1,0 +1,66 @@
+"""What a reader raises, and how a library or a program that it needs is asked for."""
+from __future__ import annotations
+
+import importlib
+import shutil
+from types import ModuleType
+
+MOST_SHOWN = 60  # letters of the input that a message repeats
+
+
+class ReadError(Exception):
+    """The input cannot be read as a graph.
+
+    Attributes
+    ----------
+    file : str
+        The name of the input.
+    line : int or None
+        The line where the fault is, counted from 1, or None if it has no one line.
+    reason : str
+        What is wrong.
+    """
+
+    def __init__(self, file: str, line: int | None, reason: str) -> None:
+        place = file if line is None else f"{file}:{line}"
+        super().__init__(f"{place}: {reason}")
+        self.file, self.line, self.reason = file, line, reason
+
+
+class Fault(Exception):
+    """A fault inside a file whose name the raiser does not know; `read` turns it into a `ReadError`."""
+
+    def __init__(self, reason: str, line: int | None = None) -> None:
+        super().__init__(reason)
+        self.reason, self.line = reason, line
+
+
+def shown(text: str) -> str:
+    """The beginning of a text, on one line, for a message."""
+    flat = " ".join(text.split())
+    return flat if len(flat) <= MOST_SHOWN else flat[:MOST_SHOWN - 2] + ".."
+
+
+def library(name: str, package: str) -> ModuleType:
+    """A Python library; raises `Fault` with the name of Debian's package if it is missing."""
+    try:
+        return importlib.import_module(name)
+    except ImportError:
+        raise Fault(f"the Python library {name} is needed to read this format (Debian: apt install {package})") from None
+
+
+def program(name: str, package: str) -> str:
+    """The path of a program; raises `Fault` with the name of Debian's package if it is missing."""
+    path = shutil.which(name)
+    if path is None:
+        raise Fault(f"the program {name} is needed to read this format (Debian: apt install {package})")
+    return path
+
+
+def decoded(data: bytes) -> str:
+    """The text of UTF-8 bytes, without a byte order mark; raises `Fault` with the line of the first byte that is none."""
+    try:
+        return data.decode("utf-8-sig")
+    except UnicodeDecodeError as error:
+        line = data.count(b"\n", 0, error.start) + 1
+        raise Fault(f"not UTF-8 text (byte {data[error.start]:#04x})", line) from None

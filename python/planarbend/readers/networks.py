@@ -1,0 +1,212 @@
+"""Reads GraphML, GML and graph6 by networkx, and node-link JSON as networkx and D3 write it."""
+from __future__ import annotations
+
+import json
+import re
+import warnings
+from collections.abc import Hashable, Iterable
+from typing import Any
+from xml.etree import ElementTree
+from xml.parsers import expat
+
+from planarbend.graph import Arrow, Graph
+from planarbend.readers.building import Builder
+from planarbend.readers.fault import Fault, decoded, library, shown
+
+PACKAGE = "python3-networkx"
+NAMESPACE = "{http://graphml.graphdrawing.org/xmlns}"
+GRAPH6 = b">>graph6<<"
+GML_GRAPH = re.compile(r"^\s*graph\s*\[", re.M)
+PLACE = re.compile(r" at \((\d+), \d+\)")
+PARALLEL = (r"^(\s*)multigraph\s+0\b", r"\1multigraph 1")
+LABELS = ("label", "name")
+
+
+def label_of(data: dict[str, Any]) -> str | None:
+    """The label that a vertex's or an edge's data give it, or None."""
+    return next((str(data[key]) for key in LABELS if data.get(key) not in (None, "")), None)
+
+
+def read_graphml(data: bytes) -> Graph:
+    """The graph of a GraphML text: its first `graph`, with the nodes and edges of graphs inside its nodes.
+
+    Edges keep their order and each its own direction. Labels are the data named `label` or `name`, or the first label
+    of yEd.
+
+    Raises
+    ------
+    Fault
+        The text is not XML or not GraphML, has a hyperedge, or an edge to a node that it does not have.
+    """
+    networkx = library("networkx", PACKAGE)
+    directions = scanned(data)
+    root = ElementTree.fromstring(data)
+    for element in root.iter():
+        if "}" not in element.tag:
+            element.tag = NAMESPACE + element.tag
+    for edge, number in zip(root.iter(NAMESPACE + "edge"), range(len(directions))):
+        edge.attrib.pop("directed", None)
+        edge.set("id", str(number))  # networkx gives it back as the key, so that no two edges are taken for one
+    for node in root.iter(NAMESPACE + "node"):
+        if node.find(NAMESPACE + "graph") is not None:
+            node.set("yfiles.foldertype", "group")  # else networkx passes over what is inside
+    with warnings.catch_warnings():
+        warnings.simplefilter("ignore")
+        try:
+            found = networkx.parse_graphml(ElementTree.tostring(root, encoding="unicode"), force_multigraph=True)
+        except Exception as error:  # networkx lets many kinds through
+            raise Fault(f"not GraphML: {shown(str(error))}") from None
+    built = Builder(found.is_directed())
+    for node, values in found.nodes(data=True):
+        built.vertex(node, label_of(values))
+    for tail, head, key, values in sorted(found.edges(keys=True, data=True), key=lambda edge: edge[2]):
+        tail, head = directions[key][0], directions[key][1]  # of an undirected graph networkx may exchange the ends
+        is_arrow = found.is_directed() if directions[key][2] is None else directions[key][2]
+        built.edge(tail, head, label_of(values) or "", Arrow.FORWARD if is_arrow else Arrow.NONE)
+        built.directed |= is_arrow
+    return built.graph()
+
+
+def scanned(data: bytes) -> list[tuple[str, str, bool | None]]:
+    """The edges of a GraphML text in order: source, target, and `directed` where it is given."""
+    parser = expat.ParserCreate(namespace_separator="}")
+    nodes: set[str] = set()
+    edges: list[tuple[int, str, str, bool | None]] = []
+    open_elements: list[str] = []
+    graphs = 0
+
+    def begun(element: str, values: dict[str, str]) -> None:
+        nonlocal graphs
+        kind, line = element.rpartition("}")[2], parser.CurrentLineNumber
+        open_elements.append(kind)
+        wanted = {"node": ("id",), "edge": ("source", "target")}.get(kind, ())
+        if any(key not in values for key in wanted):
+            raise Fault(f"a {kind} without {' and '.join(wanted)}", line)
+        if kind == "hyperedge":
+            raise Fault("a hyperedge, which joins more than two nodes, cannot be drawn", line)
+        if kind == "graph" and len(open_elements) == 2:
+            graphs += 1
+            if graphs > 1:
+                raise Fault("a second graph; one can be drawn", line)
+        if kind == "node":
+            nodes.add(values["id"])
+        if kind == "edge":
+            directed = {"true": True, "false": False}.get(values.get("directed", ""))
+            edges.append((line, values["source"], values["target"], directed))
+
+    parser.StartElementHandler = begun
+    parser.EndElementHandler = lambda element: open_elements.pop()
+    try:
+        parser.Parse(data, True)
+    except expat.ExpatError as error:
+        raise Fault(f"not XML: {expat.errors.messages[error.code]}", error.lineno) from None
+    if not graphs:
+        raise Fault("not GraphML: it has no graph")
+    for line, *ends, _ in edges:
+        for end in ends:
+            if end not in nodes:
+                raise Fault(f"the edge's end {shown(str(end))} is no node", line)
+    return [(tail, head, directed) for _, tail, head, directed in edges]
+
+
+def read_gml(data: bytes) -> Graph:
+    """The graph of a GML text, with parallel edges also where it does not announce them.
+
+    Raises
+    ------
+    Fault
+        networkx refuses the text; the fault has the line that it names.
+    """
+    networkx = library("networkx", PACKAGE)
+    text = re.sub(*PARALLEL, decoded(data), flags=re.M)
+    if "multigraph" not in text:
+        text = GML_GRAPH.sub(lambda match: match[0] + " multigraph 1", text, count=1)
+    try:
+        found = networkx.parse_gml(text, label=None)
+    except Exception as error:  # networkx lets many kinds through
+        place = PLACE.search(str(error))
+        raise Fault(f"not GML: {shown(PLACE.sub('', str(error)))}", int(place[1]) if place else None) from None
+    built = Builder(found.is_directed())
+    names = {node: label_of(values) or str(node) for node, values in found.nodes(data=True)}
+    for node, name in names.items():
+        built.vertex(node, name, name=name)
+    for tail, head, values in found.edges(data=True):
+        built.edge(tail, head, label_of(values) or "", Arrow.FORWARD if built.directed else Arrow.NONE)
+    return built.graph()
+
+
+def read_graph6(data: bytes) -> Graph:
+    """The graph of one line of graph6, with or without the header; its vertices are named 0, 1, and so on.
+
+    Raises
+    ------
+    Fault
+        The line is not graph6, or there are several or none.
+    """
+    networkx = library("networkx", PACKAGE)
+    lines = [(number, line.strip()) for number, line in enumerate(data.removeprefix(GRAPH6).split(b"\n"), 1) if line.strip()]
+    if len(lines) != 1:
+        count = f"{len(lines)} graphs; one can be drawn" if lines else "no graph"
+        raise Fault(f"the file has {count}", lines[1][0] if lines else None)
+    number, line = lines[0]
+    try:
+        found = networkx.from_graph6_bytes(line)
+    except Exception as error:  # networkx lets many kinds through
+        raise Fault(f"not graph6: {shown(str(error) or repr(error))}", number) from None
+    built = Builder()
+    for node in found:
+        built.vertex(node)
+    for tail, head in found.edges():
+        built.edge(tail, head)
+    return built.graph()
+
+
+def read_json(data: bytes) -> Graph:
+    """The graph of node-link JSON: `nodes` with `id`, and `links` or `edges` with `source` and `target`.
+
+    A node without `id` is known by its place from 0, as D3 has it. Labels are `label` or `name`.
+
+    Raises
+    ------
+    Fault
+        The text is not JSON (with its line), or not node-link JSON.
+    """
+    try:
+        found = json.loads(decoded(data))
+    except json.JSONDecodeError as error:
+        raise Fault(f"not JSON: {error.msg}", error.lineno) from None
+    except RecursionError:
+        raise Fault("not node-link JSON: lists within lists without end") from None
+    edges = found.get("links", found.get("edges")) if isinstance(found, dict) else None
+    if edges is None or not isinstance(edges, list) or not isinstance(found.get("nodes"), list):
+        raise Fault("not node-link JSON: it needs the lists nodes and links (or edges)")
+    built = Builder(found.get("directed") is True)
+    for number, node in enumerate(objects(found["nodes"], "node")):
+        key = hashable(node.get("id", number))
+        if built.has(key):
+            raise Fault(f"not node-link JSON: two nodes have the id {shown(str(key))}")
+        label = label_of(node)
+        built.vertex(key, label, name=str(key) if "id" in node or label is None else label)
+    for number, edge in enumerate(objects(edges, "link"), 1):
+        ends = [hashable(edge.get(key)) for key in ("source", "target")]
+        for key, end in zip(("source", "target"), ends):
+            if end is None or not built.has(end):
+                raise Fault(f"not node-link JSON: the {key} of link {number} is no node: {shown(str(end))}")
+        label = edge.get("label")
+        built.edge(*ends, "" if label is None else str(label), Arrow.FORWARD if built.directed else Arrow.NONE)
+    return built.graph()
+
+
+def objects(found: Iterable[Any], what: str) -> Iterable[dict[str, Any]]:
+    """The entries of a list of JSON, each of which has to be an object."""
+    for number, one in enumerate(found, 1):
+        if not isinstance(one, dict):
+            raise Fault(f"not node-link JSON: {what} {number} is not an object")
+        yield one
+
+
+def hashable(key: Any) -> Hashable:
+    """A node's id as networkx has it: a list becomes a tuple."""
+    if isinstance(key, dict):
+        raise Fault("not node-link JSON: an id is an object")
+    return tuple(map(hashable, key)) if isinstance(key, list) else key

@@ -1,0 +1,79 @@
+"""Parses S-expressions as KiCad writes them."""
+from __future__ import annotations
+
+import re
+from collections.abc import Iterator
+from dataclasses import dataclass, field
+
+from planarbend.readers.fault import Fault
+
+TOKEN = re.compile(r'\s+|([()])|"((?:[^"\\]|\\.)*)"|([^\s()"]+)', re.S)
+ESCAPES = {"n": "\n", "t": "\t", "r": "\r"}
+
+
+@dataclass(slots=True)
+class Expression:
+    """A list in parentheses: its first word, the words after it, and the lists inside it, each in order."""
+
+    line: int
+    words: list[str] = field(default_factory=list)
+    inner: list[Expression] = field(default_factory=list)
+
+    @property
+    def head(self) -> str:
+        """The first word, or nothing."""
+        return self.words[0] if self.words else ""
+
+    def all(self, *heads: str) -> Iterator[Expression]:
+        """The inner lists that begin with one of these words."""
+        return (one for one in self.inner if one.head in heads)
+
+    def value(self, head: str) -> str | None:
+        """The word after this first word, in the first such inner list, or None."""
+        return next((one.words[1] for one in self.all(head) if len(one.words) > 1), None)
+
+
+def parsed(text: str) -> Expression:
+    """The one list that a text holds.
+
+    Raises
+    ------
+    Fault
+        Parentheses or quotes do not match, or something stands outside the list.
+    """
+    open_lists: list[Expression] = []
+    place, line = 0, 1
+    whole: Expression | None = None
+    while place < len(text):
+        match = TOKEN.match(text, place)
+        if match is None:
+            raise Fault("a quote without an end", line)
+        if match[1] == "(":
+            if whole is not None and not open_lists:
+                raise Fault("something after the end of the list", line)
+            open_lists.append(Expression(line))
+            whole = whole or open_lists[0]
+        elif match[1] == ")":
+            if not open_lists:
+                raise Fault("a closing parenthesis too many", line)
+            closed = open_lists.pop()
+            if open_lists:
+                open_lists[-1].inner.append(closed)
+        elif not match[0].isspace():
+            if not open_lists:
+                raise Fault("a word outside the list", line)
+            open_lists[-1].words.append(match[3] if match[3] is not None else unescaped(match[2]))
+        line += match[0].count("\n")
+        place = match.end()
+    if open_lists:
+        raise Fault(f"the list {open_lists[-1].head} has no end; the file is cut off", open_lists[-1].line)
+    if whole is None:
+        raise Fault("no list in parentheses")
+    return whole
+
+
+def unescaped(text: str) -> str:
+    """The text of a quoted word."""
+    if "\\" not in text:
+        return text
+    return re.sub(r"\\(.)", lambda match: ESCAPES.get(match[1], match[1]), text, flags=re.S)
