@@ -1,8 +1,19 @@
-"""Makes a graph planar: crossings become vertices of degree 4."""
+"""Makes a graph planar: crossings become vertices of degree 4.
+
+What is planar is embedded as it is. Of the rest each block (what no single vertex cuts) has its crossings apart: of
+its core (`core`), a large planar subgraph is embedded, each further edge is put in along a shortest path of the dual
+graph, and edges and vertices are moved where they cross less (`reinsert`).
+"""
 from __future__ import annotations
 
-from collections.abc import Sequence
+import random
+from collections.abc import Iterable, Sequence
 from dataclasses import dataclass
+from typing import Any
+
+from .core import Core, core_of
+from .reinsert import FIXED, Reinsertion
+from .rotation import Rotation
 
 
 @dataclass(frozen=True, slots=True)
@@ -39,39 +50,252 @@ class Planarization:
 
 def planarize(vertex_count: int, edges: Sequence[tuple[int, int]], *, effort: int = 1, seed: int = 0,
               together: Sequence[int] = ()) -> Planarization:
-    """Embed a connected simple graph in the plane with few crossings.
+    """Embed a graph in the plane with few crossings.
+
+    No edge crosses itself or an edge with which it shares an end, and no two edges cross twice.
 
     Parameters
     ----------
     vertex_count : int
         Vertices are 0 to `vertex_count` - 1.
     edges : sequence of (int, int)
-        The edges; no loops, no two between the same vertices. The graph is connected.
+        The edges. Loops, and several edges between the same vertices, are allowed. The graph need not be connected:
+        then each connected part is embedded apart, and the faces of one part say nothing of another.
     effort : int
         How long to look for fewer crossings: 0 for not at all, 1 by default. The result depends on it and on the seed
         alone.
     seed : int
         Seed of the random choices.
     together : sequence of int
-        Vertices that must all lie on one face of the result.
+        Vertices that must all lie on one face of the result; those of each connected part on one face of that part.
 
     Returns
     -------
     Planarization
     """
-    import networkx  # replaced by an embedding of our own
+    ends = list(edges)
+    weights = [1] * len(ends)
+    count = vertex_count
+    if together:
+        count, ends, weights = _joined(vertex_count, ends, sorted(set(together)))
+    crossed: list[list[int]] = [[] for _ in ends]
+    made = 0
+    if _planar(count, ends) is None:
+        for block in _blocks(count, ends):
+            if _planar(count, [ends[edge] for edge in block]) is None:
+                core = core_of(block, ends, weights, FIXED)
+                made = _unfold(core, _least(core, effort, seed), crossed, made)
+    return _embedded(vertex_count, count, ends, crossed)
+
+
+def _joined(vertex_count: int, ends: list[tuple[int, int]], together: list[int]
+            ) -> tuple[int, list[tuple[int, int]], list[int]]:
+    """The graph with one more vertex in each connected part, joined to those that are to lie on one face."""
+    part = list(range(vertex_count))
+
+    def root(vertex: int) -> int:
+        """The vertex that stands for a part."""
+        while part[vertex] != vertex:
+            part[vertex] = vertex = part[part[vertex]]
+        return vertex
+
+    for tail, head in ends:
+        part[root(tail)] = root(head)
+    members: dict[int, list[int]] = {}
+    for vertex in together:
+        members.setdefault(root(vertex), []).append(vertex)
+    weights = [1] * len(ends)
+    ends = list(ends)
+    count = vertex_count
+    for vertices in members.values():
+        ends += [(count, vertex) for vertex in vertices]
+        weights += [FIXED] * len(vertices)
+        count += 1
+    return count, ends, weights
+
+
+def _graph(vertex_count: int, ends: Iterable[tuple[int, int]]) -> Any:
+    """A networkx graph without loops."""
+    import networkx
 
     graph = networkx.Graph()
     graph.add_nodes_from(range(vertex_count))
-    graph.add_edges_from(edges)
-    if together:
-        graph.add_edges_from((vertex_count, vertex) for vertex in together)
-    planar, embedding = networkx.check_planarity(graph)
-    if not planar:
-        raise NotImplementedError("not planar")
-    number = {}
-    for piece, (tail, head) in enumerate(edges):
-        number[tail, head], number[head, tail] = 2 * piece, 2 * piece + 1
-    rotation = [[number[vertex, other] for other in embedding.neighbors_cw_order(vertex) if other < vertex_count]
-                if embedding.degree(vertex) else [] for vertex in range(vertex_count)]
-    return Planarization(vertex_count, list(edges), rotation, [[2 * piece] for piece in range(len(edges))])
+    graph.add_edges_from(pair for pair in ends if pair[0] != pair[1])
+    return graph
+
+
+def _planar(vertex_count: int, ends: Iterable[tuple[int, int]]) -> Any:
+    """A networkx embedding, or `None` if the graph is not planar."""
+    import networkx
+
+    return networkx.check_planarity(_graph(vertex_count, ends))[1]
+
+
+def _blocks(vertex_count: int, ends: Sequence[tuple[int, int]]) -> list[list[int]]:
+    """The edges of each block, without loops."""
+    import networkx
+
+    block_of: dict[tuple[int, int], int] = {}
+    blocks = list(networkx.biconnected_component_edges(_graph(vertex_count, ends)))
+    for number, pairs in enumerate(blocks):
+        for tail, head in pairs:
+            block_of[tail, head] = block_of[head, tail] = number
+    members: list[list[int]] = [[] for _ in blocks]
+    for edge, (tail, head) in enumerate(ends):
+        if tail != head:
+            members[block_of[tail, head]].append(edge)
+    return members
+
+
+def _planar_part(core: Core, order: Sequence[int]) -> Any:
+    """The embedding of a maximal planar subgraph: a tree, then further edges in order while it stays planar."""
+    count = len(core.vertices)
+    part = list(range(count))
+    kept: list[tuple[int, int]] = []
+    rest: list[tuple[int, int]] = []
+    for edge in order:
+        tail, head = core.ends[edge]
+        while part[tail] != tail:
+            tail = part[tail]
+        while part[head] != head:
+            head = part[head]
+        (rest if tail == head else kept).append(core.ends[edge])
+        part[tail] = head
+    embedding = _planar(count, kept)
+    waiting = [rest]
+    while waiting:
+        some = waiting.pop()
+        larger = _planar(count, kept + some)
+        if larger is not None:
+            embedding = larger
+            kept += some
+        elif len(some) > 1:
+            middle = len(some) // 2
+            waiting += (some[middle:], some[:middle])
+    return embedding
+
+
+def _started(core: Core, dice: random.Random) -> Reinsertion:
+    """A first embedding of a core: a planar part and then each further edge where it crosses least."""
+    order = sorted(range(len(core.ends)), key=lambda edge: (core.weights[edge] != FIXED, dice.random()))
+    embedding = _planar_part(core, order)
+    number: dict[tuple[int, int], tuple[int, int]] = {}
+    for edge, (tail, head) in enumerate(core.ends):
+        number[tail, head], number[head, tail] = (edge, 0), (edge, 1)
+    count = len(core.vertices)
+    around = [[number[vertex, other] for other in embedding.neighbors_cw_order(vertex)][::-1]
+              for vertex in range(count)]
+    search = Reinsertion(Rotation.of(count, core.ends, around), core.weights, dice)
+    for edge in order:
+        if search.rotation.start[edge] < 0:
+            search.put(edge)
+    return search
+
+
+def _least(core: Core, effort: int, seed: int) -> Rotation:
+    """An embedding of a core with few crossings."""
+    dice = random.Random(seed)
+    best: Reinsertion | None = None
+    for _ in range(8):
+        search = _started(core, dice)
+        search.improve(20)
+        if best is None or search.cost < best.cost:
+            best = search
+    assert best is not None
+    best.improve(effort * 100)
+    return best.rotation
+
+
+def _unfold(core: Core, rotation: Rotation, crossed: list[list[int]], made: int) -> int:
+    """Writes the crossings of a core's folded edges to the edges of the graph; the number of crossings so far.
+
+    Parameters
+    ----------
+    crossed
+        For each edge of the graph the crossings on it, from its tail to its head.
+    made
+        Number of crossings before these.
+    """
+    strands = core.strands
+    chains = [rotation.chain(edge) for edge in range(len(core.ends))]
+    forward = {dart for chain in chains for dart in chain}
+    first: dict[int, int] = {}
+    for edge, chain in enumerate(chains):
+        meetings: list[list[int]] = [[] for _ in strands[edge]]
+        for dart in chain[1:]:
+            crossing = rotation.origin[dart]
+            left = rotation.back[dart] ^ 1
+            other = rotation.edge[left >> 1]
+            width = len(strands[other])
+            if crossing not in first:
+                first[crossing] = made
+                made += width * len(strands[edge])
+            # Who goes to the left is met first by the strand that is its left one.
+            order = range(width) if left in forward else range(width - 1, -1, -1)
+            for place, found in enumerate(meetings):
+                if edge < other:
+                    found += (first[crossing] + place * width + beside for beside in order)
+                else:
+                    found += (first[crossing] + beside * len(strands[edge]) + place for beside in order)
+        for strand, found in zip(strands[edge], meetings):
+            crossed[strand.edge] = found[::-1] if strand.reversed else found
+    return made
+
+
+def _embedded(vertex_count: int, count: int, ends: Sequence[tuple[int, int]], crossed: list[list[int]]
+              ) -> Planarization:
+    """The embedding of the graph whose edges cross as told.
+
+    Parameters
+    ----------
+    count
+        Number of vertices, with those from ``vertex_count`` on to be left out of the result.
+    """
+    while True:
+        numbers = sorted({crossing for found in crossed for crossing in found})
+        name = {crossing: count + place for place, crossing in enumerate(numbers)}
+        lines = [[tail, *(name[crossing] for crossing in found), head] for (tail, head), found in zip(ends, crossed)]
+        embedding = _planar(count + len(numbers), (pair for line in lines for pair in zip(line, line[1:])))
+        assert embedding is not None, "crossings that do not make the graph planar"
+        result, touching = _read(vertex_count, count, lines, embedding)
+        if not touching:
+            return result
+        undone = {numbers[place] for place in touching}
+        crossed = [[crossing for crossing in found if crossing not in undone] for found in crossed]
+
+
+def _read(vertex_count: int, count: int, lines: Sequence[Sequence[int]], embedding: Any
+          ) -> tuple[Planarization, list[int]]:
+    """A planarization from an embedding without loops and parallel pieces; crossings in which two edges only touch.
+
+    Parallel pieces lie side by side, and a loop has nothing inside.
+    """
+    pieces: list[tuple[int, int]] = []
+    chains: list[list[int]] = []
+    edge_of: list[int] = []
+    between: dict[tuple[int, int], list[int]] = {}
+    loops: dict[int, list[int]] = {}
+    shift = count - vertex_count
+    for edge, line in enumerate(lines):
+        if vertex_count <= line[0] < count:
+            continue
+        chains.append([])
+        for tail, head in zip(line, line[1:]):
+            dart = 2 * len(pieces)
+            pieces.append((tail if tail < count else tail - shift, head if head < count else head - shift))
+            edge_of.append(edge)
+            chains[-1].append(dart)
+            if tail == head:
+                loops.setdefault(tail, []).extend((dart, dart + 1))
+            else:
+                between.setdefault((tail, head), []).append(dart)
+                between.setdefault((head, tail), []).insert(0, dart + 1)
+    rotation: list[list[int]] = []
+    touching: list[int] = []
+    for vertex in [*range(vertex_count), *range(count, embedding.number_of_nodes())]:
+        around = [dart for other in (embedding.neighbors_cw_order(vertex) if embedding.degree(vertex) else ())
+                  for dart in between.get((vertex, other), ())] + loops.get(vertex, [])
+        rotation.append(around)
+        if vertex >= count and edge_of[around[0] >> 1] != edge_of[around[2] >> 1]:
+            touching.append(vertex - count)
+    return Planarization(vertex_count, pieces, rotation, chains), touching

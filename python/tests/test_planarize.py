@@ -1,0 +1,166 @@
+"""Planarizations are planar, are of the graph, and have as few crossings as is known to be needed."""
+from __future__ import annotations
+
+import os
+import random
+import subprocess
+import sys
+import unittest
+from collections.abc import Sequence
+
+from planarbend.planarize import Planarization, planarize
+
+try:
+    import networkx
+except ImportError:
+    networkx = None
+
+PACKAGE = os.path.dirname(os.path.dirname(os.path.abspath(__file__)))
+PRINTED = """
+import random
+from planarbend.planarize import planarize
+dice = random.Random(5)
+pairs = [(tail, head) for head in range(14) for tail in range(head)]
+result = planarize(14, dice.sample(pairs, 45), effort=1, seed=3, together=(2, 9, 11))
+print(result.pieces, result.rotation, result.chains)
+"""
+
+
+def faces_of(result: Planarization) -> list[list[int]]:
+    """The faces, as the vertices on their boundaries."""
+    origin = [vertex for piece in result.pieces for vertex in piece]
+    following = {}
+    for around in result.rotation:
+        for dart, after in zip(around, around[1:] + around[:1]):
+            following[dart ^ 1] = after
+    faces = []
+    seen: set[int] = set()
+    for first in range(len(origin)):
+        if first not in seen:
+            face = []
+            dart = first
+            while dart not in seen:
+                seen.add(dart)
+                face.append(origin[dart])
+                dart = following[dart]
+            faces.append(face)
+    return faces
+
+
+@unittest.skipIf(networkx is None, "networkx is not installed")
+class Planarized(unittest.TestCase):
+    """What every planarization must be."""
+
+    def checked(self, count: int, edges: Sequence[tuple[int, int]], together: Sequence[int] = (),
+                effort: int = 1, seed: int = 0) -> Planarization:
+        """A planarization, found right by its lists, by networkx's planarity test and by Euler's formula."""
+        result = planarize(count, edges, effort=effort, seed=seed, together=together)
+        origin = [vertex for piece in result.pieces for vertex in piece]
+        self.assertEqual(sorted(dart for around in result.rotation for dart in around), list(range(len(origin))))
+        for vertex, around in enumerate(result.rotation):
+            self.assertEqual([origin[dart] for dart in around], [vertex] * len(around))
+        self.assertEqual(sorted(dart >> 1 for chain in result.chains for dart in chain), list(range(len(origin) // 2)))
+        owner = {dart: edge for edge, chain in enumerate(result.chains) for step in chain for dart in (step, step ^ 1)}
+        for chain, (tail, head) in zip(result.chains, edges, strict=True):
+            self.assertEqual((origin[chain[0]], origin[chain[-1] ^ 1]), (tail, head))
+            for dart, after in zip(chain, chain[1:]):
+                self.assertEqual(origin[dart ^ 1], origin[after])
+                self.assertGreaterEqual(origin[after], count)
+                around = result.rotation[origin[after]]
+                self.assertEqual((around.index(after) - around.index(dart ^ 1)) % 4, 2)
+        pairs = []
+        for around in result.rotation[count:]:
+            self.assertEqual(len(around), 4)
+            first, second = owner[around[0]], owner[around[1]]
+            self.assertFalse(set(edges[first]) & set(edges[second]), "edges that share an end cross")
+            pairs.append((min(first, second), max(first, second)))
+        self.assertEqual(len(set(pairs)), len(pairs), "two edges cross twice")
+        planar = networkx.Graph()
+        planar.add_nodes_from(range(len(result.rotation)))
+        planar.add_edges_from(piece for piece in result.pieces if piece[0] != piece[1])
+        self.assertTrue(networkx.check_planarity(planar)[0])
+        parts = list(networkx.connected_components(planar))
+        alone = sum(1 for around in result.rotation if not around)
+        faces = faces_of(result)
+        self.assertEqual(len(result.rotation) - len(result.pieces) + len(faces) + alone, 2 * len(parts))
+        for part in parts:
+            members = set(together) & part
+            self.assertTrue(len(members) < 2 or any(members <= set(face) for face in faces))
+        return result
+
+    def graph(self, graph: object) -> tuple[int, list[tuple[int, int]]]:
+        """Number of vertices and edges of a networkx graph."""
+        graph = networkx.convert_node_labels_to_integers(graph)
+        return graph.number_of_nodes(), list(graph.edges())
+
+    def test_known_numbers(self) -> None:
+        """Crossing numbers that are known are reached."""
+        for name, made, known in (
+                ("K5", networkx.complete_graph(5), 1), ("K6", networkx.complete_graph(6), 3),
+                ("K7", networkx.complete_graph(7), 9), ("K8", networkx.complete_graph(8), 18),
+                ("K3,3", networkx.complete_bipartite_graph(3, 3), 1),
+                ("K4,4", networkx.complete_bipartite_graph(4, 4), 4),
+                ("K5,5", networkx.complete_bipartite_graph(5, 5), 16),
+                ("Petersen", networkx.petersen_graph(), 2), ("Heawood", networkx.heawood_graph(), 3),
+                ("Pappus", networkx.pappus_graph(), 5), ("Möbius and Kantor", networkx.moebius_kantor_graph(), 4),
+                ("Desargues", networkx.desargues_graph(), 6)):
+            with self.subTest(name):
+                self.assertEqual(self.checked(*self.graph(made)).crossings, known)
+
+    def test_planar(self) -> None:
+        """Planar graphs have no crossing."""
+        for made in (networkx.path_graph(1), networkx.path_graph(2), networkx.star_graph(9), networkx.tutte_graph(),
+                     networkx.icosahedral_graph(), networkx.grid_2d_graph(7, 9), networkx.wheel_graph(12)):
+            self.assertEqual(self.checked(*self.graph(made)).crossings, 0)
+
+    def test_parts(self) -> None:
+        """Parts, blocks and vertices without edges stay apart; the empty graph has no piece."""
+        self.assertEqual(self.checked(0, []).crossings, 0)
+        self.assertEqual(self.checked(3, []).crossings, 0)
+        five = [(tail, head) for tail in range(5) for head in range(tail)]
+        moved = [(tail + 4, head + 4) for tail, head in five]
+        apart = [(tail + 20, head + 20) for tail, head in five]
+        result = self.checked(26, five + moved + apart + [(0, 10), (10, 11)])
+        self.assertEqual(result.crossings, 3)
+
+    def test_many_edges(self) -> None:
+        """Loops, parallel edges and chains beside them; crossing a bundle costs each of its edges."""
+        five = [(tail, head) for tail in range(5) for head in range(tail)]
+        thick = [pair for pair in five for _ in range(3)]
+        self.assertEqual(self.checked(5, thick + [(0, 0), (0, 0), (3, 3)]).crossings, 9)
+        # Each edge twice but one, and one way round by a chain: the least product of two disjoint edges is 1 x 2.
+        mixed = [pair for pair in five for _ in range(2 if pair != (1, 0) else 1)]
+        chained = [pair for pair in mixed if pair != (3, 2)] + [(3, 5), (5, 2), (2, 6), (6, 7), (7, 3)]
+        self.assertEqual(self.checked(8, chained).crossings, 2)
+
+    def test_random(self) -> None:
+        """Random graphs with loops, parallel edges and vertices that are to lie on one face."""
+        for seed in range(40):
+            dice = random.Random(seed)
+            count = dice.randrange(1, 16)
+            edges = [(dice.randrange(count), dice.randrange(count)) for _ in range(dice.randrange(3 * count))]
+            together = dice.sample(range(count), dice.randrange(count + 1))
+            with self.subTest(seed=seed):
+                self.checked(count, edges, together, effort=seed % 2, seed=seed)
+
+    def test_together(self) -> None:
+        """Vertices come to one face with no crossing where some embedding has them there, else by crossings."""
+        count, grid = self.graph(networkx.grid_2d_graph(4, 4))
+        self.assertEqual(self.checked(count, grid, (0, 3, 12, 15)).crossings, 0)
+        self.assertGreater(self.checked(count, grid, (0, 5, 10, 15)).crossings, 0)
+        # Two squares that share a side: the two vertices of degree 2 lie on one face after one square is turned.
+        ladder = [(0, 1), (1, 2), (2, 3), (3, 0), (0, 4), (4, 2)]
+        for pair in ((1, 3), (1, 4), (3, 4)):
+            self.assertEqual(self.checked(5, ladder, pair).crossings, 0)
+
+    def test_same_bytes(self) -> None:
+        """The result depends on the effort and the seed, not on the process and its hashes."""
+        said = [subprocess.run([sys.executable, "-c", PRINTED], check=True, capture_output=True, cwd=PACKAGE,
+                               env={**os.environ, "PYTHONHASHSEED": seed, "PYTHONPATH": PACKAGE}).stdout
+                for seed in ("0", "1", "77")]
+        self.assertEqual(said[0], said[1])
+        self.assertEqual(said[0], said[2])
+
+
+if __name__ == "__main__":
+    unittest.main()
