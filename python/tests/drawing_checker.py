@@ -1,0 +1,316 @@
+#!/usr/bin/env python3
+"""Checks a drawing from its JSON alone: it shares no code with what draws.
+
+    python3 python/tests/drawing_checker.py DRAWING.json
+
+A drawing is right where
+
+- each edge runs along the axes, turns at each of its inner points, begins on the border of its tail's box and ends on
+  the border of its head's, and meets neither box elsewhere;
+- two edges meet in crossings alone, each a point inside a straight piece of both, and all crossings are told; no edge
+  meets itself, and lines that do not cross are at least `CLEAR` pixels apart;
+- no edge comes near a box that is not its own, and boxes and labels are apart;
+- bends are as told, and everything lies inside the size.
+
+Edges of one net may meet at the net, which is a point or a line.
+"""
+from __future__ import annotations
+
+import itertools
+import json
+import math
+import sys
+from collections import Counter
+from collections.abc import Iterator, Sequence
+from dataclasses import dataclass
+from typing import Any
+
+CLEAR = 1.0  # pixels, the least distance of what must not touch
+SAME = 1e-3  # pixels: points nearer than this are one
+
+Point = tuple[float, float]
+Box = tuple[float, float, float, float]  # left, top, right, bottom
+
+
+class Wrong(Exception):
+    """What is wrong with a drawing."""
+
+
+@dataclass(frozen=True)
+class Found:
+    """What was counted in a drawing that is right."""
+
+    crossings: int
+    bends: int
+
+
+@dataclass(frozen=True)
+class Piece:
+    """A straight piece of an edge: its place in the edge, and its box, of which one side is 0."""
+
+    edge: int
+    place: int
+    box: Box
+
+    @property
+    def is_upright(self) -> bool:
+        """Whether it runs from top to bottom."""
+        return self.box[0] == self.box[2]
+
+
+def check(drawing: dict[str, Any], edges: Sequence[tuple[int, int]] | None = None, names: Sequence[str] | None = None) -> Found:
+    """Check a drawing.
+
+    Parameters
+    ----------
+    drawing : dict
+        As `planarbend-draw -o OUT.json` writes it.
+    edges : sequence of (int, int), optional
+        The edges of the graph that was to be drawn, as numbers of its vertices, in order.
+    names : sequence of str, optional
+        The names of its vertices, in order.
+
+    Returns
+    -------
+    Found
+        The crossings and bends, as counted here.
+
+    Raises
+    ------
+    Wrong
+        The first fault that is found.
+    """
+    look_at_graph(drawing, edges, names)
+    boxes = [box_of(vertex) for vertex in drawing["vertices"]]
+    lines = [[point_of(point) for point in edge["points"]] for edge in drawing["edges"]]
+    pieces = [piece for number, line in enumerate(lines) for piece in pieces_of(number, line)]
+    look_at_size(drawing, boxes, lines)
+    look_at_boxes(drawing, boxes)
+    look_at_ends(drawing, boxes, lines)
+    for piece in pieces:
+        look_at_piece(drawing, boxes, lines, piece)
+    crossings = crossings_of(drawing, boxes, lines, pieces)
+    look_at_told(drawing, crossings)
+    look_at_labels(drawing, boxes, pieces)
+    bends = sum(len(line) - 2 for line in lines)
+    if drawing["bends"] != bends:
+        raise Wrong(f"it tells {drawing['bends']} bends and has {bends}")
+    return Found(len(crossings), bends)
+
+
+def look_at_graph(drawing: dict[str, Any], edges: Sequence[tuple[int, int]] | None, names: Sequence[str] | None) -> None:
+    """Raises `Wrong` where the vertices or edges are not those that were to be drawn."""
+    drawn = [(edge["tail"], edge["head"]) for edge in drawing["edges"]]
+    count = len(drawing["vertices"])
+    if any(not 0 <= end < count for edge in drawn for end in edge):
+        raise Wrong("an edge's end is no vertex")
+    if names is not None and [vertex["name"] for vertex in drawing["vertices"]] != list(names):
+        raise Wrong("the vertices are not those of the graph")
+    if edges is not None and drawn != list(edges):
+        lost = Counter(map(tuple, edges)) - Counter(drawn)
+        raise Wrong(f"the edges are not those of the graph: {sum(lost.values())} are missing or in another order")
+
+
+def box_of(vertex: dict[str, Any]) -> Box:
+    """The box of a vertex."""
+    left, top, right, bottom = box = tuple(map(float, vertex["box"]))
+    if not all(map(math.isfinite, box)):
+        raise Wrong(f"the box of {vertex['name']} is not finite")
+    is_point_or_line = vertex["kind"] == "net" and left <= right and top <= bottom
+    if not is_point_or_line and not (left < right and top < bottom):
+        raise Wrong(f"the box of {vertex['name']} has no inside: {box}")
+    return left, top, right, bottom
+
+
+def point_of(point: Sequence[float]) -> Point:
+    """A point of a line."""
+    x, y = map(float, point)
+    if not (math.isfinite(x) and math.isfinite(y)):
+        raise Wrong(f"a point is not finite: {point}")
+    return x, y
+
+
+def pieces_of(edge: int, line: list[Point]) -> Iterator[Piece]:
+    """The straight pieces of an edge, each at a right angle to the one before."""
+    if len(line) < 2:
+        raise Wrong(f"edge {edge} has {len(line)} points")
+    before = None
+    for place, ((x, y), (right, bottom)) in enumerate(itertools.pairwise(line)):
+        if (x == right) == (y == bottom):
+            raise Wrong(f"edge {edge} does not run along an axis from {x}, {y} to {right}, {bottom}")
+        if before is not None and before == (x == right):
+            raise Wrong(f"edge {edge} does not turn at {x}, {y}")
+        before = x == right
+        yield Piece(edge, place, (min(x, right), min(y, bottom), max(x, right), max(y, bottom)))
+
+
+def look_at_size(drawing: dict[str, Any], boxes: list[Box], lines: list[list[Point]]) -> None:
+    """Raises `Wrong` where something lies outside the picture."""
+    width, height = drawing["size"]
+    points = [point for line in lines for point in line]
+    points += [(box[0], box[1]) for box in boxes] + [(box[2], box[3]) for box in boxes]
+    for x, y in points:
+        if not (0 <= x <= width and 0 <= y <= height):
+            raise Wrong(f"{x}, {y} lies outside the picture, {width} by {height}")
+
+
+def apart(one: Box, other: Box) -> float:
+    """How far two boxes are apart, along the axis along which they are further apart; 0 or less where they meet."""
+    return max(one[0] - other[2], other[0] - one[2], one[1] - other[3], other[1] - one[3])
+
+
+def look_at_boxes(drawing: dict[str, Any], boxes: list[Box]) -> None:
+    """Raises `Wrong` where two boxes touch."""
+    order = sorted(range(len(boxes)), key=lambda vertex: boxes[vertex][0])
+    for place, one in enumerate(order):
+        for other in itertools.islice(order, place + 1, None):
+            if boxes[other][0] - boxes[one][2] >= CLEAR:
+                break
+            if apart(boxes[one], boxes[other]) < CLEAR:
+                raise Wrong(f"the boxes of {name(drawing, one)} and {name(drawing, other)} touch")
+
+
+def name(drawing: dict[str, Any], vertex: int) -> str:
+    """The name of a vertex, for a message."""
+    return repr(drawing["vertices"][vertex]["name"])
+
+
+def on_border(point: Point, box: Box) -> bool:
+    """Whether a point is on the border of a box."""
+    x, y = point
+    inside = box[0] - SAME <= x <= box[2] + SAME and box[1] - SAME <= y <= box[3] + SAME
+    return inside and min(abs(x - box[0]), abs(x - box[2]), abs(y - box[1]), abs(y - box[3])) <= SAME
+
+
+def look_at_ends(drawing: dict[str, Any], boxes: list[Box], lines: list[list[Point]]) -> None:
+    """Raises `Wrong` where an edge does not begin on the border of its tail's box or end on that of its head's."""
+    for number, (edge, line) in enumerate(zip(drawing["edges"], lines, strict=True)):
+        for vertex, point in ((edge["tail"], line[0]), (edge["head"], line[-1])):
+            if not on_border(point, boxes[vertex]):
+                raise Wrong(f"edge {number} ends at {point}, not on the border of the box of {name(drawing, vertex)}")
+
+
+def ends_of(drawing: dict[str, Any], lines: list[list[Point]], piece: Piece) -> dict[Point, int]:
+    """The points at which a piece ends on a box, each with the vertex of the box."""
+    edge, line = drawing["edges"][piece.edge], lines[piece.edge]
+    found = {}
+    if piece.place == 0:
+        found[line[0]] = edge["tail"]
+    if piece.place == len(line) - 2:
+        found[line[-1]] = edge["head"]
+    return found
+
+
+def look_at_piece(drawing: dict[str, Any], boxes: list[Box], lines: list[list[Point]], piece: Piece) -> None:
+    """Raises `Wrong` where a piece comes near a box but at its end on that box."""
+    ends = ends_of(drawing, lines, piece)
+    for vertex, box in enumerate(boxes):
+        if apart(piece.box, box) >= CLEAR:
+            continue
+        at = [point for point, end in ends.items() if end == vertex]
+        if not at:
+            raise Wrong(f"edge {piece.edge} touches the box of {name(drawing, vertex)}")
+        for point in at:
+            far = [value for value, own in zip((*piece.box[:2], *piece.box[2:]), (*point, *point)) if abs(value - own) > SAME]
+            if not is_outside(piece.box, box, point) or not far:
+                raise Wrong(f"edge {piece.edge} runs into the box of {name(drawing, vertex)}")
+
+
+def is_outside(piece: Box, box: Box, point: Point) -> bool:
+    """Whether a piece that ends on a box at this point has no other point in the box."""
+    common = (max(piece[0], box[0]), max(piece[1], box[1]), min(piece[2], box[2]), min(piece[3], box[3]))
+    return all(abs(value - own) <= SAME for value, own in zip(common, (*point, *point)))
+
+
+def crossings_of(drawing: dict[str, Any], boxes: list[Box], lines: list[list[Point]],
+                 pieces: list[Piece]) -> list[tuple[Point, tuple[int, int]]]:
+    """The crossings, each with its two edges; raises `Wrong` where two edges meet in another way."""
+    found = []
+    order = sorted(pieces, key=lambda piece: piece.box[0])
+    for place, one in enumerate(order):
+        for other in itertools.islice(order, place + 1, None):
+            if other.box[0] - one.box[2] >= CLEAR:
+                break
+            if apart(one.box, other.box) >= CLEAR:
+                continue
+            if one.edge == other.edge:
+                look_at_own(one, other)
+            elif not meet_at_net(drawing, lines, one, other):
+                found.append((crossing_of(one, other), (min(one.edge, other.edge), max(one.edge, other.edge))))
+    return found
+
+
+def look_at_own(one: Piece, other: Piece) -> None:
+    """Raises `Wrong` where two pieces of an edge that do not follow each other come near each other."""
+    if abs(one.place - other.place) > 1:
+        raise Wrong(f"edge {one.edge} meets itself")
+
+
+def meet_at_net(drawing: dict[str, Any], lines: list[list[Point]], one: Piece, other: Piece) -> bool:
+    """Whether two pieces of two edges meet in one point at which both end on the same net, and nowhere else."""
+    ends = ends_of(drawing, lines, other)
+    for point, vertex in ends_of(drawing, lines, one).items():
+        if drawing["vertices"][vertex]["kind"] != "net" or ends.get(point) != vertex:
+            continue
+        return is_outside(one.box, other.box, point)
+    return False
+
+
+def crossing_of(one: Piece, other: Piece) -> Point:
+    """The point where two pieces cross; raises `Wrong` where they come near each other without crossing."""
+    if one.is_upright == other.is_upright:
+        raise Wrong(f"edges {one.edge} and {other.edge} run over each other")
+    upright, level = (one, other) if one.is_upright else (other, one)
+    x, y = upright.box[0], level.box[1]
+    room = min(x - level.box[0], level.box[2] - x, y - upright.box[1], upright.box[3] - y)
+    if room < CLEAR:
+        raise Wrong(f"edges {one.edge} and {other.edge} touch at {x}, {y} without crossing there")
+    return x, y
+
+
+def look_at_told(drawing: dict[str, Any], crossings: list[tuple[Point, tuple[int, int]]]) -> None:
+    """Raises `Wrong` where the crossings that the drawing tells are not those that it has."""
+    told = Counter((round(one["at"][0], 2), round(one["at"][1], 2), *sorted(one["edges"])) for one in drawing["crossings"])
+    counted = Counter((round(x, 2), round(y, 2), *edges) for (x, y), edges in crossings)
+    if told != counted:
+        raise Wrong(f"it tells {told.total()} crossings and has {counted.total()}, of which"
+                    f" {(counted - told).total()} are not told")
+
+
+def look_at_labels(drawing: dict[str, Any], boxes: list[Box], pieces: list[Piece]) -> None:
+    """Raises `Wrong` where a label outside the boxes touches a box, another label, or a line that is not its own."""
+    labels = [(f"edge {number}", number, tuple(map(float, edge["label_box"])))
+              for number, edge in enumerate(drawing["edges"]) if edge.get("label_box")]
+    labels += [(f"vertex {number}", None, tuple(map(float, vertex["label_box"])))
+               for number, vertex in enumerate(drawing["vertices"]) if vertex.get("label_box")]
+    width, height = drawing["size"]
+    for (what, own, box), place in zip(labels, range(len(labels))):
+        if not (0 <= box[0] < box[2] <= width and 0 <= box[1] < box[3] <= height):
+            raise Wrong(f"the label of {what} lies outside the picture")
+        for vertex, other in enumerate(boxes):
+            if apart(box, other) < 0 and f"vertex {vertex}" != what:
+                raise Wrong(f"the label of {what} covers the box of {name(drawing, vertex)}")
+        for second, _, other in labels[place + 1:]:
+            if apart(box, other) < 0:
+                raise Wrong(f"the labels of {what} and {second} cover each other")
+        for piece in pieces:
+            if own is not None and piece.edge != own and apart(box, piece.box) < 0:
+                raise Wrong(f"the label of {what} covers edge {piece.edge}")
+
+
+def main() -> int:
+    """Check the drawings that the command line names."""
+    for path in sys.argv[1:]:
+        with open(path, encoding="utf-8") as source:
+            drawing = json.load(source)
+        try:
+            found = check(drawing)
+        except Wrong as fault:
+            print(f"{path}: {fault}", file=sys.stderr)
+            return 1
+        print(f"{path}: {found.crossings} crossings, {found.bends} bends, all right")
+    return 0
+
+
+if __name__ == "__main__":
+    sys.exit(main())
