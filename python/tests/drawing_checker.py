@@ -211,8 +211,7 @@ def look_at_piece(drawing: dict[str, Any], boxes: list[Box], lines: list[list[Po
         if not at:
             raise Wrong(f"edge {piece.edge} touches the box of {name(drawing, vertex)}")
         for point in at:
-            far = [value for value, own in zip((*piece.box[:2], *piece.box[2:]), (*point, *point)) if abs(value - own) > SAME]
-            if not is_outside(piece.box, box, point) or not far:
+            if not is_outside(piece.box, box, point):
                 raise Wrong(f"edge {piece.edge} runs into the box of {name(drawing, vertex)}")
 
 
