@@ -1,93 +1,220 @@
-"""Draws named vertices and their connections along horizontal and vertical lines, with the fewest bends."""
+"""Draws a graph: its components one by one, then side by side."""
 from __future__ import annotations
 
-import argparse
-import os
-import shutil
-import subprocess
-import sys
-import tempfile
+import math
+from collections.abc import Sequence
+from dataclasses import dataclass
 
-from planarbend.drawing import Sheet
-from planarbend.named_graphs import FORMATS, NamedGraph, Unusable, read_graph
-from planarbend.placing import placed
+from planarbend.choose import Shape, choose
+from planarbend.drawn import Box, Crossing, Drawing, Point
+from planarbend.engine import Engine, default_engine
+from planarbend.expand import MOST_CONNECTIONS, expand, size_of
+from planarbend.graph import Edge, Graph
 from planarbend.layouts import PlanarbendError
+from planarbend.planar_code import MOST_VERTICES
+from planarbend.planarize import Planarization, planarize
+from planarbend.spread import Sheet
 
-TEXT = """\
-  python3 examples/draw.py examples/radio.txt -o radio.svg
-  python3 examples/draw.py plan.dot -o plan.pdf --outer kitchen,hall,porch
-
-GRAPH is a list of connections, one or more a line, as `antenna -- tuner -- mixer` or as two words; a name may
-hold any letters, and in quotes also `--`; `#` begins a comment. Or it is GraphML, DOT or the node-link JSON of
-networkx, by the ending of its name or --format. Arrows of a directed graph are drawn.
-
-The embedding is found by networkx, the bends, the outer face and the points by planarbend: of all choices of
-the outer face one with the fewest bends, or the face with the names of --outer on it. Several components are
-drawn side by side. OUT is SVG, or by its ending PNG or PDF, which rsvg-convert makes.
-
-Needs networkx (Debian: python3-networkx), for DOT pydot (python3-pydot), for PNG and PDF rsvg-convert
-(librsvg2-bin), and the program planarbend: PLANARBEND, or the one of this repository.
-"""
-STATUSES = """\
-status: 0; 1 where the graph cannot be read or drawn, which is said on standard error, with nothing written; 2 where
-the command line is refused
-"""
-CONVERTED = {".png": "png", ".pdf": "pdf"}
+MARGIN = 16.0  # pixels round the whole
+BETWEEN = 30.0  # pixels between components
+SHAPE = 1.5  # the width of a sheet of several components over its height, about
 
 
-def command_line() -> argparse.Namespace:
-    parser = argparse.ArgumentParser(description=__doc__ + "\n\n" + TEXT, epilog=STATUSES,
-                                     formatter_class=argparse.RawDescriptionHelpFormatter)
-    parser.add_argument("graph", metavar="GRAPH", help="the file of vertices and connections, or - for standard input")
-    parser.add_argument("-o", "--output", metavar="OUT", required=True, help="the picture: .svg, .png or .pdf, or -")
-    parser.add_argument("--format", choices=sorted(FORMATS), help="what GRAPH is, where its name does not say it")
-    parser.add_argument("--outer", metavar="NAME,NAME,..", help="the outer face is the one with these names on it")
-    parser.add_argument("--scale", metavar="N", type=float, default=1.0, help="of a PNG, times 96 dots an inch (1)")
-    words = parser.parse_args()
-    if os.path.splitext(words.output)[1] not in (".svg", *CONVERTED) and words.output != "-":
-        parser.error("OUT ends with .svg, .png or .pdf")
-    if not 0.1 <= words.scale <= 20:
-        parser.error("--scale is 0.1 to 20")
-    return words
+class DrawError(Exception):
+    """Why a graph cannot be drawn."""
 
 
-def picture(graph: NamedGraph, outer: str | None) -> str:
-    """The SVG text of a graph."""
-    names = [graph.name_of(word.strip()) for word in outer.split(",")] if outer else None
-    return Sheet(placed(graph, names), graph.arrows).svg()
+@dataclass(frozen=True, slots=True)
+class Options:
+    """How to draw.
+
+    Attributes
+    ----------
+    outer : sequence of int
+        Vertices that must lie on the outer face.
+    compact : bool
+        Whether vertices above degree 4 have their sides fixed beforehand, which takes less room and more bends.
+    effort : int
+        How long to look for fewer crossings and bends.
+    seed : int
+        Of the random choices.
+    """
+
+    outer: Sequence[int] = ()
+    compact: bool = False
+    effort: int = 1
+    seed: int = 0
 
 
-def write(text: str, path: str, scale: float) -> None:
-    """Writes the picture as what the name of its file says; it gets its name once it is whole."""
-    if path == "-":
-        print(text)
-        return
-    kind = CONVERTED.get(os.path.splitext(path)[1])
-    if kind and not shutil.which("rsvg-convert"):
-        raise Unusable(f"{path}: needs rsvg-convert (Debian: librsvg2-bin)")
-    with tempfile.TemporaryDirectory(dir=os.path.dirname(os.path.abspath(path))) as folder:
-        drawn = os.path.join(folder, "picture.svg")
-        with open(drawn, "w", encoding="utf-8") as out:
-            out.write(text + "\n")
-        if kind:
-            converted = os.path.join(folder, "picture." + kind)
-            zoom = ["--zoom", str(scale)] if kind == "png" else []
-            subprocess.run(["rsvg-convert", "--format", kind, *zoom, "--output", converted, drawn], check=True)
-            drawn = converted
-        os.replace(drawn, path)
+@dataclass(slots=True)
+class Part:
+    """A component of a graph in pixels, its left upper corner at 0, 0."""
+
+    vertices: list[int]
+    edges: list[int]
+    boxes: list[Box]
+    lines: list[list[Point]]
+    crossings: list[Crossing]
+    labels: dict[int, Box]
+    width: float
+    height: float
 
 
-def main() -> int:
-    words = command_line()
-    try:
-        write(picture(read_graph(words.graph, words.format), words.outer), words.output, words.scale)
-    except (Unusable, PlanarbendError) as fault:
-        print(f"draw.py: {fault}", file=sys.stderr)
-        return 1
-    except OSError as error:
-        print(f"draw.py: {error.filename or words.output}: {error.strerror}", file=sys.stderr)
-        return 1
-    except subprocess.CalledProcessError as error:
-        print(f"draw.py: rsvg-convert ended with status {error.returncode}", file=sys.stderr)
-        return 1
-    return 0
+def components_of(graph: Graph) -> list[tuple[list[int], list[int]]]:
+    """The vertices and the edges of each component, in the graph's order."""
+    root = list(range(len(graph.vertices)))
+
+    def find(vertex: int) -> int:
+        while root[vertex] != vertex:
+            root[vertex] = root[root[vertex]]
+            vertex = root[vertex]
+        return vertex
+
+    for edge in graph.edges:
+        one, other = find(edge.tail), find(edge.head)
+        root[max(one, other)] = min(one, other)
+    found: dict[int, tuple[list[int], list[int]]] = {}
+    for vertex in range(len(graph.vertices)):
+        found.setdefault(find(vertex), ([], []))[0].append(vertex)
+    for number, edge in enumerate(graph.edges):
+        found[find(edge.tail)][1].append(number)
+    return list(found.values())
+
+
+def draw(graph: Graph, options: Options = Options(), engine: Engine | None = None) -> Drawing:
+    """Draw a graph.
+
+    Parameters
+    ----------
+    graph : Graph
+    options : Options
+    engine : Engine, optional
+        What lays out embedded graphs; the program by default.
+
+    Returns
+    -------
+    Drawing
+
+    Raises
+    ------
+    DrawError
+        If a component would need more than 255 vertices, or the vertices of `outer` lie in several components.
+    PlanarbendError
+        If the program is missing or fails.
+    """
+    engine = engine or default_engine()
+    parts = [part_of(graph, vertices, edges, options, engine) for vertices, edges in components_of(graph)]
+    return side_by_side(graph, parts)
+
+
+def part_of(graph: Graph, vertices: list[int], edges: list[int], options: Options, engine: Engine) -> Part:
+    """Draw one component."""
+    number = {vertex: place for place, vertex in enumerate(vertices)}
+    inner = Graph([graph.vertices[vertex] for vertex in vertices], [], graph.directed)
+    for place in edges:
+        edge = graph.edges[place]
+        inner.edges.append(Edge(number[edge.tail], number[edge.head], edge.label, edge.arrow))
+    if not edges:
+        shape = lone(inner)
+        crossings = []
+    else:
+        pairs = [(edge.tail, edge.head) for edge in inner.edges]
+        together = [number[vertex] for vertex in options.outer if vertex in number]
+        planar = planarize(len(vertices), pairs, effort=options.effort, seed=options.seed, together=together)
+        shape = shape_of_planar(planar, options, engine)
+        crossings = crossings_of(planar, shape)
+    sheet = Sheet(shape, inner)
+    sheet.place()
+    return in_pixels(sheet, vertices, edges, crossings)
+
+
+def lone(graph: Graph) -> Shape:
+    """The shape of a single vertex without edges."""
+    from planarbend.expand import Expansion
+    return Shape(Expansion([[]], [[0]], [], set(), set()), [(0, 0)], [], [(0, 0, 0, 0)], [], 0)
+
+
+def shape_of_planar(planar: Planarization, options: Options, engine: Engine) -> Shape:
+    """The best shape of an embedded component."""
+    degree = [len(darts) for darts in planar.rotation[:planar.vertex_count]]
+    large = [vertex for vertex, count in enumerate(degree) if count > MOST_CONNECTIONS]
+    spines = {vertex: 0 for vertex in large} if options.compact else {}
+    cages = [vertex for vertex in large if vertex not in spines]
+    by_degree = sorted(cages, key=lambda vertex: -degree[vertex])
+    while by_degree and size_of(planar, degree, cages, spines) > MOST_VERTICES:
+        spines[by_degree[0]] = 0
+        cages.remove(by_degree.pop(0))
+    expansion = expand(planar, cages, spines)
+    if len(expansion.around) > MOST_VERTICES:
+        raise DrawError(f"a component of {planar.vertex_count} vertices and {len(planar.chains)} edges would need"
+                        f" {len(expansion.around)} vertices for its connections and {planar.crossings} crossings; the limit"
+                        f" is {MOST_VERTICES}")
+    return choose(expansion, engine)
+
+
+def crossings_of(planar: Planarization, shape: Shape) -> list[tuple[int, tuple[int, int]]]:
+    """The node of each crossing, with the two edges that cross there."""
+    met: dict[int, list[int]] = {}
+    for edge, chain in enumerate(shape.expansion.chains):
+        for node in chain[1:-1]:
+            met.setdefault(node, []).append(edge)
+    return [(node, (min(met[node]), max(met[node]))) for node in shape.expansion.crossings]
+
+
+def in_pixels(sheet: Sheet, vertices: list[int], edges: list[int], crossings: list[tuple[int, tuple[int, int]]]) -> Part:
+    """A settled component, moved to 0, 0."""
+    boxes = [sheet.extent(box) for box in sheet.boxes]
+    lines = [sheet.line(number) for number in range(len(edges))]
+    labels = {number: sheet.extent(item) for number, item in sheet.labels.items()}
+    left = min([box[0] for box in [*boxes, *labels.values()]] + [x for line in lines for x, _ in line])
+    top = min([box[1] for box in [*boxes, *labels.values()]] + [y for line in lines for _, y in line])
+    right = max([box[2] for box in [*boxes, *labels.values()]] + [x for line in lines for x, _ in line])
+    bottom = max([box[3] for box in [*boxes, *labels.values()]] + [y for line in lines for _, y in line])
+
+    def moved(box: Box) -> Box:
+        return box[0] - left, box[1] - top, box[2] - left, box[3] - top
+
+    lines = [[(x - left, y - top) for x, y in line] for line in lines]
+    found = [Crossing(meeting(lines[one], lines[other]), (edges[one], edges[other])) for _, (one, other) in crossings]
+    return Part(vertices, edges, list(map(moved, boxes)), lines, found,
+                {edges[number]: moved(box) for number, box in labels.items()}, right - left, bottom - top)
+
+
+def meeting(one: list[Point], other: list[Point]) -> Point:
+    """The point at which two lines cross."""
+    for (a, b), (c, d) in zip(one, one[1:]):
+        for (e, f), (g, h) in zip(other, other[1:]):
+            if a == c and f == h and min(e, g) < a < max(e, g) and min(b, d) < f < max(b, d):
+                return a, f
+            if b == d and e == g and min(a, c) < e < max(a, c) and min(f, h) < b < max(f, h):
+                return e, b
+    raise PlanarbendError("two edges that cross do not meet: please report this graph")
+
+
+def side_by_side(graph: Graph, parts: list[Part]) -> Drawing:
+    """All components, in rows from left to right."""
+    boxes: list[Box] = [(0.0, 0.0, 0.0, 0.0)] * len(graph.vertices)
+    lines: list[list[Point]] = [[]] * len(graph.edges)
+    crossings: list[Crossing] = []
+    labels: dict[int, Box] = {}
+    area = sum((part.width + BETWEEN) * (part.height + BETWEEN) for part in parts)
+    wide = max([part.width for part in parts] + [math.sqrt(area * SHAPE)])
+    left = top = high = width = 0.0
+    for part in parts:
+        if left and left + part.width > wide:
+            left, top, high = 0.0, top + high + BETWEEN, 0.0
+        x, y = left + MARGIN, top + MARGIN
+
+        def place(box: Box, x: float = x, y: float = y) -> Box:
+            return round(box[0] + x, 3), round(box[1] + y, 3), round(box[2] + x, 3), round(box[3] + y, 3)
+
+        for vertex, box in zip(part.vertices, part.boxes):
+            boxes[vertex] = place(box)
+        for edge, line in zip(part.edges, part.lines):
+            lines[edge] = [(round(a + x, 3), round(b + y, 3)) for a, b in line]
+        crossings += [Crossing((round(one.at[0] + x, 3), round(one.at[1] + y, 3)), one.edges) for one in part.crossings]
+        labels |= {edge: place(box) for edge, box in part.labels.items()}
+        width = max(width, left + part.width)
+        left, high = left + part.width + BETWEEN, max(high, part.height)
+    size = (math.ceil(width + 2 * MARGIN), math.ceil(top + high + 2 * MARGIN))
+    return Drawing(graph, boxes, lines, crossings, size, labels)

@@ -1,0 +1,87 @@
+"""The one door to planarbend that drawing goes through: neighbour lists in, shapes and points out."""
+from __future__ import annotations
+
+import json
+import subprocess
+from collections.abc import Sequence
+from dataclasses import dataclass
+from typing import Any, Protocol
+
+from planarbend.layouts import PlanarbendError, RunFailed, program
+from planarbend.planar_code import HEADER, Lists, record_of
+
+GridPoint = tuple[int, int]
+
+
+@dataclass(frozen=True, slots=True)
+class Answer:
+    """The drawing of one embedded graph on the grid, y to the north.
+
+    Attributes
+    ----------
+    bends : int
+        The fewest for its outer face.
+    points : list of (x, y)
+        Of each vertex.
+    corners : list of list of (x, y)
+        Of each edge, from its lesser vertex to its greater. Edges count as they are first met in the neighbour lists.
+    """
+
+    bends: int
+    points: list[GridPoint]
+    corners: list[list[GridPoint]]
+
+
+class Engine(Protocol):
+    """Lays out embedded graphs with the fewest bends."""
+
+    def lay(self, graphs: Sequence[Lists], outer: str) -> list[Answer]:
+        """Lay out graphs.
+
+        Parameters
+        ----------
+        graphs : sequence of neighbour lists
+            Vertices are counted from 1, neighbours clockwise; at most 255 vertices of degree at most 4, connected,
+            with an edge, without loops and parallel edges.
+        outer : {"first", "best"}
+            The outer face: the one with the longest boundary (of several the one with the least dart), or one that
+            allows the fewest bends.
+
+        Returns
+        -------
+        list of Answer
+            One for each graph.
+        """
+        ...
+
+
+class ProcessEngine:
+    """Runs the program once for each call of `lay`."""
+
+    def __init__(self) -> None:
+        self.program = program()
+
+    def lay(self, graphs: Sequence[Lists], outer: str) -> list[Answer]:
+        """See `Engine`."""
+        if not graphs:
+            return []
+        given = HEADER + b"".join(map(record_of, graphs))
+        ran = subprocess.run([self.program, "layout", "--json", "--outer", outer, "-"], input=given, capture_output=True)
+        lines = [json.loads(line) for line in ran.stdout.splitlines()] if ran.returncode in (0, 3) else []
+        if len(lines) != len(graphs) + 1 or lines[-1].get("end") != "complete":
+            raise RunFailed(ran.returncode, ran.stderr.decode(errors="replace").strip())
+        return [answer_of(line) for line in lines[:-1]]
+
+
+def answer_of(line: dict[str, Any]) -> Answer:
+    """What a JSON line says of its graph."""
+    if line["status"] != "ok" or line["points"] is None:
+        raise PlanarbendError(f"planarbend does not draw a graph: {line}")
+    points = [(x, y) for x, y in line["points"]["vertices"]]
+    corners = [[(x, y) for x, y in between] for between in line["points"]["corners"]]
+    return Answer(line["bends"], points, corners)
+
+
+def default_engine() -> Engine:
+    """The engine to use: the program."""
+    return ProcessEngine()

@@ -1,0 +1,148 @@
+"""A drawing as SVG, and by rsvg-convert as PNG or PDF."""
+from __future__ import annotations
+
+import math
+import os
+import shutil
+import subprocess
+import tempfile
+
+from planarbend.drawn import Box, Drawing, Point
+from planarbend.graph import Arrow, Kind
+from planarbend.texts import FAMILY, FONT, LINE_HEIGHT, lines_of, xml_text
+
+STROKE = 1.6  # pixels, of lines
+INK, FILL, PART_FILL, LINE, NET = "#1d2733", "#f4f7fb", "#fdf6e3", "#3f5873", "#2e7d4f"
+DOT = 3.5  # pixels, the radius of a dot
+LABEL_FONT, LABEL_HEIGHT = 11, 14
+CONVERTED = {".png": "png", ".pdf": "pdf"}
+
+
+class NoConverter(Exception):
+    """rsvg-convert is missing or failed."""
+
+
+def svg(drawing: Drawing) -> str:
+    """The SVG text of a drawing."""
+    width, height = map(math.ceil, drawing.size)
+    head = [f'<svg xmlns="http://www.w3.org/2000/svg" width="{width}" height="{height}"'
+            f' viewBox="0 0 {width} {height}">', '<rect width="100%" height="100%" fill="white"/>']
+    if any(edge.arrow is not Arrow.NONE for edge in drawing.graph.edges):
+        head.append('<defs><marker id="head" viewBox="0 0 10 10" refX="9" refY="5" markerWidth="8" markerHeight="8"'
+                    ' markerUnits="userSpaceOnUse" orient="auto-start-reverse">'
+                    f'<path d="M0 1L9 5L0 9z" fill="{LINE}"/></marker></defs>')
+    return "\n".join([*head, *line_elements(drawing), *box_elements(drawing), *label_elements(drawing), "</svg>"]) + "\n"
+
+
+def line_elements(drawing: Drawing) -> list[str]:
+    """The lines of the edges."""
+    found = [f'<g fill="none" stroke="{LINE}" stroke-width="{STROKE}" stroke-linejoin="round">']
+    for edge, line in zip(drawing.graph.edges, drawing.lines, strict=True):
+        points = " ".join(f"{x:.1f},{y:.1f}" for x, y in line)
+        heads = ' marker-end="url(#head)"' if edge.arrow in (Arrow.FORWARD, Arrow.BOTH) else ""
+        heads += ' marker-start="url(#head)"' if edge.arrow in (Arrow.BACK, Arrow.BOTH) else ""
+        found.append(f'<polyline points="{points}"{heads}/>')
+    return found + ["</g>"]
+
+
+def box_elements(drawing: Drawing) -> list[str]:
+    """The boxes with their names."""
+    found = [f'<g stroke="{LINE}" stroke-width="{STROKE}">']
+    texts = [f'<g fill="{INK}" font-family="{FAMILY}" font-size="{FONT}" text-anchor="middle">']
+    for vertex, (left, top, right, bottom) in zip(drawing.graph.vertices, drawing.boxes, strict=True):
+        if vertex.kind is Kind.NET:
+            continue
+        fill, round_corner = (PART_FILL, 0) if vertex.kind is Kind.PART else (FILL, 4)
+        found.append(f'<rect x="{left:.1f}" y="{top:.1f}" width="{right - left:.1f}" height="{bottom - top:.1f}"'
+                     f' rx="{round_corner}" fill="{fill}"/>')
+        texts += text_lines(lines_of(vertex.label), (left + right) / 2, (top + bottom) / 2, LINE_HEIGHT)
+    return found + ["</g>", *net_elements(drawing), *texts, "</g>"]
+
+
+def text_lines(lines: list[str], x: float, y: float, height: float) -> list[str]:
+    """The lines of a text about a point."""
+    first = y - (len(lines) - 1) * height / 2
+    return [f'<text x="{x:.1f}" y="{first + place * height:.1f}" dy=".35em">{xml_text(line)}</text>'
+            for place, line in enumerate(lines) if line]
+
+
+def net_elements(drawing: Drawing) -> list[str]:
+    """The nets: lines that join their connections, with a dot where three meet."""
+    ends: dict[int, list[Point]] = {}
+    for edge, line in zip(drawing.graph.edges, drawing.lines, strict=True):
+        ends.setdefault(edge.tail, []).append(line[0])
+        ends.setdefault(edge.head, []).append(line[-1])
+    found = [f'<g fill="{LINE}" stroke="{LINE}" stroke-width="{STROKE}" stroke-linecap="square">']
+    for number, vertex in enumerate(drawing.graph.vertices):
+        if vertex.kind is Kind.NET:
+            found += net_lines(drawing.boxes[number], ends.get(number, []))
+    return found + ["</g>"]
+
+
+def net_lines(box: Box, ends: list[Point]) -> list[str]:
+    """A net within its box: a line across, a line to each end above and below it, and dots."""
+    left, top, right, bottom = box
+    if right - left < 1 and bottom - top < 1:
+        return [f'<circle cx="{left:.1f}" cy="{top:.1f}" r="{DOT}" stroke="none"/>']
+    found = []
+
+    def line(x: float, y: float, u: float, v: float) -> None:
+        found.append(f'<path d="M{x:.1f} {y:.1f}L{u:.1f} {v:.1f}" fill="none"/>')
+
+    def dot(x: float, y: float) -> None:
+        found.append(f'<circle cx="{x:.1f}" cy="{y:.1f}" r="{DOT}" stroke="none"/>')
+
+    upright = [(x, y) for x, y in ends if y in (top, bottom)]
+    sideways = [(x, y) for x, y in ends if y not in (top, bottom)]
+    middle = sideways[0][1] if len(sideways) == 1 else (top + bottom) / 2
+    across = [x for x, _ in upright] + [x for x, _ in sideways]
+    line(min(across), middle, max(across), middle)
+    for x, y in upright:
+        line(x, y, x, middle)
+        dot(x, middle)
+    for side in (left, right):
+        at = [y for x, y in sideways if x == side]
+        if len(at) > 1:
+            line(side, min(at), side, max(at))
+            for y in at:
+                dot(side, y)
+    return found
+
+
+def label_elements(drawing: Drawing) -> list[str]:
+    """The labels of the edges, each on its line."""
+    if not drawing.label_boxes:
+        return []
+    found = [f'<g fill="{INK}" font-family="{FAMILY}" font-size="{LABEL_FONT}" text-anchor="middle">']
+    for number, (left, top, right, bottom) in drawing.label_boxes.items():
+        found.append(f'<rect x="{left:.1f}" y="{top:.1f}" width="{right - left:.1f}" height="{bottom - top:.1f}"'
+                     ' fill="white"/>')
+        found += text_lines(lines_of(drawing.graph.edges[number].label), (left + right) / 2, (top + bottom) / 2,
+                            LABEL_HEIGHT)
+    return found + ["</g>"]
+
+
+def write_picture(text: str, path: str, scale: float = 1.0) -> None:
+    """Write an SVG text as what the file's name says; the file gets its name once it is whole.
+
+    Raises
+    ------
+    NoConverter
+        If PNG or PDF is wanted and rsvg-convert is missing or fails.
+    """
+    kind = CONVERTED.get(os.path.splitext(path)[1])
+    if kind and not shutil.which("rsvg-convert"):
+        raise NoConverter(f"{path}: needs rsvg-convert (Debian: librsvg2-bin)")
+    with tempfile.TemporaryDirectory(dir=os.path.dirname(os.path.abspath(path))) as folder:
+        drawn = os.path.join(folder, "picture.svg")
+        with open(drawn, "w", encoding="utf-8") as out:
+            out.write(text)
+        if kind:
+            converted = os.path.join(folder, "picture." + kind)
+            zoom = ["--zoom", str(scale)] if kind == "png" else []
+            ran = subprocess.run(["rsvg-convert", "--format", kind, *zoom, "--output", converted, drawn],
+                                 capture_output=True, text=True)
+            if ran.returncode:
+                raise NoConverter(f"rsvg-convert: {ran.stderr.strip()}")
+            drawn = converted
+        os.replace(drawn, path)

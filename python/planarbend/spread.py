@@ -1,0 +1,375 @@
+"""Gives a shape on the grid its places in pixels: room for names, and no more than that.
+
+Everything that has an extent is an item: boxes, labels of edges, and the straight pieces of edges. Along an axis an
+item lies between two coordinates: that of a piece across the axis, the two sides of a box. Two items are apart by a
+gap along one axis or the other. First x is settled, for items whose rows on the grid overlap; then y, for items that
+overlap in x; then both again, from the places so far. Each time all coordinates take their least values by longest
+paths, then their greatest, then the middle, and then what shortens lines.
+"""
+from __future__ import annotations
+
+import itertools
+import math
+from collections.abc import Sequence
+from dataclasses import dataclass, field
+
+from planarbend.choose import Shape
+from planarbend.drawn import Box, Point
+from planarbend.graph import Graph, Kind
+from planarbend.texts import LINE_HEIGHT, lines_of, width_of
+
+UNIT = 4  # of the fine grid, to one of the shape's
+PAD = (10.0, 7.0)  # pixels between a name and the border of its box
+INSET = 9.0  # pixels from a corner of a box to a line at its side
+LEAST_SIDE = 32.0  # pixels, the width of a box
+LABEL_FONT = 11
+LABEL_HEIGHT = 14.0
+PASSES = 2
+
+BOX, LABEL, PIECE = range(3)
+GAPS = {(BOX, BOX): 26.0, (BOX, LABEL): 12.0, (BOX, PIECE): 15.0, (LABEL, LABEL): 6.0, (LABEL, PIECE): 5.0,
+        (PIECE, PIECE): 13.0}
+GAP = [[GAPS[min(one, other), max(one, other)] for other in range(3)] for one in range(3)]
+
+
+@dataclass(slots=True)
+class Axis:
+    """The coordinates along one axis."""
+
+    value: list[float] = field(default_factory=list)  # fine grid at first, pixels later
+    rank: list[float] = field(default_factory=list)  # order of coordinates with the same grid value
+    same: list[int] = field(default_factory=list)  # another number of the same coordinate, or its own
+
+    def add(self, value: float, rank: float = 0.0) -> int:
+        """Add a coordinate: its number."""
+        self.value.append(value)
+        self.rank.append(rank)
+        self.same.append(len(self.same))
+        return len(self.value) - 1
+
+    def find(self, number: int) -> int:
+        """The number that stands for a coordinate."""
+        while self.same[number] != number:
+            number = self.same[number]
+        return number
+
+    def unite(self, one: int, other: int) -> None:
+        """Make two coordinates one."""
+        self.same[self.find(other)] = self.find(one)
+
+
+@dataclass(slots=True)
+class Item:
+    """What has an extent: along axis a from coordinate `low[a]` plus `before[a]` to `high[a]` plus `after[a]`."""
+
+    kind: int
+    low: list[int]
+    high: list[int]
+    grid: list[tuple[float, float]]  # its extents on the fine grid
+    owns: tuple[bool, bool]  # along which axes it is kept apart from others
+    before: list[float] = field(default_factory=lambda: [0.0, 0.0])
+    after: list[float] = field(default_factory=lambda: [0.0, 0.0])
+    host: tuple[int, ...] = ()  # of a piece: the boxes at its ends; of a label: its own piece as -1 - number
+
+
+class Sheet:
+    """A shape that gets its places."""
+
+    def __init__(self, shape: Shape, graph: Graph, font_lines: bool = True) -> None:
+        self.shape, self.graph = shape, graph
+        self.axes = (Axis(), Axis())
+        self.items: list[Item] = []
+        self.boxes: list[Item] = []
+        self.pieces: list[list[Item]] = []  # of each edge
+        self.labels: dict[int, Item] = {}
+        self.within: tuple[list[tuple[int, int, float]], ...] = ([], [])  # from, to, distance
+        self.at_box: tuple[dict[int, list[int]], ...] = ({}, {})  # for each box the pieces' coordinates at its sides
+        self.sizes = [size_of(vertex.label, vertex.kind, is_dot) for vertex, is_dot in
+                      zip(graph.vertices, self._dots(), strict=True)]
+        for number in range(len(graph.vertices)):
+            self._add_box(number)
+        for number in range(len(graph.edges)):
+            self._add_line(number)
+        for number, edge in enumerate(graph.edges):
+            if edge.label.strip():
+                self._add_label(number, edge.label)
+
+    def _dots(self) -> list[bool]:
+        """Whether each vertex is a net at one point."""
+        expansion = self.shape.expansion
+        return [vertex.kind is Kind.NET and len(expansion.homes[number]) == 1 and len(expansion.around[number]) > 1
+                for number, vertex in enumerate(self.graph.vertices)]
+
+    def _add_box(self, number: int) -> None:
+        left, top, right, bottom = (UNIT * side for side in self.shape.boxes[number])
+        is_dot = self.sizes[number] == (0.0, 0.0)
+        low, high = [], []
+        for axis, first, last in ((0, left, right), (1, top, bottom)):
+            low.append(self.axes[axis].add(first, -1.0 if not is_dot else 0.0))
+            high.append(low[-1] if is_dot else self.axes[axis].add(last, 1.0))
+            if not is_dot:
+                self.within[axis].append((low[-1], high[-1], self.sizes[number][axis]))
+        item = Item(BOX, low, high, [(left, right), (top, bottom)], (True, True), host=(number,))
+        self.boxes.append(item)
+        self.items.append(item)
+
+    def _add_line(self, number: int) -> None:
+        line, edge = self.shape.lines[number], self.graph.edges[number]
+        across = [0 if before[0] == after[0] else 1 for before, after in itertools.pairwise(line)]  # the axis it owns
+        coordinates = []
+        for place, axis in enumerate(across):
+            hosts = [edge.tail] * (place == 0) + [edge.head] * (place == len(across) - 1)
+            coordinates.append(self._coordinate(axis, UNIT * line[place][axis], hosts))
+        found = []
+        for place, axis in enumerate(across):
+            other = 1 - axis
+            start, end = line[place][other], line[place + 1][other]
+            forward = start < end
+            ends, grid, hosts = [], [], []
+            for at, neighbour, host in ((0, place - 1, edge.tail), (1, place + 1, edge.head)):
+                is_low = (at == 0) == forward
+                at_grid = UNIT * line[place + at][other]
+                if 0 <= neighbour < len(across):
+                    ends.append(coordinates[neighbour])
+                    grid.append(at_grid)
+                else:
+                    box = self.boxes[host]
+                    hosts.append(host)
+                    ends.append(box.high[other] if is_low else box.low[other])
+                    grid.append(at_grid + (1 if is_low else -1))
+            if not forward:
+                ends.reverse()
+                grid.reverse()
+            low, high, extents = [0, 0], [0, 0], [(0.0, 0.0), (0.0, 0.0)]
+            low[axis] = high[axis] = coordinates[place]
+            extents[axis] = (UNIT * line[place][axis],) * 2
+            low[other], high[other], extents[other] = ends[0], ends[1], (grid[0], grid[1])
+            found.append(Item(PIECE, low, high, extents, (axis == 0, axis == 1), host=tuple(hosts)))
+        self.pieces.append(found)
+        self.items += found
+
+    def _coordinate(self, axis: int, value: float, hosts: Sequence[int]) -> int:
+        """The coordinate of a piece across an axis, which lies within the boxes at its ends."""
+        for host in hosts:
+            if self.boxes[host].low[axis] == self.boxes[host].high[axis]:  # a dot
+                found = self.boxes[host].low[axis]
+                break
+        else:
+            found = self.axes[axis].add(value)
+        for host in hosts:
+            box = self.boxes[host]
+            if box.low[axis] == box.high[axis]:
+                self.axes[axis].unite(box.low[axis], found)
+                continue
+            inset = self._inset(host, axis)
+            self.within[axis].extend([(box.low[axis], found, inset), (found, box.high[axis], inset)])
+            self.at_box[axis].setdefault(host, []).append(found)
+        return found
+
+    def _inset(self, host: int, axis: int) -> float:
+        return 0.0 if self.graph.vertices[host].kind is Kind.NET else INSET
+
+    def _add_label(self, number: int, text: str) -> None:
+        """Put a label on the piece of its edge that has the most room."""
+        lines = lines_of(text)
+        size = (max(width_of(line, LABEL_FONT) for line in lines) + 4, LABEL_HEIGHT * len(lines))
+        pieces = self.pieces[number]
+
+        def room(place: int) -> tuple[float, int]:
+            item = pieces[place]
+            running = 1 if item.owns[0] else 0
+            length = item.grid[running][1] - item.grid[running][0]
+            return length + (2 if running == 1 else 0), -place
+
+        piece = pieces[max(range(len(pieces)), key=room)]
+        across = 0 if piece.owns[0] else 1
+        running = 1 - across
+        first, last = piece.grid[running]
+        middle = UNIT * math.floor((first + last) / 2 / UNIT) + UNIT / 2
+        place = self.axes[running].add(middle)
+        low, high, grid = [0, 0], [0, 0], [(0.0, 0.0), (0.0, 0.0)]
+        low[across] = high[across] = piece.low[across]
+        low[running] = high[running] = place
+        grid[across], grid[running] = piece.grid[across], (middle, middle)
+        item = Item(LABEL, low, high, grid, (True, True), [-size[0] / 2, -size[1] / 2], [size[0] / 2, size[1] / 2],
+                    host=(-1 - number,))
+        self.labels[number] = item
+        self.items.append(item)
+
+    def _unite(self) -> None:
+        """Give each coordinate the one number that stands for it."""
+        for item in self.items:
+            item.low = [axis.find(number) for axis, number in zip(self.axes, item.low)]
+            item.high = [axis.find(number) for axis, number in zip(self.axes, item.high)]
+        for axis, within, at_box in zip(self.axes, self.within, self.at_box):
+            within[:] = [(axis.find(low), axis.find(high), distance) for low, high, distance in within]
+            for lines in at_box.values():
+                lines[:] = map(axis.find, lines)
+
+    def place(self) -> None:
+        """Settle all coordinates."""
+        self._unite()
+        for step in range(PASSES):
+            for axis in (0, 1):
+                self._settle(axis, step)
+
+    def _settle(self, axis: int, step: int) -> None:
+        """Settle the coordinates along one axis: at step 0 from the order on the grid."""
+        constraints = list(self.within[axis]) + self._apart(axis, step)
+        along = self.axes[axis]
+        order = sorted(range(len(along.value)), key=lambda number: (along.value[number], along.rank[number]))
+        solver = Solver(len(order), order, constraints)
+        solver.settle()
+        self._pull(axis, solver)
+        along.value = solver.value
+
+    def _apart(self, axis: int, step: int) -> list[tuple[int, int, float]]:
+        """The distances along an axis between items that overlap, or nearly do, along the other one."""
+        other = 1 - axis
+        by_grid = step == 0
+        across_grid = by_grid and axis == 0
+        value, cross = self.axes[axis].value, self.axes[other].value
+        rows = []
+        for item in self.items:
+            if not item.owns[axis]:
+                continue
+            if across_grid:
+                low, high = item.grid[other]
+            else:
+                low = cross[item.low[other]] + item.before[other]
+                high = cross[item.high[other]] + item.after[other]
+            if by_grid:
+                begin, end = item.grid[axis]
+            else:
+                begin = value[item.low[axis]] + item.before[axis]
+                end = value[item.high[axis]] + item.after[axis]
+            rows.append((begin, end, low, high, item))
+        rows.sort(key=lambda row: (row[0], row[1]))
+        found = []
+        for place, (_, end, low, high, item) in enumerate(rows):
+            gaps, coordinate, after = GAP[item.kind], item.high[axis], item.after[axis]
+            hosts = item.host
+            for begin, _, start, stop, later in rows[place + 1:]:
+                gap = gaps[later.kind]
+                margin = 1e-6 if across_grid else gap - 1e-6
+                if start - high > margin or low - stop > margin:
+                    continue
+                if begin < end or (begin == end and by_grid):
+                    continue  # a line at its own box, or two that cross the axis at one place
+                if hosts and later.host and not set(hosts).isdisjoint(later.host) and (item.kind != PIECE or later.kind != PIECE
+                                                                                    or begin - end < 1e-6):
+                    continue
+                found.append((coordinate, later.low[axis], gap + after - later.before[axis]))
+        return found
+
+    def _pull(self, axis: int, solver: Solver) -> None:
+        """Move coordinates to where lines are shorter and boxes no larger than they need be."""
+        other = 1 - axis
+        ends: dict[int, list[int]] = {}
+        for pieces in self.pieces:
+            for piece in pieces:
+                if piece.owns[other]:
+                    ends.setdefault(piece.low[axis], []).append(piece.high[axis])
+                    ends.setdefault(piece.high[axis], []).append(piece.low[axis])
+        sides = {side for box in self.boxes for side in (box.low[axis], box.high[axis]) if box.low[axis] != box.high[axis]}
+        movable = [number for number in ends if number not in sides]
+        for _ in range(6):
+            for number, box in enumerate(self.boxes):
+                low, high = box.low[axis], box.high[axis]
+                if low == high:
+                    continue
+                lines = self.at_box[axis].get(number, [])
+                solver.fit(low, high, lines, self.sizes[number][axis], self._inset(number, axis))
+            for number in movable:
+                solver.move(number, ends[number])
+
+    def extent(self, item: Item) -> Box:
+        """The rectangle of an item."""
+        x, y = self.axes[0].value, self.axes[1].value
+        return (x[item.low[0]] + item.before[0], y[item.low[1]] + item.before[1],
+                x[item.high[0]] + item.after[0], y[item.high[1]] + item.after[1])
+
+    def line(self, number: int) -> list[Point]:
+        """The corners of an edge."""
+        x, y = self.axes[0].value, self.axes[1].value
+        shape, pieces = self.shape.lines[number], self.pieces[number]
+        found = []
+        for place, (before, after) in enumerate(itertools.pairwise(shape)):
+            piece = pieces[place]
+            axis = 1 if piece.owns[0] else 0  # along which it runs
+            low, high = (x[piece.low[0]], y[piece.low[1]]), (x[piece.high[0]], y[piece.high[1]])
+            start, end = (low, high) if before[axis] < after[axis] else (high, low)
+            if place == 0:
+                found.append(start)
+            found.append(end)
+        return found
+
+
+class Solver:
+    """Coordinates under constraints `value[to] - value[from] >= distance`, by longest paths."""
+
+    def __init__(self, count: int, order: list[int], constraints: list[tuple[int, int, float]]) -> None:
+        self.order = order
+        self.after: list[list[tuple[int, float]]] = [[] for _ in range(count)]
+        self.before: list[list[tuple[int, float]]] = [[] for _ in range(count)]
+        best: dict[tuple[int, int], float] = {}
+        for low, high, distance in constraints:
+            if best.get((low, high), -1.0) < distance:
+                best[low, high] = distance
+        for (low, high), distance in best.items():
+            self.after[low].append((high, distance))
+            self.before[high].append((low, distance))
+        self.value = [0.0] * count
+
+    def settle(self) -> None:
+        """The middle between the least and the greatest coordinates in the least width."""
+        least = [0.0] * len(self.value)
+        for number in self.order:
+            for other, distance in self.after[number]:
+                if least[other] < least[number] + distance:
+                    least[other] = least[number] + distance
+        width = max(least, default=0.0)
+        greatest = [width] * len(self.value)
+        for number in reversed(self.order):
+            for other, distance in self.after[number]:
+                if greatest[number] > greatest[other] - distance:
+                    greatest[number] = greatest[other] - distance
+        self.value = [(low + high) / 2 for low, high in zip(least, greatest)]
+
+    def range(self, number: int, but: Sequence[int] = ()) -> tuple[float, float]:
+        """The least and the greatest place that others leave a coordinate."""
+        low = max((self.value[other] + distance for other, distance in self.before[number] if other not in but),
+                  default=-math.inf)
+        high = min((self.value[other] - distance for other, distance in self.after[number] if other not in but),
+                   default=math.inf)
+        return low, high
+
+    def move(self, number: int, ends: list[int]) -> None:
+        """Move one coordinate to the middle of those at the other ends of its lines, as far as it may."""
+        wanted = sorted(self.value[other] for other in ends)
+        middle = wanted[len(wanted) // 2] if len(wanted) % 2 else (
+            min(max(self.value[number], wanted[len(wanted) // 2 - 1]), wanted[len(wanted) // 2]))
+        low, high = self.range(number)
+        if low <= high:
+            self.value[number] = min(max(middle, low), high)
+
+    def fit(self, low: int, high: int, lines: list[int], least: float, inset: float) -> None:
+        """Make a box as large as its lines and its name want it, about the middle of its lines."""
+        first, _ = self.range(low, but=(high,))
+        _, last = self.range(high, but=(low,))
+        inner = [self.value[line] for line in lines]
+        start = min(inner) - inset if inner else self.value[low]
+        end = max(inner) + inset if inner else self.value[high]
+        size = max(least, end - start)
+        middle = (start + end) / 2
+        begin = min(max(middle - size / 2, first), last - size)
+        begin = max(min(begin, start), end - size, first) if inner else max(begin, first)
+        self.value[low], self.value[high] = begin, begin + size
+
+
+def size_of(label: str, kind: Kind, is_dot: bool) -> tuple[float, float]:
+    """The least width and height of a box."""
+    if kind is Kind.NET:
+        return (0.0, 0.0) if is_dot else (0.5, 0.5)
+    lines = lines_of(label)
+    return (max(LEAST_SIDE, max(map(width_of, lines)) + 2 * PAD[0]), len(lines) * LINE_HEIGHT + 2 * PAD[1])
