@@ -15,6 +15,17 @@ from .core import Core, core_of
 from .reinsert import FIXED, Reinsertion
 from .rotation import Rotation
 
+STARTS = 8
+"""Number of first embeddings that are improved, for each unit of effort."""
+PATIENCE = 2
+"""Number of rounds in turn without success after which an embedding is left as it is."""
+WORK = 12_000_000
+"""Number of darts to pass for each block and unit of effort (some ten seconds), after which no more is tried."""
+TEST = 64
+"""Work of a planarity test for each edge, in darts."""
+MOST_TESTS = 100
+"""Number of planarity tests for one first embedding."""
+
 
 @dataclass(frozen=True, slots=True)
 class Planarization:
@@ -84,7 +95,7 @@ def planarize(vertex_count: int, edges: Sequence[tuple[int, int]], *, effort: in
         for block in _blocks(count, ends):
             if _planar(count, [ends[edge] for edge in block]) is None:
                 core = core_of(block, ends, weights, FIXED)
-                made = _unfold(core, _least(core, effort, seed), crossed, made)
+                made = _unfold(core, _least(core, effort, seed).rotation, crossed, made)
     return _embedded(vertex_count, count, ends, crossed)
 
 
@@ -147,63 +158,98 @@ def _blocks(vertex_count: int, ends: Sequence[tuple[int, int]]) -> list[list[int
     return members
 
 
-def _planar_part(core: Core, order: Sequence[int]) -> Any:
-    """The embedding of a maximal planar subgraph: a tree, then further edges in order while it stays planar."""
-    count = len(core.vertices)
+class _Starts:
+    """First embeddings of a core, each at random: a planar part, then each further edge where it crosses least.
+
+    Attributes
+    ----------
+    work : int
+        Darts that the planarity tests passed so far, as `Reinsertion.work` counts.
+    """
+
+    def __init__(self, core: Core, seed: int) -> None:
+        self.core = core
+        self.dice = random.Random(seed)
+        self.work = 0
+
+    def next(self) -> Reinsertion:
+        """One more embedding, with the work that it took."""
+        core = self.core
+        order = sorted(range(len(core.ends)), key=lambda edge: (core.weights[edge] != FIXED, self.dice.random()))
+        embedding = self._planar_part(order)
+        number: dict[tuple[int, int], tuple[int, int]] = {}
+        for edge, (tail, head) in enumerate(core.ends):
+            number[tail, head], number[head, tail] = (edge, 0), (edge, 1)
+        count = len(core.vertices)
+        around = [[number[vertex, other] for other in embedding.neighbors_cw_order(vertex)][::-1]
+                  for vertex in range(count)]
+        search = Reinsertion(Rotation.of(count, core.ends, around), core.weights, self.dice)
+        for edge in order:
+            if search.rotation.start[edge] < 0:
+                search.put(edge)
+        return search
+
+    def _planar_part(self, order: Sequence[int]) -> Any:
+        """The embedding of a large planar subgraph: a tree, then further edges in order while it stays planar.
+
+        Edges are tried many at once, and by halves where they are too many. After `MOST_TESTS` the rest is left out.
+        """
+        core = self.core
+        count = len(core.vertices)
+        kept, rest = _tree(count, [core.ends[edge] for edge in order])
+        embedding = self._test(kept)
+        waiting = [rest]
+        for _ in range(MOST_TESTS):
+            if not waiting:
+                break
+            some = waiting.pop()
+            larger = self._test(kept + some)
+            if larger is not None:
+                embedding = larger
+                kept += some
+            elif len(some) > 1:
+                middle = len(some) // 2
+                waiting += (some[middle:], some[:middle])
+        return embedding
+
+    def _test(self, pairs: list[tuple[int, int]]) -> Any:
+        """An embedding of edges of the core, or `None`."""
+        self.work += TEST * len(pairs)
+        return _planar(len(self.core.vertices), pairs)
+
+
+def _tree(count: int, pairs: Iterable[tuple[int, int]]) -> tuple[list[tuple[int, int]], list[tuple[int, int]]]:
+    """The pairs that join two parts of those before them, and the others."""
     part = list(range(count))
     kept: list[tuple[int, int]] = []
     rest: list[tuple[int, int]] = []
-    for edge in order:
-        tail, head = core.ends[edge]
-        while part[tail] != tail:
-            tail = part[tail]
-        while part[head] != head:
-            head = part[head]
-        (rest if tail == head else kept).append(core.ends[edge])
-        part[tail] = head
-    embedding = _planar(count, kept)
-    waiting = [rest]
-    while waiting:
-        some = waiting.pop()
-        larger = _planar(count, kept + some)
-        if larger is not None:
-            embedding = larger
-            kept += some
-        elif len(some) > 1:
-            middle = len(some) // 2
-            waiting += (some[middle:], some[:middle])
-    return embedding
+    for tail, head in pairs:
+        one, other = tail, head
+        while part[one] != one:
+            one = part[one]
+        while part[other] != other:
+            other = part[other]
+        (rest if one == other else kept).append((tail, head))
+        part[one] = other
+    return kept, rest
 
 
-def _started(core: Core, dice: random.Random) -> Reinsertion:
-    """A first embedding of a core: a planar part and then each further edge where it crosses least."""
-    order = sorted(range(len(core.ends)), key=lambda edge: (core.weights[edge] != FIXED, dice.random()))
-    embedding = _planar_part(core, order)
-    number: dict[tuple[int, int], tuple[int, int]] = {}
-    for edge, (tail, head) in enumerate(core.ends):
-        number[tail, head], number[head, tail] = (edge, 0), (edge, 1)
-    count = len(core.vertices)
-    around = [[number[vertex, other] for other in embedding.neighbors_cw_order(vertex)][::-1]
-              for vertex in range(count)]
-    search = Reinsertion(Rotation.of(count, core.ends, around), core.weights, dice)
-    for edge in order:
-        if search.rotation.start[edge] < 0:
-            search.put(edge)
-    return search
-
-
-def _least(core: Core, effort: int, seed: int) -> Rotation:
-    """An embedding of a core with few crossings."""
-    dice = random.Random(seed)
-    best: Reinsertion | None = None
-    for _ in range(8):
-        search = _started(core, dice)
-        search.improve(20)
-        if best is None or search.cost < best.cost:
+def _least(core: Core, effort: int, seed: int) -> Reinsertion:
+    """An embedding of a core with few crossings: the best of several starts."""
+    starts = _Starts(core, seed)
+    best = starts.next()
+    work = 0
+    for number in range(STARTS * effort):
+        search = starts.next() if number else best
+        before = search.work
+        search.improve(PATIENCE, before + max(0, WORK * effort - work - starts.work))
+        work += search.work
+        if search.cost < best.cost:
             best = search
-    assert best is not None
-    best.improve(effort * 100)
-    return best.rotation
+        if best.cost <= 1 or work + starts.work > WORK * effort:
+            break
+    best.settle()
+    return best
 
 
 def _unfold(core: Core, rotation: Rotation, crossed: list[list[int]], made: int) -> int:

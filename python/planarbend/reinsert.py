@@ -3,8 +3,7 @@
 An edge goes back along a shortest path of the dual graph (Gutwenger and Mutzel 2004, with the embedding as it is), a
 vertex into the face from which the sum of such paths to its neighbours is least (after Clancy, Haythorpe and Newcombe
 2019). Neither ever adds a crossing. Where several places are equally good, one is chosen at random, which lets the
-embedding drift; and now and then some edges are put back in a worse place, and the result is kept if what follows
-makes it good again.
+embedding drift.
 
 Work is counted in darts that a search of the dual graph passes, never in seconds, so that the same seed gives the
 same embedding.
@@ -243,18 +242,38 @@ class Reinsertion:
         for edge in edges[1:]:
             self.put(edge)
 
-    def improve(self, most: int) -> None:
-        """Moves edges and vertices in random order until no round of both saves a crossing, for a number of rounds."""
+    def improve(self, patience: int, most_work: int) -> None:
+        """Moves all vertices and edges in random order, again and again.
+
+        Ends after this many rounds in turn that save no crossing, or with a move after which `work` is above
+        ``most_work``.
+        """
         edges = [edge for edge in range(len(self.rotation.ends)) if self.weights[edge] != FIXED]
         vertices = list(range(self.rotation.vertex_count))
-        for _ in range(most):
+        vain = 0
+        while vain < patience and self.cost:
             before = self.cost
             self.dice.shuffle(vertices)
             for vertex in vertices:
-                self.move_vertex(vertex)
+                if self.work <= most_work:
+                    self.move_vertex(vertex)
             self.dice.shuffle(edges)
             for edge in edges:
-                if self.cost_of(edge):
+                if self.work <= most_work and self.cost_of(edge):
                     self.move_edge(edge)
-            if self.cost == before:
+            vain = vain + 1 if self.cost == before else 0
+            if self.work > most_work:
                 return
+
+    def settle(self) -> None:
+        """Moves each edge that crosses others until none saves a crossing.
+
+        After this no two edges with a common end cross, and no two edges cross twice: one of them would save a
+        crossing along the other.
+        """
+        before = self.cost + 1
+        while self.cost < before:
+            before = self.cost
+            for edge in range(len(self.weights)):
+                if self.weights[edge] != FIXED and self.cost_of(edge):
+                    self.move_edge(edge)
