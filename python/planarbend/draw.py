@@ -5,18 +5,18 @@ import math
 from collections.abc import Sequence
 from dataclasses import dataclass
 
-from planarbend.choose import Shape, choose
+from planarbend.choose import NoSuchFace, Shape, TooLarge, choose
 from planarbend.drawn import Box, Crossing, Drawing, Point
 from planarbend.engine import Engine, default_engine
-from planarbend.expand import MOST_CONNECTIONS, expand, size_of
+from planarbend.expand import Expansion
 from planarbend.graph import Edge, Graph
 from planarbend.layouts import PlanarbendError
 from planarbend.planar_code import MOST_VERTICES
 from planarbend.planarize import Planarization, planarize
 from planarbend.spread import Sheet
 
-MARGIN = 16.0  # pixels round the whole
-BETWEEN = 30.0  # pixels between components
+MARGIN = 10.0  # pixels round the whole
+BETWEEN = 18.0  # pixels between components
 SHAPE = 1.5  # the width of a sheet of several components over its height, about
 
 
@@ -58,6 +58,7 @@ class Part:
     labels: dict[int, Box]
     width: float
     height: float
+    broken: list[int]
 
 
 def components_of(graph: Graph) -> list[tuple[list[int], list[int]]]:
@@ -121,7 +122,7 @@ def part_of(graph: Graph, vertices: list[int], edges: list[int], options: Option
         pairs = [(edge.tail, edge.head) for edge in inner.edges]
         together = [number[vertex] for vertex in options.outer if vertex in number]
         planar = planarize(len(vertices), pairs, effort=options.effort, seed=options.seed, together=together)
-        shape = shape_of_planar(planar, options, engine)
+        shape = shape_of_planar(planar, inner, together, options, engine)
         crossings = crossings_of(planar, shape)
     sheet = Sheet(shape, inner)
     sheet.place()
@@ -130,26 +131,19 @@ def part_of(graph: Graph, vertices: list[int], edges: list[int], options: Option
 
 def lone(graph: Graph) -> Shape:
     """The shape of a single vertex without edges."""
-    from planarbend.expand import Expansion
     return Shape(Expansion([[]], [[0]], [], set(), set()), [(0, 0)], [], [(0, 0, 0, 0)], [], 0)
 
 
-def shape_of_planar(planar: Planarization, options: Options, engine: Engine) -> Shape:
+def shape_of_planar(planar: Planarization, graph: Graph, outer: Sequence[int], options: Options, engine: Engine) -> Shape:
     """The best shape of an embedded component."""
-    degree = [len(darts) for darts in planar.rotation[:planar.vertex_count]]
-    large = [vertex for vertex, count in enumerate(degree) if count > MOST_CONNECTIONS]
-    spines = {vertex: 0 for vertex in large} if options.compact else {}
-    cages = [vertex for vertex in large if vertex not in spines]
-    by_degree = sorted(cages, key=lambda vertex: -degree[vertex])
-    while by_degree and size_of(planar, degree, cages, spines) > MOST_VERTICES:
-        spines[by_degree[0]] = 0
-        cages.remove(by_degree.pop(0))
-    expansion = expand(planar, cages, spines)
-    if len(expansion.around) > MOST_VERTICES:
-        raise DrawError(f"a component of {planar.vertex_count} vertices and {len(planar.chains)} edges would need"
-                        f" {len(expansion.around)} vertices for its connections and {planar.crossings} crossings; the limit"
-                        f" is {MOST_VERTICES}")
-    return choose(expansion, engine)
+    try:
+        return choose(planar, engine, compact=options.compact, effort=options.effort, outer=outer)
+    except TooLarge as fault:
+        raise DrawError(f"a component has {len(graph.vertices)} vertices, {len(graph.edges)} edges and {planar.crossings}"
+                        f" crossings, which takes {fault} vertices of degree 4; the limit is {MOST_VERTICES}") from None
+    except NoSuchFace:
+        names = ", ".join(graph.vertices[vertex].name for vertex in outer)
+        raise DrawError(f"no embedding was found with these vertices on one face: {names}") from None
 
 
 def crossings_of(planar: Planarization, shape: Shape) -> list[tuple[int, tuple[int, int]]]:
@@ -177,7 +171,8 @@ def in_pixels(sheet: Sheet, vertices: list[int], edges: list[int], crossings: li
     lines = [[(x - left, y - top) for x, y in line] for line in lines]
     found = [Crossing(meeting(lines[one], lines[other]), (edges[one], edges[other])) for _, (one, other) in crossings]
     return Part(vertices, edges, list(map(moved, boxes)), lines, found,
-                {edges[number]: moved(box) for number, box in labels.items()}, right - left, bottom - top)
+                {edges[number]: moved(box) for number, box in labels.items()}, right - left, bottom - top,
+                [vertices[vertex] for vertex in sheet.shape.broken])
 
 
 def meeting(one: list[Point], other: list[Point]) -> Point:
@@ -217,4 +212,4 @@ def side_by_side(graph: Graph, parts: list[Part]) -> Drawing:
         width = max(width, left + part.width)
         left, high = left + part.width + BETWEEN, max(high, part.height)
     size = (math.ceil(width + 2 * MARGIN), math.ceil(top + high + 2 * MARGIN))
-    return Drawing(graph, boxes, lines, crossings, size, labels)
+    return Drawing(graph, boxes, lines, crossings, size, labels, [vertex for part in parts for vertex in part.broken])

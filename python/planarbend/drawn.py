@@ -35,6 +35,8 @@ class Drawing:
         Of the whole picture.
     label_boxes : dict from edge to Box
         The place of each edge's label that is drawn.
+    broken : list of int
+        The vertices whose box should be no rectangle; the rectangle round it then meets other things.
     """
 
     graph: Graph
@@ -43,6 +45,7 @@ class Drawing:
     crossings: list[Crossing]
     size: tuple[float, float]
     label_boxes: dict[int, Box]
+    broken: list[int]
 
     @property
     def bends(self) -> int:

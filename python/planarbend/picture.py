@@ -14,7 +14,7 @@ from planarbend.texts import FAMILY, FONT, LINE_HEIGHT, lines_of, xml_text
 STROKE = 1.6  # pixels, of lines
 INK, FILL, PART_FILL, LINE, NET = "#1d2733", "#f4f7fb", "#fdf6e3", "#3f5873", "#2e7d4f"
 DOT = 3.5  # pixels, the radius of a dot
-LABEL_FONT, LABEL_HEIGHT = 11, 14
+LABEL_FONT, LABEL_HEIGHT = 10, 12
 CONVERTED = {".png": "png", ".pdf": "pdf"}
 
 

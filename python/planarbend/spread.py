@@ -19,16 +19,16 @@ from planarbend.graph import Graph, Kind
 from planarbend.texts import LINE_HEIGHT, lines_of, width_of
 
 UNIT = 4  # of the fine grid, to one of the shape's
-PAD = (10.0, 7.0)  # pixels between a name and the border of its box
-INSET = 9.0  # pixels from a corner of a box to a line at its side
-LEAST_SIDE = 32.0  # pixels, the width of a box
-LABEL_FONT = 11
-LABEL_HEIGHT = 14.0
+PAD = (6.0, 4.0)  # pixels between a name and the border of its box
+INSET = 6.0  # pixels from a corner of a box to a line at its side
+LEAST_SIDE = 22.0  # pixels, the width of a box
+LABEL_FONT = 10
+LABEL_HEIGHT = 12.0
 PASSES = 2
 
 BOX, LABEL, PIECE = range(3)
-GAPS = {(BOX, BOX): 26.0, (BOX, LABEL): 12.0, (BOX, PIECE): 15.0, (LABEL, LABEL): 6.0, (LABEL, PIECE): 5.0,
-        (PIECE, PIECE): 13.0}
+GAPS = {(BOX, BOX): 20.0, (BOX, LABEL): 10.0, (BOX, PIECE): 12.0, (LABEL, LABEL): 6.0, (LABEL, PIECE): 4.0,
+        (PIECE, PIECE): 10.0}
 GAP = [[GAPS[min(one, other), max(one, other)] for other in range(3)] for one in range(3)]
 
 

@@ -4,9 +4,9 @@ from __future__ import annotations
 import unicodedata
 from xml.sax.saxutils import escape
 
-FONT = 13  # pixels, the letters of a name
-LINE_HEIGHT = 17  # pixels from line to line of a name
-LONGEST_LINE = 130  # pixels: a name that is wider goes on in the next line, at a space
+FONT = 11  # pixels, the letters of a name
+LINE_HEIGHT = 14  # pixels from line to line of a name
+LONGEST_LINE = 110  # pixels: a name that is wider goes on in the next line, at a space
 FAMILY = "DejaVu Sans, Verdana, sans-serif"
 
 WIDTHS = {0.32: " ", 0.40: "ijlI.,:;'|!()[]{}`frt-\"/\\", 0.98: "mMwW@%&"}  # of letters, over the font's size
