@@ -16,6 +16,7 @@ from dataclasses import dataclass, field
 from planarbend.choose import Shape
 from planarbend.drawn import Box, Point
 from planarbend.graph import Graph, Kind
+from planarbend.lengths import Lengths
 from planarbend.texts import LINE_HEIGHT, lines_of, width_of
 
 UNIT = 4  # of the fine grid, to one of the shape's
@@ -25,6 +26,8 @@ LEAST_SIDE = 22.0  # pixels, the width of a box
 LABEL_FONT = 10
 LABEL_HEIGHT = 12.0
 PASSES = 2
+BOX_WEIGHT = 4.0  # of the size of a box, to that of a line's length
+WIDTH_WEIGHT = 1000.0  # of the whole width or height
 
 BOX, LABEL, PIECE = range(3)
 GAPS = {(BOX, BOX): 20.0, (BOX, LABEL): 10.0, (BOX, PIECE): 12.0, (LABEL, LABEL): 6.0, (LABEL, PIECE): 4.0,
@@ -214,14 +217,52 @@ class Sheet:
                 self._settle(axis, step)
 
     def _settle(self, axis: int, step: int) -> None:
-        """Settle the coordinates along one axis: at step 0 from the order on the grid."""
+        """Settle the coordinates along one axis: at step 0 from the order on the grid, at the last step with least
+        lengths."""
         constraints = list(self.within[axis]) + self._apart(axis, step)
         along = self.axes[axis]
         order = sorted(range(len(along.value)), key=lambda number: (along.value[number], along.rank[number]))
         solver = Solver(len(order), order, constraints)
-        solver.settle()
-        self._pull(axis, solver)
+        if step == PASSES - 1:
+            solver.shorten(self._lengths(axis), self._reach(axis))
+            self._centre(axis, solver)
+        else:
+            solver.settle()
+            self._pull(axis, solver)
         along.value = solver.value
+
+    def _lengths(self, axis: int) -> list[tuple[int, int, float, float]]:
+        """What is to be short along an axis: pieces of edges, and boxes."""
+        found = []
+        for pieces in self.pieces:
+            found += [(piece.low[axis], piece.high[axis], 0.0, 1.0) for piece in pieces if piece.owns[1 - axis]]
+        for number, box in enumerate(self.boxes):
+            if box.low[axis] != box.high[axis]:
+                found.append((box.low[axis], box.high[axis], self.sizes[number][axis], BOX_WEIGHT))
+        return found
+
+    def _reach(self, axis: int) -> list[tuple[int, float, int, float]]:
+        """How far items reach beyond their coordinates along an axis."""
+        return [(item.low[axis], -item.before[axis], item.high[axis], item.after[axis]) for item in self.items]
+
+    def _centre(self, axis: int, solver: Solver) -> None:
+        """Move boxes to the middle of their lines, and straight lines to the middle of their boxes, as far as nothing
+        else moves."""
+        hosts: dict[int, list[int]] = {}
+        for number, lines in self.at_box[axis].items():
+            for line in lines:
+                hosts.setdefault(line, []).append(number)
+        bent = {side for pieces in self.pieces for piece in pieces if piece.owns[1 - axis]
+                for side in (piece.low[axis], piece.high[axis])}
+        for _ in range(3):
+            for line, numbers in hosts.items():
+                if line not in bent:
+                    wanted = [(solver.value[self.boxes[number].low[axis]] + solver.value[self.boxes[number].high[axis]]) / 2
+                              for number in numbers]
+                    solver.move_to(line, sum(wanted) / len(wanted))
+            for number, lines in self.at_box[axis].items():
+                box = self.boxes[number]
+                solver.fit(box.low[axis], box.high[axis], lines, self.sizes[number][axis], self._inset(number, axis))
 
     def _apart(self, axis: int, step: int) -> list[tuple[int, int, float]]:
         """The distances along an axis between items that overlap, or nearly do, along the other one."""
@@ -335,6 +376,26 @@ class Solver:
                 if greatest[number] > greatest[other] - distance:
                     greatest[number] = greatest[other] - distance
         self.value = [(low + high) / 2 for low, high in zip(least, greatest)]
+
+    def shorten(self, lengths: list[tuple[int, int, float, float]], reach: list[tuple[int, float, int, float]]) -> None:
+        """The least sum of lengths, each times its weight, within the least width."""
+        count = len(self.value)
+        pairs = [(0, number + 1, 0.0, 0.0) for number in self.order]
+        pairs += [(0, low + 1, before, 0.0) for low, before, _, _ in reach if before > 0]
+        for number in self.order:
+            pairs += [(number + 1, other + 1, distance, 0.0) for other, distance in self.after[number]]
+        pairs += [(low + 1, high + 1, distance, weight) for low, high, distance, weight in lengths]
+        pairs += [(high + 1, count + 1, after, 0.0) for _, _, high, after in reach]
+        pairs += [(0, count + 1, 0.0, WIDTH_WEIGHT)]
+        found = Lengths(count + 2, [0, *(number + 1 for number in self.order), count + 1], pairs)
+        found.shorten(40 * count)
+        self.value = found.value[1:-1]
+
+    def move_to(self, number: int, wanted: float) -> None:
+        """Move one coordinate to a place, as far as it may."""
+        low, high = self.range(number)
+        if low <= high:
+            self.value[number] = min(max(wanted, low), high)
 
     def range(self, number: int, but: Sequence[int] = ()) -> tuple[float, float]:
         """The least and the greatest place that others leave a coordinate."""
