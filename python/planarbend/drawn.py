@@ -56,6 +56,8 @@ class Drawing:
         """The drawing as JSON: vertices, edges, crossings, bends and size."""
         vertices = [{"name": vertex.name, "label": vertex.label, "kind": vertex.kind.value, "box": list(box)}
                     for vertex, box in zip(self.graph.vertices, self.boxes, strict=True)]
+        for number in self.broken:
+            vertices[number]["broken"] = True
         edges = []
         for number, (edge, line) in enumerate(zip(self.graph.edges, self.lines, strict=True)):
             edges.append({"tail": edge.tail, "head": edge.head, "label": edge.label, "arrow": edge.arrow.value,

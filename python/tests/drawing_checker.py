@@ -12,7 +12,8 @@ A drawing is right where
 - no edge comes near a box that is not its own, and boxes and labels are apart;
 - bends are as told, and everything lies inside the size.
 
-Edges of one net may meet at the net, which is a point or a line.
+Edges of one net may meet at the net, which is a point or a line. A box that the drawing calls `broken` has no rectangle of
+its own: it is counted, and what meets it is not looked at.
 """
 from __future__ import annotations
 
@@ -42,6 +43,7 @@ class Found:
 
     crossings: int
     bends: int
+    broken: int = 0  # boxes that are no rectangles
 
 
 @dataclass(frozen=True)
@@ -95,7 +97,7 @@ def check(drawing: dict[str, Any], edges: Sequence[tuple[int, int]] | None = Non
     bends = sum(len(line) - 2 for line in lines)
     if drawing["bends"] != bends:
         raise Wrong(f"it tells {drawing['bends']} bends and has {bends}")
-    return Found(len(crossings), bends)
+    return Found(len(crossings), bends, sum(map(is_broken, drawing["vertices"])))
 
 
 def look_at_graph(drawing: dict[str, Any], edges: Sequence[tuple[int, int]] | None, names: Sequence[str] | None) -> None:
@@ -109,6 +111,11 @@ def look_at_graph(drawing: dict[str, Any], edges: Sequence[tuple[int, int]] | No
     if edges is not None and drawn != list(edges):
         lost = Counter(map(tuple, edges)) - Counter(drawn)
         raise Wrong(f"the edges are not those of the graph: {sum(lost.values())} are missing or in another order")
+
+
+def is_broken(vertex: dict[str, Any]) -> bool:
+    """Whether the drawing calls a box broken."""
+    return bool(vertex.get("broken"))
 
 
 def box_of(vertex: dict[str, Any]) -> Box:
@@ -161,7 +168,8 @@ def apart(one: Box, other: Box) -> float:
 
 def look_at_boxes(drawing: dict[str, Any], boxes: list[Box]) -> None:
     """Raises `Wrong` where two boxes touch."""
-    order = sorted(range(len(boxes)), key=lambda vertex: boxes[vertex][0])
+    whole = [number for number, vertex in enumerate(drawing["vertices"]) if not is_broken(vertex)]
+    order = sorted(whole, key=lambda vertex: boxes[vertex][0])
     for place, one in enumerate(order):
         for other in itertools.islice(order, place + 1, None):
             if boxes[other][0] - boxes[one][2] >= CLEAR:
@@ -186,7 +194,7 @@ def look_at_ends(drawing: dict[str, Any], boxes: list[Box], lines: list[list[Poi
     """Raises `Wrong` where an edge does not begin on the border of its tail's box or end on that of its head's."""
     for number, (edge, line) in enumerate(zip(drawing["edges"], lines, strict=True)):
         for vertex, point in ((edge["tail"], line[0]), (edge["head"], line[-1])):
-            if not on_border(point, boxes[vertex]):
+            if not on_border(point, boxes[vertex]) and not is_broken(drawing["vertices"][vertex]):
                 raise Wrong(f"edge {number} ends at {point}, not on the border of the box of {name(drawing, vertex)}")
 
 
@@ -205,7 +213,7 @@ def look_at_piece(drawing: dict[str, Any], boxes: list[Box], lines: list[list[Po
     """Raises `Wrong` where a piece comes near a box but at its end on that box."""
     ends = ends_of(drawing, lines, piece)
     for vertex, box in enumerate(boxes):
-        if apart(piece.box, box) >= CLEAR:
+        if apart(piece.box, box) >= CLEAR or is_broken(drawing["vertices"][vertex]):
             continue
         at = [point for point, end in ends.items() if end == vertex]
         if not at:
