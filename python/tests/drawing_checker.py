@@ -242,7 +242,7 @@ def crossings_of(drawing: dict[str, Any], boxes: list[Box], lines: list[list[Poi
                 continue
             if one.edge == other.edge:
                 look_at_own(one, other)
-            elif not meet_at_net(drawing, lines, one, other):
+            elif not meet_at_net(drawing, boxes, lines, one, other):
                 found.append((crossing_of(one, other), (min(one.edge, other.edge), max(one.edge, other.edge))))
     return found
 
@@ -253,14 +253,26 @@ def look_at_own(one: Piece, other: Piece) -> None:
         raise Wrong(f"edge {one.edge} meets itself")
 
 
-def meet_at_net(drawing: dict[str, Any], lines: list[list[Point]], one: Piece, other: Piece) -> bool:
-    """Whether two pieces of two edges meet in one point at which both end on the same net, and nowhere else."""
-    ends = ends_of(drawing, lines, other)
-    for point, vertex in ends_of(drawing, lines, one).items():
-        if drawing["vertices"][vertex]["kind"] != "net" or ends.get(point) != vertex:
-            continue
-        return is_outside(one.box, other.box, point)
+def meet_at_net(drawing: dict[str, Any], boxes: list[Box], lines: list[list[Point]], one: Piece, other: Piece) -> bool:
+    """Whether two pieces of two edges that end on the same net come near each other at the net alone."""
+    near = grown(one.box, CLEAR / 2), grown(other.box, CLEAR / 2)
+    common = (max(near[0][0], near[1][0]), max(near[0][1], near[1][1]), min(near[0][2], near[1][2]), min(near[0][3], near[1][3]))
+    shared = set(ends_of(drawing, lines, one).values()) & set(ends_of(drawing, lines, other).values())
+    for vertex in shared:
+        box = grown(boxes[vertex], CLEAR)
+        if drawing["vertices"][vertex]["kind"] == "net" and within(common, box):
+            return True
     return False
+
+
+def grown(box: Box, by: float) -> Box:
+    """A box with this much more on each side."""
+    return box[0] - by, box[1] - by, box[2] + by, box[3] + by
+
+
+def within(inner: Box, outer: Box) -> bool:
+    """Whether a box lies in another."""
+    return inner[0] >= outer[0] and inner[1] >= outer[1] and inner[2] <= outer[2] and inner[3] <= outer[3]
 
 
 def crossing_of(one: Piece, other: Piece) -> Point:
