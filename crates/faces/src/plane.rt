@@ -84,7 +84,7 @@ impl Plane {
         ensures plane { IfOk result IsPlane }
         ensures outer { IfOk result HasGreatestOuter }
         ensures err { IfErr result (IsTraceFault graph) }
-        ensures memory { result ≡ Err (TraceFault.Memory graph) → KeepsBefore graph 9 }
+        ensures never { result ≢ Err (TraceFault.Memory graph) }
     {
         let mut scratch = Scratch::empty(alloc);
         Plane::trace_in(alloc, &mut scratch, graph)
@@ -101,7 +101,7 @@ impl Plane {
         ensures plane { IfOk result IsPlane }
         ensures outer { IfOk result HasGreatestOuter }
         ensures err { IfErr result (IsTraceFault graph) }
-        ensures memory { result ≡ Err (TraceFault.Memory graph) → KeepsBefore graph 9 }
+        ensures never { result ≢ Err (TraceFault.Memory graph) }
     {
         if u16::from(graph.vertices()) + graph.face_count() != graph.edges() + 2 {
             return Err(TraceFault::Genus(graph));
