@@ -1,14 +1,24 @@
-//! What weights say of lengths.
+//! What weights say of lengths, and what shortest coordinates are.
 
-ghost use Rattle.std.specs.Prelude.{◌≤◌, ℕ, List, length};
+ghost use Rattle.std.specs.Prelude.{◌≡◌, ◌≤◌, ℕ, List, length};
 ghost use Rattle.least_length.specs.declared.segments.Wire.{Wire};
 ghost use Rattle.least_length.specs.declared.segments.Segment.{Segment};
 ghost use Rattle.least_length.specs.declared.segments.Sight.{Sight};
-ghost use Rattle.least_length.specs.Lengths.{KeepsOrder, total_length};
+ghost use Rattle.least_length.specs.Lengths.{KeepsOrder, IsShortest, total_length};
 ghost use Rattle.least_length.specs.Weights.{AreWeights, total_weight};
 
 /// Weights in balance at each segment sum to no more than the total length of the wires with any coordinates that
 /// keep the order.
 pub fn weights_bound_lengths()
     ensures { (segments : List Segment) (wires : List Wire) (sights : List Sight) (coordinates : ℕ → ℕ) → AreWeights segments wires sights → KeepsOrder segments coordinates → total_weight sights ≤ total_length wires coordinates }
+{}
+
+/// With shortest coordinates segments stand on each level in the order in which they stand there now.
+pub fn shortest_keep_order()
+    ensures { (segments : List Segment) (wires : List Wire) (coordinates : ℕ → ℕ) → IsShortest segments wires coordinates → KeepsOrder segments coordinates }
+{}
+
+/// With any two shortest coordinates the wires are equally long in all.
+pub fn shortest_are_equally_long()
+    ensures { (segments : List Segment) (wires : List Wire) (first second : ℕ → ℕ) → IsShortest segments wires first → IsShortest segments wires second → total_length wires first ≡ total_length wires second }
 {}

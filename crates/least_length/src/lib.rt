@@ -18,7 +18,7 @@ mod sight_lists;
 mod sweep;
 
 pub use certificate::certify_lengths;
-pub use laws::weights_bound_lengths;
+pub use laws::{shortest_are_equally_long, shortest_keep_order, weights_bound_lengths};
 pub use least::{find_shorter, find_shortest, shortest_coordinates, shortest_coordinates_in};
 pub use scratch::Scratch;
 pub use segments::{MAX_SIGHTS, MAX_WIRES, Segment, Sight, Wire};

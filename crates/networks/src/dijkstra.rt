@@ -4,10 +4,11 @@
 //! Networks have at most 1,024 nodes and 8,192 residual arcs of cost -1 to 1, so distances are small integers.
 //! Each residual arc is looked at once at most. Beside that the nodes that wait are gone over for each radius.
 ghost use Rattle.std.specs.Prelude.{◌≡◌, ◌⊎◌, ◌<◌, ◌≤◌, ◌+◌, ◌^◌, ℕ, length, pos, ◌≤ℤ◌, ◌<ℤ◌, ◌+ℤ◌, ◌-ℤ◌, true, false};
-ghost use Rattle.networks.specs.ResidualArcs.{StartsAt};
+ghost use Rattle.networks.specs.ResidualArcs.{end_at, cost_at, StartsAt};
 ghost use Rattle.networks.specs.Search.{far, nodes_of, first_of, arcs_of, potential_of, excess_of, labels, orders, out_degree, looked, IsSearchInput, IsSearch, IsUnlabelled, HasLowered, HasFeasibleLabels, HasRemaining, IsFeasibleAt, IsNextRadius, IsReordered, IsWaiting, IsScanning, IsRelaxed, IsWithinFar, IsArcCost, HasSameList};
 
 use crate::reach::distance;
+use crate::residual::ResidualArc;
 use crate::state::{Candidate, FAR, Search, SearchInput, Visit};
 
 impl<'a> Search<'a> {
@@ -55,6 +56,7 @@ impl<'a> Search<'a> {
             radius: 0,
             bound: FAR as i32,
             found: 0,
+            found_score: 0,
         };
         search.relabel(Candidate {
             number: 0,
@@ -132,7 +134,7 @@ impl<'a> Search<'a> {
         }
     }
 
-    /// Looks at each residual arc that starts at the next node of the order.
+    /// Relaxes each residual arc that starts at the next node of the order.
     fn scan(&mut self, input: SearchInput<'_>, looks: &mut u64)
         requires search { IsSearch input self.old }
         requires served { HasFeasibleLabels input self.old }
@@ -147,27 +149,40 @@ impl<'a> Search<'a> {
     {
         let node = self.visits[self.scanned].at_place as usize;
         self.scanned += 1;
-        let start = input.first[node] as usize;
-        let end = input.first[node + 1] as usize;
-        *looks += (end - start) as u64;
-        for number in start..end {
-            self.look(input, node, number);
+        let mut here = 0;
+        for number in input.first[node] as usize..input.first[node + 1] as usize {
+            self.relax(input, node, number, &mut here);
         }
+        *looks += here;
     }
 
-    /// Looks at a residual arc of the node that is scanned, and takes up what it offers to its end, if that is a
-    /// lesser label.
-    fn look(&mut self, input: SearchInput<'_>, node: usize, number: usize)
+    /// Relaxes a residual arc of the node that is scanned: takes up the label that it offers to its end, if that is
+    /// less than the end's own.
+    fn relax(&mut self, input: SearchInput<'_>, node: usize, number: usize, looks: &mut u64)
         requires scanning { IsScanning input self.old node }
         requires number { StartsAt (first_of input) node number }
+        requires few { looks.old < 2 ^ 62 }
         ensures relaxed { IsRelaxed input.entry self.old self.new }
         ensures serves { IsFeasibleAt (arcs_of input.entry) (potential_of input.entry) (labels self.new) self.new.bound node number }
+        ensures tick { looks.new ≡ looks.old + 1 }
     {
-        let arc = input.arcs[number];
+        let arc = look(input.arcs, number, looks);
         let end = arc.end as usize;
         let label = self.visits[node].label + arc.cost;
         if label < self.visits[end].label {
             self.reach(input, Candidate { number, end, label });
         }
     }
+}
+
+/// Looks at the residual arc of a number, and counts the look. A search reads residual arcs by this call alone.
+fn look(arcs: &[ResidualArc], number: usize, looks: &mut u64) -> ResidualArc
+    requires number { number < length arcs.now }
+    requires few { looks.old < 2 ^ 63 }
+    ensures end { result.end ≡ end_at arcs.now number }
+    ensures cost { result.cost ≡ cost_at arcs.now number }
+    ensures tick { looks.new ≡ looks.old + 1 }
+{
+    *looks += 1;
+    arcs[number]
 }

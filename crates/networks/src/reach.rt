@@ -20,7 +20,7 @@ impl Search<'_> {
             return;
         }
         if input.excess[step.end] < 0 {
-            self.candidate(input, step.number, away);
+            self.candidate(step.number, away, score_of(input, step.end));
         } else if away < self.bound {
             self.label_node(input, step);
         }
@@ -42,17 +42,16 @@ impl Search<'_> {
 
     /// Takes a node with a deficit for the nearest one, if it is, or if it is as near and has a
     /// lesser score.
-    fn candidate(&mut self, input: SearchInput<'_>, number: usize, distance: i32)
+    fn candidate(&mut self, number: usize, distance: i32, score: i32)
         ensures same { SameBesideBound self.old self.new }
         ensures bound { self.new.bound ≤ℤ self.old.bound }
         ensures least { self.new.bound ≤ℤ distance }
         ensures either { ((self.new.bound ≡ self.old.bound) × (self.new.found ≡ self.old.found)) ⊎ ((self.new.bound ≡ distance) × (self.new.found ≡ number)) }
     {
-        if distance < self.bound
-            || (distance == self.bound && score_of(input, number) < score_of(input, self.found))
-        {
+        if distance < self.bound || (distance == self.bound && score < self.found_score) {
             self.bound = distance;
             self.found = number;
+            self.found_score = score;
         }
     }
 
@@ -124,10 +123,9 @@ impl Search<'_> {
     }
 }
 
-/// The score of the node where a residual arc ends.
-fn score_of(input: SearchInput<'_>, number: usize) -> i32 {
-    let end = input.arcs.get(number).map_or(0, |arc| arc.end as usize);
-    input.score.get(end).copied().unwrap_or(0)
+/// The score of a node.
+fn score_of(input: SearchInput<'_>, node: usize) -> i32 {
+    input.score.get(node).copied().unwrap_or(0)
 }
 
 /// How far a node is from the root by reduced costs.
