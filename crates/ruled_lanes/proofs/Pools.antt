@@ -7,7 +7,7 @@ use Rattle.ruled_lanes.specs.declared.ticket_protocol.Draws.{Draws}
 use mathlib.Core.Option.{some}
 use lib.ListN.{get_elem?}
 use Rattle.ruled_lanes.specs.TicketProtocol.{draws, HasOnceBelow, IsDealt}
-use Rattle.ruled_lanes.specs.TicketSeats.{drawn, has_ended, all_drawn, word_value, IsUnused, IsPool}
+use Rattle.ruled_lanes.specs.TicketSeats.{drawn, has_ended, all_drawn, word_value, AreKnownBy, IsUnused, IsPool}
 use Rattle.ruled_lanes.proofs.Deals.{closes}
 
 -- of all seats the view stands for the last ones, and not for the first, the rest
@@ -62,3 +62,10 @@ word_at_first (s ∷ seats) unused =
     let ended_none : ended (has_ended s) ≡ 0 = ap ended first.1 in
     let more = sum_by-cons (λ (r : Seat). cond (has_ended r) 1 0) s seats in
     omega (arith, drawn_none, ended_none, more, rest)
+
+-- what the rule lets the word be, where the passes know what these seats know
+pub word_by_rule : (key : ℕ × ℕ) (words : List ℕ) (views : List Draws) (seats : List Seat) → IsDealt key words views → AreKnownBy seats views → All IsUnused seats → words ≡ 0 ∷ []
+word_by_rule key words views seats dealt known unused =
+    let none : word_value seats ≡ 0 = word_at_first seats unused in
+    let zero_word : dealt.word ≡ 0 = omega (arith, none, dealt.count, dealt.ended, known.drawn, known.ended) in
+    dealt.only ∙ ap (λ n. n ∷ []) zero_word

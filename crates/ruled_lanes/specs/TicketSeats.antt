@@ -1,10 +1,11 @@
 -- What tickets and their seats know.
-use Rattle.std.specs.Prelude.{◌≡◌, ◌+◌, ℕ, Bool, false, List, [], length, count_by}
+use Rattle.std.specs.Prelude.{◌≡◌, ◌+◌, ℕ, Bool, false, List, [], ◌∷◌, length, count_by, sum_by}
 use Rattle.std.specs.List.{flat_map}
 use Rattle.atomic_table.specs.Seated.{TableId}
 use Rattle.ruled_lanes.specs.declared.dealing.Tickets.{Tickets}
 use Rattle.ruled_lanes.specs.declared.dealing.Seat.{Seat}
 use Rattle.ruled_lanes.specs.declared.ticket_protocol.Draws.{Draws}
+use Rattle.ruled_lanes.specs.TicketProtocol.{IsDealt}
 
 -- the numbers below it are dealt
 abbrev pub limit_of : Tickets → ℕ
@@ -45,3 +46,13 @@ IsSeatOf t s = SitsAt t.table.shared.table_id t.limit s
 -- what a pass knows that stands for all these seats
 abbrev pub IsPool : List Seat → Draws → Type 0
 IsPool seats v = (v.shares ≡ length seats) × (v.ends ≡ count_by has_ended seats) × (v.drawn ≡ all_drawn seats)
+
+-- all passes of a table together have drawn as many numbers as these seats, and as many of them have ended
+pub record AreKnownBy (seats : List Seat) (views : List Draws) : Type 0 where
+  pub drawn : sum_by (λ (v : Draws). length v.drawn) views ≡ length (all_drawn seats)
+  pub ended : sum_by (λ (v : Draws). v.ends) views ≡ count_by has_ended seats
+
+-- As long as all passes of these tickets together know what these seats know, the rule lets their one shared word be this alone. No value has
+-- the word itself, since other threads may change it at any time.
+abbrev pub MustBeWord : Tickets → List Seat → ℕ → Type 0
+MustBeWord t seats word = (words : List ℕ) (views : List Draws) → IsDealt t.table.shared.key words views → AreKnownBy seats views → words ≡ word ∷ []

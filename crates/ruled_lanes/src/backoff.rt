@@ -21,9 +21,11 @@ const HINTS: u32 = 2;
 /// take 30 to 480.
 const NAP: u64 = 30;
 
+/// How many microseconds the naps after all tries take.
+pub(crate) const ALL_NAPS: u64 = (NAP << (TRIES - SPINS)) - NAP;
+
 /// Lets a moment pass after the try of this number, from 0: spins after each of the first tries, and after
-/// each later one, the last one too, a nap from which the thread wakes by itself, so that the other end need
-/// not wake it. It takes no memory.
+/// each later one, the last one too, takes a nap. It takes no memory.
 pub(crate) fn back_off<R: Wait>(rt: &R, tried: u32)
     requires tried { tried < TRIES }
 {
@@ -32,7 +34,23 @@ pub(crate) fn back_off<R: Wait>(rt: &R, tried: u32)
             hint::spin_loop();
         }
     } else {
-        let nap = Duration::from_micros(NAP << (tried - SPINS));
-        AtomicU64::new(0).park_timeout(rt, 0, nap);
+        nap(rt, NAP << (tried - SPINS));
     }
+}
+
+/// How many microseconds the naps before the try of this number take.
+pub(crate) fn napped_before(tried: u32) -> u64
+    requires tried { tried < TRIES }
+{
+    if tried <= SPINS {
+        0
+    } else {
+        (NAP << (tried - SPINS)) - NAP
+    }
+}
+
+/// A nap of this many microseconds, from which the thread wakes by itself, so that the other end need not wake it.
+/// It takes no memory.
+pub(crate) fn nap<R: Wait>(rt: &R, micros: u64) {
+    AtomicU64::new(0).park_timeout(rt, 0, Duration::from_micros(micros));
 }

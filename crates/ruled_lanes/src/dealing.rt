@@ -49,7 +49,7 @@ impl Seat {
 impl Tickets {
     ghost use Rattle.std.specs.Prelude.{◌∷◌, ◌++◌, ◌+◌, ◌<◌, All, true, false, min, length, count_by, vec_len, Option, None, IfOk, IfSome, IfNone};
     ghost use Rattle.ruled_lanes.specs.TicketProtocol.{draws, HasOnceBelow};
-    ghost use Rattle.ruled_lanes.specs.TicketSeats.{limit_of, lanes_of, drawn, has_ended, all_drawn, word_value, SitsAt, IsSeatOf, IsUnused, IsPool};
+    ghost use Rattle.ruled_lanes.specs.TicketSeats.{limit_of, lanes_of, drawn, has_ended, all_drawn, word_value, MustBeWord, SitsAt, IsSeatOf, IsUnused, IsPool};
 
     // Divides a pass that stands for all seats into one for each.
     fn divide(
@@ -95,14 +95,14 @@ impl Tickets {
     }
 
     /// Tickets with the numbers below `limit`, and a seat for each of so many lanes, which has drawn
-    /// nothing and has not ended. So the word is 0. `Memory` where there is no memory for them.
+    /// nothing and has not ended. Until one does, the shared word is 0. `Memory` where there is no memory for them.
     pub fn new(alloc: Global, limit: u32, lanes: u32) -> Result<(Tickets, Vec<Seat>), Memory>
         requires limit { limit ≤ MAX_TICKETS }
         requires lanes { (1 ≤ lanes) × (lanes ≤ LANES) }
         ensures limits { IfOk result (λ r. (limit_of r.0 ≡ limit) × (lanes_of r.0 ≡ lanes)) }
         ensures seats { IfOk result (λ r. (vec_len r.1 ≡ lanes) × All (IsSeatOf r.0) r.1.items) }
         ensures unused { IfOk result (λ r. All IsUnused r.1.items) }
-        ensures word { IfOk result (λ r. word_value r.1.items ≡ 0) }
+        ensures word { IfOk result (λ r. MustBeWord r.0 r.1.items 0) }
     {
         let key = (limit as u64, lanes as u64);
         let (table, pass) = match Word::of_words(alloc, &[0], &key) {

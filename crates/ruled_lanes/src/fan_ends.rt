@@ -5,11 +5,20 @@ ghost use Rattle.crossbeam_channel.specs.Ends.{sends_on, receives_on};
 ghost use Rattle.ruled_lanes.specs.declared.limits.TheConstants.{LANES};
 ghost use Rattle.ruled_lanes.specs.FanProtocol.{gatherer, giver, given_in};
 
-use crate::backoff::{TRIES, back_off};
+use crate::backoff::{ALL_NAPS, TRIES, back_off, nap, napped_before};
 use crate::errors::Closed;
 use crate::fan_protocol::{EachLane, FanLog, Fanned, Gives, NewLane, Takes};
 use crossbeam_channel::{Pass, RuledReceiver, RuledSender, TryRecvError, TrySendError};
 use std::sync::Wait;
+
+/// How many microseconds a take is counted as where it waits for nothing.
+const CALL: u64 = 10;
+
+/// Which part of what was waited the next nap takes: so an item is taken at most that much later than it was given.
+const PART: u64 = 8;
+
+/// How many microseconds a nap takes at most.
+const LONGEST_NAP: u64 = 100_000;
 
 /// The end of a fan that gives at one lane, whose number travels with each item. It cannot be copied,
 /// so it knows all that was ever given at its lane.
@@ -175,6 +184,70 @@ impl<T: Drop> Gatherer<T> {
             }
         }
         self.wait_and_receive(rt)
+    }
+
+    /// The first item in the fan, with the number of its lane, taken in one step, or none where nothing came as long
+    /// as `patience` lasts, in microseconds. It waits while the fan is empty: at first it tries again for about a
+    /// millisecond, as `take` does, then after naps, each an eighth of what it has waited and at most a tenth of a
+    /// second. What it slept is taken off `patience`, and for the call itself ten microseconds. It takes no memory.
+    ///
+    /// # Errors
+    /// `Closed` as in `take`.
+    pub fn take_within<R: Wait>(
+        &mut self,
+        rt: &R,
+        patience: &mut u64,
+    ) -> Result<Option<(u32, T)>, Closed<()>>
+        ensures fan { TakesFromSameFan self.old self.new }
+        ensures lane { IfOk result (λ taken. IfSome taken (λ item. item.0 < LANES)) }
+        ensures ok { IfOk result (λ taken. IfSome taken (λ item. gathered self.new ≡ gathered self.old ++ item ∷ [])) }
+        ensures none { IfOk result (λ taken. IfNone taken (gathered self.new ≡ gathered self.old)) }
+        ensures refused { OnErr result (gathered self.new ≡ gathered self.old) }
+        ensures patience { patience.new ≤ patience.old }
+        ensures over { IfOk result (λ taken. IfNone taken (patience.new ≡ 0)) }
+    {
+        *patience = patience.saturating_sub(CALL);
+        for tried in 0..TRIES {
+            match self.try_receive(rt) {
+                Ok(item) => {
+                    *patience = patience.saturating_sub(napped_before(tried));
+                    return Ok(Some(item));
+                }
+                Err(TryRecvError::Empty) => back_off(rt, tried),
+                Err(TryRecvError::Disconnected) => return Err(Closed(())),
+            }
+        }
+        *patience = patience.saturating_sub(ALL_NAPS);
+        self.nap_and_receive(rt, patience)
+    }
+
+    // The first item in the fan, or none where nothing came as long as `patience` lasts: it tries again after naps.
+    fn nap_and_receive<R: Wait>(
+        &mut self,
+        rt: &R,
+        patience: &mut u64,
+    ) -> Result<Option<(u32, T)>, Closed<()>>
+        ensures fan { TakesFromSameFan self.old self.new }
+        ensures lane { IfOk result (λ taken. IfSome taken (λ item. item.0 < LANES)) }
+        ensures ok { IfOk result (λ taken. IfSome taken (λ item. gathered self.new ≡ gathered self.old ++ item ∷ [])) }
+        ensures none { IfOk result (λ taken. IfNone taken (gathered self.new ≡ gathered self.old)) }
+        ensures refused { OnErr result (gathered self.new ≡ gathered self.old) }
+        ensures patience { patience.new ≤ patience.old }
+        ensures over { IfOk result (λ taken. IfNone taken (patience.new ≡ 0)) }
+    {
+        let mut waited = ALL_NAPS;
+        while *patience > 0 {
+            let micros = (waited / PART).clamp(1, LONGEST_NAP);
+            nap(rt, micros);
+            *patience = patience.saturating_sub(micros);
+            waited = waited.saturating_add(micros);
+            match self.try_receive(rt) {
+                Ok(item) => return Ok(Some(item)),
+                Err(TryRecvError::Empty) => {}
+                Err(TryRecvError::Disconnected) => return Err(Closed(())),
+            }
+        }
+        Ok(None)
     }
 
     // What the rule tells the pass that takes, of what the fan then holds.

@@ -1,5 +1,5 @@
 //! A buffer of fixed size before a sink, so that many short lines make few writes.
-ghost use Rattle.std.specs.Prelude.{◌≡◌, ◌+◌, ◌^◌, ◌<◌, ◌≤◌, ℕ, List, [], ◌++◌, Option, false, length, take, decimal, OnOk};
+ghost use Rattle.std.specs.Prelude.{◌≡◌, ◌↔◌, ◌+◌, ◌^◌, ◌<◌, ◌≤◌, ℕ, List, [], ◌++◌, Option, false, length, take, decimal, IsTrue, OnOk};
 ghost use Rattle.streams.specs.Sink.{Writes, StaysInTransit};
 ghost use Rattle.streams.specs.declared.text_buffer.TheConstants.{LINE, ROOM};
 
@@ -38,6 +38,13 @@ impl TextBuffer {
             bytes: [0; ROOM],
             len: 0,
         }
+    }
+
+    /// Whether no text waits.
+    pub fn is_empty(&self) -> bool
+        ensures { IsTrue result ↔ (self.now ≡ []) }
+    {
+        self.len == 0
     }
 
     /// Adds a text, for which there is room.
