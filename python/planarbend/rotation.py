@@ -92,10 +92,14 @@ class Rotation:
                 made.leaving[vertex] = dart
         if any(dart == NONE for dart in made.back):
             raise ValueError("an edge is embedded at one of its ends alone")
-        for dart in range(len(made.origin)):
-            if made.face[dart] == NONE:
-                made._label(dart, made._new_face(dart))
+        made.name_faces()
         return made
+
+    def name_faces(self) -> None:
+        """Names the faces of darts that have none, after their order was written."""
+        for dart in range(len(self.origin)):
+            if self.face[dart] == NONE:
+                self._label(dart, self._new_face(dart))
 
     # Reading
 

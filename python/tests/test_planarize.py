@@ -8,6 +8,7 @@ import sys
 import unittest
 from collections.abc import Sequence
 
+from planarbend.embeddings import neighbours
 from planarbend.planarize import Planarization, planarize
 
 try:
@@ -55,6 +56,12 @@ class Planarized(unittest.TestCase):
                 effort: int = 1, seed: int = 0) -> Planarization:
         """A planarization, found right by its lists, by networkx's planarity test and by Euler's formula."""
         result = planarize(count, edges, effort=effort, seed=seed, together=together)
+        self.check(result, edges, together)
+        return result
+
+    def check(self, result: Planarization, edges: Sequence[tuple[int, int]], together: Sequence[int] = ()) -> None:
+        """Finds a planarization right."""
+        count = result.vertex_count
         origin = [vertex for piece in result.pieces for vertex in piece]
         self.assertEqual(sorted(dart for around in result.rotation for dart in around), list(range(len(origin))))
         for vertex, around in enumerate(result.rotation):
@@ -86,7 +93,6 @@ class Planarized(unittest.TestCase):
         for part in parts:
             members = set(together) & part
             self.assertTrue(len(members) < 2 or any(members <= set(face) for face in faces))
-        return result
 
     def graph(self, graph: object) -> tuple[int, list[tuple[int, int]]]:
         """Number of vertices and edges of a networkx graph."""
@@ -152,6 +158,34 @@ class Planarized(unittest.TestCase):
         ladder = [(0, 1), (1, 2), (2, 3), (3, 0), (0, 4), (4, 2)]
         for pair in ((1, 3), (1, 4), (3, 4)):
             self.assertEqual(self.checked(5, ladder, pair).crossings, 0)
+
+    def test_neighbours(self) -> None:
+        """Moves of an embedding lead to embeddings of the same graph with no more crossings, and to many."""
+        for seed in range(12):
+            dice = random.Random(seed)
+            count = dice.randrange(4, 13)
+            edges = [(dice.randrange(count), dice.randrange(count)) for _ in range(dice.randrange(count, 2 * count))]
+            edges = [pair for pair in edges if pair[0] != pair[1] or seed % 5 == 0]
+            embedding = self.checked(count, edges)
+            for _ in range(4):
+                for other in neighbours(embedding, dice, 5):
+                    with self.subTest(seed=seed):
+                        self.check(other, edges)
+                        self.assertLessEqual(other.crossings, embedding.crossings)
+                        embedding = other
+
+    def test_all_embeddings(self) -> None:
+        """Moves lead to each embedding of a graph, and mirrored ones are two: K(2,4) and a star of four have six."""
+        double = [(end, middle) for end in (0, 1) for middle in (2, 3, 4, 5)]
+        for edges, known in ((double, 6), ([(0, 1), (0, 2), (0, 3), (0, 4)], 6)):
+            dice = random.Random(2)
+            embedding = planarize(6, edges)
+            seen = set()
+            for _ in range(60):
+                seen.add(tuple(tuple(darts[darts.index(min(darts)):] + darts[:darts.index(min(darts))])
+                               for darts in embedding.rotation if darts))
+                embedding = dice.choice(neighbours(embedding, dice, 4) or [embedding])
+            self.assertEqual(len(seen), known)
 
     def test_same_bytes(self) -> None:
         """The result depends on the effort and the seed, not on the process and its hashes."""
