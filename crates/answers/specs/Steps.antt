@@ -1,7 +1,7 @@
 -- What is known of a record between the stages that answer it.
-use Rattle.std.specs.Prelude.{◌≡◌, ℕ, List, Result, Ok, Err, ⊤}
+use Rattle.std.specs.Prelude.{◌≡◌, ℕ, List, Result, Ok, Err}
 use Rattle.planar_code.specs.Stream.{lists_of}
-use Rattle.embedding.specs.Rules.{FirstBroken}
+use Rattle.embedding.specs.Rules.{FirstBroken, KeepsBefore}
 use Rattle.common.specs.declared.choice.Choice.{Choice}
 use Rattle.faces.specs.Planes.{PlaneModel, IsPlane, HasGreatestOuter}
 use Rattle.ortho_rep.specs.Best.{IsChosen}
@@ -24,10 +24,11 @@ pub record IsPlaneOf (choice : Choice) (bytes : List ℕ) (plane : PlaneModel) :
   pub rules : IsPlane plane
   pub chosen : IsChosen choice plane
 
--- why such a record has no plane: the rule is broken, and none before it; want of memory says nothing
+-- why such a record has no plane, or no shape: the rule is broken, and none before it; or memory ran out, and none of
+-- the first seven rules is broken
 abbrev pub IsRefused : List ℕ → ShapeFault → Type 0
 IsRefused bytes (Rule rule) = FirstBroken (lists_of bytes) rule
-IsRefused bytes Memory = ⊤
+IsRefused bytes Memory = KeepsBefore (lists_of bytes) 8
 
 -- the plane of the record, or why there is none
 abbrev pub IsEmbedded : List ℕ → Result PlaneModel ShapeFault → Type 0

@@ -3,6 +3,8 @@
 ghost use Rattle.std.specs.Prelude.{◌≡◌, ℕ, List};
 ghost use Rattle.answers.specs.Steps.{IsEmbedded, IsShaped};
 ghost use Rattle.common.specs.declared.choice.Choice.{Choice};
+ghost use Rattle.embedding.specs.Rules.{KeepsBefore};
+ghost use Rattle.planar_code.specs.Stream.{lists_of};
 ghost use Rattle.entries.specs.Answers.{Answers};
 ghost use Rattle.drawing_laws.specs.Drawings.{IsDrawnIfLaid};
 
@@ -63,7 +65,9 @@ pub(crate) fn answer_with(
     shaped_plane: Result<ShapedPlane, ShapeFault>,
     drawing_kind: DrawingKind,
 ) -> Answer
-    ensures { (choice : Choice) (bytes : List ℕ) → IsShaped choice bytes shaped_plane → Answers choice bytes result }
+    ensures answers { (choice : Choice) (bytes : List ℕ) → IsShaped choice bytes shaped_plane → Answers choice bytes result }
+    ensures memory { (choice : Choice) (bytes : List ℕ) → IsShaped choice bytes shaped_plane
+        → result ≡ Answer.NoMemory → KeepsBefore (lists_of bytes) 8 }
 {
     let ShapedPlane {
         plane,
@@ -91,7 +95,8 @@ pub(crate) fn answer_with(
 /// The entry of a record under a choice of its outer face: one stage after another, on the caller's thread. The
 /// drawing is the quick one.
 ///
-/// Where any call on the way finds no memory, the answer is `NoMemory`.
+/// Where any call on the way finds no memory, the answer is `NoMemory`. Then the record breaks none of rules 1 to 7,
+/// which are tried in no memory; the last one counts faces, and may not have been tried.
 pub fn answer(alloc: Global, file: u32, ordinal: u32, rec: Record, choice: Choice) -> Entry
     ensures file { result.file ≡ file }
     ensures ordinal { result.ordinal ≡ ordinal }
@@ -99,6 +104,7 @@ pub fn answer(alloc: Global, file: u32, ordinal: u32, rec: Record, choice: Choic
     ensures chosen { result.choice ≡ choice }
     ensures answered { Answers choice rec result.answer }
     ensures drawn { IsDrawnIfLaid result.answer }
+    ensures memory { result.answer ≡ Answer.NoMemory → KeepsBefore (lists_of rec) 8 }
 {
     let mut planes = faces::Scratch::empty(alloc);
     let plane = embed(alloc, &mut planes, &rec);

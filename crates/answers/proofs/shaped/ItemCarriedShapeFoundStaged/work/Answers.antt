@@ -6,4 +6,4 @@ use Rattle.answers.proofs.shaped.ItemCarriedShapeFoundStaged.work.Goals as goal
 pub finish-requires-clause-answers : goal.finish-requires-clause-answers
 finish-requires-clause-answers g c =
     ∥∥₁_map c.args.self.made
-    (λ made. c.answer_with-answer.ensures c.args.self.task.choice _ (subst (IsShaped c.args.self.task.choice (g.P.Carried.Carried.bytes c.args.self.rec)) (sym c.unpack-shaped_plane.ensures) made))
+    (λ made. c.answer_with-answer.ensures.answers c.args.self.task.choice _ (subst (IsShaped c.args.self.task.choice (g.P.Carried.Carried.bytes c.args.self.rec)) (sym c.unpack-shaped_plane.ensures) made))

@@ -1,0 +1,182 @@
+//! Random drawings, a thousand small ones and three large ones, whose least lengths LEMON found by its network simplex
+//! (`checks/least-lengths`).
+use crate::compared::same;
+use crate::least::length_of;
+use least_length::{Scratch, Segment, Wire, find_shortest};
+use std::alloc::{AllocError, Global};
+
+/// The least lengths of each hundred of drawings, added up.
+const LEAST: [u32; 10] = [
+    14_829, 12_242, 11_757, 12_373, 13_934, 13_636, 11_467, 12_748, 11_249, 12_966,
+];
+
+/// Numbers of segments, and the least length of a drawing with so many.
+const LARGE_LEAST: [(u16, u32); 3] = [(300, 2_637), (600, 10_923), (1_000, 30_318)];
+
+/// How many segments a drawing has, on how many levels and each on how many at most, and how many wires are tried.
+#[derive(Clone, Copy)]
+struct Size {
+    count: u16,
+    levels: u16,
+    height: u16,
+    wires: u16,
+}
+
+/// Random numbers: the upper bits of a linear congruential generator (Knuth's MMIX).
+#[derive(Drop)]
+struct Random {
+    state: u64,
+}
+
+impl Random {
+    /// A number below a count.
+    fn below(&mut self, count: u16) -> u16 {
+        self.state = self
+            .state
+            .wrapping_mul(6_364_136_223_846_793_005)
+            .wrapping_add(1_442_695_040_888_963_407);
+        let number = (self.state >> 33) % u64::from(count.max(1));
+        number.min(u64::from(u16::MAX)) as u16
+    }
+}
+
+/// Memory that is lent to each drawing, with its segments, its wires and the coordinates found.
+#[derive(Drop)]
+struct Lent {
+    scratch: Scratch,
+    segments: Vec<Segment>,
+    wires: Vec<Wire>,
+    coordinates: Vec<u16>,
+}
+
+impl Lent {
+    /// No memory yet.
+    fn empty(alloc: Global) -> Lent {
+        Lent {
+            scratch: Scratch::empty(alloc),
+            segments: Vec::new(alloc),
+            wires: Vec::new(alloc),
+            coordinates: Vec::new(alloc),
+        }
+    }
+
+    /// Makes the small drawing with this number: up to 31 segments on up to 12 levels.
+    fn make_small(&mut self, drawing: u64) -> Result<(), AllocError> {
+        let mut random = Random { state: drawing };
+        let count = random.below(30).saturating_add(2);
+        let levels = random.below(12).saturating_add(1);
+        let size = Size {
+            count,
+            levels,
+            height: levels,
+            wires: count.saturating_mul(2),
+        };
+        self.make(random, size)
+    }
+
+    /// Makes a drawing with so many segments.
+    fn make_large(&mut self, count: u16) -> Result<(), AllocError> {
+        let random = Random {
+            state: u64::from(count),
+        };
+        let size = Size {
+            count,
+            levels: 40,
+            height: 8,
+            wires: count.saturating_mul(2),
+        };
+        self.make(random, size)
+    }
+
+    /// Makes a drawing of this size, with wires between segments that share a level.
+    fn make(&mut self, random: Random, size: Size) -> Result<(), AllocError> {
+        let mut random = random;
+        let Size {
+            count,
+            levels,
+            height,
+            wires,
+        } = size;
+        self.segments.clear();
+        let mut coordinate: u16 = 0;
+        for _ in 0..count {
+            coordinate = coordinate.saturating_add(random.below(3)).saturating_add(1);
+            let low = random.below(levels);
+            let high = low.saturating_add(random.below(height));
+            let high = high.min(levels.saturating_sub(1));
+            self.segments.push(Segment {
+                coordinate,
+                low,
+                high,
+            })?;
+        }
+        self.wires.clear();
+        for _ in 0..wires {
+            let one = random.below(count);
+            let other = random.below(count);
+            self.join(one.min(other), one.max(other))?;
+        }
+        Ok(())
+    }
+
+    /// Adds a wire between two segments, if there are two that share a level.
+    fn join(&mut self, from: u16, to: u16) -> Result<(), AllocError> {
+        let first = self.segments.get(usize::from(from)).copied();
+        let second = self.segments.get(usize::from(to)).copied();
+        let (Some(first), Some(second)) = (first, second) else {
+            return Ok(());
+        };
+        let level = first.low.max(second.low);
+        if from != to && level <= first.high.min(second.high) {
+            self.wires.push(Wire { from, to, level })?;
+        }
+        Ok(())
+    }
+
+    /// The length of the wires of the drawing with the coordinates found, and 0 where there are none.
+    fn least_length(&mut self) -> Result<u32, AllocError> {
+        let segments = self.segments.as_slice();
+        let wires = self.wires.as_slice();
+        if find_shortest(&mut self.scratch, segments, wires, &mut self.coordinates)? {
+            Ok(length_of(wires, self.coordinates.as_slice()))
+        } else {
+            Ok(0)
+        }
+    }
+}
+
+/// The least lengths of a hundred drawings, added up.
+fn hundred(lent: &mut Lent, first: u64) -> Result<u32, AllocError> {
+    let mut total: u32 = 0;
+    for place in 0..100 {
+        lent.make_small(first.wrapping_add(place))?;
+        total = total.wrapping_add(lent.least_length()?);
+    }
+    Ok(total)
+}
+
+#[test]
+fn random_drawings_are_as_short_as_by_lemon(rt: HostRuntime) {
+    let mut lent = Lent::empty(rt.alloc());
+    let mut first: u64 = 0;
+    for wanted in LEAST {
+        let length = hundred(&mut lent, first).expect(&rt, "memory");
+        same(&rt, length, wanted);
+        first = first.wrapping_add(100);
+    }
+}
+
+/// The least length of a drawing with so many segments.
+fn large(lent: &mut Lent, count: u16) -> Result<u32, AllocError> {
+    lent.make_large(count)?;
+    lent.least_length()
+}
+
+#[test]
+fn large_drawings_are_as_short_as_by_lemon(rt: HostRuntime) {
+    let mut lent = Lent::empty(rt.alloc());
+    for (count, wanted) in LARGE_LEAST {
+        let length = large(&mut lent, count).expect(&rt, "memory");
+        same(&rt, (count, length), (count, wanted));
+    }
+}
