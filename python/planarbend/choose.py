@@ -2,6 +2,7 @@
 from __future__ import annotations
 
 import itertools
+import random
 from collections.abc import Iterable, Iterator, Sequence
 from dataclasses import dataclass, field
 
@@ -12,6 +13,9 @@ from planarbend.planarize import Planarization
 
 MOST_FACES = 24  # outer faces that are tried
 MOST_TURNS = 8  # spines that are tried in place of a cage
+MOST_REPAIRS = 6
+MOST_PICKED = 4  # shapes that are looked at in pixels
+NUMBERINGS = 7  # of each plan, for each unit of effort
 
 Dart = tuple[int, int]
 Rect = tuple[int, int, int, int]
@@ -70,11 +74,6 @@ class Shape:
     bends: int
     size: tuple[int, int] = field(default=(0, 0))
 
-    @property
-    def price(self) -> tuple[int, int, int]:
-        """What is to be least: broken boxes, bends, and about how large the drawing is."""
-        return len(self.broken), self.bends, self.size[0] * self.size[1]
-
 
 def without_straight(points: Sequence[GridPoint]) -> list[GridPoint]:
     """A line without the points at which it does not turn."""
@@ -83,11 +82,6 @@ def without_straight(points: Sequence[GridPoint]) -> list[GridPoint]:
         if not (kept[-1][0] == point[0] == after[0] or kept[-1][1] == point[1] == after[1]):
             kept.append(point)
     return kept + list(points[-1:])
-
-
-def form_of(expansion: Expansion) -> Form:
-    """The expansion as it is."""
-    return Form(expansion.lists, list(range(len(expansion.around))))
 
 
 def shape_of(expansion: Expansion, form: Form, answer: Answer) -> Shape:
@@ -172,6 +166,27 @@ class Plan:
         return Plan(self.cages - {vertex}, tuple(sorted((*others, (vertex, turn)))))
 
 
+@dataclass(frozen=True, slots=True)
+class Found:
+    """A shape and the plan that it was found by."""
+
+    shape: Shape
+    plan: Plan
+
+    def price(self) -> tuple[int, int, int]:
+        """What is to be least: broken boxes, bends, and about how large the drawing is."""
+        return len(self.shape.broken), self.shape.bends, self.shape.size[0] * self.shape.size[1]
+
+    def is_point(self, vertex: int) -> bool:
+        """Whether a vertex has at most one connection at each of its sides, all on different ones."""
+        sides = []
+        for line, chain in zip(self.shape.lines, self.shape.expansion.chains):
+            for node, (x, y), (after, below) in ((chain[0], *line[:2]), (chain[-1], *line[:-3:-1])):
+                if node in self.shape.expansion.homes[vertex]:
+                    sides.append(((after > x) - (after < x), (below > y) - (below < y)))
+        return len(sides) == len(set(sides))
+
+
 class Search:
     """Looks for a good shape of one embedded component.
 
@@ -180,13 +195,16 @@ class Search:
     planar : Planarization
     engine : Engine
     effort : int
-        How many shapes to try: some 10 for each round.
+        How many shapes to try: `NUMBERINGS` times this for each plan.
+    seed : int
+        Of the random numberings.
     outer : sequence of int
         Vertices that must lie on the outer face.
     """
 
-    def __init__(self, planar: Planarization, engine: Engine, effort: int, outer: Sequence[int] = ()) -> None:
+    def __init__(self, planar: Planarization, engine: Engine, effort: int, seed: int, outer: Sequence[int] = ()) -> None:
         self.planar, self.engine, self.effort, self.outer = planar, engine, effort, outer
+        self.random = random.Random(seed)
         self.degree = [len(darts) for darts in planar.rotation[:planar.vertex_count]]
         self.large = [vertex for vertex, count in enumerate(self.degree) if count > MOST_CONNECTIONS]
 
@@ -203,97 +221,114 @@ class Search:
             plan = plan.spined(vertex, 0)
         return plan
 
-    def best_of(self, plans: Sequence[Plan]) -> tuple[Shape, Plan] | None:
-        """The best shape of some plans with the best outer face, and its plan."""
-        expansions = [expand(self.planar, plan.cages, dict(plan.spines)) for plan in plans]
-        tried = [(expansion, plan) for expansion, plan in zip(expansions, plans) if len(expansion.around) <= MOST_VERTICES]
-        forms = [form_of(expansion) for expansion, _ in tried]
-        answers = self.engine.lay([form.lists for form in forms], "best")
-        shapes = [shape_of(expansion, form, answer) for (expansion, _), form, answer in zip(tried, forms, answers)]
-        found = [(shape, plan) for shape, (_, plan) in zip(shapes, tried)]
-        return min(found, key=lambda pair: pair[0].price, default=None)
+    def shapes_of(self, plans: Iterable[Plan]) -> list[Found]:
+        """The shapes of plans with their best outer faces, each under several numberings: of several least shapes another
+        one is then found."""
+        tried: list[tuple[Expansion, Plan, Form]] = []
+        for plan in dict.fromkeys(plans):
+            if not self.fits(plan):
+                continue
+            expansion = expand(self.planar, plan.cages, dict(plan.spines))
+            if len(expansion.around) <= MOST_VERTICES:
+                tried += [(expansion, plan, form) for form in self.numberings(expansion)]
+        answers = self.engine.lay([form.lists for _, _, form in tried], "best")
+        return [Found(shape_of(expansion, form, answer), plan)
+                for (expansion, plan, form), answer in zip(tried, answers)]
 
-    def turned_out(self, plan: Plan, most: int) -> Shape | None:
-        """The best shape of a plan with other outer faces: those with all of `outer` on them, if there are some."""
+    def numberings(self, expansion: Expansion) -> Iterator[Form]:
+        """An expansion under several numberings."""
+        order = list(range(len(expansion.around)))
+        yield numbered(expansion.around, order, None)
+        for _ in range(NUMBERINGS * self.effort):
+            self.random.shuffle(order)
+            yield numbered(expansion.around, order, None)
+
+    def turned_out(self, plan: Plan) -> list[Found]:
+        """The shapes of a plan with other outer faces: those with all of `outer` on them, if there are some."""
+        if not self.fits(plan):
+            return []
         expansion = expand(self.planar, plan.cages, dict(plan.spines))
-        forms = list(itertools.islice(outer_forms(expansion, self.outer), most))
+        if len(expansion.around) > MOST_VERTICES:
+            return []
+        forms = list(itertools.islice(outer_forms(expansion, self.outer), MOST_FACES))
         answers = self.engine.lay([form.lists for form in forms], "first")
-        shapes = [shape_of(expansion, form, answer) for form, answer in zip(forms, answers)]
-        return min(shapes, key=lambda shape: shape.price, default=None)
+        return [Found(shape_of(expansion, form, answer), plan) for form, answer in zip(forms, answers)]
 
-    def run(self, compact: bool) -> Shape:
-        """Look for the best shape."""
-        plan = self.first_plan(compact)
-        found = self.best_of([plan])
-        if found is None:
-            found = self.best_of([self.first_plan(True)])
-        if found is None:
+    def run(self, compact: bool) -> list[Shape]:
+        """Some good shapes, that with the fewest bends first."""
+        look = self.turned_out if self.outer else lambda plan: self.shapes_of([plan])
+        first = self.first_plan(compact)
+        pool = look(first)
+        if not pool and not compact:
+            first = self.first_plan(True)
+            pool = look(first)
+        if not pool:
+            if self.outer and self.shapes_of([first]):
+                raise NoSuchFace
             raise TooLarge(len(expand(self.planar, (), {vertex: 0 for vertex in self.large}).around))
-        shape, plan = found
-        if self.outer:
-            return self.with_outer(shape, plan)
-        if compact:
-            return self.repaired(shape, plan)[0]
-        shape, plan = self.repaired(shape, plan)
-        return self.straightened(shape, plan)
+        if not compact:
+            best = min(pool, key=Found.price)
+            small = [vertex for vertex in range(self.planar.vertex_count) if self.can_be_cage(vertex, first)]
+            pool += look(first.caged(small))
+            pool += look(first.caged(self.small_at_bends(best)))
+            best = min(pool, key=Found.price)
+            needless = [vertex for vertex in best.plan.cages - first.cages if best.is_point(vertex)]
+            pool += look(best.plan.uncaged(needless))
+        if min(pool, key=Found.price).shape.broken:
+            self.repair(pool)
+        return self.picked(pool)
 
-    def with_outer(self, shape: Shape, plan: Plan) -> Shape:
-        """The best shape that has the vertices on its outer face."""
-        found = self.turned_out(plan, MOST_FACES)
-        if found is None:
-            raise NoSuchFace
-        return found
+    def can_be_cage(self, vertex: int, plan: Plan) -> bool:
+        """Whether a vertex of degree 3 or 4 is a point so far."""
+        return LEAST_CAGE <= self.degree[vertex] <= MOST_CONNECTIONS and vertex not in plan.cages
 
-    def repaired(self, shape: Shape, plan: Plan) -> tuple[Shape, Plan]:
+    def picked(self, pool: list[Found]) -> list[Shape]:
+        """Of each plan the shape with the least price, the best first; whole ones only, if there are some."""
+        best: dict[Plan, Found] = {}
+        for found in sorted(pool, key=Found.price):
+            best.setdefault(found.plan, found)
+        fewest = min(len(found.shape.broken) for found in best.values())
+        return [found.shape for found in best.values() if len(found.shape.broken) == fewest][:MOST_PICKED]
+
+    def repair(self, pool: list[Found]) -> None:
         """Where a cage is no rectangle: other outer faces; at last spines."""
-        if not shape.broken:
-            return shape, plan
-        other = self.turned_out(plan, MOST_FACES)
-        if other is not None and other.price < shape.price:
-            shape = other
-        for _ in range(8):
-            if not shape.broken:
-                break
-            vertex = shape.broken[0]
+        if not self.outer:
+            plans = list(dict.fromkeys(found.plan for found in sorted(pool, key=Found.price)))
+            for plan in plans[:2]:
+                pool += self.turned_out(plan)
+        for _ in range(MOST_REPAIRS):
+            best = min(pool, key=Found.price)
+            if not best.shape.broken:
+                return
+            vertex = best.shape.broken[0]
             if self.degree[vertex] <= MOST_CONNECTIONS:
-                plans = [plan.uncaged([vertex])]
+                plans = [best.plan.uncaged([vertex])]
             else:
                 turns = range(0, self.degree[vertex], max(1, self.degree[vertex] // MOST_TURNS))
-                plans = [plan.spined(vertex, turn) for turn in turns]
-            found = self.best_of(plans)
-            if found is None or found[0].price >= shape.price:
+                plans = [best.plan.spined(vertex, turn) for turn in turns]
+            tried = [found for plan in plans for found in self.turned_out(plan)] if self.outer else self.shapes_of(plans)
+            pool += tried
+            if best.price() <= min((found.price() for found in tried), default=best.price()):
                 break
-            shape, plan = found
-        return shape, plan
+        if not self.outer:
+            pool += self.shapes_of([self.first_plan(True)])
 
-    def straightened(self, shape: Shape, plan: Plan) -> Shape:
-        """With fewer bends: vertices of degree 3 and 4 at edges that bend become cages."""
-        for _ in range(2 + 2 * self.effort):
-            small = self.small_at_bends(shape, plan)
-            plans = [plan.caged(some) for some in {small, small[:len(small) // 2], small[len(small) // 2:]} if some]
-            plans = [one for one in plans if self.fits(one)]
-            found = self.best_of(plans) if plans else None
-            if found is None or found[0].price[:2] >= shape.price[:2]:
-                break
-            shape, plan = found
-        return shape
-
-    def small_at_bends(self, shape: Shape, plan: Plan) -> tuple[int, ...]:
+    def small_at_bends(self, found: Found) -> list[int]:
         """The vertices of degree 3 and 4 at the ends of edges that bend."""
         ends = set()
-        for line, chain in zip(shape.lines, self.planar.chains):
+        for line, chain in zip(found.shape.lines, self.planar.chains):
             if len(line) > 2:
                 ends |= {self.tail_of(chain[0]), self.tail_of(chain[-1] ^ 1)}
-        return tuple(sorted(vertex for vertex in ends - plan.cages if LEAST_CAGE <= self.degree[vertex] <= MOST_CONNECTIONS))
+        return sorted(vertex for vertex in ends if self.can_be_cage(vertex, found.plan))
 
     def tail_of(self, dart: int) -> int:
         """The vertex that a dart leaves."""
         return self.planar.pieces[dart // 2][dart % 2]
 
 
-def choose(planar: Planarization, engine: Engine, *, compact: bool = False, effort: int = 1,
-           outer: Sequence[int] = ()) -> Shape:
-    """The best shape of an embedded component that a few calls of the engine find.
+def choose(planar: Planarization, engine: Engine, *, compact: bool = False, effort: int = 1, seed: int = 0,
+           outer: Sequence[int] = ()) -> list[Shape]:
+    """Some good shapes of an embedded component, that with the fewest bends first.
 
     Raises
     ------
@@ -302,7 +337,7 @@ def choose(planar: Planarization, engine: Engine, *, compact: bool = False, effo
     NoSuchFace
         If no face has all of `outer` on it.
     """
-    return Search(planar, engine, effort, outer).run(compact)
+    return Search(planar, engine, effort, seed, outer).run(compact)
 
 
 def outer_forms(expansion: Expansion, outer: Sequence[int] = ()) -> Iterator[Form]:

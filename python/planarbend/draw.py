@@ -1,6 +1,7 @@
 """Draws a graph: its components one by one, then side by side."""
 from __future__ import annotations
 
+import dataclasses
 import math
 from collections.abc import Sequence
 from dataclasses import dataclass
@@ -17,6 +18,7 @@ from planarbend.spread import Sheet
 
 MARGIN = 10.0  # pixels round the whole
 BETWEEN = 18.0  # pixels between components
+BEND_WEIGHT = 2.5  # of bends an edge, where shapes are compared by area
 SHAPE = 1.5  # the width of a sheet of several components over its height, about
 
 
@@ -115,29 +117,53 @@ def part_of(graph: Graph, vertices: list[int], edges: list[int], options: Option
     for place in edges:
         edge = graph.edges[place]
         inner.edges.append(Edge(number[edge.tail], number[edge.head], edge.label, edge.arrow))
-    if not edges:
-        shape = lone(inner)
-        crossings = []
-    else:
-        pairs = [(edge.tail, edge.head) for edge in inner.edges]
-        together = [number[vertex] for vertex in options.outer if vertex in number]
-        planar = planarize(len(vertices), pairs, effort=options.effort, seed=options.seed, together=together)
-        shape = shape_of_planar(planar, inner, together, options, engine)
-        crossings = crossings_of(planar, shape)
-    sheet = Sheet(shape, inner)
+    pairs = [(edge.tail, edge.head) for edge in inner.edges]
+    plain = [place for place, (tail, head) in enumerate(pairs) if tail != head]  # loops are drawn at their boxes
+    if not plain:
+        return in_pixels(settled(lone(len(pairs)), inner), vertices, edges, [])
+    together = [number[vertex] for vertex in options.outer if vertex in number]
+    planar = planarize(len(vertices), [pairs[place] for place in plain], effort=options.effort, seed=options.seed,
+                       together=together)
+    sheets = [settled(with_loops(shape, plain, len(pairs)), inner)
+              for shape in shapes_of_planar(planar, inner, together, options, engine)]
+    sheet = min(sheets, key=lambda sheet: price_of(sheet, len(pairs)))
+    return in_pixels(sheet, vertices, edges, crossings_of(planar, sheet.shape))
+
+
+def settled(shape: Shape, graph: Graph) -> Sheet:
+    """A shape in pixels."""
+    sheet = Sheet(shape, graph)
     sheet.place()
-    return in_pixels(sheet, vertices, edges, crossings)
+    return sheet
 
 
-def lone(graph: Graph) -> Shape:
-    """The shape of a single vertex without edges."""
-    return Shape(Expansion([[]], [[0]], [], set(), set()), [(0, 0)], [], [(0, 0, 0, 0)], [], 0)
+def price_of(sheet: Sheet, edges: int) -> float:
+    """What is to be least: the area, times more the more edges bend."""
+    left, top, right, bottom = sheet.bounds()
+    return (right - left) * (bottom - top) * (1 + BEND_WEIGHT * sheet.shape.bends / edges)
 
 
-def shape_of_planar(planar: Planarization, graph: Graph, outer: Sequence[int], options: Options, engine: Engine) -> Shape:
-    """The best shape of an embedded component."""
+def with_loops(shape: Shape, plain: list[int], count: int) -> Shape:
+    """A shape whose edges have the numbers of the graph; loops have no line."""
+    lines: list[list[tuple[int, int]]] = [[] for _ in range(count)]
+    chains: list[list[int]] = [[] for _ in range(count)]
+    for place, line, chain in zip(plain, shape.lines, shape.expansion.chains):
+        lines[place], chains[place] = line, chain
+    expansion = dataclasses.replace(shape.expansion, chains=chains)
+    return dataclasses.replace(shape, expansion=expansion, lines=lines)
+
+
+def lone(loops: int) -> Shape:
+    """The shape of a single vertex with loops."""
+    chains: list[list[int]] = [[] for _ in range(loops)]
+    return Shape(Expansion([[]], [[0]], chains, set(), set()), [(0, 0)], [[] for _ in range(loops)], [(0, 0, 0, 0)], [], 0)
+
+
+def shapes_of_planar(planar: Planarization, graph: Graph, outer: Sequence[int], options: Options,
+                     engine: Engine) -> list[Shape]:
+    """Good shapes of an embedded component."""
     try:
-        return choose(planar, engine, compact=options.compact, effort=options.effort, outer=outer)
+        return choose(planar, engine, compact=options.compact, effort=options.effort, seed=options.seed, outer=outer)
     except TooLarge as fault:
         raise DrawError(f"a component has {len(graph.vertices)} vertices, {len(graph.edges)} edges and {planar.crossings}"
                         f" crossings, which takes {fault} vertices of degree 4; the limit is {MOST_VERTICES}") from None
@@ -160,10 +186,7 @@ def in_pixels(sheet: Sheet, vertices: list[int], edges: list[int], crossings: li
     boxes = [sheet.extent(box) for box in sheet.boxes]
     lines = [sheet.line(number) for number in range(len(edges))]
     labels = {number: sheet.extent(item) for number, item in sheet.labels.items()}
-    left = min([box[0] for box in [*boxes, *labels.values()]] + [x for line in lines for x, _ in line])
-    top = min([box[1] for box in [*boxes, *labels.values()]] + [y for line in lines for _, y in line])
-    right = max([box[2] for box in [*boxes, *labels.values()]] + [x for line in lines for x, _ in line])
-    bottom = max([box[3] for box in [*boxes, *labels.values()]] + [y for line in lines for _, y in line])
+    left, top, right, bottom = sheet.bounds()
 
     def moved(box: Box) -> Box:
         return box[0] - left, box[1] - top, box[2] - left, box[3] - top

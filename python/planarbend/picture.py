@@ -1,11 +1,13 @@
 """A drawing as SVG, and by rsvg-convert as PNG or PDF."""
 from __future__ import annotations
 
+import itertools
 import math
 import os
 import shutil
 import subprocess
 import tempfile
+from collections import Counter
 
 from planarbend.drawn import Box, Drawing, Point
 from planarbend.graph import Arrow, Kind
@@ -68,10 +70,10 @@ def text_lines(lines: list[str], x: float, y: float, height: float) -> list[str]
 
 def net_elements(drawing: Drawing) -> list[str]:
     """The nets: lines that join their connections, with a dot where three meet."""
-    ends: dict[int, list[Point]] = {}
+    ends: dict[int, list[tuple[Point, bool]]] = {}  # each with whether it arrives upright
     for edge, line in zip(drawing.graph.edges, drawing.lines, strict=True):
-        ends.setdefault(edge.tail, []).append(line[0])
-        ends.setdefault(edge.head, []).append(line[-1])
+        ends.setdefault(edge.tail, []).append((line[0], line[0][0] == line[1][0]))
+        ends.setdefault(edge.head, []).append((line[-1], line[-1][0] == line[-2][0]))
     found = [f'<g fill="{LINE}" stroke="{LINE}" stroke-width="{STROKE}" stroke-linecap="square">']
     for number, vertex in enumerate(drawing.graph.vertices):
         if vertex.kind is Kind.NET:
@@ -79,34 +81,23 @@ def net_elements(drawing: Drawing) -> list[str]:
     return found + ["</g>"]
 
 
-def net_lines(box: Box, ends: list[Point]) -> list[str]:
-    """A net within its box: a line across, a line to each end above and below it, and dots."""
+def net_lines(box: Box, ends: list[tuple[Point, bool]]) -> list[str]:
+    """A net within its box: a line across, a line to each end above and below it, and dots where three lines meet."""
     left, top, right, bottom = box
-    if right - left < 1 and bottom - top < 1:
-        return [f'<circle cx="{left:.1f}" cy="{top:.1f}" r="{DOT}" stroke="none"/>']
-    found = []
-
-    def line(x: float, y: float, u: float, v: float) -> None:
-        found.append(f'<path d="M{x:.1f} {y:.1f}L{u:.1f} {v:.1f}" fill="none"/>')
-
-    def dot(x: float, y: float) -> None:
-        found.append(f'<circle cx="{x:.1f}" cy="{y:.1f}" r="{DOT}" stroke="none"/>')
-
-    upright = [(x, y) for x, y in ends if y in (top, bottom)]
-    sideways = [(x, y) for x, y in ends if y not in (top, bottom)]
-    middle = sideways[0][1] if len(sideways) == 1 else (top + bottom) / 2
-    across = [x for x, _ in upright] + [x for x, _ in sideways]
-    line(min(across), middle, max(across), middle)
-    for x, y in upright:
-        line(x, y, x, middle)
-        dot(x, middle)
-    for side in (left, right):
-        at = [y for x, y in sideways if x == side]
-        if len(at) > 1:
-            line(side, min(at), side, max(at))
-            for y in at:
-                dot(side, y)
-    return found
+    upright = [point for point, is_upright in ends if is_upright]
+    sideways = [point for point, is_upright in ends if not is_upright]
+    middle = sideways[0][1] if len({y for _, y in sideways}) == 1 else (top + bottom) / 2
+    pieces = {((x, min(y, middle)), (x, max(y, middle))) for x, y in upright if y != middle}
+    for side in {x for x, _ in sideways}:
+        at = [y for x, y in sideways if x == side] + [middle]
+        pieces |= {((side, one), (side, other)) for one, other in itertools.pairwise(sorted(set(at)))}
+    across = sorted({x for (x, _), _ in ends})
+    pieces |= {((one, middle), (other, middle)) for one, other in itertools.pairwise(across)}
+    meet: Counter[Point] = Counter(point for piece in pieces for point in piece)
+    meet.update(point for point, _ in ends)
+    found = [f'<path d="M{x:.1f} {y:.1f}L{u:.1f} {v:.1f}" fill="none"/>' for (x, y), (u, v) in sorted(pieces)]
+    return found + [f'<circle cx="{x:.1f}" cy="{y:.1f}" r="{DOT}" stroke="none"/>'
+                    for (x, y), count in sorted(meet.items()) if count > 2]
 
 
 def label_elements(drawing: Drawing) -> list[str]:

@@ -19,7 +19,7 @@ from planarbend.graph import Graph, Kind
 from planarbend.lengths import Lengths
 from planarbend.texts import LINE_HEIGHT, lines_of, width_of
 
-UNIT = 4  # of the fine grid, to one of the shape's
+UNIT = 64  # of the fine grid, to one of the shape's
 PAD = (6.0, 4.0)  # pixels between a name and the border of its box
 INSET = 6.0  # pixels from a corner of a box to a line at its side
 LEAST_SIDE = 22.0  # pixels, the width of a box
@@ -85,27 +85,35 @@ class Sheet:
         self.boxes: list[Item] = []
         self.pieces: list[list[Item]] = []  # of each edge
         self.labels: dict[int, Item] = {}
+        self.sides: dict[tuple[int, int, bool], list[int]] = {}  # the lines at a box's sides: above, below, left, right
+        self.loops: dict[tuple[int, int, bool], list[int]] = {}
+        self.corners: dict[int, list[tuple[int, int]]] = {}  # of loops
         self.within: tuple[list[tuple[int, int, float]], ...] = ([], [])  # from, to, distance
         self.at_box: tuple[dict[int, list[int]], ...] = ({}, {})  # for each box the pieces' coordinates at its sides
-        self.sizes = [size_of(vertex.label, vertex.kind, is_dot) for vertex, is_dot in
-                      zip(graph.vertices, self._dots(), strict=True)]
+        self.dots = self._dots()
+        self.sizes = [size_of(vertex.label, vertex.kind) for vertex in graph.vertices]
         for number in range(len(graph.vertices)):
             self._add_box(number)
-        for number in range(len(graph.edges)):
-            self._add_line(number)
+        for number, line in enumerate(shape.lines):
+            self.pieces.append([])
+            if line:
+                self._add_line(number)
+        for number, line in enumerate(shape.lines):
+            if not line:
+                self._add_loop(number)
         for number, edge in enumerate(graph.edges):
             if edge.label.strip():
                 self._add_label(number, edge.label)
 
     def _dots(self) -> list[bool]:
         """Whether each vertex is a net at one point."""
-        expansion = self.shape.expansion
-        return [vertex.kind is Kind.NET and len(expansion.homes[number]) == 1 and len(expansion.around[number]) > 1
+        loops = {edge.tail for edge, line in zip(self.graph.edges, self.shape.lines) if not line}
+        return [vertex.kind is Kind.NET and len(self.shape.expansion.homes[number]) == 1 and number not in loops
                 for number, vertex in enumerate(self.graph.vertices)]
 
     def _add_box(self, number: int) -> None:
         left, top, right, bottom = (UNIT * side for side in self.shape.boxes[number])
-        is_dot = self.sizes[number] == (0.0, 0.0)
+        is_dot = self.dots[number]
         low, high = [], []
         for axis, first, last in ((0, left, right), (1, top, bottom)):
             low.append(self.axes[axis].add(first, -1.0 if not is_dot else 0.0))
@@ -138,6 +146,7 @@ class Sheet:
                 else:
                     box = self.boxes[host]
                     hosts.append(host)
+                    self.sides.setdefault((host, axis, not is_low), []).append(number)
                     ends.append(box.high[other] if is_low else box.low[other])
                     grid.append(at_grid + (1 if is_low else -1))
             if not forward:
@@ -148,17 +157,54 @@ class Sheet:
             extents[axis] = (UNIT * line[place][axis],) * 2
             low[other], high[other], extents[other] = ends[0], ends[1], (grid[0], grid[1])
             found.append(Item(PIECE, low, high, extents, (axis == 0, axis == 1), host=tuple(hosts)))
-        self.pieces.append(found)
+        self.pieces[number] = found
         self.items += found
 
-    def _coordinate(self, axis: int, value: float, hosts: Sequence[int]) -> int:
+    def _add_loop(self, number: int) -> None:
+        """Put a loop on the side of its box that has the fewest lines, behind all others there."""
+        host = self.graph.edges[number].tail
+        box = self.boxes[host]
+        along, is_low = min(((along, is_low) for along in (0, 1) for is_low in (True, False)),
+                            key=lambda side: (len(self.sides.get((host, *side), [])), side))
+        across = 1 - along
+        count = len(self.loops.setdefault((host, along, is_low), []))
+        self.loops[host, along, is_low].append(number)
+        self.sides.setdefault((host, along, is_low), []).extend([number, number])
+        end = box.grid[along][1]
+        sign = -1 if is_low else 1
+        border = box.grid[across][0 if is_low else 1]
+        places = [end + 4 + 8 * count, end + 8 + 8 * count]
+        ends = [self._coordinate(along, end, [host], 0.1 + (2 * count + last) / 1000) for last in (0, 1)]
+        far = self.axes[across].add(border + 32 * sign)
+        near = box.low[across] if is_low else box.high[across]
+
+        def leg(place: int) -> Item:
+            low, high, grid = [0, 0], [0, 0], [(0.0, 0.0), (0.0, 0.0)]
+            low[along] = high[along] = ends[place]
+            grid[along] = (places[place],) * 2
+            low[across], high[across] = (far, near) if is_low else (near, far)
+            grid[across] = (border - 32, border - 1) if is_low else (border + 1, border + 32)
+            return Item(PIECE, low, high, grid, (along == 0, along == 1), host=(host,))
+
+        low, high, grid = [0, 0], [0, 0], [(0.0, 0.0), (0.0, 0.0)]
+        low[along], high[along], grid[along] = ends[0], ends[1], (places[0], places[1])
+        low[across] = high[across] = far
+        grid[across] = (border + 32 * sign,) * 2
+        bar = Item(PIECE, low, high, grid, (across == 0, across == 1))
+        found = [leg(0), bar, leg(1)]
+        self.pieces[number] = found
+        self.items += found
+        corners = [(ends[0], near), (ends[0], far), (ends[1], far), (ends[1], near)]
+        self.corners[number] = corners if along == 0 else [(b, a) for a, b in corners]
+
+    def _coordinate(self, axis: int, value: float, hosts: Sequence[int], rank: float = 0.0) -> int:
         """The coordinate of a piece across an axis, which lies within the boxes at its ends."""
         for host in hosts:
             if self.boxes[host].low[axis] == self.boxes[host].high[axis]:  # a dot
                 found = self.boxes[host].low[axis]
                 break
         else:
-            found = self.axes[axis].add(value)
+            found = self.axes[axis].add(value, rank)
         for host in hosts:
             box = self.boxes[host]
             if box.low[axis] == box.high[axis]:
@@ -184,12 +230,17 @@ class Sheet:
             length = item.grid[running][1] - item.grid[running][0]
             return length + (2 if running == 1 else 0), -place
 
-        piece = pieces[max(range(len(pieces)), key=room)]
+        piece = pieces[1 if number in self.corners else max(range(len(pieces)), key=room)]
         across = 0 if piece.owns[0] else 1
         running = 1 - across
         first, last = piece.grid[running]
-        middle = UNIT * math.floor((first + last) / 2 / UNIT) + UNIT / 2
-        place = self.axes[running].add(middle)
+        middle = UNIT * math.floor((first + last) / 2 / UNIT) + UNIT / 2 if last - first > UNIT / 2 else (first + last) / 2
+        if number in self.corners:
+            legs = [piece.low[running] for piece in (pieces[0], pieces[2])]
+            place = self.axes[running].add(self.axes[running].value[legs[0]],
+                                           sum(self.axes[running].rank[leg] for leg in legs) / 2)
+        else:
+            place = self.axes[running].add(middle)
         low, high, grid = [0, 0], [0, 0], [(0.0, 0.0), (0.0, 0.0)]
         low[across] = high[across] = piece.low[across]
         low[running] = high[running] = place
@@ -198,12 +249,20 @@ class Sheet:
                     host=(-1 - number,))
         self.labels[number] = item
         self.items.append(item)
+        if number in self.corners:  # between the legs of the loop, and beside the box
+            box = self.boxes[self.graph.edges[number].tail]
+            item.grid[running] = (box.grid[running][0], last)
+            room_beside = size[running] / 2 + GAP[LABEL][PIECE]
+            self.within[running].append((pieces[0].low[running], place, room_beside))
+            self.within[running].append((place, pieces[2].low[running], room_beside))
 
     def _unite(self) -> None:
         """Give each coordinate the one number that stands for it."""
         for item in self.items:
             item.low = [axis.find(number) for axis, number in zip(self.axes, item.low)]
             item.high = [axis.find(number) for axis, number in zip(self.axes, item.high)]
+        for number, corners in self.corners.items():
+            self.corners[number] = [(self.axes[0].find(x), self.axes[1].find(y)) for x, y in corners]
         for axis, within, at_box in zip(self.axes, self.within, self.at_box):
             within[:] = [(axis.find(low), axis.find(high), distance) for low, high, distance in within]
             for lines in at_box.values():
@@ -330,9 +389,17 @@ class Sheet:
         return (x[item.low[0]] + item.before[0], y[item.low[1]] + item.before[1],
                 x[item.high[0]] + item.after[0], y[item.high[1]] + item.after[1])
 
+    def bounds(self) -> Box:
+        """The rectangle round all items."""
+        found = [self.extent(item) for item in self.items]
+        return (min(box[0] for box in found), min(box[1] for box in found), max(box[2] for box in found),
+                max(box[3] for box in found))
+
     def line(self, number: int) -> list[Point]:
         """The corners of an edge."""
         x, y = self.axes[0].value, self.axes[1].value
+        if number in self.corners:
+            return [(x[across], y[upright]) for across, upright in self.corners[number]]
         shape, pieces = self.shape.lines[number], self.pieces[number]
         found = []
         for place, (before, after) in enumerate(itertools.pairwise(shape)):
@@ -354,8 +421,11 @@ class Solver:
         self.after: list[list[tuple[int, float]]] = [[] for _ in range(count)]
         self.before: list[list[tuple[int, float]]] = [[] for _ in range(count)]
         best: dict[tuple[int, int], float] = {}
-        for low, high, distance in constraints:
-            if best.get((low, high), -1.0) < distance:
+        self.place = [0] * count
+        for place, number in enumerate(order):
+            self.place[number] = place
+        for low, high, distance in constraints:  # those of a box that is no rectangle may run against the order
+            if self.place[low] < self.place[high] and best.get((low, high), -1.0) < distance:
                 best[low, high] = distance
         for (low, high), distance in best.items():
             self.after[low].append((high, distance))
@@ -384,7 +454,8 @@ class Solver:
         pairs += [(0, low + 1, before, 0.0) for low, before, _, _ in reach if before > 0]
         for number in self.order:
             pairs += [(number + 1, other + 1, distance, 0.0) for other, distance in self.after[number]]
-        pairs += [(low + 1, high + 1, distance, weight) for low, high, distance, weight in lengths]
+        pairs += [(low + 1, high + 1, distance, weight) for low, high, distance, weight in lengths
+                  if self.place[low] < self.place[high]]
         pairs += [(high + 1, count + 1, after, 0.0) for _, _, high, after in reach]
         pairs += [(0, count + 1, 0.0, WIDTH_WEIGHT)]
         found = Lengths(count + 2, [0, *(number + 1 for number in self.order), count + 1], pairs)
@@ -428,9 +499,9 @@ class Solver:
         self.value[low], self.value[high] = begin, begin + size
 
 
-def size_of(label: str, kind: Kind, is_dot: bool) -> tuple[float, float]:
+def size_of(label: str, kind: Kind) -> tuple[float, float]:
     """The least width and height of a box."""
     if kind is Kind.NET:
-        return (0.0, 0.0) if is_dot else (0.5, 0.5)
+        return 0.0, 0.0
     lines = lines_of(label)
     return (max(LEAST_SIDE, max(map(width_of, lines)) + 2 * PAD[0]), len(lines) * LINE_HEIGHT + 2 * PAD[1])
