@@ -9,12 +9,14 @@ out and puts it where it crosses no more than before.
 from __future__ import annotations
 
 import random
-from collections.abc import Iterator, Sequence
+from collections.abc import Callable, Iterator, Sequence
 from dataclasses import replace
 
 from planarbend.planarize import Planarization
 from planarbend.reinsert import Reinsertion
 from planarbend.rotation import NONE, Rotation
+
+Price = tuple[int, ...]
 
 
 def neighbours(planar: Planarization, dice: random.Random, count: int) -> list[Planarization]:
@@ -95,6 +97,39 @@ class Faces:
                     found.append(vertex)
                     waiting += [self.origin[out ^ 1] for out in self.planar.rotation[vertex]]
         return found
+
+
+def climbed(planar: Planarization, prices: Callable[[Sequence[Planarization]], Sequence[Price]], dice: random.Random, *,
+            rounds: int, width: int) -> tuple[Planarization, Price]:
+    """The best embedding that moves find: in each round the best of some neighbours, if it is better.
+
+    Parameters
+    ----------
+    prices
+        Gives for each of several embeddings what is to be least.
+    rounds
+        Number of rounds. After half as many in turn without success there is no further one.
+    width
+        Number of neighbours in each round.
+
+    Returns
+    -------
+    Planarization
+    price
+        Of this embedding.
+    """
+    best, = prices([planar])
+    vain = 0
+    for _ in range(rounds):
+        others = neighbours(planar, dice, width)
+        if not others or 2 * vain >= rounds:
+            break
+        found = prices(others)
+        place = min(range(len(others)), key=found.__getitem__)
+        vain += 1
+        if found[place] < best:
+            planar, best, vain = others[place], found[place], 0
+    return planar, best
 
 
 def flips(faces: Faces) -> Iterator[Planarization]:

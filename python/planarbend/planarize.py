@@ -7,6 +7,7 @@ graph, and edges and vertices are moved where they cross less (`reinsert`).
 from __future__ import annotations
 
 import random
+import sys
 from collections.abc import Iterable, Sequence
 from dataclasses import dataclass
 from typing import Any
@@ -23,6 +24,8 @@ WORK = 12_000_000
 """Number of darts to pass for each block and unit of effort (some ten seconds), after which no more is tried."""
 TEST = 64
 """Work of a planarity test for each edge, in darts."""
+HOPELESS = 6
+"""How many times the allowed crossings a first embedding may have: improving it divides them by three at most."""
 MOST_TESTS = 100
 """Number of planarity tests for one first embedding."""
 
@@ -59,8 +62,16 @@ class Planarization:
         return len(self.rotation) - self.vertex_count
 
 
+class TooManyCrossings(Exception):
+    """No planarization was found with as few crossings as are allowed; how many the best one has, or must have."""
+
+    def __init__(self, crossings: int) -> None:
+        super().__init__(f"{crossings} crossings")
+        self.crossings = crossings
+
+
 def planarize(vertex_count: int, edges: Sequence[tuple[int, int]], *, effort: int = 1, seed: int = 0,
-              together: Sequence[int] = ()) -> Planarization:
+              together: Sequence[int] = (), most: int | None = None) -> Planarization:
     """Embed a graph in the plane with few crossings.
 
     No edge crosses itself or an edge with which it shares an end, and no two edges cross twice.
@@ -79,11 +90,22 @@ def planarize(vertex_count: int, edges: Sequence[tuple[int, int]], *, effort: in
         Seed of the random choices.
     together : sequence of int
         Vertices that must all lie on one face of the result; those of each connected part on one face of that part.
+    most : int, optional
+        The number of crossings above which a result is of no use. Where it is certain or likely to be passed, this ends
+        early.
 
     Returns
     -------
     Planarization
+
+    Raises
+    ------
+    TooManyCrossings
+        If no planarization with at most ``most`` crossings was found.
     """
+    limit = sys.maxsize if most is None else most
+    if needed_crossings(vertex_count, edges) > limit:
+        raise TooManyCrossings(needed_crossings(vertex_count, edges))
     ends = list(edges)
     weights = [1] * len(ends)
     count = vertex_count
@@ -95,8 +117,23 @@ def planarize(vertex_count: int, edges: Sequence[tuple[int, int]], *, effort: in
         for block in _blocks(count, ends):
             if _planar(count, [ends[edge] for edge in block]) is None:
                 core = core_of(block, ends, weights, FIXED)
-                made = _unfold(core, _least(core, effort, seed).rotation, crossed, made)
-    return _embedded(vertex_count, count, ends, crossed)
+                made = _unfold(core, _least(core, effort, seed, limit - made).rotation, crossed, made)
+    result = _embedded(vertex_count, count, ends, crossed)
+    if result.crossings > limit:
+        raise TooManyCrossings(result.crossings)
+    return result
+
+
+def needed_crossings(vertex_count: int, edges: Sequence[tuple[int, int]]) -> int:
+    """A number of crossings that no drawing of the graph can do without.
+
+    By Euler's formula, and by the crossing lemma in the form of Ackerman (2019) for seven and more edges a vertex.
+    """
+    count = len({(min(pair), max(pair)) for pair in edges if pair[0] != pair[1]})
+    needed = count - (3 * vertex_count - 6) if vertex_count > 2 else 0
+    if count >= 7 * vertex_count > 0:
+        needed = max(needed, count ** 3 // (29 * vertex_count ** 2))
+    return max(0, needed)
 
 
 def _joined(vertex_count: int, ends: list[tuple[int, int]], together: list[int]
@@ -172,8 +209,14 @@ class _Starts:
         self.dice = random.Random(seed)
         self.work = 0
 
-    def next(self) -> Reinsertion:
-        """One more embedding, with the work that it took."""
+    def next(self, limit: int = sys.maxsize) -> Reinsertion:
+        """One more embedding, with the work that it took.
+
+        Raises
+        ------
+        TooManyCrossings
+            If its crossings cost more than the limit.
+        """
         core = self.core
         order = sorted(range(len(core.ends)), key=lambda edge: (core.weights[edge] != FIXED, self.dice.random()))
         embedding = self._planar_part(order)
@@ -187,6 +230,8 @@ class _Starts:
         for edge in order:
             if search.rotation.start[edge] < 0:
                 search.put(edge)
+            if search.cost > limit:
+                raise TooManyCrossings(search.cost)
         return search
 
     def _planar_part(self, order: Sequence[int]) -> Any:
@@ -234,10 +279,16 @@ def _tree(count: int, pairs: Iterable[tuple[int, int]]) -> tuple[list[tuple[int,
     return kept, rest
 
 
-def _least(core: Core, effort: int, seed: int) -> Reinsertion:
-    """An embedding of a core with few crossings: the best of several starts."""
+def _least(core: Core, effort: int, seed: int, limit: int) -> Reinsertion:
+    """An embedding of a core with few crossings: the best of several starts.
+
+    Raises
+    ------
+    TooManyCrossings
+        If the first start has so many more crossings than the limit that no search would bring it there.
+    """
     starts = _Starts(core, seed)
-    best = starts.next()
+    best = starts.next(HOPELESS * max(limit, 1))
     work = 0
     for number in range(STARTS * effort):
         search = starts.next() if number else best

@@ -9,7 +9,7 @@ import unittest
 from collections.abc import Sequence
 
 from planarbend.embeddings import neighbours
-from planarbend.planarize import Planarization, planarize
+from planarbend.planarize import Planarization, TooManyCrossings, needed_crossings, planarize
 
 try:
     import networkx
@@ -158,6 +158,24 @@ class Planarized(unittest.TestCase):
         ladder = [(0, 1), (1, 2), (2, 3), (3, 0), (0, 4), (4, 2)]
         for pair in ((1, 3), (1, 4), (3, 4)):
             self.assertEqual(self.checked(5, ladder, pair).crossings, 0)
+
+    def test_too_many(self) -> None:
+        """A limit on crossings is kept, at once where it cannot be met."""
+        eight = [(tail, head) for tail in range(8) for head in range(tail)]
+        self.assertEqual(planarize(8, eight, most=18).crossings, 18)
+        with self.assertRaises(TooManyCrossings) as caught:
+            planarize(8, eight, most=17)
+        self.assertEqual(caught.exception.crossings, 18)
+        many = [(tail, head) for tail in range(60) for head in range(tail)]
+        with self.assertRaises(TooManyCrossings):
+            planarize(60, many, most=255)
+        # Twice and more the limit; few edges a vertex, so that only the search can tell.
+        dice = random.Random(1)
+        sparse = [(dice.randrange(40), dice.randrange(40)) for _ in range(110)]
+        with self.assertRaises(TooManyCrossings):
+            planarize(40, sparse, most=5)
+        for count, edges in ((8, eight), (60, many), (5, [(0, 1)] * 9), (0, []), (1, [(0, 0)])):
+            self.assertLessEqual(needed_crossings(count, edges), {8: 18, 60: 185_000}.get(count, 0))
 
     def test_neighbours(self) -> None:
         """Moves of an embedding lead to embeddings of the same graph with no more crossings, and to many."""
