@@ -61,6 +61,8 @@ impl<E: Numbered, M: Drop> Consumer<E, M> for Drafts<E> {
 
     ghost gave_up = { λ _ _. ⊤ };
 
+    ghost passed_on = { λ _. ⊤ };
+
     fn item(&mut self, item: E) -> Result<(), AllocError>
         ensures taken { OnOk result ((ns : List Note) → AreDrafts E.about 0 ns self.old.files.items
             → AreDrafts E.about 0 (ns ++ Item (E.about item) ∷ []) self.new.files.items) }
@@ -82,6 +84,16 @@ impl<E: Numbered, M: Drop> Consumer<E, M> for Drafts<E> {
         if place < self.files.len() {
             self.files[place].mark = Some(mark);
         }
+        Ok(())
+    }
+
+    fn is_flushed(&self) -> bool {
+        true
+    }
+
+    fn flush(&mut self) -> Result<(), AllocError>
+        ensures same { self.new ≡ self.old }
+    {
         Ok(())
     }
 

@@ -1,5 +1,5 @@
 //! How the calling thread gathers what the lanes give.
-ghost use Rattle.std.specs.Prelude.{◌≡◌, ◌⊎◌, ◌≤◌, [], ℕ, List, IfOk, IfErr, true, false, vec_len, slice_index_or};
+ghost use Rattle.std.specs.Prelude.{◌≡◌, ◌⊎◌, ◌≤◌, ◌∷◌, ◌++◌, [], ℕ, List, IfOk, OnOk, IfErr, true, false, vec_len, slice_index_or};
 ghost use Rattle.ruled_lanes.specs.declared.limits.TheConstants.{LANES};
 ghost use Rattle.ruled_lanes.specs.FanEnds.{gathered, TakesFromSameFan};
 ghost use Rattle.lanes.specs.Notes.{Note, notes};
@@ -12,6 +12,9 @@ use crate::numbered::Numbered;
 use ruled_lanes::Gatherer;
 use std::alloc::Global;
 use std::sync::Wait;
+
+/// How long something waits in the consumer, in microseconds of sleep, until it is passed on though no message comes.
+const PATIENCE: u64 = 250_000;
 
 /// Why gathering came to nothing.
 #[derive(Drop)]
@@ -36,8 +39,43 @@ fn set_stopped(stops: &mut Vec<bool>, lane: u32)
     }
 }
 
+/// The next message of the fan. As long as something waits in the consumer, it waits for one for what remains of
+/// `patience` at most, in microseconds; then the consumer flushes, and it waits until one comes. `LaneLost`: the givers
+/// of all lanes were gone. `Refused`: the consumer could not flush.
+fn next_message<E: Numbered, M: Drop, C: Consumer<E, M>, R: Wait>(
+    rt: &R,
+    gatherer: &mut Gatherer<Message<E, M>>,
+    consumer: &mut C,
+    patience: &mut u64,
+) -> Result<(u32, Message<E, M>), GatherFault<C::Refusal>>
+    requires holds { (ns : List Note) × C.holds consumer.old ns }
+    ensures fan { TakesFromSameFan gatherer.old gatherer.new }
+    ensures ok { IfOk result (λ item. gathered gatherer.new ≡ gathered gatherer.old ++ item ∷ []) }
+    ensures kept { OnOk result ((ns : List Note) → C.holds consumer.old ns → C.holds consumer.new ns) }
+    ensures failed { IfErr result (HoldsOnGatherFault (C.gave_up consumer.new) (C.holds consumer.new)) }
+    ensures stays { C.stays consumer.old consumer.new }
+{
+    if !consumer.is_flushed() {
+        match gatherer.take_within(rt, patience) {
+            Ok(Some(message)) => return Ok(message),
+            Ok(None) => {}
+            Err(_) => return Err(GatherFault::LaneLost),
+        }
+        match consumer.flush() {
+            Ok(()) => {}
+            Err(refusal) => return Err(GatherFault::Refused(refusal)),
+        }
+    }
+    *patience = PATIENCE;
+    match gatherer.take(rt) {
+        Ok(message) => Ok(message),
+        Err(_) => Err(GatherFault::LaneLost),
+    }
+}
+
 /// Takes the messages of the fan up to the stop of each of its first `lanes` lanes, and hands them to the
-/// consumer as they come, whichever lane they come from. It gives the end back. `LaneLost`: the givers of all
+/// consumer as they come, whichever lane they come from. Where they come slowly, what waits in the consumer is passed on
+/// about a quarter of a second later at most. It gives the end back. `LaneLost`: the givers of all
 /// lanes were gone. `Memory`: no memory for the list of lanes that have stopped. `Refused`: the consumer refused a message. In
 /// these cases it lets its end go, so that no lane waits for it.
 pub fn gather<E: Numbered, M: Drop, C: Consumer<E, M>, R: Wait>(
@@ -59,8 +97,9 @@ pub fn gather<E: Numbered, M: Drop, C: Consumer<E, M>, R: Wait>(
     let Ok(mut stops) = Vec::from_elem(alloc, false, lanes as usize) else {
         return Err(GatherFault::Memory);
     };
+    let mut patience = PATIENCE;
     for _ in rt.forever() {
-        match gatherer.take(rt) {
+        match next_message(rt, &mut gatherer, consumer, &mut patience) {
             Ok((_, Message::Item(item))) => match consumer.item(item) {
                 Ok(()) => {}
                 Err(refusal) => return Err(GatherFault::Refused(refusal)),
@@ -75,7 +114,7 @@ pub fn gather<E: Numbered, M: Drop, C: Consumer<E, M>, R: Wait>(
                     return Ok(gatherer);
                 }
             }
-            Err(_) => return Err(GatherFault::LaneLost),
+            Err(fault) => return Err(fault),
         }
     }
     unreachable!()

@@ -1,5 +1,5 @@
 -- What lines hold after one message more.
-use Rattle.std.proofs.Common.{◌≡◌, ◌≢◌, ◌↔◌, ◌⊎◌, ℕ, ◌+◌, ◌<◌, ◌≤◌, lit<, Bool, true, List, [], ◌∷◌, ◌++◌, length, get_or, Option, None, All, inl, inr, refl, sym, ap, subst, ◌∙◌, arith, decimal, codes, length-append}
+use Rattle.std.proofs.Common.{◌≡◌, ◌≢◌, ◌↔◌, ◌⊎◌, ℕ, ◌+◌, ◌<◌, ◌≤◌, lit<, Bool, true, List, [], ◌∷◌, ◌++◌, length, get_or, Option, None, All, inl, inr, refl, sym, ap, subst, ◌∙◌, arith, decimal, codes, length-append, append-nil}
 use Rattle.std.proofs.lemmas.Bool.{cases_eq}
 use Rattle.std.proofs.lemmas.Fmt.{length-decimal-le}
 use Rattle.std.proofs.lemmas.List.Elements.{All-nil}
@@ -25,7 +25,9 @@ use Rattle.printing.proofs.Ordering.{order_none, order_item, order_end, order_bu
 use Rattle.printing.proofs.Partial.{partial_written, partial_flushed}
 use Rattle.printing.specs.Holding.{HoldsNotes, LinesHold, LinesWrite, ArePartialNotes, ArePartialLines, ArePartialLinesAt, AreLinesOf}
 use Rattle.printing.specs.Written.{IsPartialText}
-use Rattle.streams.specs.Sink.{AppendsPrefix}
+use Rattle.std.specs.Io.KnownBytes.{Appends}
+use Rattle.streams.specs.Sink.{AppendsPrefix, IsInTransit}
+use Rattle.streams.proofs.Sinks.{added_both}
 use Rattle.printing.proofs.Notes.{entry_more, has_entry_more, ended_now, has_mark_more, all_told_item, all_told_end}
 use Rattle.printing.proofs.FlawlessBooks.{flawless_end}
 use Rattle.printing.proofs.Adding.{written_none}
@@ -226,6 +228,34 @@ left_off_finish meaning start old new lines ns put held = record {
   ordered = held.ordered;
   text = partial_flushed lines.form start old new lines.buffer lines.current lines.waiting.items held.came put held.written;
 }
+
+-- what was on its way to the sink was put into it
+in_transit_put : (start old new : Option (List ℕ)) (buffer after text : List ℕ) → Appends old new buffer → after ≡ [] → IsInTransit start old buffer text → IsInTransit start new after text
+in_transit_put start old new buffer after text put empty way = record {
+  sent = way.sent ++ buffer;
+  split = way.split ∙ sym (append-nil (way.sent ++ buffer)) ∙ ap (λ l. (way.sent ++ buffer) ++ l) (sym empty);
+  added = added_both start old new way.sent buffer way.added put;
+}
+
+pub held_flushed : (choice : Choice) (meaning : ℕ → Meaning) (form : Form) (start old new : Option (List ℕ)) (buffer after : List ℕ) (current : ℕ) (waiting : List Waiting) (flawless : Bool) (ns : List Note)
+    → Appends old new buffer → after ≡ [] → HoldsNotes choice meaning form start old buffer current waiting flawless ns → HoldsNotes choice meaning form start new after current waiting flawless ns
+held_flushed choice meaning form start old new buffer after current waiting flawless ns put empty held =
+    let was = held.written in
+    record {
+      came = held.came;
+      told = held.told;
+      ordered = held.ordered;
+      written = record {
+        within = was.within;
+        marked = was.marked;
+        counted = was.counted;
+        lines = was.lines;
+        going = λ below. in_transit_put start old new buffer after _ put empty (was.going below);
+        over = λ past. in_transit_put start old new buffer after _ put empty (was.over past);
+      };
+      unended = held.unended;
+      all_flawless = held.all_flawless;
+    }
 
 -- what is known of the end of a file, told of the same file, number and mark
 pub end_as : (meaning : ℕ → Meaning) (known file n count : ℕ) (was mark : Mark) → known ≡ file → n ≡ count → was ≡ mark → ∥ IsEndAt (meaning known) count was ∥₁ → ∥ IsEndAt (meaning file) n mark ∥₁

@@ -36,6 +36,10 @@ choice_of lines = lines.choice
 abbrev pub files_of : Lines → ℕ
 files_of lines = length lines.waiting.items
 
+-- no text waits on its way to the sink
+abbrev pub IsFlushed : Lines → Type 0
+IsFlushed lines = lines.buffer ≡ []
+
 -- what came of the files is written or waits, of a sink that had taken `start` and has now taken `now`
 abbrev pub LinesWrite : Option (List ℕ) → Option (List ℕ) → Lines → (ℕ → Came) → Type 0
 LinesWrite start now lines came = AreWritten lines.form start now lines.buffer lines.current lines.waiting.items came

@@ -11,7 +11,7 @@ ghost use Rattle.printing.specs.declared.waiting.Waiting.{Waiting};
 ghost use Rattle.printing.specs.Came.{Came, HasEntryMore};
 ghost use Rattle.printing.specs.Orders.{IsNext};
 ghost use Rattle.printing.specs.Written.{IsPartialText, GivesUp};
-ghost use Rattle.printing.specs.Holding.{form_of, choice_of, files_of, LinesWrite, LinesRemain, LinesHold, ArePartialLines, ArePartialLinesAt, AreLinesOf, StandAt};
+ghost use Rattle.printing.specs.Holding.{form_of, choice_of, files_of, IsFlushed, LinesWrite, LinesRemain, LinesHold, ArePartialLines, ArePartialLinesAt, AreLinesOf, StandAt};
 ghost use Rattle.printing.specs.Whole.{HaveFiles, IsAllWritten};
 
 use crate::lines::{lacking_text, preamble_text};
@@ -166,6 +166,35 @@ impl Lines {
         }
         self.flawless = is_flawless_with(self.flawless, mark);
         self.advance(alloc, sink)
+    }
+
+    /// Whether all text that is on its way is in the sink.
+    pub(crate) fn is_flushed(&self) -> bool
+        ensures { IsTrue result ↔ IsFlushed self.now }
+    {
+        self.buffer.is_empty()
+    }
+
+    /// Puts what waits in the buffer into the sink.
+    ///
+    /// # Errors
+    ///
+    /// `Write` exactly where the sink has then failed. There is no other.
+    pub(crate) fn flush<S: Sink>(&mut self, sink: &mut S) -> Result<(), Refusal>
+        requires { S.failed sink.old ≡ false }
+        ensures held { OnOk result ((meaning : ℕ → Meaning) (start : Option (List ℕ)) (ns : List Note)
+            → LinesHold meaning start (S.taken sink.old) self.old ns → LinesHold meaning start (S.taken sink.new) self.new ns) }
+        ensures partial { OnErr result ((meaning : ℕ → Meaning) (start : Option (List ℕ)) (ns : List Note)
+            → LinesHold meaning start (S.taken sink.old) self.old ns → ArePartialLines meaning start (S.taken sink.new) self.new ns) }
+        ensures flushed { OnOk result (IsFlushed self.new) }
+        ensures stands { OnOk result (S.failed sink.new ≡ false) }
+        ensures gave_up { IfErr result (λ refusal. GivesUp (S.failed sink.new) refusal) }
+        ensures same { AreLinesOf self.old self.new }
+    {
+        match self.buffer.flush(sink) {
+            Ok(()) => Ok(()),
+            Err(_) => Err(Refusal::Write),
+        }
     }
 
     /// Puts what waits in the buffer into the sink, and returns the status of the run: 0 where each file ended

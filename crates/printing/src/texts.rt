@@ -6,7 +6,7 @@ ghost use Rattle.lanes.specs.Notes.{Note};
 ghost use Rattle.lanes.specs.Opening.{Meaning};
 ghost use Rattle.printing.specs.Written.{GivesUp};
 ghost use Rattle.printing.specs.Stops.{held_stop};
-ghost use Rattle.printing.specs.Holding.{form_of, files_of, LinesHold, ArePartialLines, AreLinesOf};
+ghost use Rattle.printing.specs.Holding.{form_of, files_of, IsFlushed, LinesHold, ArePartialLines, AreLinesOf};
 ghost use Rattle.printing.specs.Whole.{HaveFiles, IsAllWritten};
 
 use crate::meant::{KnownEnd, Meant};
@@ -100,6 +100,8 @@ impl<S: Sink, J: Meant + Send + Sync> Consumer<Printed<J>, KnownEnd<J>> for Text
     ghost gave_up = { λ t refusal. GivesUp (S.failed t.sink.now) refusal
         × ((ns : List Note) × ArePartialLines J.meaning (S.taken t.start.value) (S.taken t.sink.now) t.lines ns) };
 
+    ghost passed_on = { λ t. IsFlushed t.lines };
+
     fn item(&mut self, item: Printed<J>) -> Result<(), Refusal> {
         let taken = self.lines.line(self.alloc, self.sink, item);
         self.keep_pace(taken.is_ok());
@@ -110,6 +112,16 @@ impl<S: Sink, J: Meant + Send + Sync> Consumer<Printed<J>, KnownEnd<J>> for Text
         let taken = self.lines.end(self.alloc, self.sink, file, mark, known);
         self.keep_pace(taken.is_ok());
         taken
+    }
+
+    fn is_flushed(&self) -> bool {
+        self.lines.is_flushed()
+    }
+
+    fn flush(&mut self) -> Result<(), Refusal> {
+        let flushed = self.lines.flush(self.sink);
+        self.keep_pace(flushed.is_ok());
+        flushed
     }
 
     ghost holds_on = { λ t ns held. (held.0, held_stop _ _ _ _ _ _ _ _ _ _ held.1) };

@@ -10,12 +10,12 @@ loop-preserved-in-Ok-item g c =
     let about = g.E.Numbered.about in
     record {
       lanes = c.loop.invariant.lanes;
-      fan = c.take.ensures.fan ∙ c.loop.invariant.fan;
+      fan = c.next_message.ensures.fan ∙ c.loop.invariant.fan;
       stops = stops_more about _ _ _ _ c.in-Ok-default-Item.ensures.ok c.loop.invariant.stops;
       told = subst (g.C.Consumer.holds c.item.new.self)
           (sym (told_more about _ _ _ (Item (about c.in-Ok-default-Item.item)) c.in-Ok-default-Item.ensures.ok (ap (note about) c.in-Ok-default-Item.field-0-1-is)))
-          (c.in-Ok-item.ensures.taken _ c.loop.invariant.told);
-      stays = g.met.C.Consumer.stays_on _ _ _ c.loop.invariant.stays c.item.ensures.stays;
+          (c.in-Ok-item.ensures.taken _ (c.in-Ok-default-Item.ensures.kept _ c.loop.invariant.told));
+      stays = g.met.C.Consumer.stays_on _ _ _ (g.met.C.Consumer.stays_on _ _ _ c.loop.invariant.stays c.next_message.ensures.stays) c.item.ensures.stays;
     }
 
 pub loop-preserved-in-Ok-end : goal.loop-preserved-in-Ok-end
@@ -23,12 +23,12 @@ loop-preserved-in-Ok-end g c =
     let about = g.E.Numbered.about in
     record {
       lanes = c.loop.invariant.lanes;
-      fan = c.take.ensures.fan ∙ c.loop.invariant.fan;
+      fan = c.next_message.ensures.fan ∙ c.loop.invariant.fan;
       stops = stops_more about _ _ _ _ c.in-Ok-default-End.ensures.ok c.loop.invariant.stops;
       told = subst (g.C.Consumer.holds c.end.new.self)
           (sym (told_more about _ _ _ (End c.in-Ok-default-End.file c.in-Ok-default-End.mark) c.in-Ok-default-End.ensures.ok (ap (note about) c.in-Ok-default-End.field-0-1-is)))
-          (c.in-Ok-end.ensures.taken _ c.loop.invariant.told);
-      stays = g.met.C.Consumer.stays_on _ _ _ c.loop.invariant.stays c.end.ensures.stays;
+          (c.in-Ok-end.ensures.taken _ (c.in-Ok-default-End.ensures.kept _ c.loop.invariant.told));
+      stays = g.met.C.Consumer.stays_on _ _ _ (g.met.C.Consumer.stays_on _ _ _ c.loop.invariant.stays c.next_message.ensures.stays) c.end.ensures.stays;
     }
 
 pub returns-then-not-contains-clause-stopped : goal.returns-then-not-contains-clause-stopped
@@ -41,19 +41,19 @@ returns-then-not-contains-clause-stopped g c =
 pub returns-then-not-contains-clause-told : goal.returns-then-not-contains-clause-told
 returns-then-not-contains-clause-told g c =
     let about = g.E.Numbered.about in
-    subst (g.C.Consumer.holds c.loop.consumer)
+    subst (g.C.Consumer.holds c.next_message.new.consumer)
     (sym (told_more about _ _ _ Stop c.in-Ok-default-Stop.ensures.ok (ap (note about) c.in-Ok-default-Stop.field-0-1-is)))
-    (g.met.C.Consumer.holds_on _ _ c.loop.invariant.told)
+    (g.met.C.Consumer.holds_on _ _ (c.in-Ok-default-Stop.ensures.kept _ c.loop.invariant.told))
 
 pub loop-preserved : goal.loop-preserved
 loop-preserved g c =
     let about = g.E.Numbered.about in
     record {
       lanes = c.set_stopped.ensures.count ∙ c.loop.invariant.lanes;
-      fan = c.take.ensures.fan ∙ c.loop.invariant.fan;
+      fan = c.next_message.ensures.fan ∙ c.loop.invariant.fan;
       stops = stop_noted about _ _ _ _ _ c.in-Ok-default-Stop.ensures.ok c.in-Ok-default-Stop.field-0-1-is c.set_stopped.ensures.noted c.loop.invariant.stops;
-      told = subst (g.C.Consumer.holds c.loop.consumer)
+      told = subst (g.C.Consumer.holds c.next_message.new.consumer)
           (sym (told_more about _ _ _ Stop c.in-Ok-default-Stop.ensures.ok (ap (note about) c.in-Ok-default-Stop.field-0-1-is)))
-          (g.met.C.Consumer.holds_on _ _ c.loop.invariant.told);
-      stays = c.loop.invariant.stays;
+          (g.met.C.Consumer.holds_on _ _ (c.in-Ok-default-Stop.ensures.kept _ c.loop.invariant.told));
+      stays = g.met.C.Consumer.stays_on _ _ _ c.loop.invariant.stays c.next_message.ensures.stays;
     }
