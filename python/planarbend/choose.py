@@ -13,7 +13,7 @@ from planarbend.planarize import Planarization
 
 MOST_FACES = 24  # outer faces that are tried
 MOST_TURNS = 8  # spines that are tried in place of a cage
-MOST_REPAIRS = 6
+MOST_REPAIRS = 3
 MOST_PICKED = 4  # shapes that are looked at in pixels
 NUMBERINGS = 7  # of each plan, for each unit of effort
 
@@ -296,20 +296,21 @@ class Search:
             plans = list(dict.fromkeys(found.plan for found in sorted(pool, key=Found.price)))
             for plan in plans[:2]:
                 pool += self.turned_out(plan)
+        current = min(pool, key=Found.price)
         for _ in range(MOST_REPAIRS):
-            best = min(pool, key=Found.price)
-            if not best.shape.broken:
+            if not current.shape.broken:
                 return
-            vertex = best.shape.broken[0]
+            vertex = current.shape.broken[0]
             if self.degree[vertex] <= MOST_CONNECTIONS:
-                plans = [best.plan.uncaged([vertex])]
+                plans = [current.plan.uncaged([vertex])]
             else:
                 turns = range(0, self.degree[vertex], max(1, self.degree[vertex] // MOST_TURNS))
-                plans = [best.plan.spined(vertex, turn) for turn in turns]
+                plans = [current.plan.spined(vertex, turn) for turn in turns]
             tried = [found for plan in plans for found in self.turned_out(plan)] if self.outer else self.shapes_of(plans)
-            pool += tried
-            if best.price() <= min((found.price() for found in tried), default=best.price()):
+            if not tried:
                 break
+            pool += tried
+            current = min(tried, key=Found.price)
         if not self.outer:
             pool += self.shapes_of([self.first_plan(True)])
 

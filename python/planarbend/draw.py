@@ -3,6 +3,7 @@ from __future__ import annotations
 
 import dataclasses
 import math
+import random
 from collections.abc import Sequence
 from dataclasses import dataclass
 
@@ -18,6 +19,7 @@ from planarbend.spread import Sheet
 
 MARGIN = 10.0  # pixels round the whole
 BETWEEN = 18.0  # pixels between components
+MOST_EMBEDDINGS = 4  # that are tried where a box would be no rectangle
 BEND_WEIGHT = 2.5  # of bends an edge, where shapes are compared by area
 SHAPE = 1.5  # the width of a sheet of several components over its height, about
 
@@ -122,12 +124,42 @@ def part_of(graph: Graph, vertices: list[int], edges: list[int], options: Option
     if not plain:
         return in_pixels(settled(lone(len(pairs)), inner), vertices, edges, [])
     together = [number[vertex] for vertex in options.outer if vertex in number]
-    planar = planarize(len(vertices), [pairs[place] for place in plain], effort=options.effort, seed=options.seed,
-                       together=together)
-    sheets = [settled(with_loops(shape, plain, len(pairs)), inner)
-              for shape in shapes_of_planar(planar, inner, together, options, engine)]
-    sheet = min(sheets, key=lambda sheet: price_of(sheet, len(pairs)))
-    return in_pixels(sheet, vertices, edges, crossings_of(planar, sheet.shape))
+    ends = [pairs[place] for place in plain]
+    best = None
+    for attempt in range(MOST_EMBEDDINGS):
+        planar = embedded(len(vertices), ends, options, together, attempt)
+        for shape in shapes_of_planar(planar, inner, together, options, engine):
+            sheet = settled(with_loops(shape, plain, len(pairs)), inner)
+            price = (len(shape.broken), price_of(sheet, len(pairs)))
+            if best is None or price < best[0]:
+                best = price, sheet, planar
+        if best is not None and not best[0][0]:
+            break
+    assert best is not None, "a component has a shape"
+    return in_pixels(best[1], vertices, edges, crossings_of(best[2], best[1].shape))
+
+
+def embedded(count: int, pairs: list[tuple[int, int]], options: Options, together: Sequence[int],
+             attempt: int) -> Planarization:
+    """A component in the plane: at each attempt but the first another embedding, by another order of its vertices and
+    edges."""
+    if not attempt:
+        return planarize(count, pairs, effort=options.effort, seed=options.seed, together=together)
+    source = random.Random(options.seed * MOST_EMBEDDINGS + attempt)
+    number, order = list(range(count)), list(range(len(pairs)))
+    source.shuffle(number)
+    source.shuffle(order)
+    found = planarize(count, [(number[pairs[place][0]], number[pairs[place][1]]) for place in order],
+                      effort=options.effort, seed=options.seed, together=[number[vertex] for vertex in together])
+    name = [0] * count
+    for vertex, other in enumerate(number):
+        name[other] = vertex
+    name += range(count, len(found.rotation))
+    chains: list[list[int]] = [[] for _ in pairs]
+    for place, chain in zip(order, found.chains):
+        chains[place] = chain
+    rotation = [found.rotation[other] for other in (*number, *range(count, len(found.rotation)))]
+    return Planarization(count, [(name[tail], name[head]) for tail, head in found.pieces], rotation, chains)
 
 
 def settled(shape: Shape, graph: Graph) -> Sheet:

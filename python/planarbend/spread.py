@@ -288,7 +288,7 @@ class Sheet:
         else:
             solver.settle()
             self._pull(axis, solver)
-        along.value = solver.value
+        along.value = [round(value, 4) for value in solver.value]
 
     def _lengths(self, axis: int) -> list[tuple[int, int, float, float]]:
         """What is to be short along an axis: pieces of edges, and boxes."""
