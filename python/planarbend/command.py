@@ -1,4 +1,4 @@
-"""The command `planarbend-draw`, which is `python3 -m planarbend draw`."""
+"""The command `planarbend-draw`, which is also `python3 -m planarbend draw`."""
 from __future__ import annotations
 
 import argparse
@@ -7,53 +7,82 @@ import sys
 
 from planarbend.draw import DrawError, Options, draw
 from planarbend.drawn import Drawing
-from planarbend.graph import Graph
+from planarbend.graph import Graph, Kind, split
 from planarbend.layouts import PlanarbendError
 from planarbend.picture import CONVERTED, NoConverter, svg, write_picture
 from planarbend.readers import FORMS, ReadError, read
 
+ABOUT = "Draws a graph along horizontal and vertical lines with few bends and few crossings, which are right angles."
 TEXT = """\
+examples:
   planarbend-draw radio.txt -o radio.svg
-  planarbend-draw plan.dot -o plan.pdf --outer kitchen,hall,porch
-"""
-STATUSES = """\
+  planarbend-draw house.dot -o house.pdf --outer Street,Garden
+  planarbend-draw board.kicad_pcb -o board.png --split GND,VCC
+
+GRAPH is a list of connections, one or more a line (`antenna -- tuner -> mixer`, or two words); DOT, GraphML, GML,
+node-link JSON, graph6; or a netlist or board of KiCad. Its content shows which, or --format names it.
+
+Without Graphviz there is no DOT, and without networkx (Debian: python3-networkx) no drawing. PNG and PDF are made by
+rsvg-convert (Debian: librsvg2-bin). The program planarbend is the one that PLANARBEND names, that of this checkout, or
+the one on the path.
+
 status: 0; 1 if the graph cannot be read or drawn, which standard error says, with nothing written; 2 if the command line
 is refused
 """
+ENDINGS = (".svg", ".json", ".pc", *CONVERTED)
 
 
 def command_line() -> argparse.Namespace:
     """The arguments."""
-    parser = argparse.ArgumentParser(description="Draws a graph along horizontal and vertical lines with few bends.\n\n" + TEXT,
-                                     epilog=STATUSES, formatter_class=argparse.RawDescriptionHelpFormatter)
+    parser = argparse.ArgumentParser(description=ABOUT, epilog=TEXT, formatter_class=argparse.RawDescriptionHelpFormatter)
     parser.add_argument("graph", metavar="GRAPH", help="the file, or - for standard input")
-    parser.add_argument("-o", "--output", metavar="OUT", required=True, help="OUT.svg, .png, .pdf, .json, or - for SVG")
+    parser.add_argument("-o", "--output", metavar="OUT", required=True,
+                        help="a picture (.svg, .png, .pdf); the drawing's points for other programs (.json); the embedding"
+                             " with its crossings as planar_code (.pc); or - for SVG on standard output")
     parser.add_argument("--format", choices=FORMS, help="the format of GRAPH (default: by its content)")
-    parser.add_argument("--outer", metavar="NAMES", help="vertices on the outer face, with commas between them")
-    parser.add_argument("--compact", action="store_true", help="smaller, with more bends")
-    parser.add_argument("--effort", metavar="N", type=int, default=1, help="how long to look for fewer crossings (1)")
-    parser.add_argument("--seed", metavar="N", type=int, default=0, help="seed of the random choices (0)")
-    parser.add_argument("--scale", metavar="N", type=float, default=1.0, help="of a PNG, times 96 dots an inch (1)")
+    parser.add_argument("--outer", metavar="NAMES", help="put these vertices on the outer face; commas separate names")
+    parser.add_argument("--split", metavar="NETS|DEGREE",
+                        help="draw these vertices, or nets of more connections than DEGREE, as a flag at each connection")
+    parser.add_argument("--compact", action="store_true", help="smaller drawing with more bends")
+    parser.add_argument("--effort", metavar="N", type=int, default=1,
+                        help="look longer for fewer crossings and bends (default 1; 0 is fastest)")
+    parser.add_argument("--seed", metavar="N", type=int, default=0,
+                        help="seed of the random choices: the same seed gives the same drawing (default 0)")
+    parser.add_argument("--scale", metavar="N", type=float, default=1.0, help="size of a PNG, 1 for 96 dots an inch")
     words = parser.parse_args()
-    if os.path.splitext(words.output)[1] not in (".svg", ".json", *CONVERTED) and words.output != "-":
-        parser.error("OUT ends with .svg, .png, .pdf or .json")
+    if os.path.splitext(words.output)[1] not in ENDINGS and words.output != "-":
+        parser.error(f"OUT must end with {', '.join(ENDINGS)}")
     if not 0.1 <= words.scale <= 20:
-        parser.error("--scale is 0.1 to 20")
+        parser.error("--scale must be 0.1 to 20")
+    if not 0 <= words.effort <= 100:
+        parser.error("--effort must be 0 to 100")
     return words
 
 
 def named(graph: Graph, names: str) -> list[int]:
-    """The vertices of these names."""
+    """The vertices of these names. A name of several vertices, or of none, is a `DrawError`."""
     found = []
-    for name in names.split(","):
-        name = name.strip()
-        at = [number for number, vertex in enumerate(graph.vertices) if name in (vertex.name, vertex.label)]
-        if not at:
-            raise DrawError(f"no vertex is named {name}")
-        if len(at) > 1:
-            raise DrawError(f"{len(at)} vertices are named {name}")
+    for name in filter(None, map(str.strip, names.split(","))):
+        at = [number for number, vertex in enumerate(graph.vertices) if vertex.name == name]
+        at = at or [number for number, vertex in enumerate(graph.vertices) if vertex.label == name]
+        if len(at) != 1:
+            raise DrawError(f"{len(at)} vertices are named {name}" if at else f"no vertex is named {name}")
         found.append(at[0])
     return found
+
+
+def to_split(graph: Graph, which: str) -> list[int]:
+    """The vertices to split: those of these names, or those with more connections than a number; of a circuit nets
+    alone."""
+    if not which.isdecimal():
+        return named(graph, which)
+    degree = [0] * len(graph.vertices)
+    for edge in graph.edges:
+        degree[edge.tail] += 1
+        degree[edge.head] += 1
+    is_circuit = any(vertex.kind is Kind.NET for vertex in graph.vertices)
+    return [number for number, vertex in enumerate(graph.vertices)
+            if degree[number] > int(which) and (vertex.kind is Kind.NET or not is_circuit)]
 
 
 def read_file(path: str, form: str | None) -> Graph:
@@ -66,9 +95,11 @@ def write(drawing: Drawing, path: str, scale: float) -> None:
     """Write a drawing as what the file's name says."""
     if path == "-":
         sys.stdout.write(svg(drawing))
-    elif path.endswith(".json"):
-        with open(path, "w", encoding="utf-8") as out:
-            out.write(drawing.json() + "\n")
+        sys.stdout.flush()
+    elif path.endswith((".json", ".pc")):
+        data = drawing.planar_code() if path.endswith(".pc") else (drawing.json() + "\n").encode()
+        with open(path, "wb") as out:
+            out.write(data)
     else:
         write_picture(svg(drawing), path, scale)
 
@@ -78,12 +109,16 @@ def run() -> int:
     words = command_line()
     try:
         graph = read_file(words.graph, words.format)
+        if words.split:
+            graph = split(graph, to_split(graph, words.split))
         outer = named(graph, words.outer) if words.outer else ()
         write(draw(graph, Options(outer, words.compact, words.effort, words.seed)), words.output, words.scale)
     except (ReadError, DrawError, PlanarbendError, NoConverter) as fault:
         print(f"planarbend-draw: {fault}", file=sys.stderr)
-        return 1
+    except ModuleNotFoundError as error:
+        print(f"planarbend-draw: needs the Python library {error.name} (Debian: python3-{error.name})", file=sys.stderr)
     except OSError as error:
         print(f"planarbend-draw: {error.filename or words.output}: {error.strerror}", file=sys.stderr)
-        return 1
-    return 0
+    else:
+        return 0
+    return 1

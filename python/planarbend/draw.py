@@ -13,7 +13,7 @@ from planarbend.engine import Engine, default_engine
 from planarbend.expand import Expansion
 from planarbend.graph import Edge, Graph
 from planarbend.layouts import PlanarbendError
-from planarbend.planar_code import MOST_VERTICES
+from planarbend.planar_code import MOST_VERTICES, Lists
 from planarbend.planarize import Planarization, planarize
 from planarbend.spread import Sheet
 
@@ -63,6 +63,7 @@ class Part:
     width: float
     height: float
     broken: list[int]
+    planar: Planarization | None
 
 
 def components_of(graph: Graph) -> list[tuple[list[int], list[int]]]:
@@ -122,7 +123,7 @@ def part_of(graph: Graph, vertices: list[int], edges: list[int], options: Option
     pairs = [(edge.tail, edge.head) for edge in inner.edges]
     plain = [place for place, (tail, head) in enumerate(pairs) if tail != head]  # loops are drawn at their boxes
     if not plain:
-        return in_pixels(settled(lone(len(pairs)), inner), vertices, edges, [])
+        return in_pixels(settled(lone(len(pairs)), inner), vertices, edges, None)
     together = [number[vertex] for vertex in options.outer if vertex in number]
     ends = [pairs[place] for place in plain]
     best = None
@@ -136,7 +137,7 @@ def part_of(graph: Graph, vertices: list[int], edges: list[int], options: Option
         if best is not None and not best[0][0]:
             break
     assert best is not None, "a component has a shape"
-    return in_pixels(best[1], vertices, edges, crossings_of(best[2], best[1].shape))
+    return in_pixels(best[1], vertices, edges, best[2])
 
 
 def embedded(count: int, pairs: list[tuple[int, int]], options: Options, together: Sequence[int],
@@ -204,7 +205,7 @@ def shapes_of_planar(planar: Planarization, graph: Graph, outer: Sequence[int], 
         raise DrawError(f"no embedding was found with these vertices on one face: {names}") from None
 
 
-def crossings_of(planar: Planarization, shape: Shape) -> list[tuple[int, tuple[int, int]]]:
+def crossings_of(shape: Shape) -> list[tuple[int, tuple[int, int]]]:
     """The node of each crossing, with the two edges that cross there."""
     met: dict[int, list[int]] = {}
     for edge, chain in enumerate(shape.expansion.chains):
@@ -213,8 +214,9 @@ def crossings_of(planar: Planarization, shape: Shape) -> list[tuple[int, tuple[i
     return [(node, (min(met[node]), max(met[node]))) for node in shape.expansion.crossings]
 
 
-def in_pixels(sheet: Sheet, vertices: list[int], edges: list[int], crossings: list[tuple[int, tuple[int, int]]]) -> Part:
+def in_pixels(sheet: Sheet, vertices: list[int], edges: list[int], planar: Planarization | None) -> Part:
     """A settled component, moved to 0, 0."""
+    crossings = crossings_of(sheet.shape)
     boxes = [sheet.extent(box) for box in sheet.boxes]
     lines = [sheet.line(number) for number in range(len(edges))]
     labels = {number: sheet.extent(item) for number, item in sheet.labels.items()}
@@ -227,7 +229,7 @@ def in_pixels(sheet: Sheet, vertices: list[int], edges: list[int], crossings: li
     found = [Crossing(meeting(lines[one], lines[other]), (edges[one], edges[other])) for _, (one, other) in crossings]
     return Part(vertices, edges, list(map(moved, boxes)), lines, found,
                 {edges[number]: moved(box) for number, box in labels.items()}, right - left, bottom - top,
-                [vertices[vertex] for vertex in sheet.shape.broken])
+                [vertices[vertex] for vertex in sheet.shape.broken], planar)
 
 
 def meeting(one: list[Point], other: list[Point]) -> Point:
@@ -267,4 +269,11 @@ def side_by_side(graph: Graph, parts: list[Part]) -> Drawing:
         width = max(width, left + part.width)
         left, high = left + part.width + BETWEEN, max(high, part.height)
     size = (math.ceil(width + 2 * MARGIN), math.ceil(top + high + 2 * MARGIN))
-    return Drawing(graph, boxes, lines, crossings, size, labels, [vertex for part in parts for vertex in part.broken])
+    broken = [vertex for part in parts for vertex in part.broken]
+    planes = [part.planar for part in parts if part.planar is not None]
+    return Drawing(graph, boxes, lines, crossings, size, labels, broken, list(map(lists_of, planes)))
+
+
+def lists_of(planar: Planarization) -> Lists:
+    """The neighbour lists of a planarization."""
+    return [[planar.pieces[dart // 2][1 - dart % 2] + 1 for dart in darts] for darts in planar.rotation]

@@ -5,6 +5,7 @@ import json
 from dataclasses import dataclass
 
 from planarbend.graph import Graph
+from planarbend.planar_code import HEADER, Lists, record_of
 
 Point = tuple[float, float]
 Box = tuple[float, float, float, float]  # left, top, right, bottom
@@ -37,6 +38,9 @@ class Drawing:
         The place of each edge's label that is drawn.
     broken : list of int
         The vertices whose box should be no rectangle; the rectangle round it then meets other things.
+    embedding : list of neighbour lists
+        For each component with an edge its vertices in the graph's order, then its crossings, each with its neighbours
+        counted from 1, clockwise. Loops are left out.
     """
 
     graph: Graph
@@ -46,11 +50,16 @@ class Drawing:
     size: tuple[float, float]
     label_boxes: dict[int, Box]
     broken: list[int]
+    embedding: list[Lists]
 
     @property
     def bends(self) -> int:
         """The number of bends of all edges."""
         return sum(len(line) - 2 for line in self.lines)
+
+    def planar_code(self) -> bytes:
+        """The embedding as planar_code, a record for each component."""
+        return HEADER + b"".join(map(record_of, self.embedding))
 
     def json(self) -> str:
         """The drawing as JSON: vertices, edges, crossings, bends and size."""

@@ -4,7 +4,9 @@ Vertices and edges have the numbers of their places in the lists. Loops and para
 """
 from __future__ import annotations
 
+import dataclasses
 import enum
+from collections.abc import Collection
 from dataclasses import dataclass, field
 
 
@@ -14,6 +16,7 @@ class Kind(enum.Enum):
     VERTEX = "vertex"  # a box with its label
     PART = "part"  # a part of a circuit: a box with square corners
     NET = "net"  # a net of a circuit: lines that meet in a dot
+    FLAG = "flag"  # one of the flags that stand for a net which was split
 
 
 class Arrow(enum.Enum):
@@ -51,3 +54,34 @@ class Graph:
     vertices: list[Vertex] = field(default_factory=list)
     edges: list[Edge] = field(default_factory=list)
     directed: bool = False
+
+
+def split(graph: Graph, vertices: Collection[int]) -> Graph:
+    """A graph in which some vertices, such as power nets, are split into one flag for each of their connections.
+
+    Parameters
+    ----------
+    graph : Graph
+    vertices : collection of int
+        The vertices to split.
+
+    Returns
+    -------
+    Graph
+        Its edges are those of `graph`, in the same order. The first flag of a vertex has the vertex's number, further
+        ones come after all vertices.
+    """
+    found = Graph([Vertex(one.name, one.label, Kind.FLAG if number in vertices else one.kind)
+                   for number, one in enumerate(graph.vertices)], [], graph.directed)
+    used: set[int] = set()
+
+    def end(vertex: int) -> int:
+        if vertex not in vertices or vertex not in used:
+            used.add(vertex)
+            return vertex
+        found.vertices.append(dataclasses.replace(found.vertices[vertex]))
+        return len(found.vertices) - 1
+
+    for edge in graph.edges:
+        found.edges.append(dataclasses.replace(edge, tail=end(edge.tail), head=end(edge.head)))
+    return found

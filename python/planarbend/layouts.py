@@ -18,7 +18,6 @@ import itertools
 import os
 import shutil
 import subprocess
-import sys
 import tempfile
 import threading
 from collections.abc import Hashable, Iterable, Iterator, Mapping
@@ -44,11 +43,11 @@ class NoProgram(PlanarbendError):
 
 
 class RunFailed(PlanarbendError):
-    """The run ended before its last graph: its status, and what it said."""
+    """The run ended before its last graph: its status, and all that it wrote on standard error (`said`)."""
 
     def __init__(self, status: int, said: str) -> None:
         super().__init__(said or f"planarbend ended with status {status}")
-        self.status = status
+        self.status, self.said = status, said
 
 
 class GraphError(PlanarbendError):
@@ -90,11 +89,15 @@ class Record:
 
     @staticmethod
     def of(graph: Record | Mapping[Vertex, Iterable[Vertex]] | Any) -> Record:
-        """The record of a graph. Raises `ValueError` where it has none, and says why."""
+        """The record of a graph. Raises `ValueError` if it has none, and `TypeError` if it is no embedded graph."""
         if isinstance(graph, Record):
             return graph
         if hasattr(graph, "neighbors_cw_order"):  # a PlanarEmbedding of networkx
             graph = {vertex: list(graph.neighbors_cw_order(vertex)) for vertex in graph}
+        elif hasattr(graph, "adjacency"):
+            raise TypeError("a networkx graph has no embedding: pass networkx.check_planarity(graph)[1]")
+        elif not isinstance(graph, Mapping):
+            raise TypeError(f"a graph is a mapping from each vertex to its neighbours in clockwise order, not {graph!r:.60}")
         names = tuple(graph)
         number = {name: place for place, name in enumerate(names, 1)}
         if not 1 <= len(names) <= MOST_VERTICES:
@@ -202,19 +205,20 @@ class Run:
         try:
             with self.child.stdin as sink:
                 sink.write(HEADER)
+                sink.flush()
                 for record in itertools.islice(records, most):
                     self.given.append(record)
                     sink.write(record.bytes())
+                    sink.flush()  # the next graph may be long in coming
                     most -= 1
                 self.is_last = most > 0
         except BrokenPipeError:
             pass  # the run has ended; its status says why
-        except BaseException as error:
+        except BaseException as error:  # told once the layouts of all graphs before it were given
             self.failed = error
-            self.child.kill()
 
     def lines(self) -> Iterator[tuple[Record, dict[str, Any]]]:
-        """Each record with its line, in order. Raises what went wrong behind the last of them."""
+        """Each record with its line, in order. Raises what went wrong after the last of them."""
         ended = False
         for text in self.child.stdout:
             try:
@@ -238,7 +242,7 @@ class Run:
         if self.failed is not None:
             raise self.failed
         if status not in (0, 3) or not is_whole or self.given:
-            raise RunFailed(status, said.splitlines()[-1].removeprefix("planarbend: ") if said else "")
+            raise RunFailed(status, said)
 
     def stop(self) -> None:
         """Ends the run before its end."""
@@ -253,6 +257,8 @@ class Layouts:
 
     def __init__(self, graphs: Iterable[Any], outer: str = "first", words: Iterable[str] = (),
                  most: int = MOST_RECORDS) -> None:
+        if isinstance(graphs, (Record, Mapping, str, bytes)) or hasattr(graphs, "adjacency"):
+            raise TypeError("layouts takes graphs, one after another, and this is a single one: pass [graph], or call layout_of")
         self.words = [program(), "layout", "--json", "--outer", outer, *words, "-"]
         self.records = map(Record.of, graphs)
         self.most = most  # graphs of one run

@@ -14,7 +14,9 @@ from planarbend.graph import Arrow, Kind
 from planarbend.texts import FAMILY, FONT, LINE_HEIGHT, lines_of, xml_text
 
 STROKE = 1.6  # pixels, of lines
-INK, FILL, PART_FILL, LINE, NET = "#1d2733", "#f4f7fb", "#fdf6e3", "#3f5873", "#2e7d4f"
+INK, LINE = "#1d2733", "#3f5873"
+FILL, PART_FILL, FLAG_FILL = "#f4f7fb", "#fdf6e3", "#e3f1e4"
+FILLS = {Kind.VERTEX: (FILL, 4), Kind.PART: (PART_FILL, 0), Kind.FLAG: (FLAG_FILL, 7)}  # and how round corners are
 DOT = 3.5  # pixels, the radius of a dot
 LABEL_FONT, LABEL_HEIGHT = 10, 12
 CONVERTED = {".png": "png", ".pdf": "pdf"}
@@ -54,7 +56,7 @@ def box_elements(drawing: Drawing) -> list[str]:
     for vertex, (left, top, right, bottom) in zip(drawing.graph.vertices, drawing.boxes, strict=True):
         if vertex.kind is Kind.NET:
             continue
-        fill, round_corner = (PART_FILL, 0) if vertex.kind is Kind.PART else (FILL, 4)
+        fill, round_corner = FILLS[vertex.kind]
         found.append(f'<rect x="{left:.1f}" y="{top:.1f}" width="{right - left:.1f}" height="{bottom - top:.1f}"'
                      f' rx="{round_corner}" fill="{fill}"/>')
         texts += text_lines(lines_of(vertex.label), (left + right) / 2, (top + bottom) / 2, LINE_HEIGHT)

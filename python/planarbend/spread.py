@@ -23,6 +23,7 @@ UNIT = 64  # of the fine grid, to one of the shape's
 PAD = (6.0, 4.0)  # pixels between a name and the border of its box
 INSET = 6.0  # pixels from a corner of a box to a line at its side
 LEAST_SIDE = 22.0  # pixels, the width of a box
+LEAST_FLAG = 14.0  # pixels, the width of a flag
 LABEL_FONT = 10
 LABEL_HEIGHT = 12.0
 PASSES = 2
@@ -504,4 +505,6 @@ def size_of(label: str, kind: Kind) -> tuple[float, float]:
     if kind is Kind.NET:
         return 0.0, 0.0
     lines = lines_of(label)
+    if kind is Kind.FLAG:
+        return max(LEAST_FLAG, max(map(width_of, lines)) + 8), len(lines) * LINE_HEIGHT + 2
     return (max(LEAST_SIDE, max(map(width_of, lines)) + 2 * PAD[0]), len(lines) * LINE_HEIGHT + 2 * PAD[1])
