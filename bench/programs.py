@@ -23,8 +23,11 @@ TRIED = ["commands", "collector", "streams", "compact", "dissect", "drawing_chec
 KINDS = [("cubic", "250", "1"), ("medial", "249", "2"), ("grid", "250", "3"), ("tree", "250", "4")]
 SMALL = os.path.join(DATA, "planar_d4_n8.pc")
 
+FAST = ["-O3", "-march=native", "-std=c++17"]  # how other programs are compiled; ours is for each machine of x86-64
+
 RESULTS = os.path.join(ROOT, "bench/RESULTS.md")
 
+HEADER_SIZE = 15  # bytes of >>planar_code<<
 PIECE = 1 << 20  # bytes of output read at a time, at most
 
 # One run: wall seconds, processor seconds, peak bytes and a digest of the output.
@@ -171,7 +174,7 @@ def outside(folder):
     """Builds bench/outside/shapes.cc in a folder, and answers its path."""
     program = os.path.join(folder, "outside")
     source = os.path.join(OUTSIDE, "shapes.cc")
-    subprocess.run(["g++", "-O2", "-std=c++17", "-o", program, source], check=True)
+    subprocess.run(["g++", *FAST, "-o", program, source], check=True)
     return program
 
 
@@ -280,6 +283,15 @@ def generated(folder, kind, vertices, count, seed):
     with open(path, "wb") as out:
         subprocess.run(words, check=True, stdout=out)
     return path
+
+
+def repeated(folder, path, times):
+    """A file with the records of this one, so many times over."""
+    copy = os.path.join(folder, f"{times}_{os.path.basename(path)}")
+    with open(copy, "wb") as out:
+        text = read(path)
+        out.write(text[:HEADER_SIZE] + text[HEADER_SIZE:] * times)
+    return copy
 
 
 def files(folder, count):

@@ -16,8 +16,8 @@ import sys
 from collections.abc import Iterator
 
 sys.dont_write_bytecode = True
-sys.path.insert(0, os.path.join(os.path.dirname(os.path.abspath(__file__)), "../../examples"))
-from planar_code import HEADER, record_of
+sys.path.insert(0, os.path.join(os.path.dirname(os.path.abspath(__file__)), "../../python"))
+from planarbend.planar_code import HEADER, record_of
 
 SIDES = 85
 Lists = list[list[int]]

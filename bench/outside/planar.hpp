@@ -1,11 +1,11 @@
 // Planar code, the rules for graphs, and faces: an outside reading, written apart from the product.
 // The benchmarks compare with it; it shares no code with the crates.
 #pragma once
+#include <algorithm>
 #include <array>
 #include <cstdint>
 #include <cstdio>
 #include <fstream>
-#include <iterator>
 #include <string>
 #include <vector>
 
@@ -20,8 +20,11 @@ struct Graph {
 
 // Reads a whole file; an empty string where it cannot be read.
 inline std::string bytes_of(const char *name) {
-  std::ifstream in(name, std::ios::binary);
-  return std::string(std::istreambuf_iterator<char>(in), {});
+  std::ifstream in(name, std::ios::binary | std::ios::ate);
+  std::string text(in ? static_cast<size_t>(in.tellg()) : 0, 0);
+  in.seekg(0);
+  in.read(text.data(), static_cast<std::streamsize>(text.size()));
+  return text;
 }
 
 // One record from `at`; false where none is whole there.
@@ -56,7 +59,7 @@ inline const char *broken_rule(Graph &graph) {
   for (int u = 1; u <= n; ++u)
     for (int v : graph.lists[u])
       if (v == u) return "loop";
-  for (int u = 1; u <= n; ++u) place[u].fill(-1);
+  for (int u = 1; u <= n; ++u) std::fill_n(place[u].begin(), n + 1, -1);
   graph.tail.clear();
   graph.head.clear();
   for (int u = 1; u <= n; ++u)

@@ -1,6 +1,7 @@
 // For each graph of a planar_code file: rules, faces, and the fewest bends, by LEMON's network simplex.
 // Prints the lines of the report up to the bends; `planes` as second argument stops behind the faces, `best`
-// tries each face as the outer one, and `quiet` prints totals alone. `times` and a number print one line: the
+// tries each face as the outer one, and `quiet` prints totals alone. `many` as first argument is followed by files, which
+// one process takes one after another. `times` and a number print one line: the
 // nanoseconds that building and solving the networks took, each the least of so many times, all graphs together.
 // `turning` prints one line too: how many vertices have degree 2, and the fewest of them that turn in a shape with the
 // fewest bends, all graphs together.
@@ -101,16 +102,12 @@ static int print_turning(const std::string &text) {
   return 0;
 }
 
-int main(int count, char **words) {
-  if (count < 2) return 2;
-  if (count > 2 && std::strcmp(words[2], "turning") == 0) return print_turning(bytes_of(words[1]));
-  if (count > 3 && std::strcmp(words[2], "times") == 0)
-    return print_times(bytes_of(words[1]), std::atoi(words[3]));
-  const bool planes = count > 2 && std::strcmp(words[2], "planes") == 0;
-  const bool best = count > 2 && std::strcmp(words[2], "best") == 0;
-  const bool quiet = count > 3 && std::strcmp(words[3], "quiet") == 0;
-  const std::string text = bytes_of(words[1]);
-  const auto begin = std::chrono::steady_clock::now();
+// What is printed of each file: how far its graphs are taken, and whether totals stand alone.
+struct Report {
+  bool planes = false, best = false, quiet = false;
+};
+
+static void print_report(const std::string &text, Report report) {
   size_t at = 15;
   Graph graph;
   long number = 0, accepted = 0, all_faces = 0, all_bends = 0;
@@ -118,18 +115,29 @@ int main(int count, char **words) {
     ++number;
     const char *rule = broken_rule(graph);
     if (rule) {
-      if (!quiet) std::printf("graph %ld refused %s\n", number, rule);
+      if (!report.quiet) std::printf("graph %ld refused %s\n", number, rule);
       continue;
     }
     ++accepted;
     all_faces += static_cast<long>(graph.degree.size());
-    const long bends = planes ? 0 : best ? best_bends(graph) : fewest_bends(graph);
+    const long bends = report.planes ? 0 : report.best ? best_bends(graph) : fewest_bends(graph);
     all_bends += bends;
-    if (!quiet)
+    if (!report.quiet)
       std::printf("graph %ld ok n=%d m=%d f=%zu bends=%ld\n", number, graph.vertices, graph.darts() / 2,
                   graph.degree.size(), bends);
   }
-  const double seconds = std::chrono::duration<double>(std::chrono::steady_clock::now() - begin).count();
   std::printf("graphs %ld accepted %ld faces %ld bends %ld\n", number, accepted, all_faces, all_bends);
-  std::fprintf(stderr, "%.6f seconds\n", seconds);
+}
+
+int main(int count, char **words) {
+  if (count < 2) return 2;
+  if (std::strcmp(words[1], "many") == 0) {
+    for (int file = 2; file < count; ++file) print_report(bytes_of(words[file]), {});
+    return 0;
+  }
+  const std::string mode = count > 2 ? words[2] : "";
+  if (mode == "turning") return print_turning(bytes_of(words[1]));
+  if (mode == "times" && count > 3) return print_times(bytes_of(words[1]), std::atoi(words[3]));
+  const bool quiet = count > 3 && std::strcmp(words[3], "quiet") == 0;
+  print_report(bytes_of(words[1]), {mode == "planes", mode == "best", quiet});
 }

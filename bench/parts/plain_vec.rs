@@ -116,6 +116,29 @@ impl<T: Clone> Vec<T> {
         Ok(())
     }
 }
+/// A list whose first elements stand in the value itself, up to so many.
+#[derive(Debug)]
+pub enum SmallVec<T, const N: usize> {
+    Short([T; N], usize),
+    Long(Vec<T>),
+}
+impl<T: Copy + Default, const N: usize> SmallVec<T, N> {
+    pub fn from_slice(a: Global, t: &[T]) -> Result<SmallVec<T, N>, AllocError> {
+        if t.len() > N {
+            return Ok(SmallVec::Long(Vec::from_slice(a, t)?));
+        }
+        let mut short = [T::default(); N];
+        short[..t.len()].copy_from_slice(t);
+        Ok(SmallVec::Short(short, t.len()))
+    }
+    #[inline]
+    pub fn as_slice(&self) -> &[T] {
+        match self {
+            SmallVec::Short(short, n) => &short[..*n],
+            SmallVec::Long(long) => long,
+        }
+    }
+}
 pub trait ToPlainVec<T> {
     fn to_plain_vec(&self, a: Global) -> Result<Vec<T>, AllocError>;
 }

@@ -12,7 +12,7 @@ from typing import Any
 from answers import is_whole
 from expected import EDGE, LAYOUTS, TRIANGLE, Command, Event, File, Wrong, expected_events
 from machine import Machine
-from planar_code import HEADER
+from planarbend.planar_code import HEADER
 from reading import events_of
 
 SECOND = 1.0  # a line that is ready stands at the latest so much later
