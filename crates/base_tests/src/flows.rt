@@ -113,6 +113,23 @@ fn looks_are_told_exactly(rt: HostRuntime) {
     }
 }
 
+/// Of two nodes equally near to the first one the one that only it leads to has the lesser score, and is found: so the
+/// first search looks at two residual arcs, and that of the second node at one. Had it found the other one, the second
+/// search would have to go back along its unit, and look at five.
+#[test]
+fn the_least_score_is_found(rt: HostRuntime) {
+    for (first, second) in [(2, 3), (3, 2)] {
+        let arcs = [
+            (0, first, Cap::Any, 0),
+            (0, second, Cap::Any, 0),
+            (1, 2, Cap::Any, 0),
+        ];
+        let network = network(&rt, rt.alloc(), &[1, 1, -1, -1], &arcs);
+        let network = network.expect(&rt, "a network");
+        same(&rt, work_of(&rt, rt.alloc(), &network), (2, 3));
+    }
+}
+
 /// No flow.
 const NONE: Result<u64, SolveFault> = Err(SolveFault::Infeasible);
 

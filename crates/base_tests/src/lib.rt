@@ -1,10 +1,7 @@
 //! Tests of what knows no graph. Flows of least cost: networks whose least cost is known, by hand, from other
-//! solvers, and by a slow solver beside them. Least lengths: segments whose least length is known, and what is
-//! no certificate of theirs. Links, fans and tickets, on one thread and between threads.
+//! solvers, and by a slow solver beside them. Links, fans and tickets, on one thread and between threads.
 #![tactic(auto)]
 
-#[cfg(test)]
-mod certificates;
 #[cfg(test)]
 mod compared;
 #[cfg(test)]
@@ -14,17 +11,11 @@ mod flows;
 #[cfg(test)]
 mod late;
 #[cfg(test)]
-mod least;
-#[cfg(test)]
 mod link;
-#[cfg(test)]
-mod made;
 #[cfg(test)]
 mod memory;
 #[cfg(test)]
 mod plain;
-#[cfg(test)]
-mod random;
 #[cfg(test)]
 mod tickets;
 #[cfg(test)]

@@ -1,0 +1,14 @@
+//! Tests of least lengths: segments whose least length is known, by hand and from another solver, and what is no
+//! certificate of theirs.
+#![tactic(auto)]
+
+#[cfg(test)]
+mod certificates;
+#[cfg(test)]
+mod compared;
+#[cfg(test)]
+mod least;
+#[cfg(test)]
+mod made;
+#[cfg(test)]
+mod random;
