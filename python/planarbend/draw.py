@@ -21,7 +21,6 @@ MARGIN = 10.0  # pixels round the whole
 BETWEEN = 18.0  # pixels between components
 MOST_EMBEDDINGS = 4  # that are tried where a box would be no rectangle
 BEND_WEIGHT = 2.5  # of bends an edge, where shapes are compared by area
-SHAPE = 1.5  # the width of a sheet of several components over its height, about
 
 
 class DrawError(Exception):
@@ -244,17 +243,13 @@ def meeting(one: list[Point], other: list[Point]) -> Point:
 
 
 def side_by_side(graph: Graph, parts: list[Part]) -> Drawing:
-    """All components, in rows from left to right."""
+    """All components in one picture."""
     boxes: list[Box] = [(0.0, 0.0, 0.0, 0.0)] * len(graph.vertices)
     lines: list[list[Point]] = [[]] * len(graph.edges)
     crossings: list[Crossing] = []
     labels: dict[int, Box] = {}
-    area = sum((part.width + BETWEEN) * (part.height + BETWEEN) for part in parts)
-    wide = max([part.width for part in parts] + [math.sqrt(area * SHAPE)])
-    left = top = high = width = 0.0
-    for part in parts:
-        if left and left + part.width > wide:
-            left, top, high = 0.0, top + high + BETWEEN, 0.0
+    places, width, height = packed([(part.width + BETWEEN, part.height + BETWEEN) for part in parts])
+    for part, (left, top) in zip(parts, places):
         x, y = left + MARGIN, top + MARGIN
 
         def place(box: Box, x: float = x, y: float = y) -> Box:
@@ -266,12 +261,40 @@ def side_by_side(graph: Graph, parts: list[Part]) -> Drawing:
             lines[edge] = [(round(a + x, 3), round(b + y, 3)) for a, b in line]
         crossings += [Crossing((round(one.at[0] + x, 3), round(one.at[1] + y, 3)), one.edges) for one in part.crossings]
         labels |= {edge: place(box) for edge, box in part.labels.items()}
-        width = max(width, left + part.width)
-        left, high = left + part.width + BETWEEN, max(high, part.height)
-    size = (math.ceil(width + 2 * MARGIN), math.ceil(top + high + 2 * MARGIN))
+    size = (math.ceil(width - BETWEEN + 2 * MARGIN), math.ceil(height - BETWEEN + 2 * MARGIN))
     broken = [vertex for part in parts for vertex in part.broken]
     planes = [part.planar for part in parts if part.planar is not None]
     return Drawing(graph, boxes, lines, crossings, size, labels, broken, list(map(lists_of, planes)))
+
+
+def packed(sizes: list[tuple[float, float]]) -> tuple[list[Point], float, float]:
+    """Places for rectangles, and the width and height of them all: of several widths the one with the least area, where
+    long strips count more."""
+    widest, area = max(width for width, _ in sizes), sum(width * height for width, height in sizes)
+    widths = sorted({max(widest, math.sqrt(area * shape)) for shape in (0.7, 0.9, 1.1, 1.3, 1.5, 1.8, 2.2, 2.7, 3.3)})
+    found = [at_skyline(sizes, width) for width in widths]
+    return min(found, key=lambda one: one[1] * one[2] * max(1.0, one[1] / one[2] / 3, one[2] / one[1] / 2))
+
+
+def at_skyline(sizes: list[tuple[float, float]], width: float) -> tuple[list[Point], float, float]:
+    """Places within a width: the highest rectangles first, each as far up, then as far left, as it may go."""
+    skyline: list[tuple[float, float, float]] = [(0.0, width, 0.0)]  # from, to, how far down it is taken
+    places: list[Point] = [(0.0, 0.0)] * len(sizes)
+    for number in sorted(range(len(sizes)), key=lambda number: (-sizes[number][1], number)):
+        wide, high = sizes[number]
+        best = (math.inf, 0.0)
+        for left, _, _ in skyline:
+            if left + wide <= width + 1e-6:
+                best = min(best, (max(down for start, end, down in skyline
+                                      if start < left + wide - 1e-6 and end > left + 1e-6), left))
+        top, left = best
+        places[number] = left, top
+        cut = [(start, min(end, left), down) for start, end, down in skyline if start < left - 1e-6]
+        cut.append((left, left + wide, top + high))
+        cut += [(max(start, left + wide), end, down) for start, end, down in skyline if end > left + wide + 1e-6]
+        skyline = cut
+    return (places, max(x + wide for (x, _), (wide, _) in zip(places, sizes)),
+            max(y + high for (_, y), (_, high) in zip(places, sizes)))
 
 
 def lists_of(planar: Planarization) -> Lists:

@@ -19,7 +19,7 @@ from planarbend.graph import Graph, Kind
 from planarbend.lengths import Lengths
 from planarbend.texts import LINE_HEIGHT, lines_of, width_of
 
-UNIT = 64  # of the fine grid, to one of the shape's
+UNIT = 4096  # of the fine grid, to one of the shape's
 PAD = (6.0, 4.0)  # pixels between a name and the border of its box
 INSET = 6.0  # pixels from a corner of a box to a line at its side
 LEAST_SIDE = 22.0  # pixels, the width of a box
@@ -171,13 +171,14 @@ class Sheet:
         count = len(self.loops.setdefault((host, along, is_low), []))
         self.loops[host, along, is_low].append(number)
         self.sides.setdefault((host, along, is_low), []).extend([number, number])
-        end = box.grid[along][1]
+        end = UNIT * self.shape.boxes[host][2 + along]
         sign = -1 if is_low else 1
         border = box.grid[across][0 if is_low else 1]
         places = [end + 4 + 8 * count, end + 8 + 8 * count]
         ends = [self._coordinate(along, end, [host], 0.1 + (2 * count + last) / 1000) for last in (0, 1)]
         far = self.axes[across].add(border + 32 * sign)
         near = box.low[across] if is_low else box.high[across]
+        box.grid[along] = box.grid[along][0], places[1] + 1
 
         def leg(place: int) -> Item:
             low, high, grid = [0, 0], [0, 0], [(0.0, 0.0), (0.0, 0.0)]
@@ -250,12 +251,6 @@ class Sheet:
                     host=(-1 - number,))
         self.labels[number] = item
         self.items.append(item)
-        if number in self.corners:  # between the legs of the loop, and beside the box
-            box = self.boxes[self.graph.edges[number].tail]
-            item.grid[running] = (box.grid[running][0], last)
-            room_beside = size[running] / 2 + GAP[LABEL][PIECE]
-            self.within[running].append((pieces[0].low[running], place, room_beside))
-            self.within[running].append((place, pieces[2].low[running], room_beside))
 
     def _unite(self) -> None:
         """Give each coordinate the one number that stands for it."""
