@@ -3,9 +3,11 @@ from __future__ import annotations
 
 import itertools
 import random
+import sys
 from collections.abc import Iterable, Iterator, Sequence
 from dataclasses import dataclass, field
 
+from planarbend.embeddings import Price, climbed
 from planarbend.engine import Answer, Engine, GridPoint
 from planarbend.expand import LEAST_CAGE, MOST_CONNECTIONS, Expansion, expand, size_of
 from planarbend.planar_code import MOST_VERTICES, Lists, Plane
@@ -16,6 +18,8 @@ MOST_TURNS = 8  # spines that are tried in place of a cage
 MOST_REPAIRS = 3
 MOST_PICKED = 4  # shapes that are looked at in pixels
 NUMBERINGS = 7  # of each plan, for each unit of effort
+LARGE = 48  # nodes of an expansion for which other embeddings are tried although nothing bends
+ROUNDS, WIDTH = 8, 12  # of the search for another embedding: rounds for each unit of effort, and embeddings in each
 
 Dart = tuple[int, int]
 Rect = tuple[int, int, int, int]
@@ -254,8 +258,8 @@ class Search:
         answers = self.engine.lay([form.lists for form in forms], "first")
         return [Found(shape_of(expansion, form, answer), plan) for form, answer in zip(forms, answers)]
 
-    def run(self, compact: bool) -> list[Shape]:
-        """Some good shapes, that with the fewest bends first."""
+    def run(self, compact: bool) -> list[Found]:
+        """Shapes of this embedding."""
         look = self.turned_out if self.outer else lambda plan: self.shapes_of([plan])
         first = self.first_plan(compact)
         pool = look(first)
@@ -276,19 +280,35 @@ class Search:
             pool += look(best.plan.uncaged(needless))
         if min(pool, key=Found.price).shape.broken:
             self.repair(pool)
-        return self.picked(pool)
+        return pool
+
+    def elsewhere(self, best: Found) -> list[Found]:
+        """Shapes of another embedding, by the plan of the best one so far; none where a few moves find nothing better."""
+        if not any(best.price()[:2]) and len(best.shape.expansion.around) < LARGE:
+            return []
+        other, _ = climbed(self.planar, lambda planars: self.prices(planars, best.plan), self.random,
+                           rounds=ROUNDS * self.effort, width=WIDTH)
+        if other is self.planar:
+            return []
+        search = Search(other, self.engine, self.effort, 0)
+        pool = search.shapes_of([best.plan])
+        if pool and min(pool, key=Found.price).shape.broken:
+            search.repair(pool)
+        return pool
+
+    def prices(self, planars: Sequence[Planarization], plan: Plan) -> list[Price]:
+        """What a plan comes to in each of several embeddings."""
+        expansions = [expand(planar, plan.cages, dict(plan.spines)) for planar in planars]
+        forms = [numbered(expansion.around, list(range(len(expansion.around))), None) for expansion in expansions]
+        fitting = [place for place, form in enumerate(forms) if len(form.lists) <= MOST_VERTICES]
+        prices: list[Price] = [(sys.maxsize,)] * len(planars)
+        for place, answer in zip(fitting, self.engine.lay([forms[place].lists for place in fitting], "best")):
+            prices[place] = Found(shape_of(expansions[place], forms[place], answer), plan).price()
+        return prices
 
     def can_be_cage(self, vertex: int, plan: Plan) -> bool:
         """Whether a vertex of degree 3 or 4 is a point so far."""
         return LEAST_CAGE <= self.degree[vertex] <= MOST_CONNECTIONS and vertex not in plan.cages
-
-    def picked(self, pool: list[Found]) -> list[Shape]:
-        """Of each plan the shape with the least price, the best first; whole ones only, if there are some."""
-        best: dict[Plan, Found] = {}
-        for found in sorted(pool, key=Found.price):
-            best.setdefault(found.plan, found)
-        fewest = min(len(found.shape.broken) for found in best.values())
-        return [found.shape for found in best.values() if len(found.shape.broken) == fewest][:MOST_PICKED]
 
     def repair(self, pool: list[Found]) -> None:
         """Where a cage is no rectangle: other outer faces; at last spines."""
@@ -338,7 +358,20 @@ def choose(planar: Planarization, engine: Engine, *, compact: bool = False, effo
     NoSuchFace
         If no face has all of `outer` on it.
     """
-    return Search(planar, engine, effort, seed, outer).run(compact)
+    search = Search(planar, engine, effort, seed, outer)
+    pool = search.run(compact)
+    if not outer:
+        pool += search.elsewhere(min(pool, key=Found.price))
+    return picked(pool)
+
+
+def picked(pool: list[Found]) -> list[Shape]:
+    """Of each plan the shape with the least price, the best first; whole ones only, if there are some."""
+    best: dict[Plan, Found] = {}
+    for found in sorted(pool, key=Found.price):
+        best.setdefault(found.plan, found)
+    fewest = min(len(found.shape.broken) for found in best.values())
+    return [found.shape for found in best.values() if len(found.shape.broken) == fewest][:MOST_PICKED]
 
 
 def outer_forms(expansion: Expansion, outer: Sequence[int] = ()) -> Iterator[Form]:
