@@ -151,22 +151,22 @@ impl<'a> Search<'a> {
         self.scanned += 1;
         let mut here = 0;
         for number in input.first[node] as usize..input.first[node + 1] as usize {
-            self.relax(input, node, number, &mut here);
+            let arc = look(input.arcs, number, &mut here);
+            self.relax(input, node, number, arc);
         }
         *looks += here;
     }
 
     /// Relaxes a residual arc of the node that is scanned: takes up the label that it offers to its end, if that is
     /// less than the end's own.
-    fn relax(&mut self, input: SearchInput<'_>, node: usize, number: usize, looks: &mut u64)
+    fn relax(&mut self, input: SearchInput<'_>, node: usize, number: usize, arc: ResidualArc)
         requires scanning { IsScanning input self.old node }
         requires number { StartsAt (first_of input) node number }
-        requires few { looks.old < 2 ^ 62 }
+        requires end { arc.end ≡ end_at (arcs_of input) number }
+        requires cost { arc.cost ≡ cost_at (arcs_of input) number }
         ensures relaxed { IsRelaxed input.entry self.old self.new }
         ensures serves { IsFeasibleAt (arcs_of input.entry) (potential_of input.entry) (labels self.new) self.new.bound node number }
-        ensures tick { looks.new ≡ looks.old + 1 }
     {
-        let arc = look(input.arcs, number, looks);
         let end = arc.end as usize;
         let label = self.visits[node].label + arc.cost;
         if label < self.visits[end].label {

@@ -9,11 +9,6 @@ use Rattle.networks.proofs.Reaching.{kept_same, same_z, served_after, served_les
 use Rattle.networks.proofs.Searching.{label_fits_at, offering}
 use Rattle.networks.proofs.state.Search.relax.Goals as goal
 
-pub look-arc-requires-clause-number : goal.look-arc-requires-clause-number
-look-arc-requires-clause-number c =
-    let n = c.requires.scanning in
-    omega (arith, c.requires.number.below, n.search.input.graph.inside c.args.node n.node)
-
 pub bounds-self-node : goal.bounds-self-node
 bounds-self-node c =
     let n = c.requires.scanning in
@@ -22,13 +17,13 @@ bounds-self-node c =
 pub overflow_add-label : goal.overflow_add-label
 overflow_add-label c =
     let n = c.requires.scanning in
-    let cost : IsArcCost c.look-arc.result.cost = subst IsArcCost (sym c.look-arc.ensures.cost) (n.search.input.graph.cost c.args.node c.args.number n.node c.requires.number) in
+    let cost : IsArcCost c.args.arc.cost = subst IsArcCost (sym c.requires.cost) (n.search.input.graph.cost c.args.node c.args.number n.node c.requires.number) in
     added_fits _ _ (label_fits_at c.args.input c.args.self.now c.args.node n.search n.node n.labelled) cost
 
 pub bounds-self-end : goal.bounds-self-end
 bounds-self-end c =
     let n = c.requires.scanning in
-    omega (arith, n.search.size, c.look-arc.ensures.end, n.search.input.graph.end c.args.node c.args.number n.node c.requires.number)
+    omega (arith, n.search.size, c.requires.end, n.search.input.graph.end c.args.node c.args.number n.node c.requires.number)
 
 pub reach-requires : goal.reach-requires
 reach-requires c =
@@ -37,13 +32,13 @@ reach-requires c =
     let g = c.args.input in
     let u = c.args.node in
     let k = c.args.number in
-    let arc = c.look-arc.result in
+    let arc = c.args.arc in
     let known = label_fits_at g s u n.search n.node n.labelled in
-    let cost : IsArcCost arc.cost = subst IsArcCost (sym c.look-arc.ensures.cost) (n.search.input.graph.cost u k n.node c.requires.number) in
-    let sum : to_z w16 (of_z w16 (added (labels s u) arc.cost)) ≡ labels s u +ℤ cost_at (arcs_of g) k = added_is _ _ known cost ∙ ap (λ (z : ℤ). labels s u +ℤ z) c.look-arc.ensures.cost in
+    let cost : IsArcCost arc.cost = subst IsArcCost (sym c.requires.cost) (n.search.input.graph.cost u k n.node c.requires.number) in
+    let sum : to_z w16 (of_z w16 (added (labels s u) arc.cost)) ≡ labels s u +ℤ cost_at (arcs_of g) k = added_is _ _ known cost ∙ ap (λ (z : ℤ). labels s u +ℤ z) c.requires.cost in
     let fe : SFits w16 (labels s arc.end) = search rules in
     let less : (labels s u +ℤ cost_at (arcs_of g) k) <ℤ labels s arc.end = label_under (added (labels s u) arc.cost) _ _ sum fe c.if-label-self.true in
-    rw sum (record { candidate = offering g s u (record { number = k; end = arc.end; label = labels s u +ℤ cost_at (arcs_of g) k }) n c.requires.number c.look-arc.ensures.end refl less })
+    rw sum (record { candidate = offering g s u (record { number = k; end = arc.end; label = labels s u +ℤ cost_at (arcs_of g) k }) n c.requires.number c.requires.end refl less })
 
 pub returns-then-label-self : goal.returns-then-label-self
 returns-then-label-self c =
@@ -52,17 +47,16 @@ returns-then-label-self c =
     let g = c.args.input in
     let u = c.args.node in
     let k = c.args.number in
-    let arc = c.look-arc.result in
+    let arc = c.args.arc in
     let known = label_fits_at g s u n.search n.node n.labelled in
-    let cost : IsArcCost arc.cost = subst IsArcCost (sym c.look-arc.ensures.cost) (n.search.input.graph.cost u k n.node c.requires.number) in
-    let sum : to_z w16 (of_z w16 (added (labels s u) arc.cost)) ≡ labels s u +ℤ cost_at (arcs_of g) k = added_is _ _ known cost ∙ ap (λ (z : ℤ). labels s u +ℤ z) c.look-arc.ensures.cost in
+    let cost : IsArcCost arc.cost = subst IsArcCost (sym c.requires.cost) (n.search.input.graph.cost u k n.node c.requires.number) in
+    let sum : to_z w16 (of_z w16 (added (labels s u) arc.cost)) ≡ labels s u +ℤ cost_at (arcs_of g) k = added_is _ _ known cost ∙ ap (λ (z : ℤ). labels s u +ℤ z) c.requires.cost in
     let new = c.reach.new.self in
     let r = c.reach.ensures.relaxed in
     let placed : places s u < s.scanned = omega (arith, n.place) in
     record {
       relaxed = r;
-      serves = served_after (arcs_of g) (potential_of g) (labels s) (labels new) new.bound u k arc.end (labels s u +ℤ cost_at (arcs_of g) k) c.look-arc.ensures.end refl (r.kept.same u n.node n.labelled placed).0 (rw sum at c.reach.ensures.served);
-      tick = c.look-arc.ensures.tick;
+      serves = served_after (arcs_of g) (potential_of g) (labels s) (labels new) new.bound u k arc.end (labels s u +ℤ cost_at (arcs_of g) k) c.requires.end refl (r.kept.same u n.node n.labelled placed).0 (rw sum at c.reach.ensures.served);
     }
 
 pub returns-else-label-self : goal.returns-else-label-self
@@ -72,13 +66,12 @@ returns-else-label-self c =
     let g = c.args.input in
     let u = c.args.node in
     let k = c.args.number in
-    let arc = c.look-arc.result in
+    let arc = c.args.arc in
     let known = label_fits_at g s u n.search n.node n.labelled in
-    let cost : IsArcCost arc.cost = subst IsArcCost (sym c.look-arc.ensures.cost) (n.search.input.graph.cost u k n.node c.requires.number) in
-    let sum : to_z w16 (of_z w16 (added (labels s u) arc.cost)) ≡ labels s u +ℤ cost_at (arcs_of g) k = added_is _ _ known cost ∙ ap (λ (z : ℤ). labels s u +ℤ z) c.look-arc.ensures.cost in
+    let cost : IsArcCost arc.cost = subst IsArcCost (sym c.requires.cost) (n.search.input.graph.cost u k n.node c.requires.number) in
+    let sum : to_z w16 (of_z w16 (added (labels s u) arc.cost)) ≡ labels s u +ℤ cost_at (arcs_of g) k = added_is _ _ known cost ∙ ap (λ (z : ℤ). labels s u +ℤ z) c.requires.cost in
     let fe : SFits w16 (labels s arc.end) = search rules in
     record {
       relaxed = record { search = n.search; list = refl; kept = kept_same _ _ _ _; scanned = refl; radius = refl; bound = same_z s.bound };
-      serves = served_less (arcs_of g) (potential_of g) (labels s) s.bound u k arc.end (labels s u +ℤ cost_at (arcs_of g) k) c.look-arc.ensures.end refl (label_over (added (labels s u) arc.cost) _ _ sum fe c.if-label-self.false);
-      tick = c.look-arc.ensures.tick;
+      serves = served_less (arcs_of g) (potential_of g) (labels s) s.bound u k arc.end (labels s u +ℤ cost_at (arcs_of g) k) c.requires.end refl (label_over (added (labels s u) arc.cost) _ _ sum fe c.if-label-self.false);
     }

@@ -32,6 +32,17 @@ loop-number-init c =
       looks = omega arith;
     }
 
+pub look-arc-requires : goal.look-arc-requires
+look-arc-requires c =
+    let h = c.requires.search in
+    let s = c.args.self.now in
+    let g = c.args.input in
+    let u : ℕ = orders s s.scanned in
+    let b : u < nodes_of g = next_in g s u h c.requires.more refl in
+    let inside : numbers (first_of g) (u + 1) ≤ length (arcs_of g) = h.input.graph.inside u b in
+    let few : length (arcs_of g) ≤ 8192 = h.input.graph.few in
+    record { number = omega arith; few = omega (arith, c.loop-number.invariant.looks) }
+
 pub relax-requires : goal.relax-requires
 relax-requires c =
     let h = c.requires.search in
@@ -41,12 +52,11 @@ relax-requires c =
     let b : u < nodes_of g = next_in g s u h c.requires.more refl in
     let i = c.loop-number.invariant in
     let r = i.relaxed in
-    let inside : numbers (first_of g) (u + 1) ≤ length (arcs_of g) = h.input.graph.inside u b in
-    let few : length (arcs_of g) ≤ 8192 = h.input.graph.few in
     record {
       scanning = scanning g s c.loop-number.self u h c.requires.more refl r.search r.kept r.scanned r.radius;
       number = record { from = omega arith; below = omega arith };
-      few = omega (arith, i.looks);
+      end = c.look-arc.ensures.end;
+      cost = c.look-arc.ensures.cost;
     }
 
 pub loop-number-preserved : goal.loop-number-preserved
@@ -78,7 +88,7 @@ loop-number-preserved c =
         | inl l ↦ still_serves g t new u j n k (record { from = a; below = omega (arith, l) }) (i.serves j a l)
         | inr l ↦ let q : j ≡ number = omega arith in subst (λ (m : ℕ). IsFeasibleAt (arcs_of g) (potential_of g) (labels new) new.bound u m) (sym q) here
       ];
-      looks = omega (arith, i.looks, c.relax.ensures.tick);
+      looks = omega (arith, i.looks, c.look-arc.ensures.tick);
     }
 
 pub returns-clause-served : goal.returns-clause-served
