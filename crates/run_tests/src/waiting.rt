@@ -24,7 +24,7 @@ const LATER: u32 = 30;
 
 /// How many calls of its first stage a lane has made at most when it pauses, with room for one message between two
 /// threads: as many records as the links, the fan and the stages hold, and the one that is read.
-const AHEAD: u32 = 10;
+pub(crate) const AHEAD: u32 = 10;
 
 /// A file of edges: its bytes are given one by one. Files before the last one are read only once the last one was read
 /// so often.
@@ -45,9 +45,9 @@ struct EdgesTap<'r> {
     records: u32,
 }
 
-const HEADER: &[u8] = b">>planar_code<<";
+pub(crate) const HEADER: &[u8] = b">>planar_code<<";
 
-const EDGE: &[u8] = b"\x02\x02\x00\x01\x00";
+pub(crate) const EDGE: &[u8] = b"\x02\x02\x00\x01\x00";
 
 impl EdgesTap<'_> {
     /// The next byte, where there is one.
@@ -151,12 +151,18 @@ fn report(alloc: Global, files: u32) -> Result<String, AllocError> {
 }
 
 /// What it says of one file.
-fn tell_file(report: &mut String, file: u32, records: u32) -> Result<(), AllocError> {
+pub(crate) fn tell_file(report: &mut String, file: u32, records: u32) -> Result<(), AllocError> {
     writeln!(report, "file {file}")?;
+    tell_graphs(report, records)?;
+    writeln!(report, "end complete graphs={records}")
+}
+
+/// What it says of so many edges.
+pub(crate) fn tell_graphs(report: &mut String, records: u32) -> Result<(), AllocError> {
     for graph in 1..=records {
         writeln!(report, "graph {graph} ok n=2 m=1 f=1 bends=0 drawn=yes")?;
     }
-    writeln!(report, "end complete graphs={records}")
+    Ok(())
 }
 
 /// The text of a run is this one, and no source waited too long.
