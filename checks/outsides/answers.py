@@ -14,10 +14,18 @@ class Ran(NamedTuple):
     err: str
 
 
-def is_whole(command: Command, ran: Ran, files: list[File]) -> None:
-    """The whole report of these files, and the status that goes with it."""
-    if ran.err:
-        raise Wrong(f"status {ran.status}, on standard error {ran.err!r}")
+# The marks of files of which a line on standard error may say what they look like.
+MISFITS = ("header", "large", "oversize", "truncated")
+
+
+def is_whole(command: Command, ran: Ran, files: list[File], said: str | None = None) -> None:
+    """The whole report of these files, the status that goes with it, and this text on standard error. If no text is
+    given, there is a line for each file that could not be read, and one or none for each that is no planar_code."""
+    least = sum(file.mark == "io" for file in files)
+    most = least + sum(file.mark in MISFITS for file in files)
+    told = said if said is not None else ran.err
+    if ran.err != told or not least <= ran.err.count("planarbend: ") <= most:
+        raise Wrong(f"status {ran.status}, on standard error {ran.err!r}, not {said!r}")
     events, rest = events_of(command, ran.out)
     expected = expected_events(command, files)
     if events != expected or rest:

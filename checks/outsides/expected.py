@@ -9,6 +9,8 @@ from planarbend import planar_code
 from planarbend.planar_code import HEADER
 
 EDGE, TRIANGLE, LONE = b"\2\2\0\1\0", b"\3\2\3\0\3\1\0\1\2\0", b"\1\0"
+# A path of 10 vertices, whose record begins with a line end.
+PATH_OF_10 = b"\n\2\0" + b"".join(bytes([vertex - 1, vertex + 1, 0]) for vertex in range(2, 10)) + b"\x09\0"
 BULKY = b"\xff" + 255 * (254 * b"\1" + b"\0")  # the longest record there is; no graph
 TWO = HEADER + EDGE + TRIANGLE
 MANY = 10_000  # times two graphs, whose report is longer than a pipe holds
@@ -16,10 +18,12 @@ LONG = HEADER + (EDGE + TRIANGLE) * MANY
 
 # What README.md says of these graphs: n, m, f and fewest bends; and docs/FORMAT.md of one without an edge.
 ANSWERS = {EDGE: "ok n=2 m=1 f=1 bends=0 drawn=yes", TRIANGLE: "ok n=3 m=3 f=2 bends=1 drawn=yes",
-           LONE: "refused edgeless"}
+           LONE: "refused edgeless", PATH_OF_10: "ok n=10 m=9 f=1 bends=0 drawn=yes"}
 
-MEMORY, WRITE = "planarbend: out of memory\n", "planarbend: write failed\n"
-THREAD, LOST = "planarbend: a thread could not be run\n", "planarbend: a lane was lost\n"
+MEMORY, THREAD = "planarbend: out of memory\n", "planarbend: cannot start a thread\n"
+LOST = "planarbend: internal error: a worker thread disconnected\n"
+WRITE = "planarbend: cannot write output: {}\n"  # with the reason, as the system has it
+FULL = WRITE.format("No space left on device")
 TWICE = ("error: standard input, the file '-', can be read only once, and is named twice\n\n"
          "Usage: planarbend <COMMAND>\n\nFor more information, try '--help'.\n")
 

@@ -9,7 +9,7 @@ import subprocess
 from typing import Any
 
 from answers import Ran, is_beginning, is_fault
-from expected import COMMANDS, EDGE, FRAMES, LONG, MANY, TRIANGLE, TWO, WRITE, Command, File, Wrong, split
+from expected import COMMANDS, EDGE, FRAMES, FULL, LONG, MANY, TRIANGLE, TWO, WRITE, Command, File, Wrong, split
 from machine import Machine
 from system import broken_pipe, closing, full_disk, limits
 
@@ -24,31 +24,35 @@ def check_outputs(machine: Machine) -> None:
         output_is_gone(machine, command)
         nobody_reads(machine, command, long)
         with machine.case(command, "a file that may not grow, SIGXFSZ ignored"):
-            takes_no_more(command, to_a_short_file(machine, [*command.words, machine.two]), two)
+            takes_no_more(command, to_a_short_file(machine, [*command.words, machine.two]), two,
+                          WRITE.format("File too large"))
         machine.whole(command, "SIGPIPE ignored, output read", [machine.two], two, **IGNORED)
-    for name, make in [("closed pipe", broken_pipe), ("full disk", full_disk)]:
-        with machine.case("--help", f"standard output is a {name}"), make() as output:
-            takes_no_more(FRAMES, machine.run(["--help"], stdout=output), two)
+    for name, make, said in [("closed pipe", broken_pipe, ""), ("full disk", full_disk, FULL)]:
+        for word in ("--help", "--version"):
+            with machine.case(word, f"standard output is a {name}"), make() as output:
+                takes_no_more(FRAMES, machine.run([word], stdout=output), two, said)
 
 
-def takes_no_more(command: Command, ran: Ran, files: list[File]) -> None:
-    """The fault of standard output that takes no more, with a beginning of the report."""
-    if (ran.status, ran.err) != (1, WRITE):
-        raise Wrong(f"status {ran.status}, {ran.err!r}; not status 1, {WRITE!r}")
+def takes_no_more(command: Command, ran: Ran, files: list[File], said: str) -> None:
+    """The fault of standard output that takes no more, with a beginning of the report. A reader that is gone is told
+    nothing."""
+    if (ran.status, ran.err) != (1, said):
+        raise Wrong(f"status {ran.status}, {ran.err!r}; not status 1, {said!r}")
     is_beginning(command, ran.out, files)
 
 
 def output_is_closed(machine: Machine, command: Command) -> None:
     """Standard output that is full, is closed, or cannot be written to."""
     words, two, nowhere = [*command.words, machine.two], [split(TWO)], subprocess.DEVNULL
+    bad = WRITE.format("Bad file descriptor")
     with machine.case(command, "standard output on /dev/full"), full_disk() as full:
-        takes_no_more(command, machine.run(words, stdout=full), two)
+        takes_no_more(command, machine.run(words, stdout=full), two, FULL)
     with machine.case(command, "standard output closed"):
-        takes_no_more(command, machine.run(words, stdout=nowhere, preexec_fn=closing(1)), two)
+        takes_no_more(command, machine.run(words, stdout=nowhere, preexec_fn=closing(1)), two, bad)
     with machine.case(command, "standard input and output closed"):
-        takes_no_more(command, machine.run(words, stdout=nowhere, preexec_fn=closing(0, 1)), two)
+        takes_no_more(command, machine.run(words, stdout=nowhere, preexec_fn=closing(0, 1)), two, bad)
     with machine.case(command, "standard output open for reading only"), open("/dev/null", "rb") as null:
-        takes_no_more(command, machine.run(words, stdout=null), two)
+        takes_no_more(command, machine.run(words, stdout=null), two, bad)
 
 
 def output_is_gone(machine: Machine, command: Command) -> None:
@@ -58,12 +62,12 @@ def output_is_gone(machine: Machine, command: Command) -> None:
         master, terminal = pty.openpty()
         os.close(master)
         with open(terminal, "wb", buffering=0) as output:
-            takes_no_more(command, machine.run(words, stdout=output), two)
+            takes_no_more(command, machine.run(words, stdout=output), two, WRITE.format("Input/output error"))
     with machine.case(command, "standard output on a socket that is gone"):
         near, far = socket.socketpair()
         near.close()
         with far:
-            takes_no_more(command, machine.run(words, stdout=far), two)
+            takes_no_more(command, machine.run(words, stdout=far), two, "")
 
 
 def nobody_reads(machine: Machine, command: Command, long: str) -> None:
@@ -71,9 +75,9 @@ def nobody_reads(machine: Machine, command: Command, long: str) -> None:
     many = [File([EDGE, TRIANGLE] * MANY, "complete")]
     for name, how in [("", {}), (", SIGPIPE ignored", IGNORED)]:
         with machine.case(command, f"standard output is a closed pipe{name}"), broken_pipe() as pipe:
-            takes_no_more(command, machine.run([*command.words, machine.two], stdout=pipe, **how), [split(TWO)])
+            takes_no_more(command, machine.run([*command.words, machine.two], stdout=pipe, **how), [split(TWO)], "")
         with machine.case(command, f"| head -1{name}"):
-            takes_no_more(command, first_line(machine, [*command.words, long], how), many)
+            takes_no_more(command, first_line(machine, [*command.words, long], how), many, "")
 
 
 def first_line(machine: Machine, words: list[Any], how: dict[str, Any]) -> Ran:

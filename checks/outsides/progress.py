@@ -1,17 +1,19 @@
 """Lines that tell how far a run is: where, how often, and that they change nothing else."""
 from __future__ import annotations
 
+import contextlib
 import os
 import pty
 import re
 import select
+import threading
 import time
 
 from answers import is_fault, is_whole
-from expected import EDGE, IO, LAYOUTS, TWO, WRITE, Command, File, Wrong, split
+from expected import EDGE, FULL, IO, LAYOUTS, TWO, Command, File, Wrong, split
 from machine import Machine
 from planarbend.planar_code import HEADER
-from system import broken_pipe, closing, full_disk
+from system import PATIENCE, broken_pipe, closing, full_disk
 
 
 def check_progress(machine: Machine) -> None:
@@ -22,6 +24,8 @@ def check_progress(machine: Machine) -> None:
         for few, name in [(command, "without the option"), (once, "once"), (twice, "twice")]:
             with machine.case(few, f"standard error is a terminal, {name}"):
                 tells_on_a_terminal(machine, few, few is not command)
+        with machine.case(once, "the report goes to the same terminal"):
+            shares_a_terminal(machine, once)
         with machine.case(twice, "a slow input"):
             tells_in_time(machine, twice)
         with machine.case(twice, "several files"):
@@ -64,6 +68,48 @@ def on_screen(master: int) -> bytes:
     return shown
 
 
+def shares_a_terminal(machine: Machine, command: Command) -> None:
+    """On a terminal to which the report goes too, each of its lines stands whole, and then the last line of progress."""
+    master, terminal = pty.openpty()
+    parts: list[bytes] = []
+    reader = threading.Thread(target=reads_all, args=(master, parts), daemon=True)
+    reader.start()
+    try:
+        with os.fdopen(terminal, "wb", buffering=0) as screen:
+            ran = machine.fed([*command.words, "-"], HEADER + EDGE * 200, 0.001, stdout=screen, stderr=screen)
+        reader.join(PATIENCE)
+    finally:
+        os.close(master)
+    *report, last = screen_of(b"".join(parts).decode())
+    text = "".join(line + "\n" for line in report).encode()
+    is_whole(command, ran._replace(out=text), [File([EDGE] * 200, "complete")], "")
+    tells(last + "\n", 1, 200, 1)
+
+
+def reads_all(master: int, parts: list[bytes]) -> None:
+    """Reads what comes to a terminal until nobody has it open."""
+    with contextlib.suppress(OSError):
+        while part := os.read(master, 65_536):
+            parts.append(part)
+
+
+def screen_of(shown: str) -> list[str]:
+    """The lines that stand on a screen after this text, with the cursor's return and the end of a line cleared."""
+    lines, column = [""], 0
+    for word in re.findall(r"\x1b\[K|\r|\n|[^\x1b\r\n]+", shown):
+        if word == "\n":
+            lines.append("")
+            column = 0
+        elif word == "\r":
+            column = 0
+        elif word == "\x1b[K":
+            lines[-1] = lines[-1][:column]
+        else:
+            lines[-1] = lines[-1][:column] + word + lines[-1][column + len(word):]
+            column += len(word)
+    return [line.rstrip(" ") for line in lines[:-1]]
+
+
 def tells_in_time(machine: Machine, command: Command) -> None:
     """While graphs come for more than a second, lines come at most four times a second, and once at the end."""
     start = time.monotonic()
@@ -76,20 +122,21 @@ def tells_in_time(machine: Machine, command: Command) -> None:
 
 def tells_of_files(machine: Machine, command: Command) -> None:
     """A file that does not open is told of as one that is begun."""
-    start = time.monotonic()
-    ran = machine.run([*command.words, machine.two, machine.path(), machine.two])
-    is_whole(command, ran._replace(err=""), [split(TWO), IO, split(TWO)])
-    tells(ran.err, 3, 4, 4 * (time.monotonic() - start) + 1)
+    start, missing = time.monotonic(), machine.path()
+    ran = machine.run([*command.words, machine.two, missing, machine.two])
+    said = f"planarbend: {missing}: No such file or directory\n"
+    is_whole(command, ran._replace(err=ran.err[-len(said):]), [split(TWO), IO, split(TWO)], said)
+    tells(ran.err.removesuffix(said), 3, 4, 4 * (time.monotonic() - start) + 1)
 
 
 def tells(text: str, files: int, graphs: int, most: float) -> int:
     """Lines of progress, `most` of them at most: none tells less than the one before, and the last tells of so many
     files and graphs. Gives back how many there are."""
-    lines = [re.fullmatch(r"planarbend: (\d+) of (\d+) files begun, (\d+) graphs, (\d+) a second", line.rstrip(" "))
+    lines = [re.fullmatch(r"file (\d+) of (\d+): ([\d,]+) graphs, [\d,]+/s", line.rstrip(" "))
              for line in text.splitlines()]
     if not lines or None in lines or len(lines) > most or not text.endswith("\n"):
         raise Wrong(f"not 1 to {most} lines of progress: {text!r}")
-    counts = [(int(line[1]), int(line[3])) for line in lines if line]
+    counts = [(int(line[1]), int(line[3].replace(",", ""))) for line in lines if line]
     named = {int(line[2]) for line in lines if line}
     if counts != sorted(counts) or counts[-1] != (files, graphs) or named != {files}:
         raise Wrong(f"not up to {files} files and {graphs} graphs: {text!r}")
@@ -105,7 +152,7 @@ def changes_nothing_else(machine: Machine, command: Command) -> None:
             machine.whole(command, f"standard error {name}", [machine.two], [two], **how)
         with machine.case(command, "standard output full"):
             ran = machine.run(words, stdout=full)
-            if ran.status != 1 or not ran.err.endswith("a second\n" + WRITE):
+            if ran.status != 1 or not ran.err.endswith("/s\n" + FULL):
                 raise Wrong(f"status {ran.status}, {ran.err!r}")
     with machine.case(command, "257 files"):
         is_fault(machine.run([*command.words, *[machine.two] * 257]), 2, "planarbend: more than 256 files\n")

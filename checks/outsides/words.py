@@ -14,6 +14,10 @@ from machine import Machine
 ROOT = os.path.dirname(os.path.dirname(os.path.dirname(os.path.abspath(__file__))))
 
 
+NEEDS_JSON = ("error: --drawing needs --json: the report has no drawings\n\nUsage: planarbend <COMMAND>\n\n"
+              "For more information, try '--help'.\n")
+
+
 def check_words(machine: Machine) -> None:
     """Command lines that are refused, and help."""
     for name, words, text in refused(machine.two):
@@ -35,12 +39,14 @@ def refused(path: str) -> list[tuple[str, list[Any], str | None]]:
         ("frames of no file", ["frames"], None),
         ("frames of two files", ["frames", path, path], None), ("layout of no file", ["layout"], None),
         ("no such option", ["layout", "--fast", path], None),
-        ("lanes that are no number", ["layout", "--lanes", "x", path], None),
         ("no such choice", ["layout", "--outer", "greatest", path], None),
         ("a choice that is not said", ["layout", path, "--outer"], None),
         ("no such drawing", ["layout", "--drawing", "x", path], None),
-        ("no lanes", ["layout", "--lanes", "0", path], "planarbend: lanes must be 1 to 8\n"),
-        ("9 lanes", ["layout", "--lanes", "9", path], "planarbend: lanes must be 1 to 8\n")]
+        ("a kind of drawing for the report", ["layout", "--drawing", "short", path], NEEDS_JSON),
+        *[(f"{option} {number}", ["layout", option, number, path], f"planarbend: {option[2:]} must be 1 to {most}\n")
+          for option, most in (("--lanes", 8), ("--waiting", 65536)) for number in ("0", "-1", "x", "", "1.5", "65537")],
+        *[(f"{option}={number}", ["layout", f"{option}={number}", path], f"planarbend: {option[2:]} must be 1 to {most}\n")
+          for option, most in (("--lanes", 8), ("--waiting", 65536)) for number in ("0", "-1", "x", "4294967297")]]
 
 
 def version_text() -> bytes:
