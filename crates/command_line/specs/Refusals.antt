@@ -1,8 +1,15 @@
 -- Which faults refuse what was asked for.
-use Rattle.std.specs.Prelude.{◌≡◌, ◌⊎◌}
-use Rattle.streams.specs.declared.faults.BatchFault.{BatchFault}
+use Rattle.std.specs.Prelude.{⊤}
+use Rattle.streams.specs.declared.faults.BatchFault.TheVariants.{TooManyFiles, BadLanes}
 use Rattle.command_line.specs.declared.faults.Fault.{Fault}
+use Rattle.command_line.specs.declared.faults.Fault.TheVariants.{Memory, NotText, BadWaiting, Run, Write}
 
 -- what was asked for is refused
 abbrev pub IsMisuse : Fault → Type 0
-IsMisuse fault = (fault ≡ Fault.NotText) ⊎ ((fault ≡ Fault.Run BatchFault.TooManyFiles) ⊎ (fault ≡ Fault.Run BatchFault.BadLanes))
+IsMisuse (NotText argument) = ⊤
+IsMisuse BadWaiting = ⊤
+IsMisuse (Run TooManyFiles) = ⊤
+IsMisuse (Run BadLanes) = ⊤
+IsMisuse (Run _) = ⊥
+IsMisuse Memory = ⊥
+IsMisuse (Write fault) = ⊥

@@ -1,6 +1,7 @@
 -- What the words of a command line ask for.
-use Rattle.std.specs.Prelude.{◌≡◌, ◌<◌, ◌≤◌, ◌↔◌, ◌&&◌, ◌||◌, if◌then◌else◌, ℕ, Bool, true, false, not, nat_eq, List, [], ◌∷◌, map, String, Vec, codes, bytes_eq, slice_index, string_bytes, vec_len}
-use Rattle.std.specs.List.{count_by}
+use Rattle.std.specs.Prelude.{◌≡◌, ◌<◌, ◌≤◌, ◌↔◌, ◌&&◌, ◌||◌, if◌then◌else◌, ℕ, Bool, true, false, not, nat_eq, List, [], ◌∷◌, map, length, drop, String, Vec, Option, None, Some, Result, Ok, Err, ⊤, codes, bytes_eq, slice_index, string_bytes, vec_len}
+use Rattle.std.specs.List.{count_by, starts_with}
+use Rattle.std.specs.Str.Parse.{ParsesUnsigned}
 use Rattle.std.specs.Borrow.{Bor}
 use Rattle.std.specs.declared.alloc.Global.{Global}
 use Rattle.common.specs.declared.choice.Choice.{Choice}
@@ -11,6 +12,8 @@ use Rattle.reports.specs.declared.style.Style.{Style}
 use Rattle.command_line.specs.Naming.{is_input}
 use Rattle.command_line.specs.declared.reading.Role.{Role}
 use Rattle.command_line.specs.declared.reading.Role.TheVariants.{Command, Any, Lanes, Waiting, Outer, Drawing, File}
+use Rattle.command_line.specs.declared.reading.Number.{Number}
+use Rattle.command_line.specs.declared.reading.Number.TheVariants as number
 use Rattle.command_line.specs.declared.reading.Keyword.{Keyword}
 use Rattle.command_line.specs.declared.reading.Keyword.TheVariants as keyword
 use Rattle.command_line.specs.declared.request.Request.{Request}
@@ -92,8 +95,52 @@ drawing_in words =
     else if asks_in keyword.Json words then Short
     else Quick
 
--- the words ask for a layout of these files, of which one at most is standard input, under this choice and in this style
-pub record AsksLayout (words : List (String Global)) (names : Vec (Bor (List ℕ)) Global) (choice : Choice) (style : Style) : Type 0 where
+-- what follows this beginning in a word, where it begins so
+abbrev pub given_after : List ℕ → List ℕ → Option (List ℕ)
+given_after front word = if starts_with nat_eq word front then Some (drop (length front) word) else None
+
+-- the text that a word in this role gives for a number: the word itself, or what follows '='
+abbrev pub number_text : Number → Role → List ℕ → Option (List ℕ)
+number_text number.Lanes Lanes word = Some word
+number_text number.Lanes Any word = given_after (codes "--lanes=") word
+number_text number.Waiting Waiting word = Some word
+number_text number.Waiting Any word = given_after (codes "--waiting=") word
+number_text _ _ word = None
+
+-- the first of two texts
+abbrev pub text_or : Option (List ℕ) → Option (List ℕ) → Option (List ℕ)
+text_or (Some text) other = Some text
+text_or None other = other
+
+-- the text that the first of these words which gives a number gives for it, where the first word has this role
+abbrev pub number_text_from : Number → Role → List (String Global) → Option (List ℕ)
+number_text_from n role [] = None
+number_text_from n role (word ∷ words) = text_or (number_text n role (string_bytes word)) (number_text_from n (role_after role (string_bytes word)) words)
+
+-- the text that a command line gives for a number
+abbrev pub number_text_in : Number → List (String Global) → Option (List ℕ)
+number_text_in n words = number_text_from n Command words
+
+-- the value of a number's text: where it is no decimal number or does not fit in 32 bits, 0
+abbrev pub number_or_0 : Result ℕ ⊤ → ℕ
+number_or_0 (Ok n) = n
+number_or_0 (Err fault) = 0
+
+-- a number is what its text says, and where there is no text, this
+abbrev pub IsNumberOf : ℕ → Option (List ℕ) → ℕ → Type 0
+IsNumberOf otherwise None n = n ≡ otherwise
+IsNumberOf otherwise (Some text) n = (parsed : Result ℕ ⊤) × ParsesUnsigned 32 10 text parsed × (n ≡ number_or_0 parsed)
+
+-- the number of lanes and the number of megabytes that a command line asks for
+abbrev pub AreLanesIn : List (String Global) → ℕ → Type 0
+AreLanesIn words n = IsNumberOf 1 (number_text_in number.Lanes words) n
+
+abbrev pub IsWaitingIn : List (String Global) → ℕ → Type 0
+IsWaitingIn words n = IsNumberOf 64 (number_text_in number.Waiting words) n
+
+-- the words ask for a layout of these files, of which one at most is standard input, under this choice and in this style, over so many lanes,
+-- and so many megabytes may wait. A kind of drawing is named for JSON lines alone
+pub record AsksLayout (words : List (String Global)) (names : Vec (Bor (List ℕ)) Global) (choice : Choice) (style : Style) (lanes waiting : ℕ) : Type 0 where
   pub command : asks_in keyword.Layout words ≡ true
   pub files : map (λ name. name.now) names.items ≡ files_in words
   pub some : 0 < vec_len names
@@ -101,13 +148,25 @@ pub record AsksLayout (words : List (String Global)) (names : Vec (Bor (List ℕ
   pub best : (choice ≡ Choice.Best) ↔ (asks_in keyword.BestOuter words ≡ true)
   pub json : (style.form ≡ Form.Json) ↔ (asks_in keyword.Json words ≡ true)
   pub drawing : style.drawing_kind ≡ drawing_in words
+  pub lanes_in : AreLanesIn words lanes
+  pub waiting_in : IsWaitingIn words waiting
+  pub needs_json : (asks_in keyword.ShortDrawing words || asks_in keyword.QuickDrawing words) ≡ true → asks_in keyword.Json words ≡ true
 
 -- the words ask for the records of this file
 pub record AsksFrames (words : List (String Global)) (name : List ℕ) : Type 0 where
   pub command : asks_in keyword.Frames words ≡ true
   pub file : files_in words ≡ name ∷ []
 
+-- so many megabytes can wait
+abbrev pub IsWaiting : ℕ → Type 0
+IsWaiting waiting = (1 ≤ waiting) × (waiting ≤ 65536)
+
+-- where the request says how many megabytes may wait, they can
+abbrev pub HasWaiting : Request → Type 0
+HasWaiting (Frames name) = ⊤
+HasWaiting (Layout asked) = IsWaiting asked.waiting
+
 -- the request is what the words ask for
 abbrev pub IsAskedBy : List (String Global) → Request → Type 0
 IsAskedBy words (Frames name) = AsksFrames words name.now
-IsAskedBy words (Layout asked) = AsksLayout words asked.names asked.choice asked.style
+IsAskedBy words (Layout asked) = AsksLayout words asked.names asked.choice asked.style asked.lanes asked.waiting

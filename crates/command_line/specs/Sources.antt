@@ -5,6 +5,7 @@ use Rattle.command_line.specs.declared.source.FileSource.{FileSource}
 use Rattle.command_line.specs.declared.source.FileSource.TheVariants.{Open, Unopened}
 use Rattle.command_line.specs.declared.source.NamedSource.{NamedSource}
 use Rattle.command_line.specs.declared.source.NamedSource.TheVariants.{File, Input}
+use Rattle.command_line.specs.declared.source.NotedSource.{NotedSource}
 
 module _ {F I : Type 0} where
   -- the bytes that are to come of the file or of standard input
@@ -18,6 +19,13 @@ module _ {F I : Type 0} where
   named_fails of_file of_input (Input input) = of_input input
 
 module _ {F : Type 0} where
+  -- what is noted of a source changes nothing of it
+  abbrev pub noted_to_come : (F → Option (List ℕ)) → NotedSource F → Option (List ℕ)
+  noted_to_come to_come noted = to_come noted.source
+
+  abbrev pub noted_fails : (F → Bool) → NotedSource F → Bool
+  noted_fails fails noted = fails noted.source
+
   -- the bytes that are to come: of a file that was refused there are none
   abbrev pub opened_to_come : (F → Option (List ℕ)) → FileSource F → Option (List ℕ)
   opened_to_come to_come (Open file) = to_come file

@@ -3,9 +3,10 @@ ghost use Rattle.std.specs.Prelude.{◌≡◌, ◌≤◌, false};
 ghost use Rattle.command_line.specs.declared.fault_line.TheConstants.{LINE_ROOM};
 
 use crate::faults::Fault;
+use crate::reason::Reason;
 use std::fmt;
 use std::fmt::Write;
-use streams::{Sink, put_all};
+use streams::{BatchFault, Sink, WriteFault, put_all};
 
 /// As many bytes as a line has room for.
 const LINE_ROOM: usize = 128;
@@ -44,11 +45,35 @@ impl fmt::Write for ShortLine {
     }
 }
 
+/// Writes `planarbend: `, the text of a failed write of output and its reason, if there is one. A reader that has enough
+/// is told nothing. That this may fail changes nothing.
+pub fn write_output_fault<E: Sink>(reason: Reason, err: &mut E)
+    requires { E.failed err.old ≡ false }
+{
+    if reason.is_broken_pipe() {
+        return;
+    }
+    let mut line = ShortLine::new();
+    let _ = match reason.code {
+        Some(_) => writeln!(line, "planarbend: cannot write output: {reason}"),
+        None => writeln!(line, "planarbend: cannot write output"),
+    };
+    let _ = put_all(err, line.text());
+}
+
 /// Writes `planarbend: ` and the text of the fault. That this may fail changes nothing.
 pub fn write_fault<E: Sink>(fault: Fault, err: &mut E)
     requires { E.failed err.old ≡ false }
 {
     let mut line = ShortLine::new();
-    let _ = writeln!(line, "planarbend: {fault}");
+    let _ = match fault {
+        Fault::Run(BatchFault::LaneLost) => writeln!(
+            line,
+            "planarbend: internal error: a worker thread disconnected"
+        ),
+        Fault::Run(BatchFault::Thread) => writeln!(line, "planarbend: cannot start a thread"),
+        Fault::Write(WriteFault::Write) => writeln!(line, "planarbend: cannot write output"),
+        _ => writeln!(line, "planarbend: {fault}"),
+    };
     let _ = put_all(err, line.text());
 }

@@ -1,7 +1,6 @@
 //! What ends the program without a whole text, and its exit status.
-ghost use Rattle.std.specs.Prelude.{◌≡◌, ◌⊎◌, ◌↔◌};
+ghost use Rattle.std.specs.Prelude.{◌≡◌};
 
-use std::io::ErrorKind;
 use streams::{BatchFault, WriteFault};
 use thiserror::Error;
 
@@ -12,9 +11,12 @@ pub enum Fault {
     /// them, or to open a file.
     #[error("out of memory")]
     Memory,
-    /// The words after the program's name are no text.
-    #[error("arguments are not text")]
-    NotText,
+    /// The argument of this number, from 1, is no text.
+    #[error("argument {0} is not valid UTF-8")]
+    NotText(u32),
+    /// The value of `--waiting` is out of range.
+    #[error("waiting must be 1 to 65536")]
+    BadWaiting,
     /// The run gave no result.
     #[error(transparent)]
     Run(BatchFault),
@@ -32,7 +34,9 @@ impl Fault {
         ensures failed { ¬ IsMisuse self → result ≡ 1 }
     {
         match self {
-            Fault::NotText | Fault::Run(BatchFault::TooManyFiles | BatchFault::BadLanes) => 2,
+            Fault::NotText(_)
+            | Fault::BadWaiting
+            | Fault::Run(BatchFault::TooManyFiles | BatchFault::BadLanes) => 2,
             Fault::Memory | Fault::Run(_) | Fault::Write(_) => 1,
         }
     }
@@ -55,17 +59,5 @@ impl From<WriteFault> for Fault {
 
     fn from(fault: WriteFault) -> Fault {
         Fault::Write(fault)
-    }
-}
-
-/// Why the words after the program's name could not be had, by the kind of the error: they are no text, or
-/// there is no memory for them.
-pub fn arguments_fault(kind: ErrorKind) -> Fault
-    ensures not_text { (result ≡ Fault.NotText) ↔ (kind ≡ ErrorKind.InvalidData) }
-    ensures other { (result ≡ Fault.NotText) ⊎ (result ≡ Fault.Memory) }
-{
-    match kind {
-        ErrorKind::InvalidData => Fault::NotText,
-        _ => Fault::Memory,
     }
 }

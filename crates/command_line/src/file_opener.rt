@@ -2,14 +2,16 @@
 ghost use Rattle.std.specs.Prelude.{◌≡◌, slice_get};
 ghost use Rattle.command_line.specs.Naming.{meanings_in};
 
+use crate::file_notes::FileNotes;
 use crate::named_files::NamedFiles;
+use crate::source::NotedSource;
 use lanes::{OpenFault, Opener};
 use std::alloc::Global;
 use std::sync::atomic::{AtomicU64, Ordering};
 
 /// Files by their places in a list of names, in which a name may stand more than once: a file's number is the place
 /// of its name. A number past the list is not opened. Each call of `open` for a name is counted in `opened`, also
-/// where it is refused.
+/// where it is refused. How each file begins, and why it fails, goes to `notes`.
 ///
 /// In contracts what is known of a file is what `files` says of its name.
 #[derive(Drop)]
@@ -17,6 +19,7 @@ pub struct FileOpener<'r, 'n, N> {
     pub files: &'r N,
     pub names: &'n [&'n str],
     pub opened: &'r AtomicU64,
+    pub notes: &'r FileNotes,
 }
 
 impl<'n, N> FileOpener<'_, 'n, N> {
@@ -28,16 +31,25 @@ impl<'n, N> FileOpener<'_, 'n, N> {
     }
 }
 
-impl<N: NamedFiles> Opener for FileOpener<'_, '_, N> {
-    type Source = N::Source;
+impl<'r, N: NamedFiles> Opener for FileOpener<'r, '_, N> {
+    type Source = NotedSource<'r, N::Source>;
 
     ghost meaning = { λ o. meanings_in (N.meaning o.files.now) o.names.now };
 
-    fn open(&self, alloc: Global, file: u32) -> Result<N::Source, OpenFault> {
+    fn open(&self, alloc: Global, file: u32) -> Result<NotedSource<'r, N::Source>, OpenFault> {
         let Some(name) = self.name(file) else {
             return Err(OpenFault::Io);
         };
         self.opened.fetch_add(1, Ordering::SeqCst);
-        self.files.open(alloc, name)
+        let note = self.notes.note(file);
+        match self.files.open(alloc, name) {
+            Ok(source) => Ok(NotedSource::new(source, note)),
+            Err(refused) => {
+                if let Some(note) = note {
+                    note.fail(refused.reason);
+                }
+                Err(refused.fault)
+            }
+        }
     }
 }

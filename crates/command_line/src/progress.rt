@@ -3,10 +3,8 @@ ghost use Rattle.std.specs.Prelude.{◌≡◌};
 
 use crate::fault_line::ShortLine;
 use lanes::{Gate, Stage};
+use std::fmt;
 use std::fmt::Write;
-use std::io;
-use std::io::IsTerminal;
-use std::rt::Clock;
 use std::sync::atomic::{AtomicU64, Ordering};
 
 /// How many milliseconds lie between two lines at least. The last one waits for none.
@@ -44,31 +42,6 @@ pub trait Console {
 
     /// Writes a text. That this may fail changes nothing.
     fn show(&self, text: &[u8]);
-}
-
-/// Standard error with a clock, as a console.
-#[derive(Clone, Copy)]
-pub struct ErrorConsole<R, E> {
-    pub clock: R,
-    pub err: E,
-}
-
-impl<R: Clock, E: io::Write + IsTerminal + Copy> Console for ErrorConsole<R, E> {
-    fn is_terminal(&self) -> bool {
-        self.err.is_terminal()
-    }
-
-    fn time(&self) -> u64 {
-        match self.clock.monotonic() {
-            Ok(time) => u64::try_from(time.as_millis()).unwrap_or(u64::MAX),
-            Err(_) => 0,
-        }
-    }
-
-    fn show(&self, text: &[u8]) {
-        let mut err = self.err;
-        let _ = err.write_all(text);
-    }
 }
 
 /// How lines stand on a console.
@@ -172,13 +145,39 @@ impl<'c, C: Console> Meter<'c, C> {
             _ => ("", ""),
         };
         let mut line = ShortLine::new();
-        let _ = write!(
-            line,
-            "{front}planarbend: {opened} of {} files begun, {graphs} graphs, {rate} a second{back}{end}",
-            self.files
-        );
+        let _ = write!(line, "{front}file {opened} of {}: ", self.files);
+        let _ = write_grouped(&mut line, graphs);
+        let _ = write!(line, " graphs, ");
+        let _ = write_grouped(&mut line, rate);
+        let _ = write!(line, "/s{back}{end}");
         self.console.show(line.text());
     }
+}
+
+/// What one stands for in each group of three digits, the greatest first.
+const POWERS: [u64; 7] = [
+    1_000_000_000_000_000_000,
+    1_000_000_000_000_000,
+    1_000_000_000_000,
+    1_000_000_000,
+    1_000_000,
+    1000,
+    1,
+];
+
+/// Writes a number with a comma between each three digits.
+fn write_grouped(line: &mut ShortLine, number: u64) -> fmt::Result {
+    let mut begun = false;
+    for power in POWERS {
+        let group = number.checked_div(power).unwrap_or(0) % 1000;
+        if begun {
+            write!(line, ",{group:03}")?;
+        } else if group > 0 || power == 1 {
+            write!(line, "{group}")?;
+            begun = true;
+        }
+    }
+    Ok(())
 }
 
 impl<C: Console + Sync> Gate for Meter<'_, C> {

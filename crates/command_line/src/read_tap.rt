@@ -3,14 +3,22 @@ ghost use Rattle.std.specs.Prelude.{◌≡◌, ◌<◌, ◌≤◌, length, take,
 ghost use Rattle.std.specs.Io.KnownBytes.{Consumes, IsAtEnd, Keeps};
 ghost use Rattle.streams.specs.Tap.{IsAtItsEnd, IsAtItsFailure};
 
+use crate::reason::{KeepsReason, Reason};
 use std::io::Read;
 use streams::{Tap, TapFault};
 
 /// A reader as a source. Nothing is known of its bytes beforehand, as any read may fail. What it gives is what the
-/// reader gave, and it ends where the reader does.
+/// reader gave, and it ends where the reader does. It keeps why a read failed.
 #[derive(Drop)]
 pub struct ReadTap<R> {
     reader: R,
+    reason: Reason,
+}
+
+impl<R> KeepsReason for ReadTap<R> {
+    fn reason(&self) -> Reason {
+        self.reason
+    }
 }
 
 impl<R: Read> ReadTap<R> {
@@ -19,7 +27,10 @@ impl<R: Read> ReadTap<R> {
     pub(crate) fn new(reader: R) -> ReadTap<R>
         ensures { remaining_in R.remaining result ≡ R.remaining reader }
     {
-        ReadTap { reader }
+        ReadTap {
+            reader,
+            reason: Reason::UNKNOWN,
+        }
     }
 }
 
@@ -46,6 +57,12 @@ impl<R: Read + Drop> Tap for ReadTap<R> {
         ensures end_of_reader { IfOk result (λ n. n ≡ 0 → 0 < length buf.new → IsAtEnd (remaining_in R.remaining self.new)) }
         ensures none_lost { OnErr result (Keeps (remaining_in R.remaining self.old) (remaining_in R.remaining self.new)) }
     {
-        self.reader.read(buf).map_err(|_| TapFault)
+        match self.reader.read(buf) {
+            Ok(count) => Ok(count),
+            Err(error) => {
+                self.reason = Reason::of(error);
+                Err(TapFault)
+            }
+        }
     }
 }

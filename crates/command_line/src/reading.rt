@@ -1,8 +1,8 @@
 //! What the words of a command line ask for, one after another.
-ghost use Rattle.std.specs.Prelude.{◌≡◌, ◌<◌, IfOk, map};
+ghost use Rattle.std.specs.Prelude.{◌≡◌, ◌<◌, IfOk, map, option_map};
 ghost use Rattle.std.specs.List.{count_by};
 ghost use Rattle.command_line.specs.Naming as naming;
-ghost use Rattle.command_line.specs.Requests.{role_after, asks, asks_in, files_in, has_prefix, is_file, is_help};
+ghost use Rattle.command_line.specs.Requests.{role_after, asks, asks_in, files_in, given_after, has_prefix, is_file, is_help, number_text, number_text_in};
 
 use crate::standard_input::is_input;
 use std::alloc::{AllocError, Global};
@@ -37,6 +37,15 @@ pub enum Keyword {
     BestOuter,
     ShortDrawing,
     QuickDrawing,
+}
+
+/// The numbers that words can give.
+#[derive(Clone, Copy)]
+pub enum Number {
+    /// The value of `--lanes`.
+    Lanes,
+    /// The value of `--waiting`.
+    Waiting,
 }
 
 impl Role {
@@ -87,6 +96,41 @@ impl Role {
             _ => false,
         }
     }
+
+    /// The text that a word in this role gives for this number. `None` if it gives none.
+    fn number_text<'a>(self, number: Number, word: &'a str) -> Option<&'a str>
+        ensures { option_map (λ text. text.now) result ≡ number_text number self word.now }
+    {
+        match (number, self) {
+            (Number::Lanes, Role::Lanes) => Some(word),
+            (Number::Waiting, Role::Waiting) => Some(word),
+            (Number::Lanes, Role::Any) => given_after("--lanes=", word),
+            (Number::Waiting, Role::Any) => given_after("--waiting=", word),
+            _ => None,
+        }
+    }
+}
+
+/// What follows this beginning in a word. `None` if the word does not begin with it.
+fn given_after<'a>(front: &str, word: &'a str) -> Option<&'a str>
+    ensures { option_map (λ text. text.now) result ≡ given_after front.now word.now }
+{
+    word.strip_prefix(front)
+}
+
+/// The text that the first word which gives this number gives for it. `None` if no word gives it.
+pub fn number_text<'a>(number: Number, words: &'a [String]) -> Option<&'a str>
+    ensures { option_map (λ text. text.now) result ≡ number_text_in number words.now }
+{
+    let mut role = Role::Command;
+    for word in words {
+        let text = word.as_str();
+        if let Some(given) = role.number_text(number, text) {
+            return Some(given);
+        }
+        role = role.role_after(text);
+    }
+    None
 }
 
 /// Whether a word is an option that asks for help.

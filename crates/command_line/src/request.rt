@@ -1,14 +1,14 @@
 //! The command line.
-ghost use Rattle.std.specs.Prelude.{◌≡◌, ◌≢◌, ◌≤◌, ◌↔◌, ◌∷◌, [], IfOk, IfNone, IfSome, length, map, true};
+ghost use Rattle.std.specs.Prelude.{◌≡◌, ◌≢◌, ◌≤◌, ◌↔◌, ◌∷◌, [], ◌||◌, IfOk, IfNone, IfSome, IsTrue, length, map, option_map, true};
 ghost use Rattle.common.specs.declared.choice.Choice.{Choice};
 ghost use Rattle.reports.specs.declared.form.Form.{Form};
 ghost use Rattle.command_line.specs.declared.reading.Keyword.{Keyword};
-ghost use Rattle.command_line.specs.Requests.{IsAskedBy, asks_in, drawing_in, files_in, inputs_in};
+ghost use Rattle.command_line.specs.Requests.{AreLanesIn, HasWaiting, IsAskedBy, IsNumberOf, IsWaitingIn, asks_in, drawing_in, files_in, inputs_in};
 
 use crate::progress::Progress;
-use crate::reading::{Keyword, asks, files_of, inputs_among};
+use crate::reading::{Keyword, Number, asks, files_of, inputs_among, number_text};
 use clap::error::ErrorKind;
-use clap::{Arg, ArgAction, ArgMatches, Command, Error, value_parser};
+use clap::{Arg, ArgAction, ArgMatches, Command, Error};
 use common::{Choice, DrawingKind};
 use reports::{Form, Style};
 use std::alloc::{AllocError, Global};
@@ -39,13 +39,52 @@ pub struct LayoutRequest<'a> {
     pub progress: Progress,
 }
 
+/// Why the words after the program's name ask for nothing that can be done.
+#[derive(Drop)]
+pub enum ParseFault {
+    /// The help, where it is asked for; why the words are refused; or that memory ran out, of the kind `OutOfMemory`.
+    Told(Error),
+    /// The value of `--waiting` is not 1 to 65536.
+    BadWaiting,
+}
+
 /// Reads the words after the program's name, and returns what they ask for. A `layout` has a file at least, and
-/// standard input at most once.
+/// standard input at most once. The number of lanes may be any: one that is no number is 0.
 ///
 /// # Errors
 ///
-/// The help, where it is asked for; why the words are refused; or want of memory, of the kind `OutOfMemory`.
-pub fn parse<'a>(alloc: Global, words: &'a [String]) -> Result<Request<'a>, Error>
+/// `Told` where the words are not taken, and `BadWaiting` where they are but for the value of `--waiting`.
+pub fn parse<'a>(alloc: Global, words: &'a [String]) -> Result<Request<'a>, ParseFault>
+    ensures asked { IfOk result (IsAskedBy words.now) }
+    ensures waits { IfOk result HasWaiting }
+{
+    let request = match read(alloc, words) {
+        Ok(request) => request,
+        Err(error) => return Err(ParseFault::Told(error)),
+    };
+    if can_wait(&request) {
+        Ok(request)
+    } else {
+        Err(ParseFault::BadWaiting)
+    }
+}
+
+/// Whether as many megabytes can wait as a request says.
+fn can_wait(request: &Request) -> bool
+    ensures { IsTrue result → HasWaiting request.now }
+{
+    match request {
+        Request::Frames { .. } => true,
+        Request::Layout(asked) => 1 <= asked.waiting && asked.waiting <= GREATEST_WAITING,
+    }
+}
+
+/// What the words ask for, which may say that any number of megabytes waits.
+///
+/// # Errors
+///
+/// The help, where it is asked for; why the words are refused; or that memory ran out, of the kind `OutOfMemory`.
+fn read<'a>(alloc: Global, words: &'a [String]) -> Result<Request<'a>, Error>
     ensures { IfOk result (IsAskedBy words.now) }
 {
     let mut program = describe(alloc)?;
@@ -53,6 +92,9 @@ pub fn parse<'a>(alloc: Global, words: &'a [String]) -> Result<Request<'a>, Erro
     let files = files_of(alloc, words)?;
     if inputs_among(files.as_slice()) > 1 {
         return Err(program.error(ErrorKind::ArgumentConflict, INPUT_TWICE)?);
+    }
+    if names_drawing(words) && !asks(Keyword::Json, words) {
+        return Err(program.error(ErrorKind::MissingRequiredArgument, DRAWING_ALONE)?);
     }
     match request_of(words, files, &matches) {
         Some(request) => Ok(request),
@@ -62,7 +104,7 @@ pub fn parse<'a>(alloc: Global, words: &'a [String]) -> Result<Request<'a>, Erro
 }
 
 /// What the words ask for, which clap has taken and which name these files; none where they name no file. Clap's
-/// own reading gives the number of lanes and the progress; the rest is taken from the words, as `command` promises.
+/// own reading gives the progress; the rest is taken from the words, as `command` promises.
 fn request_of<'a>(
     words: &[String],
     files: Vec<&'a str>,
@@ -70,6 +112,8 @@ fn request_of<'a>(
 ) -> Option<Request<'a>>
     requires files { map (λ file. file.now) files.items ≡ files_in words.now }
     requires once { inputs_in words.now ≤ 1 }
+    requires needs_json { (asks_in Keyword.ShortDrawing words.now || asks_in Keyword.QuickDrawing words.now) ≡ true
+        → asks_in Keyword.Json words.now ≡ true }
     ensures { IfSome result (IsAskedBy words.now) }
 {
     if asks(Keyword::Frames, words) {
@@ -81,8 +125,8 @@ fn request_of<'a>(
     }
     Some(Request::Layout(LayoutRequest {
         names: files,
-        lanes: lanes_of(matches),
-        waiting: waiting_of(matches),
+        lanes: lanes_of(words),
+        waiting: waiting_of(words),
         choice: choice_of(words),
         style: Style {
             form: form_of(words),
@@ -103,20 +147,35 @@ fn only_file<'a>(files: &[&'a str]) -> Option<&'a str>
     }
 }
 
-/// The number of lanes that clap found.
-fn lanes_of(matches: &ArgMatches) -> u32 {
-    match matches.subcommand_matches("layout") {
-        Some(layout) => layout.get_one("lanes").unwrap_or(1),
-        None => 1,
+/// The number of lanes that the words ask for: 0 for what is no number.
+fn lanes_of(words: &[String]) -> u32
+    ensures { AreLanesIn words.now result }
+{
+    number_or(1, number_text(Number::Lanes, words))
+}
+
+/// The number of megabytes that may wait, as the words ask for: 0 for what is no number.
+fn waiting_of(words: &[String]) -> u32
+    ensures { IsWaitingIn words.now result }
+{
+    number_or(64, number_text(Number::Waiting, words))
+}
+
+/// The number that a text gives: 0 where it is none. Where there is no text, `otherwise`.
+fn number_or(otherwise: u32, text: Option<&str>) -> u32
+    ensures { IsNumberOf otherwise (option_map (λ t. t.now) text.entry) result }
+{
+    match text {
+        Some(text) => text.parse::<u32>().unwrap_or(0),
+        None => otherwise,
     }
 }
 
-/// The number of megabytes that clap found.
-fn waiting_of(matches: &ArgMatches) -> u32 {
-    match matches.subcommand_matches("layout") {
-        Some(layout) => layout.get_one("waiting").unwrap_or(MOST_WAITING),
-        None => MOST_WAITING,
-    }
+/// Whether the words name a kind of drawing.
+fn names_drawing(words: &[String]) -> bool
+    ensures { result ≡ (asks_in Keyword.ShortDrawing words.now || asks_in Keyword.QuickDrawing words.now) }
+{
+    asks(Keyword::ShortDrawing, words) || asks(Keyword::QuickDrawing, words)
 }
 
 /// Where it is written how far a run is, by what clap found.
@@ -228,8 +287,8 @@ fn lanes_option<'a>(alloc: Global) -> Arg<'a> {
     Arg::new(alloc, "lanes")
         .long("lanes")
         .value_name("N")
-        .help("How many files are worked on at once, 1 to 8")
-        .value_parser(value_parser!(u32))
+        .help("Number of files to process in parallel (1 to 8)")
+        .allow_hyphen_values(true)
         .default_value("1")
 }
 
@@ -237,10 +296,8 @@ fn waiting_option<'a>(alloc: Global) -> Arg<'a> {
     Arg::new(alloc, "waiting")
         .long("waiting")
         .value_name("MB")
-        .help(
-            "How many megabytes of text of later files may wait until their reading pauses, 1 to 65536",
-        )
-        .value_parser(value_parser!(u32).range(1..=65536))
+        .help("Pause later files once this many MB of their output are buffered (1 to 65536)")
+        .allow_hyphen_values(true)
         .default_value("64")
 }
 
@@ -248,9 +305,7 @@ fn outer_option<'a>(alloc: Global) -> Arg<'a> {
     Arg::new(alloc, "outer")
         .long("outer")
         .value_name("CHOICE")
-        .help(
-            "The outer face: first is the one with the longest boundary, best the one with which the fewest bends are needed",
-        )
+        .help("Outer face: longest boundary (first) or fewest bends (best)")
         .value_parser(OUTER)
         .default_value("first")
 }
@@ -259,25 +314,21 @@ fn drawing_option<'a>(alloc: Global) -> Arg<'a> {
     Arg::new(alloc, "drawing")
         .long("drawing")
         .value_name("KIND")
-        .help(
-            "The drawing: short has shorter edges, and is what --json takes; quick is found sooner, and is what the report takes",
-        )
+        .help("Drawing in JSON output: short edges (the default), or quick to compute")
         .value_parser(DRAWING)
 }
 
 fn json_option<'a>(alloc: Global) -> Arg<'a> {
     Arg::new(alloc, "json")
         .long("json")
-        .help("Prints JSON lines in place of the report: also shapes, prices and points")
+        .help("Write JSON Lines, with shapes, dual prices and coordinates")
         .action(ArgAction::SetTrue)
 }
 
 fn progress_option<'a>(alloc: Global) -> Arg<'a> {
     Arg::new(alloc, "progress")
         .long("progress")
-        .help(
-            "Tells on standard error, where that is a terminal, how far the run is; given twice, also where it is none",
-        )
+        .help("Show progress on standard error if it is a terminal; repeat to force")
         .action(ArgAction::Count)
 }
 
@@ -304,8 +355,11 @@ fn describe_frames<'a>(alloc: Global) -> Result<Command<'a>, AllocError> {
         .arg(file)
 }
 
-/// How many megabytes of text may wait where the words do not say.
-const MOST_WAITING: u32 = 64;
+/// How many megabytes of text may wait at most.
+const GREATEST_WAITING: u32 = 65_536;
+
+/// Why no kind of drawing is taken for the report.
+const DRAWING_ALONE: &str = "--drawing needs --json: the report has no drawings";
 
 /// Why standard input is not taken twice.
 const INPUT_TWICE: &str = "standard input, the file '-', can be read only once, and is named twice";
@@ -330,7 +384,7 @@ prints
 and from a generator
   geng -c -D4 8 | planarg -p | planarbend layout -
 With --json there is a line for each graph and each file's end, and each is a JSON object.
-The status is 0 where each file ends complete and no graph wanted for memory, and else 3.";
+Exit status: 0 if every file was complete and every graph answered, otherwise 3.";
 
 const FRAMES_HELP: &str = "Example:
   planarbend frames examples/two.pc
@@ -338,4 +392,4 @@ prints
   record 1 n=2 bytes=5
   record 2 n=3 bytes=10
   end complete records=2
-The status is 0 where the file ends complete, and else 3.";
+Exit status: 0 if the file was complete, otherwise 3.";

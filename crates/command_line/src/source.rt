@@ -1,9 +1,11 @@
 //! Files as sources of a run.
 ghost use Rattle.std.specs.Prelude.{◌≡◌, ◌↔◌, IfOk, IfErr};
-ghost use Rattle.command_line.specs.Sources.{named_to_come, named_fails, opened_to_come, opened_fails, IsKnownAs};
+ghost use Rattle.command_line.specs.Sources.{named_to_come, named_fails, noted_to_come, noted_fails, opened_to_come, opened_fails, IsKnownAs};
 
 use crate::faults::Fault;
-use crate::named_files::NamedFiles;
+use crate::file_notes::FileNote;
+use crate::named_files::{NamedFiles, Refused};
+use crate::reason::{KeepsReason, Reason};
 use lanes::OpenFault;
 use std::alloc::Global;
 use std::io::ErrorKind;
@@ -31,6 +33,62 @@ impl<F: Tap, I: Tap> Tap for NamedSource<F, I> {
     }
 }
 
+impl<F: KeepsReason, I: KeepsReason> KeepsReason for NamedSource<F, I> {
+    fn reason(&self) -> Reason {
+        match self {
+            NamedSource::File(file) => file.reason(),
+            NamedSource::Input(input) => input.reason(),
+        }
+    }
+}
+
+/// A source of which it is noted how it begins, and why a read of it failed.
+#[derive(Drop)]
+pub struct NotedSource<'r, F> {
+    source: F,
+    note: Option<&'r FileNote>,
+    /// How many bytes of it were read.
+    place: usize,
+}
+
+impl<'r, F: Tap> NotedSource<'r, F> {
+    /// A source of which nothing was read yet, and its note, if it has one.
+    pub(crate) fn new(source: F, note: Option<&'r FileNote>) -> NotedSource<'r, F>
+        ensures to_come { noted_to_come F.to_come result ≡ F.to_come source }
+        ensures fails { noted_fails F.fails result ≡ F.fails source }
+    {
+        NotedSource {
+            source,
+            note,
+            place: 0,
+        }
+    }
+}
+
+impl<F: Tap + KeepsReason> Tap for NotedSource<'_, F> {
+    ghost to_come = { noted_to_come F.to_come };
+
+    ghost fails = { noted_fails F.fails };
+
+    fn read(&mut self, buf: &mut [u8]) -> Result<usize, TapFault> {
+        match self.source.read(buf) {
+            Ok(count) => {
+                if let Some(note) = self.note {
+                    note.begin(self.place, &buf[..count]);
+                }
+                self.place = self.place.saturating_add(count);
+                Ok(count)
+            }
+            Err(fault) => {
+                if let Some(note) = self.note {
+                    note.fail(self.source.reason());
+                }
+                Err(fault)
+            }
+        }
+    }
+}
+
 /// An open file, or one that could not be opened, whose every read fails.
 #[derive(Drop)]
 pub enum FileSource<F> {
@@ -53,23 +111,40 @@ impl<F: Tap> Tap for FileSource<F> {
     }
 }
 
-/// Opens the file of this name. A file that could not be opened is a source that fails.
+/// Opens the file of this name. A file that could not be opened is a source that fails. What is to be said of it goes to
+/// the note.
 ///
 /// # Errors
 ///
 /// `Memory` where the open found no memory. There is no other.
-pub fn open_source<N: NamedFiles>(
+pub fn open_source<'r, N: NamedFiles>(
     files: &N,
     alloc: Global,
     name: &str,
-) -> Result<FileSource<N::Source>, Fault>
-    ensures known { IfOk result (IsKnownAs N.Source.to_come N.Source.fails (N.meaning files.now name.now)) }
+    note: Option<&'r FileNote>,
+) -> Result<FileSource<NotedSource<'r, N::Source>>, Fault>
+    ensures known { IfOk result (IsKnownAs (noted_to_come N.Source.to_come) (noted_fails N.Source.fails) (N.meaning files.now name.now)) }
     ensures memory { IfErr result (λ fault. fault ≡ Fault.Memory) }
 {
     match files.open(alloc, name) {
-        Ok(file) => Ok(FileSource::Open(file)),
-        Err(OpenFault::Memory) => Err(Fault::Memory),
-        Err(OpenFault::Io) => Ok(FileSource::Unopened),
+        Ok(file) => Ok(FileSource::Open(NotedSource::new(file, note))),
+        Err(
+            Refused {
+                fault: OpenFault::Memory,
+                ..
+            },
+        ) => Err(Fault::Memory),
+        Err(
+            Refused {
+                fault: OpenFault::Io,
+                reason,
+            },
+        ) => {
+            if let Some(note) = note {
+                note.fail(reason);
+            }
+            Ok(FileSource::Unopened)
+        }
     }
 }
 

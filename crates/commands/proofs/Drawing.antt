@@ -58,32 +58,32 @@ frames_apart found =
 
 -- ---- what requests ask for
 
-done_drawn : (input : Meaning) (request : Request) (old new : Option (List ℕ)) (failed : Bool) (status : ℕ) → IsDone input request old new failed status → AddsNoneUndrawn old new
-done_drawn input (Frames name) old new failed status is = text_added old new (frames_text is.found) (frames_apart is.found) is.text
-done_drawn input (Layout asked) old new failed status is =
+done_drawn : (files : List ℕ → Meaning) (request : Request) (old new : Option (List ℕ)) (failed : Bool) (status : ℕ) → IsDone files request old new failed status → AddsNoneUndrawn old new
+done_drawn files (Frames name) old new failed status is = text_added old new (frames_text is.found) (frames_apart is.found) is.text
+done_drawn files (Layout asked) old new failed status is =
     text_added old new (text_in asked.style.form is.books) (text_apart asked.style.form is.books (all_drawn asked.choice _ _ is.books is.of_files)) is.text
 
-begun_to_be_drawn : (input : Meaning) (request : Request) (old new : Option (List ℕ)) → IsBegunToBeDone input request old new → AddsNoneUndrawn old new
-begun_to_be_drawn input (Frames name) old new is = front_added old new (frames_text is.found) (frames_apart is.found) is.text
-begun_to_be_drawn input (Layout asked) old new is = begun_drawn asked.choice _ asked.style.form _ old new is
+begun_to_be_drawn : (files : List ℕ → Meaning) (request : Request) (old new : Option (List ℕ)) → IsBegunToBeDone files request old new → AddsNoneUndrawn old new
+begun_to_be_drawn files (Frames name) old new is = front_added old new (frames_text is.found) (frames_apart is.found) is.text
+begun_to_be_drawn files (Layout asked) old new is = begun_drawn asked.choice _ asked.style.form _ old new is
 
 unchanged : {S : Type 0} (taken : S → Option (List ℕ)) (old new : S) → new ≡ old → AddsNoneUndrawn (taken old) (taken new)
 unchanged taken old new same = subst (λ s. AddsNoneUndrawn (taken old) (taken s)) (sym same) (none_added (taken old))
 
-pub performed_drawn : {S : Type 0} (taken : S → Option (List ℕ)) (input : Meaning) (request : Request) (old new : S) (failed : Bool) (status : ℕ) → status ≤ 3
+pub performed_drawn : {S : Type 0} (taken : S → Option (List ℕ)) (files : List ℕ → Meaning) (request : Request) (old new : S) (failed : Bool) (status : ℕ) → status ≤ 3
     → (status ≡ 2 → new ≡ old)
-    → ((status ≡ 0) ⊎ (status ≡ 3) → IsDone input request (taken old) (taken new) failed status)
-    → (status ≡ 1 → (new ≡ old) ⊎ IsBegunToBeDone input request (taken old) (taken new))
+    → ((status ≡ 0) ⊎ (status ≡ 3) → IsDone files request (taken old) (taken new) failed status)
+    → (status ≡ 1 → (new ≡ old) ⊎ IsBegunToBeDone files request (taken old) (taken new))
     → AddsNoneUndrawn (taken old) (taken new)
-performed_drawn taken input request old new failed zero known refused done begun = done_drawn input request (taken old) (taken new) failed 0 (done (inl refl))
-performed_drawn taken input request old new failed (suc zero) known refused done begun =
+performed_drawn taken files request old new failed zero known refused done begun = done_drawn files request (taken old) (taken new) failed 0 (done (inl refl))
+performed_drawn taken files request old new failed (suc zero) known refused done begun =
     elim (begun refl) [
       | inl same ↦ unchanged taken old new same
-      | inr is ↦ begun_to_be_drawn input request (taken old) (taken new) is
+      | inr is ↦ begun_to_be_drawn files request (taken old) (taken new) is
     ]
-performed_drawn taken input request old new failed (suc (suc zero)) known refused done begun = unchanged taken old new (refused refl)
-performed_drawn taken input request old new failed (suc (suc (suc zero))) known refused done begun = done_drawn input request (taken old) (taken new) failed 3 (done (inr refl))
-performed_drawn taken input request old new failed (suc (suc (suc (suc n)))) known refused done begun = absurd (let none : ⊥ = omega (arith, known) in none)
+performed_drawn taken files request old new failed (suc (suc zero)) known refused done begun = unchanged taken old new (refused refl)
+performed_drawn taken files request old new failed (suc (suc (suc zero))) known refused done begun = done_drawn files request (taken old) (taken new) failed 3 (done (inr refl))
+performed_drawn taken files request old new failed (suc (suc (suc (suc n)))) known refused done begun = absurd (let none : ⊥ = omega (arith, known) in none)
 
 -- ---- the version and help
 

@@ -1,6 +1,7 @@
 -- What the program's exit status says.
-use Rattle.std.specs.Prelude.{◌≡◌, ◌≢◌, ◌≤◌, ◌↔◌, ◌⊎◌, ℕ, Bool, true, false, List, ◌++◌, Option, Some, All, codes, slice_index, vec_len}
+use Rattle.std.specs.Prelude.{◌≡◌, ◌≢◌, ◌<◌, ◌≤◌, ◌↔◌, ◌⊎◌, ℕ, Bool, true, false, String, List, ◌++◌, Option, Some, All, codes, slice_index, vec_len}
 use Rattle.std.specs.Io.KnownBytes.{Appends}
+use Rattle.std.specs.declared.alloc.Global.{Global}
 use Rattle.planar_code.specs.declared.ending.Ending.{Ending}
 use Rattle.streams.specs.declared.frames.Mark.{Mark}
 use Rattle.streams.specs.FramesModel.{FramesModel}
@@ -15,7 +16,12 @@ use Rattle.reports.specs.declared.form.Form.{Form}
 use Rattle.reports.specs.Forms.{text_in}
 use Rattle.reports.specs.FlawlessBooks.{IsFlawlessBook}
 use Rattle.commands.specs.TextRuns.{IsBegun}
-use Rattle.command_line.specs.Naming.{meaning_of, meanings}
+use Rattle.command_line.specs.Naming.{meanings_in}
+use Rattle.command_line.specs.Requests.{IsAskedBy, asks_in}
+use Rattle.command_line.specs.declared.reading.Keyword.{Keyword}
+use Rattle.entries.specs.declared.limits.TheConstants.{MAX_FILES}
+use Rattle.ruled_lanes.specs.declared.limits.TheConstants.{LANES}
+use Rattle.printing.specs.Telling.{AddsNoneUndrawn}
 use Rattle.command_line.specs.declared.request.Request.{Request}
 use Rattle.command_line.specs.declared.request.Request.TheVariants.{Frames, Layout}
 
@@ -77,14 +83,40 @@ pub record IsBegunTextOfRecords (meaning : Meaning) (old new : Option (List ℕ)
   pub known : (all : List ℕ) → known_of meaning ≡ Some all → IsMarked all (fails_of meaning) found.records found.mark
   pub text : AppendsPrefix old new (frames_text found)
 
--- the whole text that a request asks for, where standard input means `input`, was added to the output, with this status
-abbrev pub IsDone : Meaning → Request → Option (List ℕ) → Option (List ℕ) → Bool → ℕ → Type 0
-IsDone input (Frames name) old new failed status = IsTextOfRecords (meaning_of input name.now) old new failed status
-IsDone input (Layout asked) old new failed status =
-    IsTextOfBooks asked.choice asked.style.form (meanings input asked.names.items) (vec_len asked.names) old new failed status
+-- the whole text that a request asks for, where the file of a name means what `files` says, was added to the output, with this status
+abbrev pub IsDone : (List ℕ → Meaning) → Request → Option (List ℕ) → Option (List ℕ) → Bool → ℕ → Type 0
+IsDone files (Frames name) old new failed status = IsTextOfRecords (files name.now) old new failed status
+IsDone files (Layout asked) old new failed status =
+    IsTextOfBooks asked.choice asked.style.form (meanings_in files asked.names.items) (vec_len asked.names) old new failed status
 
--- a beginning of the text that a request asks for, where standard input means `input`, was added to the output
-abbrev pub IsBegunToBeDone : Meaning → Request → Option (List ℕ) → Option (List ℕ) → Type 0
-IsBegunToBeDone input (Frames name) old new = IsBegunTextOfRecords (meaning_of input name.now) old new
-IsBegunToBeDone input (Layout asked) old new =
-    IsBegunTextOfBooks asked.choice asked.style.form (meanings input asked.names.items) (vec_len asked.names) old new
+-- a beginning of the text that a request asks for, where the file of a name means what `files` says, was added to the output
+abbrev pub IsBegunToBeDone : (List ℕ → Meaning) → Request → Option (List ℕ) → Option (List ℕ) → Type 0
+IsBegunToBeDone files (Frames name) old new = IsBegunTextOfRecords (files name.now) old new
+IsBegunToBeDone files (Layout asked) old new =
+    IsBegunTextOfBooks asked.choice asked.style.form (meanings_in files asked.names.items) (vec_len asked.names) old new
+
+-- What status 0 or 3 says: the version, or help, which begins with a capital letter and as no text of a run does, was added to the output, or the text
+-- of all files that the words name, as they ask for it.
+abbrev pub IsDoneFor : (List ℕ → Meaning) → List (String Global) → Option (List ℕ) → Option (List ℕ) → Bool → ℕ → Type 0
+IsDoneFor files words old new failed status =
+    ((status ≡ 0) × (asks_in Keyword.Version words ≡ true))
+    ⊎ (((status ≡ 0) × (asks_in Keyword.Help words ≡ true) × ((text : List ℕ) × IsNoText text × Appends old new text))
+    ⊎ ((request : Request) × IsAskedBy words request × IsDone files request old new failed status))
+
+-- a request is refused: it names too many files, or no lanes or too many
+abbrev pub IsRefusable : Request → Type 0
+IsRefusable (Frames name) = ⊥
+IsRefusable (Layout asked) = (MAX_FILES < vec_len asked.names) ⊎ ((asked.lanes ≡ 0) ⊎ (LANES < asked.lanes))
+
+-- What a command line led to, where the file of a name means what `files` says: the output was `old` and is `new`, of which these
+-- bytes are taken and which may have failed, and the program ends with this status.
+pub record IsOutcome {S : Type 0} (files : List ℕ → Meaning) (words : List (String Global)) (taken : S → Option (List ℕ)) (failed : S → Bool) (old new : S) (status : ℕ) : Type 0 where
+  pub in_range : status ≤ 3
+  pub failed_write : failed new ≡ true → status ≡ 1
+  pub refused : status ≡ 2 → new ≡ old
+  pub version : asks_in Keyword.Version words ≡ true → IsPrinted version_text (taken old) (taken new) (failed new) status
+  pub done : (status ≡ 0) ⊎ (status ≡ 3) → IsDoneFor files words (taken old) (taken new) (failed new) status
+  pub begun : status ≡ 1 → asks_in Keyword.Version words ≡ false → asks_in Keyword.Help words ≡ false
+      → (new ≡ old) ⊎ ((request : Request) × IsAskedBy words request × IsBegunToBeDone files request (taken old) (taken new))
+  pub drawn : AddsNoneUndrawn (taken old) (taken new)
+      ⊎ ((asks_in Keyword.Help words ≡ true) × ((text : List ℕ) × IsNoText text × Appends (taken old) (taken new) text))

@@ -3,13 +3,12 @@ ghost use Rattle.std.specs.Prelude.{◌≡◌, ◌<◌, ◌≤◌, ◌⊎◌, �
 ghost use Rattle.command_line.specs.Refusals.{IsMisuse};
 ghost use Rattle.ruled_lanes.specs.declared.limits.TheConstants.{LANES};
 ghost use Rattle.entries.specs.declared.limits.TheConstants.{MAX_FILES};
-ghost use Rattle.command_line.specs.Naming.{meanings};
+ghost use Rattle.command_line.specs.Naming.{meanings_in};
 ghost use Rattle.commands.specs.Statuses.{IsTextOfBooks, IsBegunTextOfBooks};
 
-use crate::text::{TextFault, write_batch};
-use command_line::{Console, Fault, FileOpener, FilesAndInput, LayoutRequest, Meter, SystemFiles};
-use lanes::Opener;
-use std::rt::Files;
+use crate::text::{TextFault, write_watched};
+use crate::watch::Observer;
+use command_line::{Console, Fault, FileNotes, FileOpener, LayoutRequest, Meter, NamedFiles};
 use std::sync::Wait;
 use std::thread::Threads;
 use streams::{BatchFault, MAX_CAPACITY, Sink, WriteFault};
@@ -20,9 +19,9 @@ pub const CAPACITY: u32 = MAX_CAPACITY;
 /// How many bytes a megabyte has.
 const MEGABYTE: usize = 1_000_000;
 
-/// Writes the answers that are asked for, while the files are read, and gives back the status of their text. The file
-/// named `-` is the file 0 of `input`. The meter counts files and graphs. Where the text of later files that waits
-/// holds `waiting` megabytes of memory, their reading pauses.
+/// Writes the answers that are asked for, while the files are read, and returns the status of their text. `files` opens
+/// the files that are named. The meter counts files and graphs. How files begin, end and fail goes to the notes. Later
+/// files pause once `waiting` megabytes of their text are buffered.
 ///
 /// # Errors
 ///
@@ -32,54 +31,51 @@ const MEGABYTE: usize = 1_000_000;
 /// `memory`, and the lines of the next one, which has no last line. Of a file of which no bytes are known, as a real one, they are those of some bytes.
 pub fn layout<
     'a,
-    R: Files + AllocGlobal + Threads + Wait + Sync,
-    I: Opener,
+    R: AllocGlobal + Threads + Wait + Sync,
+    N: NamedFiles,
     C: Console + Sync,
     S: Sink,
 >(
     rt: &'a R,
     asked: &LayoutRequest<'_>,
-    input: &'a I,
-    meter: &'a Meter<'_, C>,
+    files: &'a N,
+    meter: &'a Meter<'a, C>,
+    notes: &'a FileNotes,
     out: &mut S,
 ) -> Result<u8, Fault>
-where
-    R::File: Send,
-    R::Dir: Send,
     requires { S.failed out.old ≡ false }
-    ensures written { IfOk result (IsTextOfBooks asked.now.choice asked.now.style.form (meanings (I.meaning input.now 0) asked.now.names.items)
+    ensures written { IfOk result (IsTextOfBooks asked.now.choice asked.now.style.form (meanings_in (N.meaning files.now) asked.now.names.items)
         (vec_len asked.now.names) (S.taken out.old) (S.taken out.new) (S.failed out.new)) }
-    ensures begun { OnErr result (IsBegunTextOfBooks asked.now.choice asked.now.style.form (meanings (I.meaning input.now 0) asked.now.names.items)
+    ensures begun { OnErr result (IsBegunTextOfBooks asked.now.choice asked.now.style.form (meanings_in (N.meaning files.now) asked.now.names.items)
         (vec_len asked.now.names) (S.taken out.old) (S.taken out.new)) }
     ensures too_many { (MAX_FILES < vec_len asked.now.names) ↔ (result ≡ Err (Fault.Run BatchFault.TooManyFiles)) }
     ensures bad_lanes { (((asked.now.lanes ≡ 0) ⊎ (LANES < asked.now.lanes)) × (vec_len asked.now.names ≤ MAX_FILES))
         ↔ (result ≡ Err (Fault.Run BatchFault.BadLanes)) }
     ensures refused { IfErr result (λ fault. IsMisuse fault → out.new ≡ out.old) }
+    ensures refusable { IfErr result (λ fault. IsMisuse fault
+        → (MAX_FILES < vec_len asked.now.names) ⊎ ((asked.now.lanes ≡ 0) ⊎ (LANES < asked.now.lanes))) }
 {
     let names = asked.names.as_slice();
-    let named = FilesAndInput {
-        files: &SystemFiles { rt },
-        input,
-    };
     let opener = FileOpener {
-        files: &named,
+        files,
         names,
         opened: meter.opened(),
+        notes,
     };
-    let Ok(files) = u32::try_from(names.len()) else {
+    let Ok(count) = u32::try_from(names.len()) else {
         return Err(Fault::Run(BatchFault::TooManyFiles));
     };
-    match write_batch(
+    match write_watched(
         rt,
         rt.alloc(),
         &opener,
-        files,
+        count,
         asked.lanes,
         CAPACITY,
         (asked.waiting as usize).saturating_mul(MEGABYTE),
         asked.choice,
         asked.style,
-        meter,
+        &Observer { meter, notes },
         out,
     ) {
         Ok(status) => Ok(status),

@@ -8,11 +8,13 @@ mod process;
 mod program;
 mod text;
 mod version;
+mod watch;
 mod worded;
 
 pub use command_line::{
-    Console, ErrorConsole, Fault, FileOpener, FileSource, INPUT, Meter, NamedFiles, NamedSource,
-    Progress, ReadTap, StandardInput, SystemFiles, is_input, open_fault, write_fault,
+    Console, ErrorConsole, Fault, FileNotes, FileOpener, FileSource, FilesAndInput, INPUT,
+    KeepsReason, Meter, NamedFiles, NamedSource, OutputSink, Progress, ReadTap, Reason,
+    SharedTerminal, StandardInput, SystemFiles, is_input, open_fault, write_fault,
 };
 pub use process::run;
 pub use program::command;

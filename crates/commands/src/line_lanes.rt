@@ -4,6 +4,7 @@ ghost use Rattle.common.specs.declared.drawing_kind.DrawingKind.TheVariants.{Qui
 ghost use Rattle.lanes.specs.Opening.{IsPlacedAt, IsEndAt};
 ghost use Rattle.printing.specs.Spelt.{IsSpelt};
 
+use crate::watch::Watch;
 use crate::worded::Worded;
 use answers::{
     DrawScratch, EmbedScratch, Embedded, Framed, ShapeScratch, Shaped, StageScratch, Task,
@@ -18,18 +19,20 @@ use std::alloc::{AllocError, Global};
 use std::marker::PhantomData;
 use streams::SourceEnd;
 
-/// Lanes that answer records and print their lines, in one form and with drawings of one kind.
+/// Lanes that answer records and print their lines, in one form and with drawings of one kind. `watch` hears how each
+/// file ends.
 #[derive(Drop)]
-pub struct LineLanes<J: Meant> {
+pub struct LineLanes<'w, J: Meant, G> {
     pub form: Form,
     pub drawing_kind: DrawingKind,
     pub meant: PhantomData<J>,
+    pub watch: &'w G,
 }
 
-impl<J: Meant> LineLanes<J> {
+impl<'w, J: Meant, G> LineLanes<'w, J, G> {
     /// Lanes that print lines in this style. The report form has no points, so it is of quick drawings, whatever kind is
     /// asked for.
-    pub fn new(style: Style) -> LineLanes<J>
+    pub fn new(style: Style, watch: &'w G) -> LineLanes<'w, J, G>
         ensures form { result.form ≡ style.form }
         ensures report { style.form ≡ Form.Report → result.drawing_kind ≡ Quick }
         ensures json { style.form ≡ Form.Json → result.drawing_kind ≡ style.drawing_kind }
@@ -42,11 +45,12 @@ impl<J: Meant> LineLanes<J> {
             form: style.form,
             drawing_kind,
             meant: PhantomData,
+            watch,
         }
     }
 }
 
-impl<J: Meant + Send + Sync> LaneKind for LineLanes<J> {
+impl<J: Meant + Send + Sync, G: Watch> LaneKind for LineLanes<'_, J, G> {
     type Framed = Framed<Worded<J>>;
 
     type Embedded = Embedded<Worded<J>>;
@@ -83,6 +87,7 @@ impl<J: Meant + Send + Sync> LaneKind for LineLanes<J> {
     }
 
     fn end(&self, file: u32, end: SourceEnd) -> KnownEnd<J> {
+        self.watch.end(file, end.mark);
         known_end(file, end)
     }
 

@@ -1,44 +1,55 @@
 //! A whole run of the program.
-ghost use Rattle.std.specs.Prelude.{◌≡◌, ◌≤◌, ◌⊎◌, ℕ, List, true, false};
-ghost use Rattle.std.specs.Io.KnownBytes.{Appends};
+ghost use Rattle.std.specs.Prelude.{◌≡◌, ◌≤◌, ◌⊎◌, List, String, false};
 ghost use Rattle.std.specs.Process.{exit_status};
-ghost use Rattle.printing.specs.Telling.{AddsNoneUndrawn};
-ghost use Rattle.commands.specs.Statuses.{IsNoText};
+ghost use Rattle.std.specs.declared.alloc.Global.{Global};
+ghost use Rattle.command_line.specs.Naming.{meaning_of};
+ghost use Rattle.commands.specs.Statuses.{IsOutcome};
 
 use crate::program::command;
-use command_line::{Console, Fault, arguments_fault, write_fault};
+use command_line::{Console, Fault, FilesAndInput, KeepsReason, SystemFiles, write_fault};
 use lanes::Opener;
-use std::env;
+use std::alloc::Global;
+use std::env::{Env, FillError};
 use std::process::ExitCode;
 use std::rt::Files;
 use std::sync::Wait;
 use std::thread::Threads;
 use streams::Sink;
 
-/// Does what the words after the program's name ask for, as `command` does, and ends with its status. Where these words
-/// cannot be had, the line of that fault goes to `err`, and the status is that of the fault.
+/// How many bytes an argument of a program has at most, with the 0 after it, on Linux.
+const LONGEST: usize = 131_072;
+
+/// Does what the arguments after the program's name ask for, as `command` does, and ends with its status. The file named
+/// `-` is the file 0 of `input`, and others are those of the system. If the arguments are no text or memory for them
+/// runs out, the line of that fault goes to `err`, and the status is that of the fault.
 pub fn run<
-    R: env::Env + Files + AllocGlobal + Threads + Wait + Sync,
+    R: Env + Files + AllocGlobal + Threads + Wait + Sync,
     I: Opener,
     C: Console + Sync,
-    S: Sink,
+    S: Sink + KeepsReason,
     E: Sink,
 >(rt: &R, input: &I, console: &C, out: &mut S, err: &mut E) -> ExitCode
 where
     R::File: Send,
     R::Dir: Send,
+    I::Source: KeepsReason,
     requires out_is_intact { S.failed out.old ≡ false }
     requires err_is_intact { E.failed err.old ≡ false }
     ensures in_range { exit_status result ≤ 3 }
-    ensures failed_write { S.failed out.new ≡ true → exit_status result ≡ 1 }
-    ensures refused { exit_status result ≡ 2 → out.new ≡ out.old }
 
-    // What is written tells of no graph without a drawing, or it is help, which begins with a capital letter, and as no text of a run does.
-    ensures drawn { AddsNoneUndrawn (S.taken out.old) (S.taken out.new)
-        ⊎ ((text : List ℕ) × IsNoText text × Appends (S.taken out.old) (S.taken out.new) text) }
+    // For some arguments all holds that `command` promises; or they could not be had, and nothing is written.
+    ensures outcome { ((words : List (String Global))
+        × IsOutcome (meaning_of (I.meaning input.now 0)) words S.taken S.failed out.old out.new (exit_status result))
+        ⊎ (((exit_status result ≡ 1) ⊎ (exit_status result ≡ 2)) × (out.new ≡ out.old)) }
 {
     match arguments(rt) {
-        Ok(words) => ExitCode::from(command(rt, words.as_slice(), input, console, out, err)),
+        Ok(words) => {
+            let files = FilesAndInput {
+                files: &SystemFiles { rt },
+                input,
+            };
+            ExitCode::from(command(rt, words.as_slice(), &files, console, out, err))
+        }
         Err(fault) => {
             write_fault(fault, err);
             ExitCode::from(fault.status())
@@ -46,8 +57,36 @@ where
     }
 }
 
-/// The words after the program's name.
-fn arguments<R: env::Env + AllocGlobal>(rt: &R) -> Result<Vec<String>, Fault> {
-    let all = env::args(rt).map_err(|error| arguments_fault(error.kind()))?;
-    all.skip(1).collect(rt.alloc()).map_err(|_| Fault::Memory)
+/// The arguments after the program's name.
+///
+/// # Errors
+///
+/// `NotText` if one is not UTF-8, with its number, and `Memory` if there is no memory for them.
+fn arguments<R: Env + AllocGlobal>(rt: &R) -> Result<Vec<String>, Fault> {
+    let mut words = Vec::new(rt.alloc());
+    let mut buffer = Vec::new(rt.alloc());
+    if buffer.resize(LONGEST, 0).is_err() {
+        return Err(Fault::Memory);
+    }
+    for argument in 1..u32::MAX {
+        match rt.arg(argument as usize, buffer.as_mut_slice()) {
+            Ok(len) => {
+                let word = word_of(rt.alloc(), argument, &buffer[..len])?;
+                if words.push(word).is_err() {
+                    return Err(Fault::Memory);
+                }
+            }
+            Err(FillError::NotPresent) => break,
+            Err(FillError::TooLong) => return Err(Fault::Memory),
+        }
+    }
+    Ok(words)
+}
+
+/// The text of an argument.
+fn word_of(alloc: Global, argument: u32, bytes: &[u8]) -> Result<String, Fault> {
+    let Ok(text) = str::from_utf8(bytes) else {
+        return Err(Fault::NotText(argument));
+    };
+    String::from_str(alloc, text).map_err(|_| Fault::Memory)
 }

@@ -1,16 +1,18 @@
 //! What the program does with its words.
-ghost use Rattle.std.specs.Prelude.{◌≡◌, ◌≤◌, ◌⊎◌, ℕ, List, length, slice_index, true, false, IfOk, IfErr, IsTrue, OnErr};
+ghost use Rattle.std.specs.Prelude.{◌≡◌, ◌<◌, ◌≤◌, ◌⊎◌, ℕ, List, length, vec_len, slice_index, true, false, IfOk, IfErr, IsTrue, OnErr};
 ghost use Rattle.std.specs.Borrow.{Bor};
 ghost use Rattle.std.specs.Io.KnownBytes.{Appends};
 ghost use Rattle.common.specs.declared.choice.Choice.{Choice};
 ghost use Rattle.reports.specs.declared.form.Form.{Form};
 ghost use Rattle.command_line.specs.Refusals.{IsMisuse};
-ghost use Rattle.command_line.specs.Naming.{meaning_of, meanings};
+ghost use Rattle.entries.specs.declared.limits.TheConstants.{MAX_FILES};
+ghost use Rattle.ruled_lanes.specs.declared.limits.TheConstants.{LANES};
+ghost use Rattle.command_line.specs.Naming.{meanings_in};
 ghost use Rattle.clap.specs.Words.{kind_of};
 ghost use Rattle.clap.specs.declared.error.kind.ErrorKind.{ErrorKind};
 ghost use Rattle.command_line.specs.declared.reading.Keyword.{Keyword};
 ghost use Rattle.command_line.specs.declared.request.Request.{Request};
-ghost use Rattle.commands.specs.Statuses.{IsTextOfRecords, IsTextOfBooks, IsDone, IsBegunTextOfRecords, IsBegunToBeDone, IsNoText, IsPrinted, version_text};
+ghost use Rattle.commands.specs.Statuses.{IsTextOfRecords, IsTextOfBooks, IsDone, IsDoneFor, IsBegunTextOfBooks, IsBegunTextOfRecords, IsBegunToBeDone, IsNoText, IsPrinted, IsRefusable, version_text};
 ghost use Rattle.command_line.specs.Requests.{IsAskedBy, asks_in};
 ghost use Rattle.printing.specs.Telling.{AddsNoneUndrawn};
 
@@ -19,34 +21,30 @@ use crate::version::VERSION;
 use clap::Error;
 use clap::error::ErrorKind;
 use command_line::{
-    Console, Fault, FilesAndInput, Keyword, Meter, Request, SystemFiles, asks, open_source, parse,
-    write_fault,
+    Console, Fault, FileNotes, KeepsReason, Keyword, LayoutRequest, Meter, NamedFiles, ParseFault,
+    Reason, Request, asks, open_source, parse, write_fault, write_output_fault,
 };
-use lanes::Opener;
 use reports::status_of;
 use std::alloc::Global;
-use std::rt::Files;
 use std::sync::Wait;
 use std::thread::Threads;
-use streams::{Sink, put_all, run_frames, write_frames};
+use streams::{Sink, WriteFault, put_all, run_frames, write_frames};
 
 /// Does what the words after the program's name ask for, and returns the program's exit status.
-/// The file named `-` is standard input, the file 0 of `input`. A text goes to `out`, and the line of a fault
-/// to `err`; that this line may fail changes nothing, nor does what `console` writes of the progress of a run.
+/// `files` opens the files that are named, and standard input by its name. A text goes to `out`, the line of a fault
+/// and a line for each file that fails or is no planar_code to `err`; that these may fail changes nothing, nor does what
+/// `console` writes of the progress of a run.
 ///
 /// The status is 0 for the version, for help and for a whole text in which each file ends complete and
-/// no graph wanted for memory, 3 for any other whole text, 2 for a command line that is refused, and 1
+/// every graph is answered, 3 for any other whole text, 2 for a command line that is refused, and 1
 /// where there is no whole text.
 pub fn command<
-    R: Files + AllocGlobal + Threads + Wait + Sync,
-    I: Opener,
+    R: AllocGlobal + Threads + Wait + Sync,
+    N: NamedFiles,
     C: Console + Sync,
-    S: Sink,
+    S: Sink + KeepsReason,
     E: Sink,
->(rt: &R, words: &[String], input: &I, console: &C, out: &mut S, err: &mut E) -> u8
-where
-    R::File: Send,
-    R::Dir: Send,
+>(rt: &R, words: &[String], files: &N, console: &C, out: &mut S, err: &mut E) -> u8
     requires out_is_intact { S.failed out.old ≡ false }
     requires err_is_intact { E.failed err.old ≡ false }
     ensures in_range { result ≤ 3 }
@@ -59,9 +57,9 @@ where
     // one does not or lacks an answer for want of memory.
     ensures written { result ≡ 3
         → ((name : List ℕ)
-        × IsTextOfRecords (meaning_of (I.meaning input.now 0) name) (S.taken out.old) (S.taken out.new) (S.failed out.new) 3)
+        × IsTextOfRecords (N.meaning files.now name) (S.taken out.old) (S.taken out.new) (S.failed out.new) 3)
         ⊎ ((choice : Choice) × (form : Form) × (names : List (Bor (List ℕ)))
-        × IsTextOfBooks choice form (meanings (I.meaning input.now 0) names) (length names)
+        × IsTextOfBooks choice form (meanings_in (N.meaning files.now) names) (length names)
         (S.taken out.old) (S.taken out.new) (S.failed out.new) 3) }
 
     // Where the first word is `--version`, the version is printed.
@@ -69,20 +67,16 @@ where
         → IsPrinted version_text (S.taken out.old) (S.taken out.new) (S.failed out.new) result }
 
     // With status 0 and 3 there is the version, or help, which begins with a capital letter and as no text of a run does, or the
-    // text of all files that the words name, as they ask for it. The file named `-` has what standard input gives.
+    // text of all files that the words name, as they ask for it, each of what the file of its name gives.
     ensures done { (result ≡ 0) ⊎ (result ≡ 3)
-        → ((result ≡ 0) × (asks_in Keyword.Version words.now ≡ true))
-        ⊎ ((result ≡ 0) × (asks_in Keyword.Help words.now ≡ true)
-        × ((text : List ℕ) × IsNoText text × Appends (S.taken out.old) (S.taken out.new) text))
-        ⊎ ((request : Request) × IsAskedBy words.now request
-        × IsDone (I.meaning input.now 0) request (S.taken out.old) (S.taken out.new) (S.failed out.new) result) }
+        → IsDoneFor (N.meaning files.now) words.now (S.taken out.old) (S.taken out.new) (S.failed out.new) result }
 
     // With status 1, where neither the version nor help is asked for, nothing is written, or a beginning of the
     // text of what the words ask for.
     ensures begun { result ≡ 1 → asks_in Keyword.Version words.now ≡ false → asks_in Keyword.Help words.now ≡ false
         → (out.new ≡ out.old)
         ⊎ ((request : Request) × IsAskedBy words.now request
-        × IsBegunToBeDone (I.meaning input.now 0) request (S.taken out.old) (S.taken out.new)) }
+        × IsBegunToBeDone (N.meaning files.now) request (S.taken out.old) (S.taken out.new)) }
 
     // Whatever the status, what is written tells of no graph without a drawing, as the line `drawn=no` of a report would. Of help,
     // where that is asked for, it is known that it begins with a capital letter, and as no text of a run does.
@@ -94,86 +88,125 @@ where
         return show_version(out, err);
     }
     match parse(rt.alloc(), words) {
-        Ok(request) => perform(rt, request, input, console, out, err),
-        Err(error) if error.use_stderr() || !asks(Keyword::Help, words) => {
+        Ok(request) => perform(rt, request, files, console, out, err),
+        Err(ParseFault::BadWaiting) => end_by(Fault::BadWaiting, Reason::UNKNOWN, err),
+        Err(ParseFault::Told(error)) if error.use_stderr() || !asks(Keyword::Help, words) => {
             refuse(rt.alloc(), &error, err)
         }
-        Err(error) => show_help(rt.alloc(), &error, out, err),
+        Err(ParseFault::Told(error)) => show_help(rt.alloc(), &error, out, err),
     }
 }
 
 /// Does what a request asks for, and returns the exit status. It is 0 or 3 only where the whole text
-/// was written, of all files that the request names, and then as `command` says.
+/// was written, of all files that the request names, and then as `command` says; and 2 only where there are too many
+/// files or the number of lanes is bad.
 fn perform<
-    R: Files + AllocGlobal + Threads + Wait + Sync,
-    I: Opener,
+    R: AllocGlobal + Threads + Wait + Sync,
+    N: NamedFiles,
     C: Console + Sync,
-    S: Sink,
+    S: Sink + KeepsReason,
     E: Sink,
->(rt: &R, request: Request, input: &I, console: &C, out: &mut S, err: &mut E) -> u8
-where
-    R::File: Send,
-    R::Dir: Send,
+>(rt: &R, request: Request, files: &N, console: &C, out: &mut S, err: &mut E) -> u8
     requires out_is_intact { S.failed out.old ≡ false }
     requires err_is_intact { E.failed err.old ≡ false }
     ensures in_range { result ≤ 3 }
     ensures failed_write { S.failed out.new ≡ true → result ≡ 1 }
     ensures refused { result ≡ 2 → out.new ≡ out.old }
+    ensures refusable { result ≡ 2 → IsRefusable request.entry }
     ensures done { (result ≡ 0) ⊎ (result ≡ 3)
-        → IsDone (I.meaning input.now 0) request.entry (S.taken out.old) (S.taken out.new) (S.failed out.new) result }
+        → IsDone (N.meaning files.now) request.entry (S.taken out.old) (S.taken out.new) (S.failed out.new) result }
     ensures begun { result ≡ 1
         → (out.new ≡ out.old)
-        ⊎ IsBegunToBeDone (I.meaning input.now 0) request.entry (S.taken out.old) (S.taken out.new) }
+        ⊎ IsBegunToBeDone (N.meaning files.now) request.entry (S.taken out.old) (S.taken out.new) }
 {
     let outcome = match request {
-        Request::Frames { name } => frames(rt, name, input, out),
-        Request::Layout(asked) => {
-            let meter = Meter::new(console, asked.progress, asked.names.len());
-            let outcome = layout(rt, &asked, input, &meter, out);
-            meter.finish();
-            outcome
-        }
+        Request::Frames { name } => frames(rt, name, files, out, err),
+        Request::Layout(asked) => lay_out(rt, &asked, files, console, out, err),
     };
     match outcome {
         Ok(status) => status,
-        Err(fault) => end_by(fault, err),
+        Err(fault) => end_by(fault, out.reason(), err),
     }
 }
 
-/// Writes the line of a fault, and returns its status.
-fn end_by<E: Sink>(fault: Fault, err: &mut E) -> u8
+/// Writes the answers that are asked for, and the lines of progress and of files. Returns the status of the answers.
+fn lay_out<
+    R: AllocGlobal + Threads + Wait + Sync,
+    N: NamedFiles,
+    C: Console + Sync,
+    S: Sink,
+    E: Sink,
+>(
+    rt: &R,
+    asked: &LayoutRequest<'_>,
+    files: &N,
+    console: &C,
+    out: &mut S,
+    err: &mut E,
+) -> Result<u8, Fault>
+    requires out_is_intact { S.failed out.old ≡ false }
+    requires err_is_intact { E.failed err.old ≡ false }
+    ensures written { IfOk result (IsTextOfBooks asked.now.choice asked.now.style.form (meanings_in (N.meaning files.now) asked.now.names.items)
+        (vec_len asked.now.names) (S.taken out.old) (S.taken out.new) (S.failed out.new)) }
+    ensures begun { OnErr result ((out.new ≡ out.old) ⊎ IsBegunTextOfBooks asked.now.choice asked.now.style.form
+        (meanings_in (N.meaning files.now) asked.now.names.items) (vec_len asked.now.names) (S.taken out.old) (S.taken out.new)) }
+    ensures refusable { IfErr result (λ fault. IsMisuse fault
+        → (MAX_FILES < vec_len asked.now.names) ⊎ ((asked.now.lanes ≡ 0) ⊎ (LANES < asked.now.lanes))) }
+    ensures refused { IfErr result (λ fault. IsMisuse fault → out.new ≡ out.old) }
+    ensures intact { OnErr result (E.failed err.new ≡ false) }
+{
+    let names = asked.names.as_slice();
+    let Ok(notes) = FileNotes::new(rt.alloc(), names.len()) else {
+        return Err(Fault::Memory);
+    };
+    let meter = Meter::new(console, asked.progress, names.len());
+    let outcome = layout(rt, asked, files, &meter, &notes, out);
+    meter.finish();
+    let status = outcome?;
+    notes.write(rt.alloc(), names, err);
+    Ok(status)
+}
+
+/// Writes the line of a fault, and returns its status. The reason is that of the output, if it failed.
+fn end_by<E: Sink>(fault: Fault, reason: Reason, err: &mut E) -> u8
     requires { E.failed err.old ≡ false }
     ensures refused { IsMisuse fault → result ≡ 2 }
     ensures failed { ¬ IsMisuse fault → result ≡ 1 }
 {
-    write_fault(fault, err);
+    match fault {
+        Fault::Write(WriteFault::Write) => write_output_fault(reason, err),
+        _ => write_fault(fault, err),
+    }
     fault.status()
 }
 
-/// Writes the records of one file and how it ends, and returns the status.
-fn frames<R: Files + AllocGlobal + Threads + Wait + Sync, I: Opener, S: Sink>(
+/// Writes the records of one file and how it ends, and the line of the file. Returns the status of the records.
+fn frames<R: AllocGlobal + Threads + Wait + Sync, N: NamedFiles, S: Sink, E: Sink>(
     rt: &R,
     name: &str,
-    input: &I,
+    files: &N,
     out: &mut S,
+    err: &mut E,
 ) -> Result<u8, Fault>
-where
-    R::File: Send,
-    R::Dir: Send,
-    requires { S.failed out.old ≡ false }
-    ensures written { IfOk result (IsTextOfRecords (meaning_of (I.meaning input.now 0) name.now)
+    requires out_is_intact { S.failed out.old ≡ false }
+    requires err_is_intact { E.failed err.old ≡ false }
+    ensures written { IfOk result (IsTextOfRecords (N.meaning files.now name.now)
         (S.taken out.old) (S.taken out.new) (S.failed out.new)) }
     ensures failed { IfErr result (λ fault. ¬ IsMisuse fault) }
     ensures begun { OnErr result ((out.new ≡ out.old)
-        ⊎ IsBegunTextOfRecords (meaning_of (I.meaning input.now 0) name.now) (S.taken out.old) (S.taken out.new)) }
+        ⊎ IsBegunTextOfRecords (N.meaning files.now name.now) (S.taken out.old) (S.taken out.new)) }
+    ensures intact { OnErr result (E.failed err.new ≡ false) }
 {
-    let files = FilesAndInput {
-        files: &SystemFiles { rt },
-        input,
+    let Ok(notes) = FileNotes::new(rt.alloc(), 1) else {
+        return Err(Fault::Memory);
     };
-    let source = open_source(&files, rt.alloc(), name)?;
+    let source = open_source(files, rt.alloc(), name, notes.note(0))?;
     let found = run_frames(rt, rt.alloc(), source, CAPACITY)?;
     write_frames(&found, out)?;
+    if let Some(note) = notes.note(0) {
+        note.end(found.mark());
+    }
+    notes.write(rt.alloc(), &[name], err);
     Ok(status_of(found.mark()))
 }
 
@@ -184,31 +217,36 @@ fn refuse<E: Sink>(alloc: Global, error: &Error, err: &mut E) -> u8
     ensures memory { kind_of error.now ≡ ErrorKind.OutOfMemory → result ≡ 1 }
 {
     if error.kind() == ErrorKind::OutOfMemory {
-        return end_by(Fault::Memory, err);
+        return end_by(Fault::Memory, Reason::UNKNOWN, err);
     }
     match error.to_string(alloc) {
         Ok(text) => {
             let _ = put_all(err, text.as_bytes());
             2
         }
-        Err(_) => end_by(Fault::Memory, err),
+        Err(_) => end_by(Fault::Memory, Reason::UNKNOWN, err),
     }
 }
 
 /// Writes the version, and returns the status.
-fn show_version<S: Sink, E: Sink>(out: &mut S, err: &mut E) -> u8
+fn show_version<S: Sink + KeepsReason, E: Sink>(out: &mut S, err: &mut E) -> u8
     requires out_is_intact { S.failed out.old ≡ false }
     requires err_is_intact { E.failed err.old ≡ false }
     ensures { IsPrinted version_text (S.taken out.old) (S.taken out.new) (S.failed out.new) result }
 {
     match put_all(out, VERSION.as_bytes()) {
         Ok(()) => 0,
-        Err(fault) => end_by(Fault::Write(fault), err),
+        Err(fault) => end_by(Fault::Write(fault), out.reason(), err),
     }
 }
 
 /// Writes the help that was asked for, and returns the status. What does not begin as help is refused.
-fn show_help<S: Sink, E: Sink>(alloc: Global, help: &Error, out: &mut S, err: &mut E) -> u8
+fn show_help<S: Sink + KeepsReason, E: Sink>(
+    alloc: Global,
+    help: &Error,
+    out: &mut S,
+    err: &mut E,
+) -> u8
     requires out_is_intact { S.failed out.old ≡ false }
     requires err_is_intact { E.failed err.old ≡ false }
     ensures in_range { result ≤ 2 }
@@ -219,14 +257,14 @@ fn show_help<S: Sink, E: Sink>(alloc: Global, help: &Error, out: &mut S, err: &m
         ⊎ ((text : List ℕ) × IsNoText text × Appends (S.taken out.old) (S.taken out.new) text) }
 {
     let Ok(text) = help.to_string(alloc) else {
-        return end_by(Fault::Memory, err);
+        return end_by(Fault::Memory, Reason::UNKNOWN, err);
     };
     if !begins_as_help(text.as_bytes()) {
         return refuse(alloc, help, err);
     }
     match put_all(out, text.as_bytes()) {
         Ok(()) => 0,
-        Err(fault) => end_by(Fault::Write(fault), err),
+        Err(fault) => end_by(Fault::Write(fault), out.reason(), err),
     }
 }
 

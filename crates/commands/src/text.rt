@@ -11,6 +11,7 @@ ghost use Rattle.printing.specs.Telling.{AddsNoneUndrawn};
 ghost use Rattle.commands.specs.TextRuns.{IsMisuseOfRun};
 
 use crate::line_lanes::LineLanes;
+use crate::watch::{Unwatched, Watch};
 use common::Choice;
 use entries::MAX_FILES;
 use lane_runs::{LaneKind, Run, RunFault, run_lanes};
@@ -79,6 +80,48 @@ pub fn write_batch<R: Threads + Wait + Sync, O: Opener, G: Gate, S: Sink>(
     ensures refused { IfErr result (λ fault. IsMisuseOfRun fault → sink.new ≡ sink.old) }
     ensures failed { (result ≡ Err TextFault.Write) ↔ (S.failed sink.new ≡ true) }
 {
+    write_watched(
+        rt,
+        alloc,
+        opener,
+        files,
+        lanes,
+        capacity,
+        waiting,
+        choice,
+        style,
+        &Unwatched { gate },
+        sink,
+    )
+}
+
+/// The same, and `watch`, which is also the gate, hears how each file ends.
+pub(crate) fn write_watched<R: Threads + Wait + Sync, O: Opener, G: Gate + Watch, S: Sink>(
+    rt: &R,
+    alloc: Global,
+    opener: &O,
+    files: u32,
+    lanes: u32,
+    capacity: u32,
+    waiting: usize,
+    choice: Choice,
+    style: Style,
+    watch: &G,
+    sink: &mut S,
+) -> Result<u8, TextFault>
+    requires least { 1 ≤ capacity }
+    requires most { capacity ≤ MAX_CAPACITY }
+    requires stands { S.failed sink.old ≡ false }
+    ensures written { IfOk result (IsAllWritten choice (O.meaning opener.now) style.form files (S.taken sink.old) (S.taken sink.new)) }
+    ensures begun { OnErr result ∥ IsBegun choice (O.meaning opener.now) style.form files (S.taken sink.old) (S.taken sink.new) ∥₁ }
+    ensures drawn { AddsNoneUndrawn (S.taken sink.old) (S.taken sink.new) }
+    ensures status { IfOk result (λ status. (status ≡ 0) ⊎ (status ≡ 3)) }
+    ensures too_many { (MAX_FILES < files) ↔ (result ≡ Err (TextFault.Run BatchFault.TooManyFiles)) }
+    ensures bad_lanes { (((lanes ≡ 0) ⊎ (LANES < lanes)) × (files ≤ MAX_FILES))
+        ↔ (result ≡ Err (TextFault.Run BatchFault.BadLanes)) }
+    ensures refused { IfErr result (λ fault. IsMisuseOfRun fault → sink.new ≡ sink.old) }
+    ensures failed { (result ≡ Err TextFault.Write) ↔ (S.failed sink.new ≡ true) }
+{
     if files > MAX_FILES {
         return Err(TextFault::Run(BatchFault::TooManyFiles));
     }
@@ -95,7 +138,7 @@ pub fn write_batch<R: Threads + Wait + Sync, O: Opener, G: Gate, S: Sink>(
         rt,
         alloc,
         opener: &pausing,
-        gate,
+        gate: watch,
         files,
         lanes,
         capacity,
@@ -109,12 +152,13 @@ pub fn write_batch<R: Threads + Wait + Sync, O: Opener, G: Gate, S: Sink>(
 }
 
 /// Writes the text of a run in this style and at this pace. The type `J` stands for what the files mean.
-fn write_files<J: Meant + Send + Sync, R: Threads + Wait + Sync, O: Opener, G: Gate, S: Sink>(
-    run: &Run<'_, R, O, G>,
-    style: Style,
-    pace: Pace<'_>,
-    sink: &mut S,
-) -> Result<u8, TextFault>
+fn write_files<
+    J: Meant + Send + Sync,
+    R: Threads + Wait + Sync,
+    O: Opener,
+    G: Gate + Watch,
+    S: Sink,
+>(run: &Run<'_, R, O, G>, style: Style, pace: Pace<'_>, sink: &mut S) -> Result<u8, TextFault>
     requires stands { S.failed sink.old ≡ false }
     requires same_meaning { J.meaning ≡ O.meaning run.now.opener.now }
     ensures written { IfOk result (IsAllWritten run.now.choice (O.meaning run.now.opener.now) style.form run.now.files (S.taken sink.old) (S.taken sink.new)) }
@@ -127,7 +171,7 @@ fn write_files<J: Meant + Send + Sync, R: Threads + Wait + Sync, O: Opener, G: G
         return Err(TextFault::Run(BatchFault::Memory));
     };
     let texts = Texts::new(run.alloc, sink, lines, pace);
-    let lanes = LineLanes::<J>::new(style);
+    let lanes = LineLanes::<J, G>::new(style, run.gate);
     let mut ran = Ok(());
     let texts = run_into(run, &lanes, texts, &mut ran);
     match ran {

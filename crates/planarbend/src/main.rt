@@ -1,18 +1,16 @@
 //! `planarbend`: draws the graphs of planar_code files with the fewest bends.
 #![tactic(auto)]
 
-use commands::{ErrorConsole, StandardInput, run};
+use commands::{ErrorConsole, OutputSink, SharedTerminal, StandardInput, run};
 use std::io;
+use std::io::IsTerminal;
 use std::process::ExitCode;
-use streams::IoSink;
 
 fn main(rt: HostRuntime) -> ExitCode {
     let input = StandardInput::new(rt.stdin());
-    let console = ErrorConsole {
-        clock: &rt,
-        err: rt.stderr(),
-    };
-    let mut out = IoSink::new(io::writer(&rt));
-    let mut err = IoSink::new(rt.stderr());
+    let console = ErrorConsole::new(&rt, rt.stderr());
+    let is_terminal = rt.stdout().is_terminal();
+    let mut out = OutputSink::new(SharedTerminal::new(io::writer(&rt), is_terminal, &console));
+    let mut err = OutputSink::new(rt.stderr());
     run(&rt, &input, &console, &mut out, &mut err)
 }

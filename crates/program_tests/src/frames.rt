@@ -141,9 +141,18 @@ fn names_a_failed_write(rt: HostRuntime) {
 const MEMORY: &[u8] = b"planarbend: out of memory\n";
 
 /// Each fault, its line and its status.
-const FAULTS: [(Fault, &[u8], u8); 9] = [
+const FAULTS: [(Fault, &[u8], u8); 10] = [
     (Fault::Memory, MEMORY, 1),
-    (Fault::NotText, b"planarbend: arguments are not text\n", 2),
+    (
+        Fault::NotText(2),
+        b"planarbend: argument 2 is not valid UTF-8\n",
+        2,
+    ),
+    (
+        Fault::BadWaiting,
+        b"planarbend: waiting must be 1 to 65536\n",
+        2,
+    ),
     (
         Fault::Run(BatchFault::TooManyFiles),
         b"planarbend: more than 256 files\n",
@@ -157,17 +166,17 @@ const FAULTS: [(Fault, &[u8], u8); 9] = [
     (Fault::Run(BatchFault::Memory), MEMORY, 1),
     (
         Fault::Run(BatchFault::LaneLost),
-        b"planarbend: a lane was lost\n",
+        b"planarbend: internal error: a worker thread disconnected\n",
         1,
     ),
     (
         Fault::Run(BatchFault::Thread),
-        b"planarbend: a thread could not be run\n",
+        b"planarbend: cannot start a thread\n",
         1,
     ),
     (
         Fault::Write(WriteFault::Write),
-        b"planarbend: write failed\n",
+        b"planarbend: cannot write output\n",
         1,
     ),
     (Fault::Write(WriteFault::Memory), MEMORY, 1),

@@ -335,9 +335,9 @@ fn draws_a_path_as_asked(rt: HostRuntime) {
 }
 
 /// Command lines that are refused, and a text in what is said of each.
-const REFUSED: [(&str, &str); 12] = [
+const REFUSED: [(&str, &str); 16] = [
     ("layout", "were not provided:\n  <FILE>...\n"),
-    ("layout --lanes x a", "invalid value 'x'"),
+    ("layout --lanes x a", "planarbend: lanes must be 1 to 8\n"),
     (
         "layout --outer widest a",
         "invalid value 'widest' for '--outer <CHOICE>'\n  [possible values: first, best]\n",
@@ -353,17 +353,20 @@ const REFUSED: [(&str, &str); 12] = [
     ("frames --json a", "unexpected argument '--json' found"),
     ("layout --lanes 0 a", "planarbend: lanes must be 1 to 8\n"),
     ("layout --lanes 9 a", "planarbend: lanes must be 1 to 8\n"),
-    ("layout --waiting 0 a", "invalid value '0' for '--waiting"),
+    ("layout --lanes -1 a", "planarbend: lanes must be 1 to 8\n"),
     (
-        "layout --waiting 65537 a",
-        "invalid value '65537' for '--waiting",
+        "layout a --lanes=4294967296",
+        "planarbend: lanes must be 1 to 8\n",
     ),
-    ("layout --waiting x a", "invalid value 'x' for '--waiting"),
-    (
-        "layout --waiting 1.5 a",
-        "invalid value '1.5' for '--waiting",
-    ),
+    ("layout --waiting 0 a", BAD_WAITING),
+    ("layout --waiting=65537 a", BAD_WAITING),
+    ("layout --waiting x a", BAD_WAITING),
+    ("layout a --waiting -1", BAD_WAITING),
+    ("layout --waiting 1.5 a", BAD_WAITING),
+    ("layout --drawing short a", "error: --drawing needs --json"),
 ];
+
+const BAD_WAITING: &str = "planarbend: waiting must be 1 to 65536\n";
 
 /// A command line of so many files.
 fn line_of(alloc: Global, files: u32) -> Result<String, AllocError> {

@@ -3,6 +3,10 @@
 #![tactic(auto)]
 
 #[cfg(test)]
+mod combinations;
+#[cfg(test)]
+mod file_lines;
+#[cfg(test)]
 mod frames;
 #[cfg(test)]
 mod layouts;

@@ -34,26 +34,28 @@ const TWO: &str = "file 1\n\
     end complete graphs=1\n";
 
 /// Files keep their order among options, wherever these stand, and the words of options are files elsewhere.
-const AMONG_OPTIONS: [Row; 9] = [
+const AMONG_OPTIONS: [Row; 7] = [
     ("layout best edge.pc", TWO, 0),
     ("layout --outer=first best --lanes 2 edge.pc", TWO, 0),
     ("layout best --lanes=1 --outer best edge.pc", TWO, 0),
     ("layout best --waiting 1 edge.pc --lanes=2", TWO, 0),
     ("layout best -- edge.pc", TWO, 0),
     ("layout short", REPORT, 0),
-    ("layout --drawing quick short", REPORT, 0),
-    ("layout --drawing short short", REPORT, 0),
-    ("layout short --drawing=short", REPORT, 0),
+    ("layout best --waiting=65536 --lanes 8 edge.pc", TWO, 0),
 ];
 
 const TWICE: &str = "cannot be used multiple times";
 
+const NEEDS_JSON: &str = "error: --drawing needs --json: the report has no drawings\n";
+
 const NO_FILE: &str = "were not provided:\n  <FILE>...\n";
 
-const REFUSED: [(&str, &str); 3] = [
+const REFUSED: [(&str, &str); 5] = [
     ("layout best --waiting 65536 edge.pc --waiting=1", TWICE),
     ("layout --drawing=short --drawing=quick short", TWICE),
     ("layout --drawing short", NO_FILE),
+    ("layout --drawing quick short", NEEDS_JSON),
+    ("layout short --drawing=short", NEEDS_JSON),
 ];
 
 #[test]

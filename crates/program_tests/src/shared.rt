@@ -1,7 +1,7 @@
 //! Runs of the whole command, which the tests share.
 ghost use Rattle.std.specs.Prelude.{◌≤◌};
 
-use commands::{Console, command};
+use commands::{Console, FilesAndInput, SystemFiles, command};
 use lanes::MemOpener;
 use std::alloc::{AllocError, Global};
 use std::fmt::Debug;
@@ -63,7 +63,11 @@ where
 {
     let mut out = IoSink::new(out);
     let mut err = IoSink::new(err);
-    let status = command(rt, words, input, console, &mut out, &mut err);
+    let files = FilesAndInput {
+        files: &SystemFiles { rt },
+        input,
+    };
+    let status = command(rt, words, &files, console, &mut out, &mut err);
     Ran {
         status,
         out: out.into_writer(),
@@ -143,10 +147,11 @@ where
     run_into(rt, words, &input, &NoConsole, out, err)
 }
 
-/// What a run wrote is the report, with this status.
+/// What a run wrote is the report, with this status. With status 0 it says nothing else.
 pub fn expect_report(rt: &impl Abort, ran: &Ran<Vec<u8>>, report: &[u8], status: u8) {
     same(rt, ran.out.as_slice(), report);
-    same(rt, (ran.status, ran.err.len()), (status, 0));
+    same(rt, ran.status, status);
+    same(rt, status == 0 && !ran.err.is_empty(), false);
 }
 
 /// A command line, its report and its status.
@@ -206,7 +211,7 @@ where
     R::Dir: Send,
 {
     let ran = run_narrow(rt, words, begins.len(), 64);
-    expect_texts(rt, &ran, 1, begins, b"planarbend: write failed\n");
+    expect_texts(rt, &ran, 1, begins, b"planarbend: cannot write output\n");
 }
 
 /// A run wrote these texts into two narrow writers, with this status.
@@ -265,8 +270,8 @@ fn is_allowed(case: &Case, status: u8, out: &[u8], err: &[u8]) -> bool {
 /// is given up for it, the line may name that instead.
 fn names_no_run(line: &[u8]) -> bool {
     line == b"planarbend: out of memory\n".as_slice()
-        || line == b"planarbend: a thread could not be run\n".as_slice()
-        || line == b"planarbend: a lane was lost\n".as_slice()
+        || line == b"planarbend: cannot start a thread\n".as_slice()
+        || line == b"planarbend: internal error: a worker thread disconnected\n".as_slice()
 }
 
 /// Writes a file of these parts.

@@ -204,13 +204,13 @@ fn expect_five(rt: &impl Abort, ran: &Ran<Vec<u8>>) {
 }
 
 const OVER: [&str; 2] = [
-    "\rplanarbend: 1 of 1 files begun, 3 graphs, 10 a second   ",
-    "\rplanarbend: 1 of 1 files begun, 5 graphs, 8 a second   \n",
+    "\rfile 1 of 1: 3 graphs, 10/s   ",
+    "\rfile 1 of 1: 5 graphs, 8/s   \n",
 ];
 
 const APART: [&str; 2] = [
-    "planarbend: 1 of 1 files begun, 3 graphs, 10 a second\n",
-    "planarbend: 1 of 1 files begun, 5 graphs, 8 a second\n",
+    "file 1 of 1: 3 graphs, 10/s\n",
+    "file 1 of 1: 5 graphs, 8/s\n",
 ];
 
 /// A command line, whether there is a terminal, and what is written.
@@ -252,5 +252,29 @@ fn tells_at_most_four_lines_a_second(rt: HostRuntime) {
         (10, 0, 0),
     ] {
         same(&rt, lines_of(graphs, step), lines);
+    }
+}
+
+/// How many texts are shown of a run of so many graphs in which no time passes, and how many of them are not this.
+fn last_line_of(graphs: u32, wanted: &str) -> (u64, u64) {
+    let texts = [wanted];
+    let console = Ticking::new(false, 0, &texts);
+    let meter = Meter::new(&console, Progress::Everywhere, 2);
+    meter.opened().fetch_add(2, Ordering::SeqCst);
+    for graph in 0..graphs {
+        meter.pass(0, Stage::Draw, graph);
+    }
+    meter.finish();
+    console.counts()
+}
+
+#[test]
+fn counts_each_graph(rt: HostRuntime) {
+    for (graphs, wanted) in [
+        (0, "file 2 of 2: 0 graphs, 0/s\n"),
+        (999, "file 2 of 2: 999 graphs, 999,000/s\n"),
+        (2345, "file 2 of 2: 2,345 graphs, 2,345,000/s\n"),
+    ] {
+        same(&rt, last_line_of(graphs, wanted), (1, 0));
     }
 }

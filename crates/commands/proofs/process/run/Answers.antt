@@ -1,13 +1,22 @@
-use Rattle.std.proofs.Common.{inl, inr}
-use Rattle.commands.proofs.Drawing.{none_or_help}
+use Rattle.std.proofs.Common.{inl, sym, subst}
+use Rattle.command_line.specs.Naming.{meaning_of}
+use Rattle.commands.specs.Statuses.{IsOutcome}
 use Rattle.commands.proofs.process.run.Goals as goal
 
-pub returns-in-Ok-clause-drawn : goal.returns-in-Ok-clause-drawn
-returns-in-Ok-clause-drawn g c =
-    elim c.command.ensures.drawn [
-      | inl none ↦ inl none
-      | inr help ↦ inr help.1
-    ]
-
-pub returns-in-Err-clause-drawn : goal.returns-in-Err-clause-drawn
-returns-in-Err-clause-drawn g c = none_or_help (g.S.Sink.taken c.args.out.now)
+pub returns-in-Ok-clause-outcome : goal.returns-in-Ok-clause-outcome
+returns-in-Ok-clause-outcome g c =
+    let is = c.command.ensures in
+    let words = c.as_slice.result.now in
+    inl (
+      words,
+      subst (λ status. IsOutcome (meaning_of (g.I.Opener.meaning c.args.input.now 0)) words g.S.Sink.taken g.S.Sink.failed c.args.out.now c.command.new.out status)
+          (sym c.from.ensures) (record {
+            in_range = is.in_range;
+            failed_write = is.failed_write;
+            refused = is.refused;
+            version = is.version;
+            done = is.done;
+            begun = is.begun;
+            drawn = is.drawn;
+          }),
+    )

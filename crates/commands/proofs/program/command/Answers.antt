@@ -1,4 +1,4 @@
-use Rattle.std.proofs.Common.{inl, inr}
+use Rattle.std.proofs.Common.{inl}
 use Rattle.commands.proofs.Drawing.{performed_drawn, printed_drawn, none_or_help}
 use Rattle.commands.proofs.program.command.Goals as goal
 
@@ -9,5 +9,8 @@ pub returns-in-Ok-clause-drawn : goal.returns-in-Ok-clause-drawn
 returns-in-Ok-clause-drawn g c =
     inl (performed_drawn g.S.Sink.taken _ _ _ _ _ _ c.perform.ensures.in_range c.perform.ensures.refused c.perform.ensures.done c.perform.ensures.begun)
 
-pub returns-in-Err-clause-drawn : goal.returns-in-Err-clause-drawn
-returns-in-Err-clause-drawn g c = none_or_help (g.S.Sink.taken c.args.out.now)
+pub returns-in-Err-BadWaiting-clause-drawn : goal.returns-in-Err-BadWaiting-clause-drawn
+returns-in-Err-BadWaiting-clause-drawn g c = none_or_help (g.S.Sink.taken c.args.out.now)
+
+pub returns-in-Err-Told-clause-drawn : goal.returns-in-Err-Told-clause-drawn
+returns-in-Err-Told-clause-drawn g c = none_or_help (g.S.Sink.taken c.args.out.now)

@@ -1,5 +1,4 @@
-use Rattle.std.proofs.Common.{◌≤◌, ◌≡◌, List, ℕ, rules}
-use Rattle.reports.proofs.FirstBytes.{first}
+use Rattle.std.proofs.Common.{rules}
 use Rattle.commands.proofs.Drawing.{help_drawn, none_or_help}
 use Rattle.commands.proofs.program.show_help.Goals as goal
 

@@ -1,7 +1,7 @@
 use Rattle.printing.proofs.Ordering.{begun_none}
 use Rattle.printing.proofs.Added.{none_added}
 use Rattle.commands.proofs.TextDrawing.{run_drawn}
-use Rattle.commands.proofs.text.write_batch.Goals as goal
+use Rattle.commands.proofs.text.write_watched.Goals as goal
 
 pub returns-then-files-gt-MAX_FILES-clause-begun : goal.returns-then-files-gt-MAX_FILES-clause-begun
 returns-then-files-gt-MAX_FILES-clause-begun g c = begun_none c.args.choice (g.O.Opener.meaning c.args.opener.now) c.args.style.form c.args.files (g.S.Sink.taken c.args.sink.now)

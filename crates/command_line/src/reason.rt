@@ -1,0 +1,66 @@
+//! Why the system refused a call.
+
+use crate::fault_line::ShortLine;
+use std::fmt::{Display, Formatter, Write};
+use std::io::Error;
+use std::{fmt, io};
+use streams::{IoSink, MemTap};
+
+/// Why the system refused a call: the code of its error, if it gave one. Its text is the system's.
+#[derive(Clone, Copy, Debug, PartialEq, Eq)]
+pub struct Reason {
+    pub code: Option<i32>,
+}
+
+impl Reason {
+    /// A reason that is not known.
+    pub const UNKNOWN: Reason = Reason { code: None };
+
+    /// Whether a reader is gone that has enough (`EPIPE`).
+    pub(crate) fn is_broken_pipe(self) -> bool {
+        self.code == Some(32)
+    }
+
+    /// The reason of this error.
+    pub fn of(error: Error) -> Reason {
+        Reason {
+            code: error.raw_os_error(),
+        }
+    }
+}
+
+impl Display for Reason {
+    fn fmt<W: fmt::Write>(&self, f: &mut Formatter<W>) -> fmt::Result {
+        let Some(code) = self.code else {
+            return f.write_str("unknown error");
+        };
+        let mut line = ShortLine::new();
+        let _ = write!(line, "{}", Error::from_raw_os_error(code));
+        let text = str::from_utf8(line.text()).unwrap_or("unknown error");
+        // The system's text, without the number that std writes after it.
+        match text.split_once(" (os error ") {
+            Some((front, _)) => f.write_str(front),
+            None => f.write_str(text),
+        }
+    }
+}
+
+// Bytes in memory do not fail.
+impl KeepsReason for MemTap {
+    fn reason(&self) -> Reason {
+        Reason::UNKNOWN
+    }
+}
+
+// It keeps none.
+impl<W: io::Write> KeepsReason for IoSink<W> {
+    fn reason(&self) -> Reason {
+        Reason::UNKNOWN
+    }
+}
+
+/// A source or a sink that keeps why a read or a write of it failed.
+pub trait KeepsReason {
+    /// Why the last read or write that failed did so.
+    fn reason(&self) -> Reason;
+}

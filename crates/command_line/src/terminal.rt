@@ -1,0 +1,128 @@
+//! Standard error as a console, and output that shares its terminal.
+
+use crate::progress::Console;
+use std::io;
+use std::io::{IsTerminal, Write};
+use std::rt::Clock;
+use std::sync::{Mutex, Wait};
+
+/// What stands on the last line of a terminal.
+#[derive(Clone, Copy, Debug, PartialEq, Eq)]
+enum LastLine {
+    /// Nothing.
+    Empty,
+    /// A line of progress, which may be written over.
+    Progress,
+    /// The beginning of a line of text.
+    Text,
+}
+
+/// Standard error with a clock, as a console.
+#[derive(Drop)]
+pub struct ErrorConsole<R, E> {
+    rt: R,
+    err: E,
+    last: Mutex<LastLine>,
+}
+
+impl<R: Clock + Wait, E: io::Write + IsTerminal + Copy> ErrorConsole<R, E> {
+    /// A console on which nothing stands yet.
+    pub fn new(rt: R, err: E) -> ErrorConsole<R, E> {
+        ErrorConsole {
+            rt,
+            err,
+            last: Mutex::new(LastLine::Empty),
+        }
+    }
+}
+
+impl<R: Clock + Wait, E: io::Write + IsTerminal + Copy> Console for ErrorConsole<R, E> {
+    fn is_terminal(&self) -> bool {
+        self.err.is_terminal()
+    }
+
+    fn time(&self) -> u64 {
+        match self.rt.monotonic() {
+            Ok(time) => u64::try_from(time.as_millis()).unwrap_or(u64::MAX),
+            Err(_) => 0,
+        }
+    }
+
+    // Where a line of text has only begun, nothing is written over it.
+    fn show(&self, text: &[u8]) {
+        let mut last = self.last.lock(&self.rt);
+        if *last == LastLine::Text {
+            return;
+        }
+        let mut err = self.err;
+        let _ = err.write_all(text);
+        *last = if text.ends_with(b"\n") {
+            LastLine::Empty
+        } else {
+            LastLine::Progress
+        };
+    }
+}
+
+/// A writer that shares the terminal of a console: the console's line is cleared before text is written.
+#[derive(Drop)]
+pub struct SharedTerminal<'c, W, R, E> {
+    writer: W,
+    console: &'c ErrorConsole<R, E>,
+    is_shared: bool,
+}
+
+impl<'c, W: io::Write, R: Clock + Wait, E: io::Write + IsTerminal + Copy> SharedTerminal<
+    'c,
+    W,
+    R,
+    E,
+> {
+    /// A writer that is a terminal or not. It shares the console's if both are.
+    pub fn new(
+        writer: W,
+        is_terminal: bool,
+        console: &'c ErrorConsole<R, E>,
+    ) -> SharedTerminal<'c, W, R, E> {
+        SharedTerminal {
+            writer,
+            console,
+            is_shared: is_terminal && console.is_terminal(),
+        }
+    }
+}
+
+impl<W: io::Write, R: Clock + Wait, E: io::Write + IsTerminal + Copy> io::Write
+    for SharedTerminal<'_, W, R, E> {
+    ghost contents = { λ w. W.contents w.writer };
+
+    fn write(&mut self, buf: &[u8]) -> io::Result<usize> {
+        if !self.is_shared {
+            return self.writer.write(buf);
+        }
+        let mut last = self.console.last.lock(&self.console.rt);
+        if *last == LastLine::Progress {
+            let mut err = self.console.err;
+            let _ = err.write_all(b"\r\x1b[K");
+            *last = LastLine::Empty;
+        }
+        let outcome = self.writer.write(buf);
+        if let Ok(count) = &outcome {
+            *last = last_line_after(&buf[..*count]);
+        }
+        outcome
+    }
+
+    fn flush(&mut self) -> io::Result<()> {
+        self.writer.flush()
+    }
+}
+
+/// What stands on the last line after this text.
+fn last_line_after(text: &[u8]) -> LastLine {
+    if text.is_empty() || text.ends_with(b"\n") {
+        LastLine::Empty
+    } else {
+        LastLine::Text
+    }
+}

@@ -1,0 +1,48 @@
+//! Who hears how the files of a run end.
+
+use command_line::{Console, FileNotes, Meter};
+use lanes::{Gate, Stage};
+use streams::Mark;
+
+/// Hears from any thread how each file of a run ends. It says nothing about results.
+pub trait Watch: Sync {
+    /// Called once for each file, with its mark.
+    fn end(&self, file: u32, mark: Mark);
+}
+
+/// A gate that does not care how files end.
+#[derive(Clone, Copy)]
+pub struct Unwatched<'g, G> {
+    pub gate: &'g G,
+}
+
+impl<G: Gate> Gate for Unwatched<'_, G> {
+    fn pass(&self, lane: u32, stage: Stage, ordinal: u32) {
+        self.gate.pass(lane, stage, ordinal);
+    }
+}
+
+impl<G: Gate> Watch for Unwatched<'_, G> {
+    fn end(&self, _file: u32, _mark: Mark) {}
+}
+
+/// Counts files and graphs, and notes how files end.
+#[derive(Clone, Copy)]
+pub struct Observer<'m, C> {
+    pub meter: &'m Meter<'m, C>,
+    pub notes: &'m FileNotes,
+}
+
+impl<C: Console + Sync> Gate for Observer<'_, C> {
+    fn pass(&self, lane: u32, stage: Stage, ordinal: u32) {
+        self.meter.pass(lane, stage, ordinal);
+    }
+}
+
+impl<C: Console + Sync> Watch for Observer<'_, C> {
+    fn end(&self, file: u32, mark: Mark) {
+        if let Some(note) = self.notes.note(file) {
+            note.end(mark);
+        }
+    }
+}
