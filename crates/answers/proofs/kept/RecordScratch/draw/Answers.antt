@@ -1,0 +1,12 @@
+use Rattle.std.proofs.Common.{Err, subst}
+use Rattle.entries.specs.Drawn.{IsCause, IsDrawn}
+use Rattle.drawing_laws.proofs.Drawings.{none_shown}
+use Rattle.answers.proofs.kept.RecordScratch.draw.Goals as goal
+
+pub unreachable-requires : goal.unreachable-requires
+unreachable-requires c =
+    let shaped_plane = c.args.shaped_plane.now in
+    let cause = c.in-Err.field-0 in
+    let is : IsCause shaped_plane.plane shaped_plane.shape cause =
+    subst (IsDrawn shaped_plane.plane shaped_plane.shape) c.in-Err.is c.in_ok-drawing.ensures in
+    none_shown shaped_plane.plane shaped_plane.shape is.boxes cause c.graph-graph.ensures.plane shaped_plane.least is.boxed is.shown

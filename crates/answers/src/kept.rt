@@ -1,0 +1,84 @@
+//! Records that are answered one after another on the caller's thread, in memory that is kept.
+
+ghost use Rattle.std.specs.Prelude.{IfOk};
+ghost use Rattle.drawing_check.specs.Draws.{Draws};
+ghost use Rattle.entries.specs.Drawn.{HasPoints};
+ghost use Rattle.answers.specs.Steps.{IsShaped};
+
+use crate::drawing::{DrawScratch, draw};
+use crate::fault::ShapeFault;
+use crate::shaped_plane::ShapedPlane;
+use crate::shaping::ShapeScratch;
+use crate::stages::{embed, shape};
+use common::{Choice, DrawingKind};
+use drawing_check::Drawing;
+use planar_code::Record;
+use std::alloc::{AllocError, Global};
+
+/// What all stages take memory for and do not keep. It is lent to one record after another.
+#[derive(Drop)]
+pub struct RecordScratch {
+    planes: faces::Scratch,
+    shapes: ShapeScratch,
+    drawings: DrawScratch,
+}
+
+impl RecordScratch {
+    /// No memory yet.
+    pub fn empty(alloc: Global) -> RecordScratch {
+        RecordScratch {
+            planes: faces::Scratch::empty(alloc),
+            shapes: ShapeScratch::empty(alloc),
+            drawings: DrawScratch::empty(alloc),
+        }
+    }
+
+    /// The plane of a record with the chosen outer face, a least shape of it for this drawing, and prices that prove it
+    /// least, or why there are none. Nothing is drawn.
+    ///
+    /// # Errors
+    ///
+    /// `Rule` with the first rule that the record breaks; `Memory` where there is none for the plane or its shape, which
+    /// says nothing of the record.
+    pub fn shape(
+        &mut self,
+        alloc: Global,
+        rec: &Record,
+        choice: Choice,
+        drawing_kind: DrawingKind,
+    ) -> Result<ShapedPlane, ShapeFault>
+        ensures { IsShaped choice rec.now result }
+    {
+        let plane = embed(alloc, &mut self.planes, rec);
+        shape(alloc, &mut self.shapes, plane, choice, drawing_kind)
+    }
+
+    /// Points that draw the shape of a plane. Each least shape has some.
+    ///
+    /// # Errors
+    ///
+    /// `AllocError` where there is no memory for them or on the way to them.
+    pub fn draw(
+        &mut self,
+        alloc: Global,
+        shaped_plane: &ShapedPlane,
+        drawing_kind: DrawingKind,
+    ) -> Result<Drawing, AllocError>
+        ensures points { IfOk result (HasPoints shaped_plane.now.plane) }
+        ensures draws { IfOk result (Draws shaped_plane.now.plane shaped_plane.now.shape) }
+    {
+        // Only the proof needs this: `graph` says that the plane is one.
+        let _graph = shaped_plane.plane.graph();
+        match draw(
+            alloc,
+            &mut self.drawings,
+            &shaped_plane.plane,
+            &shaped_plane.shape,
+            &shaped_plane.directions,
+            drawing_kind,
+        )? {
+            Ok(drawing) => Ok(drawing),
+            Err(_) => unreachable!(),
+        }
+    }
+}
