@@ -29,6 +29,7 @@ from planarbend.reports import NoLine, json_line
 ROOT = os.path.dirname(os.path.dirname(os.path.dirname(os.path.abspath(__file__))))
 BUILT = os.path.join(ROOT, "crates/planarbend/out/planarbend")
 SCRIPT = os.path.join(ROOT, "planarbend")
+INSTALLED = os.path.join(os.path.dirname(os.path.dirname(ROOT)), "bin/planarbend")  # where --install put it with this package
 
 Vertex = Hashable
 Point = tuple[int, int]
@@ -177,10 +178,10 @@ def outer_of(plane: Plane, line: dict[str, Any]) -> int:
 
 
 def program() -> str:
-    """The program to run: PLANARBEND, or the one that is built here, or ./planarbend, or the one on the path. Raises
-    `NoProgram` where there is none."""
+    """The program to run: PLANARBEND, or the one that is built here, or ./planarbend, or the one installed with this package,
+    or the one on the path. Raises `NoProgram` where there is none."""
     named = os.environ.get("PLANARBEND")
-    for path in [named] if named else [BUILT, SCRIPT, shutil.which("planarbend")]:
+    for path in [named] if named else [BUILT, SCRIPT, INSTALLED, shutil.which("planarbend")]:
         if path and os.path.isfile(path) and os.access(path, os.X_OK):
             return os.path.abspath(path)
     raise NoProgram(f"no such program: {named or SCRIPT}")
