@@ -16,7 +16,8 @@ sys.dont_write_bytecode = True
 TESTS = Path(__file__).resolve().parent
 PACKAGE = TESTS.parent
 ROOT = PACKAGE.parent
-GRAPHS = TESTS / "graphs"
+EXAMPLES = ROOT / "examples"
+GRAPHS = {path.name: path for path in [*sorted((TESTS / "graphs").iterdir()), EXAMPLES / "amplifier.net", EXAMPLES / "flat.dot"]}
 BUILT = ROOT / "crates/planarbend/out/planarbend"  # where `rt ci` and `./planarbend --build` leave the program
 sys.path.insert(0, str(PACKAGE))
 os.environ.setdefault("PLANARBEND", str(BUILT))

@@ -72,7 +72,7 @@ class Lists(Case):
 @support.needs_graphviz
 class Dot(Case):
     def test_our_graphs_have_graphviz_counts(self) -> None:
-        for path in (*support.GRAPHS.glob("*.dot"), *(support.ROOT / "examples").glob("*.dot")):
+        for path in (support.GRAPHS["groups.dot"], support.GRAPHS["records.dot"], *support.EXAMPLES.glob("*.dot")):
             counted = subprocess.run(["gvpr", COUNT], input=path.read_bytes(), capture_output=True, check=True).stdout
             graph = of(path.read_bytes(), path.name)
             self.assertEqual((len(graph.vertices), len(graph.edges)), tuple(map(int, counted.split())), path.name)
@@ -98,7 +98,7 @@ class Dot(Case):
         self.assertEqual(sorted(pairs(of("digraph { a -> b -> {c d} }"))), [("a", "b"), ("b", "c"), ("b", "d")])
 
     def test_labels(self) -> None:
-        graph = of((support.GRAPHS / "records.dot").read_bytes())
+        graph = of(support.GRAPHS["records.dot"].read_bytes())
         self.assertEqual(labels(graph), ["key | one | two | <rest>", "id | name\n7 | R&D", 'a "quoted" name,\non two lines'])
         self.assertEqual([edge.label for edge in graph.edges if edge.label], ["refers\nto"])
         graph = of('digraph g { a [label="x\\ny\\l\\N\\G&lt;"]; b [label=""]; a -> b [label="\\T to \\H"]; b -> b [xlabel=x] }')
@@ -153,7 +153,7 @@ class Networks(Case):
             self.assertEqual(unordered(found), collections.Counter(frozenset(map(str, edge)) for edge in simple.edges))
 
     def test_graphml_keeps_directions_order_and_nested_graphs(self) -> None:
-        graph = of((support.GRAPHS / "nested.graphml").read_bytes())
+        graph = of(support.GRAPHS["nested.graphml"].read_bytes())
         self.assertEqual(labels(graph), ["client", "server", "cache", "store"])
         self.assertEqual([(edge.label, edge.arrow.name) for edge in graph.edges],
                          [("", "FORWARD"), ("late", "FORWARD"), ("asks", "FORWARD"), ("answers", "FORWARD"), ("", "NONE"),
@@ -219,7 +219,7 @@ class Json(Case):
 
 class Circuits(Case):
     def test_netlist(self) -> None:
-        graph = of((support.GRAPHS / "amplifier.net").read_bytes())
+        graph = of(support.GRAPHS["amplifier.net"].read_bytes())
         kinds = collections.Counter(vertex.kind for vertex in graph.vertices)
         self.assertEqual(kinds, {Kind.PART: 11, Kind.NET: 5})
         self.assertEqual([(graph.vertices[edge.tail].name, graph.vertices[edge.head].name, edge.label) for edge in graph.edges
@@ -229,7 +229,7 @@ class Circuits(Case):
         self.assertEqual(len(graph.edges), 6 + 3 + 1 + 4 + 3 + 1 + 3)
 
     def test_board(self) -> None:
-        graph = of((support.GRAPHS / "flasher.kicad_pcb").read_bytes())
+        graph = of(support.GRAPHS["flasher.kicad_pcb"].read_bytes())
         named = sorted(pairs(graph))
         self.assertEqual(named, sorted([
             ("U1", "GND"), ("J1", "GND"), ("D1", "GND"), ("U1", "VCC"), ("J1", "VCC"), ("R1", "VCC"), ("U1", "/BUS0"),
@@ -263,7 +263,7 @@ class Circuits(Case):
 
 class Content(Case):
     def test_content_decides_and_not_the_name(self) -> None:
-        for path in sorted(support.GRAPHS.iterdir()):
+        for path in support.GRAPHS.values():
             if path.suffix == ".g6" or not self.can_read(path):
                 continue
             plain, other = of(path.read_bytes(), path.name), of(path.read_bytes(), "input.txt")
@@ -313,7 +313,7 @@ class Content(Case):
     def test_no_bytes_break_a_reader(self) -> None:
         """Bytes taken out, put in and changed give a graph or a ReadError, and nothing else."""
         chance = random.Random(1)
-        for path in sorted(support.GRAPHS.iterdir()):
+        for path in support.GRAPHS.values():
             if not self.can_read(path) or path.suffix == ".dot" or path.suffix == ".g6" and not self.can_read(Path("a.gml")):
                 continue
             data = path.read_bytes()
