@@ -5,6 +5,7 @@ import json
 from dataclasses import dataclass
 
 from planarbend.graph import Graph
+from planarbend.net_labels import net_labels
 from planarbend.planar_code import HEADER, Lists, record_of
 
 Point = tuple[float, float]
@@ -67,6 +68,8 @@ class Drawing:
                     for vertex, box in zip(self.graph.vertices, self.boxes, strict=True)]
         for number in self.broken:
             vertices[number]["broken"] = True
+        for number, box in net_labels(self).items():
+            vertices[number]["label_box"] = list(box)
         edges = []
         for number, (edge, line) in enumerate(zip(self.graph.edges, self.lines, strict=True)):
             edges.append({"tail": edge.tail, "head": edge.head, "label": edge.label, "arrow": edge.arrow.value,

@@ -11,6 +11,7 @@ from collections import Counter
 
 from planarbend.drawn import Box, Drawing, Point
 from planarbend.graph import Arrow, Kind
+from planarbend.net_labels import net_labels
 from planarbend.texts import FAMILY, FONT, LINE_HEIGHT, lines_of, xml_text
 
 STROKE = 1.6  # pixels, of lines
@@ -35,7 +36,8 @@ def svg(drawing: Drawing) -> str:
         head.append('<defs><marker id="head" viewBox="0 0 10 10" refX="9" refY="5" markerWidth="8" markerHeight="8"'
                     ' markerUnits="userSpaceOnUse" orient="auto-start-reverse">'
                     f'<path d="M0 1L9 5L0 9z" fill="{LINE}"/></marker></defs>')
-    return "\n".join([*head, *line_elements(drawing), *box_elements(drawing), *label_elements(drawing), "</svg>"]) + "\n"
+    return "\n".join([*head, *line_elements(drawing), *box_elements(drawing), *label_elements(drawing),
+                      *net_label_elements(drawing), "</svg>"]) + "\n"
 
 
 def line_elements(drawing: Drawing) -> list[str]:
@@ -113,6 +115,14 @@ def label_elements(drawing: Drawing) -> list[str]:
         found += text_lines(lines_of(drawing.graph.edges[number].label), (left + right) / 2, (top + bottom) / 2,
                             LABEL_HEIGHT)
     return found + ["</g>"]
+
+
+def net_label_elements(drawing: Drawing) -> list[str]:
+    """The names of nets beside their lines."""
+    found = [f'<g fill="{LINE}" font-family="{FAMILY}" font-size="{LABEL_FONT}" text-anchor="middle">']
+    for number, (left, top, right, bottom) in net_labels(drawing).items():
+        found += text_lines([drawing.graph.vertices[number].label], (left + right) / 2, (top + bottom) / 2, LABEL_HEIGHT)
+    return [*found, "</g>"] if len(found) > 1 else []
 
 
 def write_picture(text: str, path: str, scale: float = 1.0) -> None:

@@ -313,7 +313,7 @@ def look_at_labels(drawing: dict[str, Any], boxes: list[Box], pieces: list[Piece
             if apart(box, other) < 0:
                 raise Wrong(f"the labels of {what} and {second} cover each other")
         for piece in pieces:
-            if own is not None and piece.edge != own and apart(box, piece.box) < 0:
+            if piece.edge != own and apart(box, piece.box) < 0:
                 raise Wrong(f"the label of {what} covers edge {piece.edge}")
 
 
