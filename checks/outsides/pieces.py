@@ -6,12 +6,13 @@ import random
 import subprocess
 
 from answers import is_whole
-from expected import EDGE, FRAMES, LAYOUT, Command, File
+from expected import EDGE, FRAMES, LAYOUT, LAYOUT_JSON, Command, File
 from machine import Machine
 from planarbend.planar_code import HEADER
 from system import wait_for, waiting_bytes
 
 PIECE = 65_536  # bytes that one read asks for
+GRAPHS = 45_000  # whose report leaves in more than 100 writes
 ROW = 255  # bytes of a list of a bulky record, with the 0 after it
 
 
@@ -25,6 +26,9 @@ def check_pieces(machine: Machine) -> None:
     with machine.case(LAYOUT, "a pipe of graphs in pieces"):
         text = HEADER + EDGE * 2_000
         in_pieces(machine, LAYOUT, text, [EDGE] * 2_000, cuts_of(text, 1_000))
+    edges = machine.file(HEADER + EDGE * GRAPHS)
+    for command in (LAYOUT, LAYOUT_JSON):
+        machine.whole(command, f"{GRAPHS} graphs", [edges], [File([EDGE] * GRAPHS, "complete")])
     for command in (FRAMES, LAYOUT):
         with machine.case(command, "names of 1 to 255 bytes"):
             names_of_each_length(machine, command)
