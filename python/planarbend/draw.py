@@ -14,7 +14,7 @@ from planarbend.expand import Expansion
 from planarbend.graph import Edge, Graph
 from planarbend.layouts import PlanarbendError
 from planarbend.planar_code import MOST_VERTICES, Lists
-from planarbend.planarize import Planarization, planarize
+from planarbend.planarize import Planarization, TooManyCrossings, planarize
 from planarbend.spread import Sheet
 
 MARGIN = 10.0  # pixels round the whole
@@ -127,8 +127,14 @@ def part_of(graph: Graph, vertices: list[int], edges: list[int], options: Option
     ends = [pairs[place] for place in plain]
     best = None
     for attempt in range(MOST_EMBEDDINGS):
-        planar = embedded(len(vertices), ends, options, together, attempt)
-        for shape in shapes_of_planar(planar, inner, together, options, engine):
+        try:
+            planar = embedded(len(vertices), ends, options, together, attempt)
+            shapes = shapes_of_planar(planar, inner, together, options, engine)
+        except DrawError:
+            if best is None:
+                raise
+            continue  # an earlier embedding could be drawn
+        for shape in shapes:
             sheet = settled(with_loops(shape, plain, len(pairs)), inner)
             price = (len(shape.broken), price_of(sheet, len(pairs)))
             if best is None or price < best[0]:
@@ -142,15 +148,35 @@ def part_of(graph: Graph, vertices: list[int], edges: list[int], options: Option
 def embedded(count: int, pairs: list[tuple[int, int]], options: Options, together: Sequence[int],
              attempt: int) -> Planarization:
     """A component in the plane: at each attempt but the first another embedding, by another order of its vertices and
-    edges."""
+    edges.
+
+    Raises
+    ------
+    DrawError
+        If crossings and vertices are more than can be drawn.
+    """
+    most = MOST_VERTICES - count
+    if most < 0:
+        raise DrawError(f"a component has {count} vertices; the limit is {MOST_VERTICES}")
+    try:
+        return embedded_within(most, count, pairs, options, together, attempt)
+    except TooManyCrossings as fault:
+        raise DrawError(f"a component has {count} vertices, {len(pairs)} edges and {fault.crossings} crossings; the limit is"
+                        f" {MOST_VERTICES} vertices and crossings") from None
+
+
+def embedded_within(most: int, count: int, pairs: list[tuple[int, int]], options: Options, together: Sequence[int],
+                    attempt: int) -> Planarization:
+    """The same with this number of crossings at most, or `TooManyCrossings`."""
     if not attempt:
-        return planarize(count, pairs, effort=options.effort, seed=options.seed, together=together)
+        return planarize(count, pairs, effort=options.effort, seed=options.seed, together=together, most=most)
     source = random.Random(options.seed * MOST_EMBEDDINGS + attempt)
     number, order = list(range(count)), list(range(len(pairs)))
     source.shuffle(number)
     source.shuffle(order)
     found = planarize(count, [(number[pairs[place][0]], number[pairs[place][1]]) for place in order],
-                      effort=options.effort, seed=options.seed, together=[number[vertex] for vertex in together])
+                      effort=options.effort, seed=options.seed, together=[number[vertex] for vertex in together],
+                      most=most)
     name = [0] * count
     for vertex, other in enumerate(number):
         name[other] = vertex

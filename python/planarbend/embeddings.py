@@ -17,25 +17,26 @@ from planarbend.reinsert import Reinsertion
 from planarbend.rotation import NONE, Rotation
 
 Price = tuple[int, ...]
+Flip = tuple[int, int, int, int]
+"""Two faces, and two vertices that each of them meets once."""
 
 
 def neighbours(planar: Planarization, dice: random.Random, count: int) -> list[Planarization]:
     """Embeddings that are one move away, chosen at random: at most ``count``, with no more crossings."""
     faces = Faces(planar)
     found: list[Planarization] = []
-    mirrored = list(flips(faces))
-    dice.shuffle(mirrored)
-    cuts = [vertex for vertex in range(planar.vertex_count) if len(_parts_at(faces, vertex)) > 1]
+    flips = list(flips_of(faces))
+    dice.shuffle(flips)
     for number in range(4 * count):
         if len(found) == count:
             break
         other: Planarization | None = None
-        if number % 3 == 0 and mirrored:
-            other = mirrored.pop()
-        elif number % 3 == 1 and cuts:
-            other = turned(faces, dice.choice(cuts), dice)
+        if number % 3 == 0 and flips:
+            other = flipped(faces, flips.pop())
+        elif number % 3 == 1 and faces.cuts:
+            other = turned(faces, dice.choice(faces.cuts), dice)
         elif number % 3 == 2 and planar.crossings:
-            other = shifted(planar, dice)
+            other = shifted(faces, dice)
         if other is not None:
             found.append(other)
     return found
@@ -52,6 +53,8 @@ class Faces:
         The face that begins clockwise after each dart, at the vertex that it leaves.
     corners : list of dict from int to list of int
         For each face its vertices, each with those darts that the face comes clockwise after.
+    cuts : list of int
+        The vertices without which the graph falls apart: they come twice on a face.
     """
 
     def __init__(self, planar: Planarization) -> None:
@@ -66,6 +69,8 @@ class Faces:
         for first in range(len(self.origin)):
             if self.face[first] < 0:
                 self._walk(first)
+        self.cuts = sorted({vertex for corners in self.corners for vertex, darts in corners.items()
+                            if len(darts) > 1 and vertex < planar.vertex_count})
 
     def _walk(self, first: int) -> None:
         """Names the face after a dart, and notes its corners."""
@@ -132,21 +137,19 @@ def climbed(planar: Planarization, prices: Callable[[Sequence[Planarization]], S
     return planar, best
 
 
-def flips(faces: Faces) -> Iterator[Planarization]:
-    """Each embedding that a flip makes, once for each way of it, the smaller part mirrored."""
-    planar = faces.planar
+def flips_of(faces: Faces) -> Iterator[Flip]:
+    """The places of flips, those too that change nothing."""
     for one, corners in enumerate(faces.corners):
         met: dict[int, list[int]] = {}
         for vertex, darts in corners.items():
-            for dart in planar.rotation[vertex]:
+            for dart in faces.planar.rotation[vertex]:
                 other = faces.face[dart]
                 if other > one and vertex not in met.setdefault(other, []):
                     met[other].append(vertex)
         for other in sorted(met):
             for first, second in _turning_points(faces, one, other, met[other]):
-                found = _flipped(faces, one, other, first, second)
-                if found is not None:
-                    yield found
+                if not any(len(faces.corners[face][vertex]) > 1 for face in (one, other) for vertex in (first, second)):
+                    yield one, other, first, second
 
 
 def _turning_points(faces: Faces, one: int, other: int, vertices: list[int]) -> Iterator[tuple[int, int]]:
@@ -158,12 +161,11 @@ def _turning_points(faces: Faces, one: int, other: int, vertices: list[int]) -> 
             yield first, second
 
 
-def _flipped(faces: Faces, one: int, other: int, first: int, second: int) -> Planarization | None:
+def flipped(faces: Faces, flip: Flip) -> Planarization | None:
     """The embedding with what lies between two faces and two vertices mirrored, or `None` where that changes nothing."""
     planar = faces.planar
+    one, other, first, second = flip
     here, there = faces.corners[one], faces.corners[other]
-    if any(len(corners[vertex]) > 1 for corners in (here, there) for vertex in (first, second)):
-        return None
     parts = []
     for from_face, to_face in ((here, there), (there, here)):
         left = faces.between(from_face[first][0], to_face[first][0])
@@ -235,11 +237,12 @@ def _parts_at(faces: Faces, vertex: int) -> list[list[int]]:
     return parts if sum(map(len, parts)) == len(around) else []
 
 
-def shifted(planar: Planarization, dice: random.Random) -> Planarization | None:
+def shifted(faces: Faces, dice: random.Random) -> Planarization | None:
     """The embedding with an edge or a vertex put back at random where it crosses least.
 
-    `None` where the graph has loops, or would fall apart without it, or nothing changed.
+    `None` where the graph has loops, or would fall apart without it.
     """
+    planar = faces.planar
     ends = [(planar.pieces[chain[0] >> 1][chain[0] & 1], planar.pieces[chain[-1] >> 1][~chain[-1] & 1])
             for chain in planar.chains]
     if any(tail == head for tail, head in ends):
@@ -255,7 +258,7 @@ def shifted(planar: Planarization, dice: random.Random) -> Planarization | None:
         search.move_edge(edge)
     else:
         vertex = dice.randrange(planar.vertex_count)
-        if len(planar.rotation[vertex]) < 2 or len(_parts_at(Faces(planar), vertex)) > 1:
+        if len(planar.rotation[vertex]) < 2 or vertex in faces.cuts:
             return None
         moved = search.at[vertex]
         search.move_vertex(vertex)
