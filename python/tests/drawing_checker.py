@@ -317,6 +317,38 @@ def look_at_labels(drawing: dict[str, Any], boxes: list[Box], pieces: list[Piece
                 raise Wrong(f"the label of {what} covers edge {piece.edge}")
 
 
+def on_outer_face(drawing: dict[str, Any]) -> set[int]:
+    """The vertices on the outer face of a drawing: those whose boxes are met from outside without crossing a line.
+
+    The plane is cut into cells at all coordinates, and the cells that are reached from outside are filled.
+    """
+    boxes = [box_of(vertex) for vertex in drawing["vertices"]]
+    lines = [[point_of(point) for point in edge["points"]] for edge in drawing["edges"]]
+    walls = [piece.box for number, line in enumerate(lines) for piece in pieces_of(number, line)]
+    for left, top, right, bottom in boxes:
+        walls += [(left, top, right, top), (left, bottom, right, bottom), (left, top, left, bottom), (right, top, right, bottom)]
+    xs, ys = ([-1.0, *sorted({wall[side] for wall in walls for side in (axis, axis + 2)}), 1e9] for axis in (0, 1))
+    column, row = {x: place for place, x in enumerate(xs)}, {y: place for place, y in enumerate(ys)}
+    closed: set[tuple[int, int, bool]] = set()  # the upright or level side at the left or upper end of a cell
+    for left, top, right, bottom in walls:
+        closed |= {(column[left], place, True) for place in range(row[top], row[bottom]) if left == right}
+        closed |= {(place, row[top], False) for place in range(column[left], column[right]) if top == bottom}
+    reached, waiting = {(0, 0)}, [(0, 0)]
+    while waiting:
+        x, y = waiting.pop()
+        for other, side in (((x - 1, y), (x, y, True)), ((x + 1, y), (x + 1, y, True)),
+                            ((x, y - 1), (x, y, False)), ((x, y + 1), (x, y + 1, False))):
+            if 0 <= other[0] < len(xs) - 1 and 0 <= other[1] < len(ys) - 1 and side not in closed and other not in reached:
+                reached.add(other)
+                waiting.append(other)
+    found = set()
+    for vertex, (left, top, right, bottom) in enumerate(boxes):
+        around = [(x, y) for x in range(column[left] - 1, column[right] + 1) for y in range(row[top] - 1, row[bottom] + 1)]
+        if reached.intersection(around):
+            found.add(vertex)
+    return found
+
+
 def main() -> int:
     """Check the drawings that the command line names."""
     for path in sys.argv[1:]:

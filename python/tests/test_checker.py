@@ -6,7 +6,7 @@ import unittest
 from typing import Any
 
 import support
-from drawing_checker import Found, Wrong, check
+from drawing_checker import Found, Wrong, check, on_outer_face
 
 EDGES = [(0, 1), (2, 3), (0, 0), (4, 1), (4, 3)]
 NAMES = ["a", "b", "c", "d", "gnd"]
@@ -34,6 +34,13 @@ def right() -> dict[str, Any]:
 class Checker(unittest.TestCase):
     def test_a_right_drawing_passes(self) -> None:
         self.assertEqual(check(right(), EDGES, NAMES), Found(crossings=1, bends=3))
+
+    def test_the_outer_face(self) -> None:
+        self.assertEqual(on_outer_face(right()), {0, 1, 2, 3, 4})
+        drawing = right()
+        drawing["vertices"][0] |= {"box": [40, 40, 50, 50]}
+        drawing["edges"] = [edge(2, 3, [[50, 20], [5, 20], [5, 100], [50, 100]]), edge(2, 3, [[70, 20], [85, 20], [85, 100], [70, 100]])]
+        self.assertEqual(on_outer_face(drawing), {1, 2, 3, 4})
 
     def refused(self, words: str, **changes: Any) -> None:
         """Looks that the drawing with these changes is refused with these words; a key is the way to what changes."""

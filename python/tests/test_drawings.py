@@ -12,7 +12,7 @@ from pathlib import Path
 from typing import Any
 
 import support
-from drawing_checker import Found, check
+from drawing_checker import Found, check, on_outer_face
 from planarbend.draw import DrawError, Options, draw
 from planarbend.graph import Edge, Graph, Vertex
 from planarbend.picture import svg
@@ -107,13 +107,15 @@ class Kinds(unittest.TestCase):
         self.assertEqual((found(hubs)[0].crossings, found(hubs)[0].broken), (0, 0))
 
     def test_names_on_the_outer_face(self) -> None:
-        """A square in a square in a square: the innermost can be outside, and two opposite corners of two squares cannot."""
+        """A square in a square in a square, each joined to the next: any face can be outside."""
         rings = [(4 * ring + place, 4 * ring + (place + 1) % 4) for ring in range(3) for place in range(4)]
         spokes = [(4 * ring + place, 4 * ring + 4 + place) for ring in range(2) for place in range(4)]
         graph = graph_of(12, rings + spokes)
         for outer in ((0, 1, 2, 3), (8, 9, 10, 11), (0, 1, 5, 4), (6,)):
             with self.subTest(outer=outer):
-                self.assertEqual(found(graph, Options(outer=outer))[0].crossings, 0)
+                counted, drawing = found(graph, Options(outer=outer))
+                self.assertEqual(counted.crossings, 0)
+                self.assertLessEqual(set(outer), on_outer_face(drawing))
 
 
 def renumbered(edges: Sequence[tuple[int, int]], order: Sequence[int]) -> list[tuple[int, int]]:
