@@ -148,7 +148,8 @@ def flips_of(faces: Faces) -> Iterator[Flip]:
                     met[other].append(vertex)
         for other in sorted(met):
             for first, second in _turning_points(faces, one, other, met[other]):
-                if not any(len(faces.corners[face][vertex]) > 1 for face in (one, other) for vertex in (first, second)):
+                ends = [faces.corners[face][vertex] for face in (one, other) for vertex in (first, second)]
+                if all(len(darts) == 1 for darts in ends):
                     yield one, other, first, second
 
 

@@ -8,6 +8,7 @@ import sys
 import unittest
 from collections.abc import Sequence
 
+import support
 from planarbend.embeddings import neighbours
 from planarbend.planarize import Planarization, TooManyCrossings, needed_crossings, planarize
 
@@ -16,7 +17,6 @@ try:
 except ImportError:
     networkx = None
 
-PACKAGE = os.path.dirname(os.path.dirname(os.path.abspath(__file__)))
 PRINTED = """
 import random
 from planarbend.planarize import planarize
@@ -48,7 +48,7 @@ def faces_of(result: Planarization) -> list[list[int]]:
     return faces
 
 
-@unittest.skipIf(networkx is None, "networkx is not installed")
+@support.needs_networkx
 class Planarized(unittest.TestCase):
     """What every planarization must be."""
 
@@ -207,8 +207,9 @@ class Planarized(unittest.TestCase):
 
     def test_same_bytes(self) -> None:
         """The result depends on the effort and the seed, not on the process and its hashes."""
-        said = [subprocess.run([sys.executable, "-c", PRINTED], check=True, capture_output=True, cwd=PACKAGE,
-                               env={**os.environ, "PYTHONHASHSEED": seed, "PYTHONPATH": PACKAGE}).stdout
+        said = [subprocess.run([sys.executable, "-c", PRINTED], check=True, capture_output=True,
+                               env={**os.environ, "PYTHONHASHSEED": seed, "PYTHONPATH": str(support.PACKAGE),
+                                    "PYTHONDONTWRITEBYTECODE": "1"}).stdout
                 for seed in ("0", "1", "77")]
         self.assertEqual(said[0], said[1])
         self.assertEqual(said[0], said[2])

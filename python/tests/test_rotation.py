@@ -4,6 +4,7 @@ from __future__ import annotations
 import random
 import unittest
 
+import support  # finds the package
 from planarbend.rotation import FREE, NONE, Rotation
 
 
