@@ -185,7 +185,7 @@ def libraries():
         for line in lines:
             name, colon, rest = line.partition(":")
             if colon and not line.startswith("#"):
-                uses[name.strip()] = rest.split()
+                uses[name.split()[0]] = rest.split()
     return uses
 
 

@@ -83,5 +83,10 @@ def answer_of(line: dict[str, Any]) -> Answer:
 
 
 def default_engine() -> Engine:
-    """The engine to use: the program."""
-    return ProcessEngine()
+    """The engine to use: the library where it is found, and else the program. Both answer the same.
+
+    If PLANARBEND names a program, that is used.
+    """
+    from planarbend import library  # which uses this module
+
+    return library.LibraryEngine() if library.is_wanted() else ProcessEngine()

@@ -21,10 +21,13 @@ import subprocess
 import tempfile
 import threading
 from collections.abc import Hashable, Iterable, Iterator, Mapping
-from typing import Any
+from typing import TYPE_CHECKING, Any
 
 from planarbend.planar_code import HEADER, MOST_NEIGHBOURS, MOST_RECORDS, MOST_VERTICES, Lists, Plane, lists_of, record_of
 from planarbend.reports import NoLine, json_line
+
+if TYPE_CHECKING:
+    from planarbend.library import LibraryLayouts
 
 ROOT = os.path.dirname(os.path.dirname(os.path.dirname(os.path.abspath(__file__))))
 BUILT = os.path.join(ROOT, "crates/planarbend/out/planarbend")
@@ -306,10 +309,17 @@ class Layouts:
             self.close()
 
 
-def layouts(graphs: Iterable[Any], outer: str = "first", words: Iterable[str] = ()) -> Layouts:
+def layouts(graphs: Iterable[Any], outer: str = "first", words: Iterable[str] = ()) -> Layouts | LibraryLayouts:
     """The layouts of a stream of graphs, with the outer face that `layout --outer` chooses, `first` or `best`; further
-    words go to `layout` as they are."""
-    return Layouts(graphs, outer, words)
+    words go to `layout` as they are. If there is a library and no word but `--drawing KIND`, it answers in place of the
+    program, unless PLANARBEND names one; the layouts are the same."""
+    from planarbend import library  # which uses this module
+
+    words = list(words)
+    drawing = {(): "short", ("--drawing", "short"): "short", ("--drawing", "quick"): "quick"}.get(tuple(words))
+    if drawing is None or not library.is_wanted():
+        return Layouts(graphs, outer, words)
+    return library.LibraryLayouts(graphs, outer, drawing)
 
 
 def layout_of(graph: Any, outer: str = "first") -> Layout:

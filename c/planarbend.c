@@ -1,0 +1,211 @@
+/*
+ * What of the library is not proved: the calls of planarbend.h, texts, and the three functions by which the proved code
+ * asks for memory. crates/planarbend_c has the rest.
+ */
+#include "planarbend.h"
+
+#include <stdbool.h>
+#include <stdlib.h>
+#include <string.h>
+
+#if defined(PLANARBEND_REFUSE)
+/* For tests: malloc and realloc that refuse. */
+void *planarbend_test_malloc(size_t size);
+void *planarbend_test_realloc(void *block, size_t size);
+#define malloc planarbend_test_malloc
+#define realloc planarbend_test_realloc
+#endif
+
+/* The proved call. A list of room 0 is left out; no pointer is null. */
+uint32_t planarbend_c_layout(const uint8_t *record, size_t size, uint32_t outer, uint32_t drawing,
+                             planarbend_counts *counts, planarbend_lists *lists);
+
+/* ---- memory that is kept */
+
+enum { ALIGNMENT = 16, FIRST_ROOM = 16 << 10, MOST_ROOM = (1 << 20) - 256 };
+
+/*
+ * Blocks are cut off one after another from one piece of memory. All are let go when none is in use any more, the last one
+ * also by itself. Where the piece is too small, malloc gives the block, and the next call finds a greater piece.
+ */
+struct planarbend {
+    unsigned char *piece;
+    size_t room;
+    size_t used;
+    size_t blocks; /* in use, of the piece */
+    size_t wanted; /* most bytes of the piece that this call could have used */
+    size_t outside;
+};
+
+/* The object of the call that this thread is in, and else null. */
+static _Thread_local planarbend *current;
+
+struct rattle_given {
+    bool is_given;
+    void *block;
+};
+
+struct rattle_given rattle_alloc(size_t size, size_t alignment);
+struct rattle_given rattle_realloc(void *block, size_t kept, size_t size, size_t alignment);
+void rattle_dealloc(void *block);
+
+static struct rattle_given given(void *block) {
+    struct rattle_given result = {block != NULL, block};
+    return result;
+}
+
+static size_t rounded(size_t size) {
+    return (size + ALIGNMENT - 1) / ALIGNMENT * ALIGNMENT;
+}
+
+static bool is_inside(const planarbend *object, const void *block) {
+    const unsigned char *at = block;
+    return object != NULL && object->piece != NULL && at >= object->piece && at < object->piece + object->room;
+}
+
+/* A block of the piece, which keeps its size in front of it; or null, where the piece has no room. */
+static void *block_of(planarbend *object, size_t size) {
+    size_t whole = rounded(size) + ALIGNMENT;
+    if (whole < size || whole > object->room - object->used) {
+        object->outside += whole;
+        return NULL;
+    }
+    unsigned char *at = object->piece + object->used;
+    memcpy(at, &whole, sizeof whole);
+    object->used += whole;
+    object->blocks++;
+    if (object->used > object->wanted) object->wanted = object->used;
+    return at + ALIGNMENT;
+}
+
+static size_t whole_size(const void *block) {
+    size_t whole;
+    memcpy(&whole, (const unsigned char *)block - ALIGNMENT, sizeof whole);
+    return whole;
+}
+
+static bool is_last(const planarbend *object, const void *block) {
+    const unsigned char *start = (const unsigned char *)block - ALIGNMENT;
+    return start + whole_size(block) == object->piece + object->used;
+}
+
+struct rattle_given rattle_alloc(size_t size, size_t alignment) {
+    (void)alignment; /* at most 16 */
+    if (current != NULL) {
+        void *block = block_of(current, size);
+        if (block != NULL) return given(block);
+    }
+    return given(malloc(size > 0 ? size : 1));
+}
+
+/* Makes the last block so large where it stands; false where there is no room. */
+static bool resized(planarbend *object, void *block, size_t size) {
+    size_t whole = whole_size(block), other = rounded(size) + ALIGNMENT;
+    size_t start = object->used - whole;
+    if (other < size || other > object->room - start) return false;
+    memcpy((unsigned char *)block - ALIGNMENT, &other, sizeof other);
+    object->used = start + other;
+    if (object->used > object->wanted) object->wanted = object->used;
+    return true;
+}
+
+struct rattle_given rattle_realloc(void *block, size_t kept, size_t size, size_t alignment) {
+    if (!is_inside(current, block)) return given(realloc(block, size > 0 ? size : 1));
+    if (is_last(current, block) && resized(current, block, size)) return given(block);
+    struct rattle_given other = rattle_alloc(size, alignment);
+    if (other.is_given) {
+        memcpy(other.block, block, kept);
+        rattle_dealloc(block);
+    }
+    return other;
+}
+
+void rattle_dealloc(void *block) {
+    if (!is_inside(current, block)) {
+        free(block);
+        return;
+    }
+    if (is_last(current, block)) current->used -= whole_size(block);
+    current->blocks--;
+    if (current->blocks == 0) current->used = 0;
+}
+
+/* After a call: where the piece was too small for it, a piece that is not. Where there is no memory for one, none. */
+static void grow(planarbend *object) {
+    size_t room = object->wanted + object->outside;
+    if (object->outside == 0 || object->room == MOST_ROOM) return;
+    room = room > MOST_ROOM / 2 ? MOST_ROOM : room < FIRST_ROOM ? FIRST_ROOM : 2 * room;
+    free(object->piece);
+    object->piece = malloc(room);
+    object->room = object->piece == NULL ? 0 : room;
+}
+
+int planarbend_new(planarbend **made) {
+    if (made == NULL) return PLANARBEND_ARGUMENT;
+    *made = calloc(1, sizeof **made);
+    return *made == NULL ? PLANARBEND_MEMORY : PLANARBEND_OK;
+}
+
+void planarbend_free(planarbend *object) {
+    if (object == NULL) return;
+    free(object->piece);
+    free(object);
+}
+
+/* ---- the call */
+
+/* Gives a list that is not wanted a pointer that is not null; false where a null pointer is said to have room. */
+#define WITHOUT_NULL(list, room, nothing) ((room) > 0 ? (list) != NULL : ((list) = (nothing)) != NULL)
+
+static bool without_nulls(planarbend_lists *lists) {
+    void *nothing = lists; /* of length 0, so it is neither read nor written */
+    return WITHOUT_NULL(lists->angles, lists->angles_room, nothing)
+        && WITHOUT_NULL(lists->turns, lists->turns_room, nothing)
+        && WITHOUT_NULL(lists->vertex_prices, lists->vertex_prices_room, nothing)
+        && WITHOUT_NULL(lists->face_prices, lists->face_prices_room, nothing)
+        && WITHOUT_NULL(lists->points, lists->points_room, nothing)
+        && WITHOUT_NULL(lists->corner_starts, lists->corner_starts_room, nothing)
+        && WITHOUT_NULL(lists->corners, lists->corners_room, nothing);
+}
+
+int planarbend_layout(planarbend *object, const uint8_t *record, size_t size, int outer, int drawing,
+                      planarbend_counts *counts, const planarbend_lists *lists) {
+    static const uint8_t nothing = 0;
+    planarbend_counts unwanted;
+    planarbend_lists lent;
+    memset(&lent, 0, sizeof lent);
+    if (lists != NULL) lent = *lists;
+    if (outer < 0 || drawing < 0 || (record == NULL && size > 0) || !without_nulls(&lent)) return PLANARBEND_ARGUMENT;
+    if (object != NULL) object->wanted = object->outside = 0;
+    current = object;
+    uint32_t result = planarbend_c_layout(
+        record == NULL ? &nothing : record, size, (uint32_t)outer, (uint32_t)drawing, counts == NULL ? &unwanted : counts, &lent);
+    current = NULL;
+    if (object != NULL) grow(object);
+    return (int)result;
+}
+
+planarbend_lists planarbend_lists_of(planarbend_buffer *buffer) {
+    planarbend_lists lists = {
+        buffer->angles,        PLANARBEND_MAX_DARTS,
+        buffer->turns,         PLANARBEND_MAX_DARTS,
+        buffer->vertex_prices, PLANARBEND_MAX_VERTICES,
+        buffer->face_prices,   PLANARBEND_MAX_FACES,
+        buffer->points,        PLANARBEND_MAX_VERTICES,
+        buffer->corner_starts, PLANARBEND_MAX_EDGES + 1,
+        buffer->corners,       PLANARBEND_MAX_BENDS,
+    };
+    return lists;
+}
+
+/* ---- texts */
+
+const char *planarbend_word(int result) {
+    static const char *const words[] = {"ok",     "range",        "loop",  "multi",  "asymmetric", "edgeless", "degree",
+                                        "disconnected", "genus", "record", "memory", "room",     "argument"};
+    return result < 0 || result > PLANARBEND_ARGUMENT ? NULL : words[result];
+}
+
+const char *planarbend_version(void) {
+    return PLANARBEND_VERSION;
+}

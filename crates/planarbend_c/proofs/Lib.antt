@@ -1,0 +1,3 @@
+mod Corners
+mod Told
+mod Written

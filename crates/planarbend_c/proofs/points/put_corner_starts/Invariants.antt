@@ -1,0 +1,9 @@
+use Rattle.std.proofs.Common.{◌≡◌, ◌+◌, ◌<◌, ℕ}
+use Rattle.std.specs.List.{slice_index}
+use Rattle.planarbend_c.specs.Found.{corners_before}
+use Rattle.planarbend_c.proofs.points.put_corner_starts.Given as goal
+
+abbrev pub invariant-loop-edge : goal.invariant-loop-edge
+invariant-loop-edge l =
+    (l.start ≡ corners_before l.points.corners l.edge)
+    × ((e : ℕ) → e < l.edge + 1 → slice_index l.out e ≡ corners_before l.points.corners e)

@@ -1,0 +1,27 @@
+use Rattle.std.proofs.Common.{rules, FitsSigned, w32, ◌≡◌, ◌∙◌, ◌+◌, ◌-◌, ◌<◌, ◌≤◌, [], ℕ, ℤ, pos, List, ap, arith, get_or, length, map, refl, set, subst, sym, take}
+use Rattle.std.proofs.lemmas.Int.{to_z-of_z}
+use Rattle.std.proofs.lemmas.List.{get_or-map, length-map}
+use Rattle.embedding.specs.Darts.{dart_count}
+use Rattle.ortho_rep.specs.declared.turn.Turn.{Turn}
+use Rattle.planarbend_c.specs.Found.{turns_counted}
+use Rattle.planarbend_c.proofs.Written.{all_written, one_written, some_room}
+use Rattle.planarbend_c.proofs.shapes.put_angles.Goals as goal
+
+pub loop-dart-init : goal.loop-dart-init
+loop-dart-init c = refl
+
+pub loop-dart-preserved : goal.loop-dart-preserved
+loop-dart-preserved c =
+    let dart = c.loop-dart.dart in
+    let angles = c.args.shape.now.angles in
+    let end : c.darts-dart-end.result ≡ length angles = c.darts-dart-end.ensures.count ∙ ap dart_count c.graph.ensures.value ∙ sym c.requires.darts.angles in
+    let some = some_room (length c.args.out.now) c.if-is_empty.ensures in
+    let room : dart < length c.loop-dart.out = omega (arith, c.requires.room some, c.loop-dart.auto.out, c.loop-dart-test.true, end) in
+    one_written c.loop-dart.out angles c.from.result dart c.angle.result 0 c.from.ensures room (omega (arith, end, c.loop-dart-test.true))
+    c.loop-dart.invariant c.angle.ensures
+
+pub returns : goal.returns
+returns c some =
+    let angles = c.args.shape.now.angles in
+    let end : c.darts-dart-end.result ≡ length angles = c.darts-dart-end.ensures.count ∙ ap dart_count c.graph.ensures.value ∙ sym c.requires.darts.angles in
+    all_written c.loop-dart.out angles c.loop-dart.dart (omega (arith, end, c.loop-dart-test.false, c.loop-dart.auto.dart-end)) c.loop-dart.invariant

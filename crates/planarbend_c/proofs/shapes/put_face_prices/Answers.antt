@@ -1,0 +1,29 @@
+use Rattle.std.proofs.Common.{rules, FitsSigned, w32, ◌≡◌, ◌∙◌, ◌+◌, ◌-◌, ◌<◌, ◌≤◌, [], ℕ, ℤ, pos, List, ap, arith, get_or, length, map, refl, set, subst, sym, take}
+use Rattle.std.proofs.lemmas.Int.{to_z-of_z}
+use Rattle.std.proofs.lemmas.List.{get_or-map, length-map}
+use Rattle.embedding.specs.Darts.{dart_count}
+use Rattle.ortho_rep.specs.declared.turn.Turn.{Turn}
+use Rattle.planarbend_c.specs.Found.{turns_counted}
+use Rattle.planarbend_c.proofs.Written.{all_written, one_written, some_room}
+use Rattle.planarbend_c.proofs.shapes.put_face_prices.Goals as goal
+
+pub loop-face-init : goal.loop-face-init
+loop-face-init c = refl
+
+pub loop-face-preserved : goal.loop-face-preserved
+loop-face-preserved c =
+    let face = c.loop-face.face in
+    let items = c.args.prices.now.faces in
+    let end : c.face_count-face-end.result ≡ length items = c.face_count-face-end.ensures.value ∙ sym c.requires.prices.faces in
+    let some = some_room (length c.args.out.now) c.if-is_empty.ensures in
+    let room : face < length c.loop-face.out = omega (arith, c.requires.room some, c.loop-face.auto.out, c.loop-face-test.true, end) in
+    let fits : FitsSigned w32 c.face.result = search rules in
+    let is : c.face.result ≡ get_or items face (pos 0) = c.face.ensures in
+    one_written c.loop-face.out items c.from.result face _ (pos 0) c.from.ensures room (omega (arith, end, c.loop-face-test.true))
+    c.loop-face.invariant (to_z-of_z w32 c.face.result fits ∙ is)
+
+pub returns : goal.returns
+returns c some =
+    let items = c.args.prices.now.faces in
+    let end : c.face_count-face-end.result ≡ length items = c.face_count-face-end.ensures.value ∙ sym c.requires.prices.faces in
+    all_written c.loop-face.out items c.loop-face.face (omega (arith, end, c.loop-face-test.false, c.loop-face.auto.face-end)) c.loop-face.invariant

@@ -1,0 +1,14 @@
+-- The numbers by which C knows what comes of a call.
+use Rattle.std.specs.Prelude.{ℕ}
+use Rattle.embedding.specs.Rules.{rule_number}
+use Rattle.planarbend_c.specs.declared.outcome.Outcome.{Outcome}
+use Rattle.planarbend_c.specs.declared.outcome.Outcome.TheVariants.{Laid, Refused, NotARecord, Memory, Room, Argument}
+
+abbrev pub code_of : Outcome → ℕ
+code_of Laid = 0
+-- rules are numbered from 1 to 8
+code_of (Refused rule) = rule_number rule
+code_of NotARecord = 9
+code_of Memory = 10
+code_of Room = 11
+code_of Argument = 12

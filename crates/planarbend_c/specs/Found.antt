@@ -1,0 +1,139 @@
+-- What a call finds of a record, and how it is told to C.
+use Rattle.std.specs.Prelude.{◌≡◌, ℕ, ◌+◌, ◌*◌, ◌<◌, ◌≤◌, List, length, map, take, slice_index, Bool, true, Option, Some, None, ⊤}
+use Rattle.std.specs.List.{flat_map}
+use Rattle.planar_code.specs.Stream.{lists_of}
+use Rattle.common.specs.declared.choice.Choice.{Choice}
+use Rattle.faces.specs.Planes.{PlaneModel, IsPlane, darts, vertices}
+use Rattle.ortho_rep.specs.declared.turn.Turn.{Turn}
+use Rattle.ortho_rep.specs.declared.points.Point.{Point}
+use Rattle.ortho_rep.specs.Turns.{lefts, rights}
+use Rattle.ortho_rep.specs.Shapes.{ShapeModel, turns_at}
+use Rattle.ortho_rep.specs.Points.{PointsModel}
+use Rattle.ortho_rep.specs.Prices.{PricesModel, IsProof}
+use Rattle.ortho_rep.specs.Representation.{IsShape, IsLeast, bends_of}
+use Rattle.ortho_rep.specs.Best.{IsChosen}
+use Rattle.drawing_check.specs.Draws.{Draws}
+use Rattle.entries.specs.Drawn.{HasPoints}
+use Rattle.planarbend_c.specs.declared.counts.Counts.{Counts}
+use Rattle.planarbend_c.specs.declared.layout.Layout.{Layout}
+use Rattle.planarbend_c.specs.declared.lists.DartTurns.{DartTurns}
+use Rattle.planarbend_c.specs.declared.lists.GridPoint.{GridPoint}
+use Rattle.planarbend_c.specs.Held.{ListsModel, HasRoom, Holds}
+
+-- ---- what is found
+
+-- points and corners for the whole plane, which draw the shape
+pub record IsDrawing (plane : PlaneModel) (shape : ShapeModel) (points : PointsModel) : Type 0 where
+  pub whole : HasPoints plane points
+  pub draws : Draws plane shape points
+
+-- points that draw the shape, where a drawing is asked for
+abbrev pub IsDrawnIfAsked : PlaneModel → ShapeModel → Option PointsModel → Type 0
+IsDrawnIfAsked plane shape None = ⊤
+IsDrawnIfAsked plane shape (Some points) = IsDrawing plane shape points
+
+-- what is found of a record: its plane, a shape of it, prices, and points where a drawing is asked for
+pub record Finding : Type 0 where
+  pub plane : PlaneModel
+  pub shape : ShapeModel
+  pub prices : PricesModel
+  pub points : Option PointsModel
+
+-- what a layout holds
+abbrev pub finding_of : Layout → Finding
+finding_of layout = record {
+  plane = layout.shaped_plane.plane;
+  shape = layout.shaped_plane.shape;
+  prices = layout.shaped_plane.prices;
+  points = layout.drawing;
+}
+
+-- it is of a record of these bytes under a choice of the outer face
+pub record IsFound (choice : Choice) (bytes : List ℕ) (found : Finding) : Type 0 where
+  -- the plane has the record's neighbour lists
+  pub lists : found.plane.lists ≡ lists_of bytes
+  -- no rule is broken, and the faces are those of the lists
+  pub rules : IsPlane found.plane
+  -- the outer face is the chosen one
+  pub chosen : IsChosen choice found.plane
+  -- the shape is an orthogonal representation of the plane with its outer face
+  pub shape_is : IsShape found.plane found.shape
+  -- each other one has at least as many bends
+  pub least : IsLeast found.plane found.shape
+  -- the prices prove so
+  pub proof : IsProof found.plane found.shape found.prices
+  -- the points draw the shape
+  pub drawn : IsDrawnIfAsked found.plane found.shape found.points
+
+-- ---- how it is told
+
+-- so many turns to the left, and so many to the right
+abbrev pub both_turns : ℕ → ℕ → DartTurns
+both_turns left right = record { left = left; right = right }
+
+-- how many turns go to each side
+abbrev pub turns_counted : List Turn → DartTurns
+turns_counted turns = both_turns (lefts turns) (rights turns)
+
+abbrev pub grid_point : Point → GridPoint
+grid_point point = record { x = point.x; y = point.y }
+
+-- the corners of all edges in a row
+abbrev pub all_corners : List (List Point) → List GridPoint
+all_corners = flat_map (map grid_point)
+
+-- how many corners the edges before edge e have
+abbrev pub corners_before : List (List Point) → ℕ → ℕ
+corners_before corners e = length (all_corners (take e corners))
+
+-- how many corners the drawing has, if there is one
+abbrev pub corners_drawn : Option PointsModel → ℕ
+corners_drawn None = 0
+corners_drawn (Some points) = length (all_corners points.corners)
+
+-- the counts of a finding
+pub record AreCounts (found : Finding) (counts : Counts) : Type 0 where
+  pub vertices : counts.vertices ≡ vertices found.plane
+  pub edges : 2 * counts.edges ≡ darts found.plane
+  pub faces : counts.faces ≡ found.plane.faces
+  pub bends : counts.bends ≡ bends_of (length found.shape.strings) (turns_at found.shape)
+  pub outer : counts.outer_face ≡ found.plane.outer
+  pub corners : counts.corners ≡ corners_drawn found.points
+
+-- for each edge the corners before it, and at last all of them, unless the list is left out
+abbrev pub HoldsStarts : List ℕ → List (List Point) → Type 0
+HoldsStarts starts corners = 0 < length starts → (e : ℕ) → e ≤ length corners → slice_index starts e ≡ corners_before corners e
+
+-- the lists of points
+pub record HoldPoints (points : PointsModel) (lists : ListsModel) : Type 0 where
+  pub vertices : Holds lists.points (map grid_point points.vertices)
+  pub starts : HoldsStarts lists.corner_starts points.corners
+  pub corners : Holds lists.corners (all_corners points.corners)
+
+abbrev pub HoldPointsIfAny : Option PointsModel → ListsModel → Type 0
+HoldPointsIfAny None lists = ⊤
+HoldPointsIfAny (Some points) lists = HoldPoints points lists
+
+-- the lists are those of a finding
+pub record HoldFinding (found : Finding) (lists : ListsModel) : Type 0 where
+  pub angles : Holds lists.angles found.shape.angles
+  pub turns : Holds lists.turns (map turns_counted found.shape.strings)
+  pub vertices : Holds lists.vertex_prices found.prices.vertices
+  pub faces : Holds lists.face_prices found.prices.faces
+  pub points : HoldPointsIfAny found.points lists
+
+-- ---- how much room it takes
+
+-- each list of points has room
+pub record HavePointRoom (counts : Counts) (lists : ListsModel) : Type 0 where
+  pub vertices : HasRoom lists.points counts.vertices
+  pub starts : HasRoom lists.corner_starts (counts.edges + 1)
+  pub corners : HasRoom lists.corners counts.corners
+
+-- each list has room for what is counted; those of points need some only where there is a drawing
+pub record HaveRoom (drawn : Bool) (counts : Counts) (lists : ListsModel) : Type 0 where
+  pub angles : HasRoom lists.angles (2 * counts.edges)
+  pub turns : HasRoom lists.turns (2 * counts.edges)
+  pub vertices : HasRoom lists.vertex_prices counts.vertices
+  pub faces : HasRoom lists.face_prices counts.faces
+  pub points : drawn ≡ true → HavePointRoom counts lists

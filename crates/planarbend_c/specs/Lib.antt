@@ -1,0 +1,6 @@
+pub mod Codes
+pub mod Requests
+pub mod Held
+pub mod Found
+pub mod Faults
+pub mod Outcomes

@@ -1,0 +1,62 @@
+-- What comes of a call, by its number, and what it shows.
+use Rattle.std.specs.Prelude.{◌≡◌, ◌⊎◌, ℕ, List, Option, Some, None, is_some, ⊤}
+use Rattle.planar_code.specs.Stream.{IsRecord, lists_of}
+use Rattle.embedding.specs.Rules.{FirstBroken}
+use Rattle.common.specs.declared.choice.Choice.{Choice}
+use Rattle.common.specs.declared.drawing_kind.DrawingKind.{DrawingKind}
+use Rattle.planarbend_c.specs.declared.counts.Counts.{Counts}
+use Rattle.planarbend_c.specs.declared.outcome.Outcome.{Outcome}
+use Rattle.planarbend_c.specs.declared.outcome.Outcome.TheVariants.{Laid, Refused, NotARecord, Memory, Room, Argument}
+use Rattle.planarbend_c.specs.Requests.{choice_in, drawing_in}
+use Rattle.planarbend_c.specs.Held.{ListsModel}
+use Rattle.planarbend_c.specs.Found.{Finding, IsFound, AreCounts, HoldFinding, HaveRoom}
+
+-- the bytes are a record, of which this is found under what the numbers of an outer face and of a drawing ask for
+pub record IsAnswer (bytes : List ℕ) (outer drawing : ℕ) (found : Finding) : Type 0 where
+  pub choice : Choice
+  pub choice_asked : choice_in outer ≡ Some choice
+  pub kind : Option DrawingKind
+  pub kind_asked : drawing_in drawing ≡ Some kind
+  -- there are points exactly where a drawing is asked for
+  pub points_asked : is_some found.points ≡ is_some kind
+  pub is_record : IsRecord bytes
+  pub is_found : IsFound choice bytes found
+
+-- what is found of the record stands in the counts and in the lists
+pub record IsLaidOut (bytes : List ℕ) (outer drawing : ℕ) (counts : Counts) (lists : ListsModel) : Type 0 where
+  pub found : Finding
+  pub answer : IsAnswer bytes outer drawing found
+  pub counted : AreCounts found counts
+  pub held : HoldFinding found lists
+
+-- what is found stands in the counts, and some list has room for less
+pub record LacksRoom (bytes : List ℕ) (outer drawing : ℕ) (counts : Counts) (lists : ListsModel) : Type 0 where
+  pub found : Finding
+  pub answer : IsAnswer bytes outer drawing found
+  pub counted : AreCounts found counts
+  pub short : ¬ HaveRoom (is_some found.points) counts lists
+
+-- no such outer face can be asked for, or no such drawing
+abbrev pub AsksNothing : ℕ → ℕ → Type 0
+AsksNothing outer drawing = (choice_in outer ≡ None) ⊎ (drawing_in drawing ≡ None)
+
+-- what an outcome shows
+abbrev pub IsOutcome : List ℕ → ℕ → ℕ → Counts → ListsModel → Outcome → Type 0
+IsOutcome bytes outer drawing counts lists Laid = IsLaidOut bytes outer drawing counts lists
+-- the rule is broken, and none before it
+IsOutcome bytes outer drawing counts lists (Refused rule) = IsRecord bytes × FirstBroken (lists_of bytes) rule
+IsOutcome bytes outer drawing counts lists NotARecord = ¬ IsRecord bytes
+-- nothing is said
+IsOutcome bytes outer drawing counts lists Memory = ⊤
+IsOutcome bytes outer drawing counts lists Room = LacksRoom bytes outer drawing counts lists
+IsOutcome bytes outer drawing counts lists Argument = AsksNothing outer drawing
+
+-- what an outcome shows of a finding that is told to C
+abbrev pub IsTold : Finding → Counts → ListsModel → Outcome → Type 0
+IsTold found counts lists Laid = AreCounts found counts × HoldFinding found lists
+IsTold found counts lists Room = AreCounts found counts × (¬ HaveRoom (is_some found.points) counts lists)
+IsTold found counts lists Memory = ⊤
+-- no other comes of it
+IsTold found counts lists (Refused rule) = ⊥
+IsTold found counts lists NotARecord = ⊥
+IsTold found counts lists Argument = ⊥

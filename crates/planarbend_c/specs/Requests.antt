@@ -1,0 +1,19 @@
+-- The numbers by which C asks for an outer face and a drawing.
+use Rattle.std.specs.Prelude.{ℕ, zero, suc, Option, Some, None}
+use Rattle.common.specs.declared.choice.Choice.{Choice}
+use Rattle.common.specs.declared.choice.Choice.TheVariants.{First, Best}
+use Rattle.common.specs.declared.drawing_kind.DrawingKind.{DrawingKind}
+use Rattle.common.specs.declared.drawing_kind.DrawingKind.TheVariants.{Quick, Short}
+
+-- the choice of an outer face with this number
+abbrev pub choice_in : ℕ → Option Choice
+choice_in zero = Some First
+choice_in (suc zero) = Some Best
+choice_in (suc (suc _)) = None
+
+-- the kind of drawing with this number, where 0 asks for none
+abbrev pub drawing_in : ℕ → Option (Option DrawingKind)
+drawing_in zero = Some None
+drawing_in (suc zero) = Some (Some Quick)
+drawing_in (suc (suc zero)) = Some (Some Short)
+drawing_in (suc (suc (suc _))) = None

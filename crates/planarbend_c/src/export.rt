@@ -1,0 +1,99 @@
+//! The call that C makes.
+
+ghost use Rattle.std.specs.Prelude.{◌≡◌, is_some};
+ghost use Rattle.planarbend_c.specs.declared.outcome.Outcome.{Outcome};
+ghost use Rattle.planarbend_c.specs.Codes.{code_of};
+ghost use Rattle.planarbend_c.specs.Held.{contents};
+ghost use Rattle.planarbend_c.specs.Found.{AreCounts, HaveRoom, HoldFinding, IsDrawnIfAsked, finding_of};
+ghost use Rattle.planarbend_c.specs.Outcomes.{IsOutcome, IsTold};
+
+use crate::counts::{Counts, counts_of};
+use crate::layout::{Fault, Layout, lay_out};
+use crate::lists::Lists;
+use crate::outcome::Outcome;
+use crate::points::{put_corner_starts, put_corners, put_points};
+use crate::request::{choice_of, drawing_of};
+use crate::shapes::{put_angles, put_face_prices, put_turns, put_vertex_prices};
+use std::alloc::Global;
+
+/// Lays out the record that the bytes are, with the outer face and the drawing of these numbers, and gives the number of
+/// what comes of it. `planarbend.h` says what each number means.
+///
+/// The counts are written where the record is laid out, and the lists too where each has room.
+#[unsafe(no_mangle)]
+pub extern "C" fn planarbend_c_layout(
+    alloc: Global,
+    bytes: &[u8],
+    outer: u32,
+    drawing: u32,
+    counts: &mut Counts,
+    lists: &mut Lists<'_>,
+) -> u32
+    ensures { (outcome : Outcome) × (result ≡ code_of outcome)
+        × IsOutcome bytes.now outer drawing counts.new (contents lists.new) outcome }
+{
+    answer(alloc, bytes, outer, drawing, counts, lists).code()
+}
+
+/// Lays the record out, and says what comes of it.
+fn answer(
+    alloc: Global,
+    bytes: &[u8],
+    outer: u32,
+    drawing: u32,
+    counts: &mut Counts,
+    lists: &mut Lists<'_>,
+) -> Outcome
+    ensures { IsOutcome bytes.now outer drawing counts.new (contents lists.new) result }
+{
+    let Some(choice) = choice_of(outer) else {
+        return Outcome::Argument;
+    };
+    let Some(kind) = drawing_of(drawing) else {
+        return Outcome::Argument;
+    };
+    match lay_out(alloc, bytes, choice, kind) {
+        Ok(layout) => tell(&layout, counts, lists),
+        Err(Fault::Rule(rule)) => Outcome::Refused(rule),
+        Err(Fault::NotARecord) => Outcome::NotARecord,
+        Err(Fault::Memory) => Outcome::Memory,
+    }
+}
+
+/// Writes the counts of a layout, and the lists where each has room.
+fn tell(layout: &Layout, counts: &mut Counts, lists: &mut Lists<'_>) -> Outcome
+    requires { IsDrawnIfAsked layout.now.shaped_plane.plane layout.now.shaped_plane.shape layout.now.drawing }
+    ensures { IsTold (finding_of layout.now) counts.new (contents lists.new) result }
+{
+    let Some(found) = counts_of(layout) else {
+        return Outcome::Memory;
+    };
+    *counts = found;
+    if !lists.have_room(&found, layout.drawing.is_some()) {
+        return Outcome::Room;
+    }
+    write(layout, found, lists);
+    Outcome::Laid
+}
+
+/// Writes the lists of a layout with these counts, but for those that are left out.
+fn write(layout: &Layout, counts: Counts, lists: &mut Lists<'_>)
+    requires drawn { IsDrawnIfAsked layout.now.shaped_plane.plane layout.now.shaped_plane.shape layout.now.drawing }
+    requires counted { AreCounts (finding_of layout.now) counts }
+    requires room { HaveRoom (is_some layout.now.drawing) counts (contents lists.old) }
+    ensures { HoldFinding (finding_of layout.now) (contents lists.new) }
+{
+    let shaped_plane = &layout.shaped_plane;
+    let plane = &shaped_plane.plane;
+    put_angles(lists.angles, plane, &shaped_plane.shape);
+    put_turns(lists.turns, plane, &shaped_plane.shape);
+    put_vertex_prices(lists.vertex_prices, plane, &shaped_plane.prices);
+    put_face_prices(lists.face_prices, plane, &shaped_plane.prices);
+    if let Some(drawing) = &layout.drawing {
+        let points = drawing.points();
+        let edges = plane.graph().edges();
+        put_points(lists.points, points.vertices());
+        put_corner_starts(lists.corner_starts, edges, points);
+        put_corners(lists.corners, edges, points);
+    }
+}

@@ -1,0 +1,109 @@
+//! What is found of a record.
+
+ghost use Rattle.std.specs.Prelude.{◌≡◌, IfOk, IfErr, is_some};
+ghost use Rattle.answers.specs.Steps.{IsPlaneOf};
+ghost use Rattle.planar_code.specs.Stream.{IsRecord};
+ghost use Rattle.planarbend_c.specs.Found.{IsDrawnIfAsked};
+ghost use Rattle.planarbend_c.specs.Faults.{IsFault};
+
+use answers::{RecordScratch, ShapeFault, ShapedPlane};
+use common::{Choice, DrawingKind};
+use drawing_check::Drawing;
+use embedding::Rule;
+use planar_code::{ParseFault, Record};
+use std::alloc::{AllocError, Global};
+
+/// The plane of a record with a least shape and prices, and a drawing where one was asked for.
+#[derive(Drop)]
+pub(crate) struct Layout {
+    pub shaped_plane: ShapedPlane,
+    pub drawing: Option<Drawing>,
+}
+
+/// Why bytes are not laid out.
+#[derive(Clone, Copy)]
+pub(crate) enum Fault {
+    /// They are a record, and this is the first rule that it breaks.
+    Rule(Rule),
+    /// They are not one record.
+    NotARecord,
+    /// Memory ran out.
+    Memory,
+}
+
+/// The layout of the record that the bytes are, with this drawing or none.
+pub(crate) fn lay_out(
+    alloc: Global,
+    bytes: &[u8],
+    choice: Choice,
+    kind: Option<DrawingKind>,
+) -> Result<Layout, Fault>
+    ensures plane { IfOk result (λ layout. IsPlaneOf choice bytes.now layout.shaped_plane.plane) }
+    ensures drawn { IfOk result (λ layout.
+        IsDrawnIfAsked layout.shaped_plane.plane layout.shaped_plane.shape layout.drawing) }
+    ensures asked { IfOk result (λ layout. is_some layout.drawing ≡ is_some kind) }
+    ensures is_record { IfOk result (λ _. IsRecord bytes.now) }
+    ensures fault { IfErr result (IsFault bytes.now) }
+{
+    let rec = parsed(alloc, bytes)?;
+    let mut scratch = RecordScratch::empty(alloc);
+    let shaped_plane = shaped(alloc, &mut scratch, &rec, choice, kind)?;
+    let drawing = drawn(alloc, &mut scratch, &shaped_plane, kind)?;
+    Ok(Layout {
+        shaped_plane,
+        drawing,
+    })
+}
+
+/// The record that the bytes are.
+fn parsed(alloc: Global, bytes: &[u8]) -> Result<Record, Fault>
+    ensures same { IfOk result (λ rec. rec ≡ bytes.now) }
+    ensures is_record { IfOk result (λ _. IsRecord bytes.now) }
+    ensures fault { IfErr result (IsFault bytes.now) }
+{
+    match Record::parse(alloc, bytes) {
+        Ok(rec) => Ok(rec),
+        Err(ParseFault::Memory) => Err(Fault::Memory),
+        Err(_) => Err(Fault::NotARecord),
+    }
+}
+
+/// The plane of the record with a least shape and prices.
+fn shaped(
+    alloc: Global,
+    scratch: &mut RecordScratch,
+    rec: &Record,
+    choice: Choice,
+    kind: Option<DrawingKind>,
+) -> Result<ShapedPlane, Fault>
+    ensures plane { IfOk result (λ shaped_plane. IsPlaneOf choice rec.now shaped_plane.plane) }
+    ensures fault { IfErr result (IsFault rec.now) }
+{
+    // Only the proof needs this: `bytes` says that the record is one.
+    let _bytes = rec.bytes();
+    match scratch.shape(alloc, rec, choice, kind.unwrap_or(DrawingKind::Quick)) {
+        Ok(shaped_plane) => Ok(shaped_plane),
+        Err(ShapeFault::Rule(rule)) => Err(Fault::Rule(rule)),
+        Err(ShapeFault::Memory) => Err(Fault::Memory),
+    }
+}
+
+/// The drawing of a shaped plane that was asked for, or none.
+fn drawn(
+    alloc: Global,
+    scratch: &mut RecordScratch,
+    shaped_plane: &ShapedPlane,
+    kind: Option<DrawingKind>,
+) -> Result<Option<Drawing>, Fault>
+    ensures drawn { IfOk result (IsDrawnIfAsked shaped_plane.now.plane shaped_plane.now.shape) }
+    ensures asked { IfOk result (λ drawing. is_some drawing ≡ is_some kind) }
+    ensures fault { IfErr result (λ fault. fault ≡ Fault.Memory) }
+{
+    let Some(kind) = kind else {
+        return Ok(None);
+    };
+    match scratch.draw(alloc, shaped_plane, kind) {
+        Ok(drawing) => Ok(Some(drawing)),
+        Err(AllocError) => Err(Fault::Memory),
+    }
+}

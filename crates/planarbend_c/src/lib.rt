@@ -1,0 +1,16 @@
+//! The calls that C makes. A call answers one record of planar_code and writes what it finds into lists that the caller
+//! owns. It keeps nothing from call to call, starts no thread, and gives back all memory that it takes before it returns.
+#![tactic(auto)]
+
+mod counts;
+mod export;
+mod layout;
+mod lists;
+mod outcome;
+mod points;
+mod request;
+mod shapes;
+
+pub use counts::Counts;
+pub use export::planarbend_c_layout;
+pub use lists::{DartTurns, GridPoint, Lists};

@@ -1,0 +1,56 @@
+//! What comes of a call.
+
+ghost use Rattle.std.specs.Prelude.{◌≡◌};
+ghost use Rattle.embedding.specs.Rules.{rule_number};
+ghost use Rattle.planarbend_c.specs.Codes.{code_of};
+
+use embedding::Rule;
+
+/// What comes of a call.
+#[derive(Clone, Copy)]
+pub(crate) enum Outcome {
+    /// The record is laid out, and the lists are written.
+    Laid,
+    /// This is the first rule that the record breaks.
+    Refused(Rule),
+    /// The bytes are not one record.
+    NotARecord,
+    /// Memory ran out, which says nothing of the bytes.
+    Memory,
+    /// The record is laid out, but some list has room for less than there is. The counts are written.
+    Room,
+    /// No such outer face or drawing can be asked for.
+    Argument,
+}
+
+impl Outcome {
+    /// Its number.
+    pub(crate) fn code(self) -> u32
+        ensures { result ≡ code_of self }
+    {
+        match self {
+            Outcome::Laid => 0,
+            Outcome::Refused(rule) => number_of(rule),
+            Outcome::NotARecord => 9,
+            Outcome::Memory => 10,
+            Outcome::Room => 11,
+            Outcome::Argument => 12,
+        }
+    }
+}
+
+/// The number of a rule, from 1.
+fn number_of(rule: Rule) -> u32
+    ensures { result ≡ rule_number rule }
+{
+    match rule {
+        Rule::Range => 1,
+        Rule::Loop => 2,
+        Rule::Multi => 3,
+        Rule::Asymmetric => 4,
+        Rule::Edgeless => 5,
+        Rule::Degree => 6,
+        Rule::Disconnected => 7,
+        Rule::Genus => 8,
+    }
+}

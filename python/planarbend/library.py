@@ -1,0 +1,255 @@
+"""planarbend as a library: libplanarbend by `ctypes`, without a process and without JSON in between.
+
+    with Library() as library:
+        print(library.line(record, outer="best", drawing="none")["bends"])
+
+A `Library` holds memory that it keeps from call to call, so each thread wants one of its own.
+"""
+from __future__ import annotations
+
+import ctypes
+import ctypes.util
+import os
+from collections.abc import Iterable, Iterator, Sequence
+from pathlib import Path
+from typing import Any
+
+from planarbend.engine import Answer, answer_of
+from planarbend.layouts import Layout, NoProgram, Record
+from planarbend.planar_code import Lists, record_of
+
+MOST_VERTICES, MOST_EDGES, MOST_FACES, MOST_BENDS = 255, 510, 257, 1534
+OUTER = {"first": 0, "best": 1}
+DRAWING = {"none": 0, "quick": 1, "short": 2}
+OK, FIRST_RULE, LAST_RULE, NOT_A_RECORD, MEMORY = 0, 1, 8, 9, 10
+NAME = "libplanarbend.so.1"
+PACKAGE = Path(__file__).resolve().parent
+PLACES = [PACKAGE.parents[1] / "out" / NAME, PACKAGE.parents[2] / NAME]  # as it is built, and as it is installed
+
+
+class Counts(ctypes.Structure):
+    """`planarbend_counts` of planarbend.h."""
+
+    _fields_ = [(name, ctypes.c_uint32) for name in ("vertices", "edges", "faces", "bends", "outer_face", "corners")]
+
+
+class Buffer(ctypes.Structure):
+    """`planarbend_buffer` of planarbend.h; a point is two numbers, and so are the turns of a dart."""
+
+    _fields_ = [
+        ("turns", ctypes.c_uint32 * (4 * MOST_EDGES)),
+        ("vertex_prices", ctypes.c_int32 * MOST_VERTICES),
+        ("face_prices", ctypes.c_int32 * MOST_FACES),
+        ("corner_starts", ctypes.c_uint32 * (MOST_EDGES + 1)),
+        ("points", ctypes.c_uint16 * (2 * MOST_VERTICES)),
+        ("corners", ctypes.c_uint16 * (2 * MOST_BENDS)),
+        ("angles", ctypes.c_uint8 * (2 * MOST_EDGES)),
+    ]
+
+
+class Room(ctypes.Structure):
+    """`planarbend_lists` of planarbend.h: of each list where it is, and for how many items it has room."""
+
+    _fields_ = [field for name in ("angles", "turns", "vertex_prices", "face_prices", "points", "corner_starts", "corners")
+                for field in ((name, ctypes.c_void_p), (f"{name}_room", ctypes.c_size_t))]
+
+
+def path() -> str | None:
+    """Where the library is: PLANARBEND_LIBRARY (none, if it is empty), or the one that is built or installed with this
+    package, or the system's; None if there is none."""
+    named = os.environ.get("PLANARBEND_LIBRARY")
+    if named is not None:
+        return named or None
+    for place in PLACES:
+        if place.is_file():
+            return str(place)
+    return NAME if ctypes.util.find_library("planarbend") else None
+
+
+def is_wanted() -> bool:
+    """Whether the library is to be used: there is one, and PLANARBEND names no program to be used in its place."""
+    return "PLANARBEND" not in os.environ and path() is not None
+
+
+class Library:
+    """The library, and memory for its calls.
+
+    Parameters
+    ----------
+    name : str, optional
+        Where it is; else `path` says so.
+
+    Raises
+    ------
+    NoProgram
+        There is no library, or it cannot be loaded.
+    """
+
+    def __init__(self, name: str | None = None) -> None:
+        self._object = ctypes.c_void_p()
+        name = name or path()
+        if name is None:
+            raise NoProgram("no library libplanarbend.so")
+        try:
+            self._library = ctypes.CDLL(name)
+        except OSError as error:
+            raise NoProgram(f"{name}: {error}") from None
+        self._library.planarbend_version.restype = ctypes.c_char_p
+        self._library.planarbend_word.restype = ctypes.c_char_p
+        self._library.planarbend_lists_of.restype = Room
+        self._library.planarbend_free.argtypes = [ctypes.c_void_p]
+        self._layout = self._library.planarbend_layout
+        self._layout.argtypes = [ctypes.c_void_p, ctypes.c_char_p, ctypes.c_size_t, ctypes.c_int, ctypes.c_int,
+                                 ctypes.c_void_p, ctypes.c_void_p]
+        self._counts, self._buffer = Counts(), Buffer()
+        self._lists = self._library.planarbend_lists_of(ctypes.byref(self._buffer))
+        self._addresses = ctypes.addressof(self._counts), ctypes.addressof(self._lists)
+        if self._library.planarbend_new(ctypes.byref(self._object)):
+            raise MemoryError("planarbend_new")
+
+    def __enter__(self) -> Library:
+        return self
+
+    def __exit__(self, *_: object) -> None:
+        self.close()
+
+    def __del__(self) -> None:
+        self.close()
+
+    def close(self) -> None:
+        """Gives the memory back. No call may follow."""
+        held, self._object = self._object, ctypes.c_void_p()
+        if held:
+            self._library.planarbend_free(held)
+
+    def version(self) -> str:
+        """The version of the library."""
+        return self._library.planarbend_version().decode()
+
+    def word(self, result: int) -> str:
+        """The word of a result."""
+        return self._library.planarbend_word(result).decode()
+
+    def bends(self, records: Iterable[bytes], outer: str = "first") -> Iterator[int | None]:
+        """The fewest bends of each record, and None for one that is refused. Nothing is drawn.
+
+        Raises
+        ------
+        ValueError
+            Bytes are not one record.
+        MemoryError
+            Memory ran out.
+        """
+        layout, held, choice, counts = self._layout, self._object, OUTER[outer], self._counts
+        at = self._addresses[0]
+        for record in records:
+            result = layout(held, record, len(record), choice, 0, at, None)
+            yield counts.bends if result == OK else self._refused(result)
+
+    def _refused(self, result: int) -> None:
+        """Nothing for a rule, and else an exception."""
+        if result == NOT_A_RECORD:
+            raise ValueError("the bytes are not one record of planar_code")
+        if result == MEMORY:
+            raise MemoryError("planarbend_layout")
+
+    def line(self, record: bytes, outer: str = "first", drawing: str = "short") -> dict[str, Any]:
+        """What `planarbend layout --json` says of a record, but for "file" and "graph".
+
+        Parameters
+        ----------
+        record : bytes
+            One record of planar_code.
+        outer : {"first", "best"}
+            The outer face.
+        drawing : {"none", "quick", "short"}
+            The drawing. With "none", "points" is None and "drawn" is "no".
+
+        Raises
+        ------
+        ValueError
+            The bytes are not one record.
+        """
+        result = self._layout(self._object, record, len(record), OUTER[outer], DRAWING[drawing], *self._addresses)
+        if result == MEMORY:
+            return {"status": "memory"}
+        if result != OK:
+            self._refused(result)
+            return {"rule": self.word(result), "status": "refused"}
+        counts, buffer = self._counts, self._buffer
+        vertices, edges, faces = counts.vertices, counts.edges, counts.faces
+        turns = buffer.turns[:4 * edges]
+        return {
+            "angles": buffer.angles[:2 * edges],
+            "bends": counts.bends,
+            "drawn": "no" if drawing == "none" else "yes",
+            "f": faces,
+            "m": edges,
+            "n": vertices,
+            "points": None if drawing == "none" else self._points(),
+            "prices": {"faces": buffer.face_prices[:faces], "vertices": buffer.vertex_prices[:vertices]},
+            "status": "ok",
+            "turns": ["L" * left + "R" * right for left, right in zip(turns[::2], turns[1::2])],
+        }
+
+    def _points(self) -> dict[str, Any]:
+        """The points of the record that was laid out last."""
+        counts, buffer = self._counts, self._buffer
+        points = pairs(buffer.points[:2 * counts.vertices])
+        if not counts.corners:
+            return {"corners": [[] for _ in range(counts.edges)], "vertices": points}
+        corners, starts = pairs(buffer.corners[:2 * counts.corners]), buffer.corner_starts[:counts.edges + 1]
+        return {"corners": [corners[start:end] for start, end in zip(starts, starts[1:])], "vertices": points}
+
+
+def pairs(numbers: list[int]) -> list[list[int]]:
+    """Numbers two by two."""
+    return [[x, y] for x, y in zip(numbers[::2], numbers[1::2])]
+
+
+class LibraryEngine:
+    """Calls the library once for each graph."""
+
+    def __init__(self, library: Library | None = None) -> None:
+        self.library = library or Library()
+
+    def lay(self, graphs: Sequence[Lists], outer: str) -> list[Answer]:
+        """See `Engine`."""
+        return [answer_of(self.library.line(record_of(lists), outer)) for lists in graphs]
+
+
+class LibraryLayouts:
+    """The layouts of a stream of graphs, one after another, as `Layouts` gives them, by calls of the library.
+
+    Behind a `GraphError` it goes on with the next graph.
+    """
+
+    def __init__(self, graphs: Iterable[Any], outer: str = "first", drawing: str = "short") -> None:
+        self.library = Library()
+        self.records: Iterator[Record] = map(Record.of, graphs)
+        self.outer, self.drawing = outer, drawing
+        self.number = 0
+
+    def __iter__(self) -> LibraryLayouts:
+        return self
+
+    def __next__(self) -> Layout:
+        try:
+            record = next(self.records)
+        except BaseException:
+            self.close()
+            raise
+        self.number += 1
+        line = self.library.line(record.bytes(), self.outer, self.drawing)
+        return Layout.of(self.number, record, line | {"file": 1, "graph": self.number})
+
+    def close(self) -> None:
+        """Ends the stream where it is."""
+        self.records = iter(())
+        self.library.close()
+
+    def __enter__(self) -> LibraryLayouts:
+        return self
+
+    def __exit__(self, *_: object) -> None:
+        self.close()
