@@ -1,12 +1,11 @@
 -- From what is told of a finding to what comes of a call.
-use Rattle.std.proofs.Common.{◌≡◌, ℕ, List, Option, Some, is_some, subst, sym}
+use Rattle.std.proofs.Common.{◌≡◌, ℕ, List, Option, Some, is_some}
 use Rattle.planar_code.specs.Stream.{IsRecord}
 use Rattle.common.specs.declared.choice.Choice.{Choice}
 use Rattle.common.specs.declared.drawing_kind.DrawingKind.{DrawingKind}
 use Rattle.answers.specs.Steps.{IsPlaneOf}
 use Rattle.planarbend_c.specs.declared.counts.Counts.{Counts}
 use Rattle.planarbend_c.specs.declared.layout.Layout.{Layout}
-use Rattle.planarbend_c.specs.declared.layout.Fault.{Fault}
 use Rattle.planarbend_c.specs.declared.outcome.Outcome.{Outcome}
 use Rattle.planarbend_c.specs.declared.outcome.Outcome.TheVariants.{Laid, Refused, NotARecord, Memory, Room, Argument}
 use Rattle.planarbend_c.specs.Requests.{choice_in, drawing_in}

@@ -1,4 +1,5 @@
-use Rattle.std.proofs.Common.{◌≡◌, ◌∙◌, inl, inr, sym}
+use Rattle.std.proofs.Common.{◌∙◌, inl, inr, subst, sym}
+use Rattle.planarbend_c.specs.Faults.{IsFault}
 use Rattle.planarbend_c.specs.Held.{contents}
 use Rattle.planarbend_c.specs.Found.{finding_of}
 use Rattle.planarbend_c.proofs.Told.{answer_of, told}
@@ -19,12 +20,12 @@ returns-in-Ok c =
     let found = c.in-Ok.ensures in
     told c.args.bytes.now c.args.outer c.args.drawing (finding_of layout) c.tell.new.counts (contents c.tell.new.lists) c.tell.result
     (answer_of c.args.bytes.now c.args.outer c.args.drawing c.in-Some.choice c.in-Some-drawing_of.kind layout
-      (sym c.choice_of.ensures ∙ c.in-Some.is) (sym c.drawing_of.ensures ∙ c.in-Some-drawing_of.is) found.is_record found.plane found.drawn
-      found.asked)
+    (sym c.choice_of.ensures ∙ c.in-Some.is) (sym c.drawing_of.ensures ∙ c.in-Some-drawing_of.is) found.is_record found.plane found.drawn
+    found.asked)
     c.tell.ensures
 
 pub returns-in-Err-Rule : goal.returns-in-Err-Rule
-returns-in-Err-Rule c = c.in-Err-Rule.ensures.fault
+returns-in-Err-Rule c = subst (IsFault c.args.bytes.now) c.in-Err-Rule.field-0-is c.in-Err-Rule.ensures.fault
 
 pub returns-in-Err-NotARecord : goal.returns-in-Err-NotARecord
-returns-in-Err-NotARecord c = c.in-Err-NotARecord.ensures.fault
+returns-in-Err-NotARecord c = subst (IsFault c.args.bytes.now) c.in-Err-NotARecord.field-0-is c.in-Err-NotARecord.ensures.fault

@@ -7,6 +7,6 @@ pub put_corner_starts-requires-clause-few : goal.put_corner_starts-requires-clau
 put_corner_starts-requires-clause-few c =
     let some : c.args.layout.now.drawing ≡ Some c.in-Some.drawing = c.in-Some.is in
     let all : c.args.counts.corners ≡ length (all_corners c.points-points.result.now.corners) =
-        c.requires.counted.corners ∙ ap corners_drawn some
-        ∙ ap (λ (points : PointsModel). length (all_corners points.corners)) (sym c.points-points.ensures) in
+    c.requires.counted.corners ∙ ap corners_drawn some
+    ∙ ap (λ (points : PointsModel). length (all_corners points.corners)) (sym c.points-points.ensures) in
     omega (arith, all)

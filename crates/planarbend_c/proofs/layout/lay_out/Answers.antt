@@ -17,7 +17,7 @@ pub returns-in_err-rec-clause-is_record : goal.returns-in_err-rec-clause-is_reco
 returns-in_err-rec-clause-is_record c = let p = err_from_is_err_and c.from_residual.result c.from_residual.ensures.1 in rw p.1 tt
 
 pub returns-in_err-rec-clause-fault : goal.returns-in_err-rec-clause-fault
-returns-in_err-rec-clause-fault c = 
+returns-in_err-rec-clause-fault c =
     let p = err_from_is_err_and c.from_residual.result c.from_residual.ensures.1 in
     rw (p.1, p.2) c.in_err-rec.ensures.fault
 
@@ -34,7 +34,7 @@ pub returns-in_err-shaped_plane-clause-is_record : goal.returns-in_err-shaped_pl
 returns-in_err-shaped_plane-clause-is_record c = let p = err_from_is_err_and c.from_residual-in_err-shaped_plane.result c.from_residual-in_err-shaped_plane.ensures.1 in rw p.1 tt
 
 pub returns-in_err-shaped_plane-clause-fault : goal.returns-in_err-shaped_plane-clause-fault
-returns-in_err-shaped_plane-clause-fault c = 
+returns-in_err-shaped_plane-clause-fault c =
     let p = err_from_is_err_and c.from_residual-in_err-shaped_plane.result c.from_residual-in_err-shaped_plane.ensures.1 in
     rw (p.1, p.2) (subst (λ (b : List ℕ). IsFault b c.in_err-shaped_plane.field-0.0) c.in_ok-rec.ensures.same c.in_err-shaped_plane.ensures.fault)
 
@@ -51,12 +51,12 @@ pub returns-in_err-drawing-clause-is_record : goal.returns-in_err-drawing-clause
 returns-in_err-drawing-clause-is_record c = let p = err_from_is_err_and c.from_residual-in_err-drawing.result c.from_residual-in_err-drawing.ensures.1 in rw p.1 tt
 
 pub returns-in_err-drawing-clause-fault : goal.returns-in_err-drawing-clause-fault
-returns-in_err-drawing-clause-fault c = 
+returns-in_err-drawing-clause-fault c =
     let p = err_from_is_err_and c.from_residual-in_err-drawing.result c.from_residual-in_err-drawing.ensures.1 in
     rw (p.1, p.2) (subst (IsFault c.args.bytes.now) (sym c.in_err-drawing.ensures.fault) tt)
 
 pub returns-clause-plane : goal.returns-clause-plane
-returns-clause-plane c = 
+returns-clause-plane c =
     subst (λ (b : List ℕ). IsPlaneOf c.args.choice b c.in_ok-shaped_plane.shaped_plane.plane) c.in_ok-rec.ensures.same c.in_ok-shaped_plane.ensures.plane
 
 pub returns-clause-drawn : goal.returns-clause-drawn

@@ -1,6 +1,6 @@
 use Rattle.std.proofs.Common.{◌≡◌, ◌∙◌, ◌+◌, ◌<◌, ◌≤◌, IfSome, ap, arith, length, refl, subst, sym, Option, ℕ}
 use Rattle.std.specs.Result.{OkIff}
-use Rattle.planarbend_c.specs.Found.{corners_before, all_corners}
+use Rattle.planarbend_c.specs.Found.{all_corners}
 use Rattle.planarbend_c.proofs.Corners.{converted, count_all, count_more}
 use Rattle.planarbend_c.proofs.points.corner_count.Goals as goal
 

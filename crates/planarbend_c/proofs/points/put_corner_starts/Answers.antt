@@ -1,7 +1,7 @@
-use Rattle.std.proofs.Common.{◌≡◌, ◌≢◌, ◌∙◌, ◌+◌, ◌<◌, ◌≤◌, ℕ, ap, arith, get_or, length, refl, set, sym}
+use Rattle.std.proofs.Common.{◌≡◌, ◌≢◌, ◌∙◌, ◌+◌, ◌<◌, ℕ, ap, arith, length, refl, set, sym}
 use Rattle.std.proofs.Common.{below_more, get_or-set_other, length-set, get_or-set_same}
 use Rattle.std.specs.List.{slice_index}
-use Rattle.planarbend_c.specs.Found.{all_corners, corners_before}
+use Rattle.planarbend_c.specs.Found.{corners_before}
 use Rattle.planarbend_c.proofs.Corners.{count_below, count_more}
 use Rattle.planarbend_c.proofs.Written.{some_room}
 use Rattle.planarbend_c.proofs.points.put_corner_starts.Goals as goal

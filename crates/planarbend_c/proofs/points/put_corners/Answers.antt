@@ -1,8 +1,8 @@
-use Rattle.std.proofs.Common.{◌≡◌, ◌∙◌, ◌+◌, ◌<◌, ◌≤◌, ◌++◌, List, ap, arith, length, map, take, refl, sym}
+use Rattle.std.proofs.Common.{◌∙◌, ◌<◌, ◌≤◌, ◌++◌, List, ap, arith, length, map, take, refl, sym}
 use Rattle.std.proofs.lemmas.List.{take_all}
 use Rattle.ortho_rep.specs.declared.points.Point.{Point}
 use Rattle.planarbend_c.specs.declared.lists.GridPoint.{GridPoint}
-use Rattle.planarbend_c.specs.Found.{all_corners, corners_before, grid_point}
+use Rattle.planarbend_c.specs.Found.{all_corners, grid_point}
 use Rattle.planarbend_c.proofs.Corners.{corners_more, count_all, count_below, count_more}
 use Rattle.planarbend_c.proofs.Written.{some_room}
 use Rattle.planarbend_c.proofs.points.put_corners.Goals as goal

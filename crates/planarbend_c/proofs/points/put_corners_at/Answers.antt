@@ -1,4 +1,4 @@
-use Rattle.std.proofs.Common.{◌≡◌, ◌∙◌, ◌+◌, ◌<◌, ◌≤◌, ◌++◌, ◌∷◌, [], List, ap, arith, length, map, take, set, sym}
+use Rattle.std.proofs.Common.{◌≡◌, ◌∙◌, ◌+◌, ◌<◌, ◌++◌, ◌∷◌, [], List, ap, arith, length, map, take, set, sym}
 use Rattle.std.proofs.lemmas.List.{append-nil, append_assoc, map_more, take_all, take_more_set}
 use Rattle.ortho_rep.specs.declared.points.Point.{Point}
 use Rattle.planarbend_c.specs.declared.lists.GridPoint.{GridPoint}

@@ -1,4 +1,4 @@
-use Rattle.std.proofs.Common.{◌≡◌, ◌∙◌, ◌<◌, ◌≤◌, ◌++◌, ◌∷◌, [], ap, arith, length, map, take, sym, refl, get_or}
+use Rattle.std.proofs.Common.{◌≡◌, ◌∙◌, ◌<◌, ◌++◌, ◌∷◌, [], ap, arith, length, map, take, sym, refl}
 use Rattle.std.proofs.lemmas.List.{map_more, take_all, take_more_set, length-map}
 use Rattle.planarbend_c.specs.declared.lists.GridPoint.{GridPoint}
 use Rattle.planarbend_c.specs.Found.{grid_point}

@@ -1,9 +1,5 @@
-use Rattle.std.proofs.Common.{rules, FitsSigned, w32, ◌≡◌, ◌∙◌, ◌+◌, ◌-◌, ◌<◌, ◌≤◌, [], ℕ, ℤ, pos, List, ap, arith, get_or, length, map, refl, set, subst, sym, take}
+use Rattle.std.proofs.Common.{rules, FitsSigned, w32, ◌≡◌, ◌∙◌, ◌<◌, pos, arith, get_or, length, refl, sym}
 use Rattle.std.proofs.lemmas.Int.{to_z-of_z}
-use Rattle.std.proofs.lemmas.List.{get_or-map, length-map}
-use Rattle.embedding.specs.Darts.{dart_count}
-use Rattle.ortho_rep.specs.declared.turn.Turn.{Turn}
-use Rattle.planarbend_c.specs.Found.{turns_counted}
 use Rattle.planarbend_c.proofs.Written.{all_written, one_written, some_room}
 use Rattle.planarbend_c.proofs.shapes.put_face_prices.Goals as goal
 

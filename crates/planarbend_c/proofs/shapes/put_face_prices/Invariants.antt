@@ -1,5 +1,4 @@
-use Rattle.std.proofs.Common.{◌≡◌, map, take}
-use Rattle.planarbend_c.specs.Found.{turns_counted}
+use Rattle.std.proofs.Common.{◌≡◌, take}
 use Rattle.planarbend_c.proofs.shapes.put_face_prices.Given as goal
 
 abbrev pub invariant-loop-face : goal.invariant-loop-face

@@ -1,8 +1,6 @@
-use Rattle.std.proofs.Common.{rules, FitsSigned, w32, ◌≡◌, ◌∙◌, ◌+◌, ◌-◌, ◌<◌, ◌≤◌, [], ℕ, ℤ, pos, List, ap, arith, get_or, length, map, refl, set, subst, sym, take}
-use Rattle.std.proofs.lemmas.Int.{to_z-of_z}
+use Rattle.std.proofs.Common.{◌≡◌, ◌∙◌, ◌<◌, [], ap, arith, get_or, length, map, refl, sym}
 use Rattle.std.proofs.lemmas.List.{get_or-map, length-map}
 use Rattle.embedding.specs.Darts.{dart_count}
-use Rattle.ortho_rep.specs.declared.turn.Turn.{Turn}
 use Rattle.planarbend_c.specs.Found.{both_turns, turns_counted}
 use Rattle.planarbend_c.proofs.Written.{all_written, one_written, some_room}
 use Rattle.planarbend_c.proofs.shapes.put_turns.Goals as goal
@@ -21,7 +19,7 @@ loop-dart-preserved c =
     let inside : dart < length strings = omega (arith, end, c.loop-dart-test.true) in
     let none = both_turns 0 0 in
     let is : c.turns_counted.result ≡ get_or items dart none =
-        c.turns_counted.ensures ∙ ap turns_counted c.turns.ensures.value ∙ sym (get_or-map turns_counted strings dart [] none inside) in
+    c.turns_counted.ensures ∙ ap turns_counted c.turns.ensures.value ∙ sym (get_or-map turns_counted strings dart [] none inside) in
     one_written c.loop-dart.out items c.from.result dart c.turns_counted.result none c.from.ensures room
     (omega (arith, inside, length-map strings turns_counted)) c.loop-dart.invariant is
 
