@@ -61,7 +61,6 @@ class Part:
     labels: dict[int, Box]
     width: float
     height: float
-    broken: list[int]
     planar: Planarization | None
 
 
@@ -122,7 +121,7 @@ def part_of(graph: Graph, vertices: list[int], edges: list[int], options: Option
     pairs = [(edge.tail, edge.head) for edge in inner.edges]
     plain = [place for place, (tail, head) in enumerate(pairs) if tail != head]  # loops are drawn at their boxes
     if not plain:
-        return in_pixels(settled(lone(len(pairs)), inner), vertices, edges, None)
+        return in_pixels(settled(lone(len(pairs)), inner), vertices, edges)
     together = [number[vertex] for vertex in options.outer if vertex in number]
     ends = [pairs[place] for place in plain]
     best = None
@@ -138,11 +137,15 @@ def part_of(graph: Graph, vertices: list[int], edges: list[int], options: Option
             sheet = settled(with_loops(shape, plain, len(pairs)), inner)
             price = (len(shape.broken), price_of(sheet, len(pairs)))
             if best is None or price < best[0]:
-                best = price, sheet, planar
+                best = price, sheet
         if best is not None and not best[0][0]:
             break
     assert best is not None, "a component has a shape"
-    return in_pixels(best[1], vertices, edges, best[2])
+    (broken, _), sheet = best
+    if broken:
+        names = ", ".join(inner.vertices[vertex].name for vertex in sheet.shape.broken)
+        raise DrawError(f"no drawing was found in which these boxes are rectangles: {names} (try another seed)")
+    return in_pixels(sheet, vertices, edges)
 
 
 def embedded(count: int, pairs: list[tuple[int, int]], options: Options, together: Sequence[int],
@@ -239,7 +242,7 @@ def crossings_of(shape: Shape) -> list[tuple[int, tuple[int, int]]]:
     return [(node, (min(met[node]), max(met[node]))) for node in shape.expansion.crossings]
 
 
-def in_pixels(sheet: Sheet, vertices: list[int], edges: list[int], planar: Planarization | None) -> Part:
+def in_pixels(sheet: Sheet, vertices: list[int], edges: list[int]) -> Part:
     """A settled component, moved to 0, 0."""
     crossings = crossings_of(sheet.shape)
     boxes = [sheet.extent(box) for box in sheet.boxes]
@@ -254,7 +257,7 @@ def in_pixels(sheet: Sheet, vertices: list[int], edges: list[int], planar: Plana
     found = [Crossing(meeting(lines[one], lines[other]), (edges[one], edges[other])) for _, (one, other) in crossings]
     return Part(vertices, edges, list(map(moved, boxes)), lines, found,
                 {edges[number]: moved(box) for number, box in labels.items()}, right - left, bottom - top,
-                [vertices[vertex] for vertex in sheet.shape.broken], planar)
+                sheet.shape.expansion.planar)
 
 
 def meeting(one: list[Point], other: list[Point]) -> Point:
@@ -288,9 +291,8 @@ def side_by_side(graph: Graph, parts: list[Part]) -> Drawing:
         crossings += [Crossing((round(one.at[0] + x, 3), round(one.at[1] + y, 3)), one.edges) for one in part.crossings]
         labels |= {edge: place(box) for edge, box in part.labels.items()}
     size = (math.ceil(width - BETWEEN + 2 * MARGIN), math.ceil(height - BETWEEN + 2 * MARGIN))
-    broken = [vertex for part in parts for vertex in part.broken]
     planes = [part.planar for part in parts if part.planar is not None]
-    return Drawing(graph, boxes, lines, crossings, size, labels, broken, list(map(lists_of, planes)))
+    return Drawing(graph, boxes, lines, crossings, size, labels, list(map(lists_of, planes)))
 
 
 def packed(sizes: list[tuple[float, float]]) -> tuple[list[Point], float, float]:

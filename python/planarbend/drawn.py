@@ -37,8 +37,6 @@ class Drawing:
         Of the whole picture.
     label_boxes : dict from edge to Box
         The place of each edge's label that is drawn.
-    broken : list of int
-        The vertices whose box should be no rectangle; the rectangle round it then meets other things.
     embedding : list of neighbour lists
         For each component with an edge its vertices in the graph's order, then its crossings, each with its neighbours
         counted from 1, clockwise. Loops are left out.
@@ -50,7 +48,6 @@ class Drawing:
     crossings: list[Crossing]
     size: tuple[float, float]
     label_boxes: dict[int, Box]
-    broken: list[int]
     embedding: list[Lists]
 
     @property
@@ -66,8 +63,6 @@ class Drawing:
         """The drawing as JSON: vertices, edges, crossings, bends and size."""
         vertices = [{"name": vertex.name, "label": vertex.label, "kind": vertex.kind.value, "box": list(box)}
                     for vertex, box in zip(self.graph.vertices, self.boxes, strict=True)]
-        for number in self.broken:
-            vertices[number]["broken"] = True
         for number, box in net_labels(self).items():
             vertices[number]["label_box"] = list(box)
         edges = []

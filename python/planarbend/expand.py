@@ -33,6 +33,8 @@ class Expansion:
         The vertices that are cages, and spines.
     crossings : list of int
         The nodes that are crossings.
+    planar : Planarization or None
+        The embedded graph that it was made of.
     """
 
     around: list[list[int]]
@@ -41,6 +43,7 @@ class Expansion:
     cages: set[int]
     spines: set[int]
     crossings: list[int] = field(default_factory=list)
+    planar: Planarization | None = None
 
     @property
     def lists(self) -> Lists:
@@ -133,7 +136,8 @@ def expand(planar: Planarization, cages: Collection[int], spines: Mapping[int, i
             homes.append([vertex])
     chains = make_simple(builder, planar.chains)
     around = [[builder.tail[dart ^ 1] for dart in darts] for darts in builder.rotation]
-    return Expansion(around, homes, chains, set(cages), set(spines), list(range(count, len(planar.rotation))))
+    return Expansion(around, homes, chains, set(cages), set(spines), list(range(count, len(planar.rotation))),
+                     planar)
 
 
 def make_simple(builder: Builder, chains: list[list[int]]) -> list[list[int]]:
