@@ -15,7 +15,7 @@ mod prices;
 
 pub use bends::few_bends;
 pub use causes::{least_points_are_in_grid, only_wide, remaining_causes};
-pub use cells::cells_are_covered_once;
+pub use cells::{cells_are_covered_once, cells_lie_in_faces};
 pub use closed_sets::closed_sets_hold_the_outside;
 pub use drawn_answers::{answers_are_drawn, laid_answers_are_drawn, no_cause_is_shown};
 pub use least_coordinates::{
