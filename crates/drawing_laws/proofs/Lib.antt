@@ -22,6 +22,7 @@ pub mod Parts
 pub mod Meeting
 pub mod Drawn
 pub mod DartPaths
+pub mod DrawnRegions
 pub mod Growing
 pub mod FaceNumbering
 pub mod CornerCounts

@@ -1,6 +1,6 @@
 //! Laws of shapes and drawings, each as the contract of a function that does nothing: how few bends least shapes
-//! have, that boxes have coordinates that grow along their darts, that points taken from these draw the shape, and that each laid
-//! answer is drawn.
+//! have, that boxes have coordinates that grow along their darts, that points taken from these draw the shape and have its
+//! faces as regions, and that each laid answer is drawn.
 #![tactic(auto)]
 
 mod bends;
@@ -12,6 +12,7 @@ mod least_coordinates;
 mod orders;
 mod planarity;
 mod prices;
+mod regions;
 
 pub use bends::few_bends;
 pub use causes::{least_points_are_in_grid, only_wide, remaining_causes};
@@ -24,3 +25,4 @@ pub use least_coordinates::{
 pub use orders::monotone_coordinates_exist;
 pub use planarity::{least_points_pass, monotone_coordinates_draw};
 pub use prices::{least_is_priced, least_shape_exists};
+pub use regions::boxes_have_regions;
