@@ -23,6 +23,7 @@ pub mod Meeting
 pub mod Drawn
 pub mod DartPaths
 pub mod DrawnRegions
+pub mod RegionLaws
 pub mod Growing
 pub mod FaceNumbering
 pub mod CornerCounts

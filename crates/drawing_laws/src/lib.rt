@@ -25,4 +25,4 @@ pub use least_coordinates::{
 pub use orders::monotone_coordinates_exist;
 pub use planarity::{least_points_pass, monotone_coordinates_draw};
 pub use prices::{least_is_priced, least_shape_exists};
-pub use regions::boxes_have_regions;
+pub use regions::{boxes_have_regions, regions_are_faces};
