@@ -4,3 +4,7 @@ pub mod Draws
 pub mod Faults
 pub mod Routes
 pub mod Shown
+pub mod Regions
+pub mod Parts
+pub mod Cells
+pub mod Ranks
