@@ -1,5 +1,5 @@
 -- Euler's formula: whether the last rule is broken.
-use Rattle.std.proofs.Common.{◌≡◌, ◌≢◌, ◌↔◌, ℕ, ◌+◌, ◌*◌, ◌<◌, Bool, true, false, List, length, refl, sym, arith}
+use Rattle.std.proofs.Common.{◌≡◌, ◌≢◌, ◌↔◌, ℕ, ◌+◌, ◌*◌, Bool, true, false, List, length, refl, sym, arith}
 use Rattle.std.specs.Bool.{IsTrue}
 use Rattle.embedding.specs.declared.rules.Rule.TheVariants.{Range, Loop, Multi, Asymmetric, Edgeless, Degree, Disconnected, Genus}
 use Rattle.embedding.specs.Darts.{dart_count, next_of}
@@ -37,5 +37,5 @@ faces_of g rules rotation l face f h =
 -- a test by the number of faces
 pub genus_told : (g : List (List ℕ)) → (face : ℕ → ℕ) (f : ℕ) → HasFaces (dart_count g) (next_of g) face f → (differ : Bool)
     → (differ ≡ true → 2 * (length g + f) ≢ dart_count g + 4) → (differ ≡ false → 2 * (length g + f) ≡ dart_count g + 4) → (IsTrue differ ↔ Breaks g Genus)
-genus_told g face f h true no yes = yes_is (face, f, h, no refl)
-genus_told g face f h false no yes = no_is (keeps_genus g face f h (yes refl))
+genus_told g face f h true apart same = yes_is (face, f, h, apart refl)
+genus_told g face f h false apart same = no_is (keeps_genus g face f h (same refl))

@@ -1,7 +1,5 @@
 use Rattle.std.proofs.Common.{List, ℕ, subst}
-use Rattle.embedding.specs.declared.rules.Rule.TheVariants.{Genus}
-use Rattle.embedding.specs.Rules.{FirstBroken, KeepsBefore}
-use Rattle.embedding.proofs.Euler.{eight_rules}
+use Rattle.embedding.specs.Rules.{FirstBroken}
 use Rattle.embedding.proofs.genus.broken_rule.Goals as goal
 
 pub returns-in-Some : goal.returns-in-Some

@@ -1,8 +1,5 @@
-use Rattle.std.proofs.Common.{◌≡◌, ℕ, length, arith, subst}
 use Rattle.embedding.specs.declared.graphs.TheConstants.{MAX_DARTS}
 use Rattle.embedding.specs.declared.numbering.TheConstants.{UNSET}
-use Rattle.embedding.specs.Faces.{HasFaces}
-use Rattle.embedding.specs.Walk.{at, next_in}
 use Rattle.embedding.proofs.Faced.{part_of_one}
 use Rattle.embedding.proofs.numbering.count_faces.Goals as goal
 

@@ -1,7 +1,7 @@
 use Rattle.std.proofs.Common.{◌≡◌, ℕ, ◌+◌, ◌*◌, ◌<◌, List, [], ◌∷◌, ◌++◌, length, get_or, set, take, refl, sym, ap, ◌∙◌, subst, arith}
 use Rattle.std.proofs.lemmas.List.{length-set}
 use Rattle.std.proofs.lemmas.Grind.{take-set_at}
-use Rattle.embedding.specs.Darts.{dart_count, first_dart, head_of, reverse_of, after_of}
+use Rattle.embedding.specs.Darts.{first_dart, head_of, reverse_of, after_of}
 use Rattle.embedding.specs.Tables.{IsRotation}
 use Rattle.embedding.proofs.Entries.{Stands, stands_at, stands_below}
 use Rattle.embedding.proofs.Parts.{first_dart-within}
@@ -38,6 +38,13 @@ bounds-rotation-pair c =
     let i = c.darts.head-index in
     let inside : i < length (get_or g c.args.place []) = omega (arith, c.darts-test.true, ap length c.at-list.ensures.value) in
     omega (arith, c.darts.invariant.next, c.from-pair.ensures, c.requires.size, c.darts.auto.rotation, stands_below g c.args.place i c.requires.within inside)
+
+pub bounds-rotation-pair-in-darts : goal.bounds-rotation-pair-in-darts
+bounds-rotation-pair-in-darts c =
+    let g = c.args.lists.now in
+    let i = c.darts.head-index in
+    let inside : i < length (get_or g c.args.place []) = omega (arith, c.darts-test.true, ap length c.at-list.ensures.value) in
+    omega (arith, c.darts.invariant.next, c.from-pair.ensures, c.requires.size, c.darts.auto.rotation, length-set c.darts.rotation (2 * c.from-pair.result) c.reverse_between.result, stands_below g c.args.place i c.requires.within inside)
 
 pub darts-preserved : goal.darts-preserved
 darts-preserved c =
