@@ -24,11 +24,11 @@ pub record IsPlaneOf (choice : Choice) (bytes : List ℕ) (plane : PlaneModel) :
   pub rules : IsPlane plane
   pub chosen : IsChosen choice plane
 
--- why such a record has no plane, or no shape: the rule is broken, and none before it; or memory ran out, and none of
--- the first seven rules is broken
+-- why such a record has no plane, or no shape: the rule is broken, and none before it; or memory ran out, and no rule is
+-- broken
 abbrev pub IsRefused : List ℕ → ShapeFault → Type 0
 IsRefused bytes (Rule rule) = FirstBroken (lists_of bytes) rule
-IsRefused bytes Memory = KeepsBefore (lists_of bytes) 8
+IsRefused bytes Memory = KeepsBefore (lists_of bytes) 9
 
 -- the plane of the record, or why there is none
 abbrev pub IsEmbedded : List ℕ → Result PlaneModel ShapeFault → Type 0

@@ -5,6 +5,6 @@
 pub enum ShapeFault {
     /// It breaks this rule, and none before it.
     Rule(embedding::Rule),
-    /// Memory ran out. The record breaks none of rules 1 to 7.
+    /// Memory ran out. The record breaks no rule.
     Memory,
 }

@@ -38,8 +38,8 @@ impl RecordScratch {
     ///
     /// # Errors
     ///
-    /// `Rule` with the first rule that the record breaks; `Memory` where there is none for the plane or its shape, which
-    /// says nothing of the record.
+    /// `Rule` with the first rule that the record breaks; `Memory` if it breaks none, but there is no memory for the plane
+    /// or its shape.
     pub fn shape(
         &mut self,
         alloc: Global,

@@ -1,7 +1,7 @@
 //! The stages that answer a record.
 
 ghost use Rattle.std.specs.Prelude.{◌≡◌, ℕ, List};
-ghost use Rattle.answers.specs.Steps.{IsEmbedded, IsShaped};
+ghost use Rattle.answers.specs.Steps.{IsRefused, IsEmbedded, IsShaped};
 ghost use Rattle.common.specs.declared.choice.Choice.{Choice};
 ghost use Rattle.embedding.specs.Rules.{KeepsBefore};
 ghost use Rattle.planar_code.specs.Stream.{lists_of};
@@ -13,11 +13,22 @@ use crate::fault::ShapeFault;
 use crate::shaped_plane::ShapedPlane;
 use crate::shaping::{ShapeScratch, with_least_shape};
 use common::{Choice, DrawingKind};
-use embedding::{Graph, ReadFault, Rule};
+use embedding::{Graph, ReadFault, Rule, broken_rule};
 use entries::{Answer, Entry};
 use faces::{Plane, TraceFault};
 use planar_code::Record;
 use std::alloc::{AllocError, Global};
+
+/// Why a record has no plane if there is no memory for its graph: the first rule that it breaks, or else that. The rules
+/// are tried in no memory.
+fn fault_without_graph(rec: &Record) -> ShapeFault
+    ensures { IsRefused rec.now result }
+{
+    match broken_rule(rec) {
+        Some(rule) => ShapeFault::Rule(rule),
+        None => ShapeFault::Memory,
+    }
+}
 
 /// The plane of a record, or why there is none, in memory that is lent.
 pub(crate) fn embed(
@@ -30,7 +41,7 @@ pub(crate) fn embed(
     let graph = match Graph::read_in(alloc, &mut scratch.graph, rec) {
         Ok(graph) => graph,
         Err(ReadFault::Rule(rule)) => return Err(ShapeFault::Rule(rule)),
-        Err(ReadFault::Memory) => return Err(ShapeFault::Memory),
+        Err(ReadFault::Memory) => return Err(fault_without_graph(rec)),
     };
     match Plane::trace_in(alloc, scratch, graph) {
         Ok(plane) => Ok(plane),
@@ -38,7 +49,7 @@ pub(crate) fn embed(
             graph.give_back(&mut scratch.graph);
             Err(ShapeFault::Rule(Rule::Genus))
         }
-        Err(TraceFault::Memory(_)) => Err(ShapeFault::Memory),
+        Err(TraceFault::Memory(_)) => unreachable!(),
     }
 }
 
@@ -67,7 +78,7 @@ pub(crate) fn answer_with(
 ) -> Answer
     ensures answers { (choice : Choice) (bytes : List ℕ) → IsShaped choice bytes shaped_plane → Answers choice bytes result }
     ensures memory { (choice : Choice) (bytes : List ℕ) → IsShaped choice bytes shaped_plane
-        → result ≡ Answer.NoMemory → KeepsBefore (lists_of bytes) 8 }
+        → result ≡ Answer.NoMemory → KeepsBefore (lists_of bytes) 9 }
 {
     let ShapedPlane {
         plane,
@@ -95,8 +106,8 @@ pub(crate) fn answer_with(
 /// The entry of a record under a choice of its outer face: one stage after another, on the caller's thread. The
 /// drawing is the quick one.
 ///
-/// Where any call on the way finds no memory, the answer is `NoMemory`. Then the record breaks none of rules 1 to 7,
-/// which are tried in no memory; the last one counts faces, and may not have been tried.
+/// If the record breaks a rule, the answer names the first one, whatever memory there is. Else it is `NoMemory` if any call
+/// on the way finds no memory.
 pub fn answer(alloc: Global, file: u32, ordinal: u32, rec: Record, choice: Choice) -> Entry
     ensures file { result.file ≡ file }
     ensures ordinal { result.ordinal ≡ ordinal }
@@ -104,7 +115,7 @@ pub fn answer(alloc: Global, file: u32, ordinal: u32, rec: Record, choice: Choic
     ensures chosen { result.choice ≡ choice }
     ensures answered { Answers choice rec result.answer }
     ensures drawn { IsDrawnIfLaid result.answer }
-    ensures memory { result.answer ≡ Answer.NoMemory → KeepsBefore (lists_of rec) 8 }
+    ensures memory { result.answer ≡ Answer.NoMemory → KeepsBefore (lists_of rec) 9 }
 {
     let mut planes = faces::Scratch::empty(alloc);
     let plane = embed(alloc, &mut planes, &rec);

@@ -21,3 +21,4 @@ pub mod Tracing
 pub mod Unique
 pub mod Degrees
 pub mod Faced
+pub mod Euler

@@ -6,6 +6,7 @@
 
 mod breaks;
 mod faults;
+mod genus;
 mod graphs;
 mod lesser_darts;
 mod lists;
@@ -18,6 +19,7 @@ mod scratch;
 mod tables;
 
 pub use faults::ReadFault;
+pub use genus::broken_rule;
 pub use graphs::{Graph, MAX_DARTS, MAX_EDGES};
 pub use lesser_darts::LesserDarts;
 pub use rules::Rule;

@@ -109,3 +109,15 @@ pub(crate) fn add_faces(table: &mut Vec<u16>, darts: usize) -> Result<u16, Alloc
     let faces = &mut room[..darts];
     add_on(table, faces)
 }
+
+/// How many faces so many darts have. They are numbered in no memory of the heap.
+pub(crate) fn count_faces(rotation: &[u16], darts: usize) -> u16
+    requires tied { AreRotations darts rotation.now }
+    requires few { darts ≤ MAX_DARTS }
+    ensures numbered { (face : ℕ → ℕ) × HasFaces darts (next_in rotation.now) face result }
+    ensures few { result ≤ darts }
+{
+    let mut room = [UNSET; MAX_DARTS];
+    let faces = &mut room[..darts];
+    number_faces(rotation, faces)
+}

@@ -1,7 +1,7 @@
 //! What a graph keeps, made from lists that keep rules 1 to 7. Each list stands in the memory of an old one where
 //! that is enough.
 
-ghost use Rattle.std.specs.Prelude.{◌≡◌, ℕ, ◌+◌, ◌*◌, ◌<◌, ◌≤◌, ◌++◌, List, drop, length, vec_capacity, IfOk, OnOk, Contains};
+ghost use Rattle.std.specs.Prelude.{◌≡◌, ℕ, ◌+◌, ◌*◌, ◌<◌, ◌≤◌, ◌++◌, List, drop, take, length, vec_capacity, IfOk, OnOk, Contains};
 ghost use Rattle.embedding.specs.Lists.{list_of};
 ghost use Rattle.embedding.specs.Darts.{dart_count, first_dart, head_of, tail_of, reverse_of, after_of};
 ghost use Rattle.embedding.specs.Rules.{KeepsBefore};
@@ -32,30 +32,63 @@ fn after_in(next: u16, first: u16, end: u16) -> u16
     if next < end { next } else { first }
 }
 
-/// Adds the darts of the list at a place. Each list has at most four entries, so to search one for a reverse takes
-/// constant time.
-fn add_darts(heads: &mut Vec<u8>, rotation: &mut Vec<u16>, lists: &Lists<'_>, place: u8)
-    requires rules { KeepsBefore lists.now 8 }
+/// Adds the heads of the darts of the list at a place.
+fn add_heads(heads: &mut Vec<u8>, lists: &Lists<'_>, place: u8)
     requires within { place < length lists.now }
     requires heads { IsTable (first_dart lists.now place) (head_of lists.now) heads.old.items }
-    requires rotation { IsRotation lists.now (first_dart lists.now place) rotation.old.items }
-    requires head_room { dart_count lists.now ≤ vec_capacity heads.old }
-    requires rotation_room { 2 * dart_count lists.now ≤ vec_capacity rotation.old }
+    requires room { dart_count lists.now ≤ vec_capacity heads.old }
     ensures heads { IsTable (first_dart lists.now (place + 1)) (head_of lists.now) heads.new.items }
-    ensures rotation { IsRotation lists.now (first_dart lists.now (place + 1)) rotation.new.items }
-    ensures head_room { dart_count lists.now ≤ vec_capacity heads.new }
-    ensures rotation_room { vec_capacity rotation.new ≡ vec_capacity rotation.old }
+    ensures room { dart_count lists.now ≤ vec_capacity heads.new }
+{
+    let list = lists.at(place);
+    'darts: for head in list {
+        heads.push_reserved(*head);
+    }
+}
+
+/// Writes the rotation of the darts of the list at a place. Each list has at most four entries, so to search one for a
+/// reverse takes constant time.
+fn write_list_rotation(rotation: &mut [u16], lists: &Lists<'_>, place: u8)
+    requires rules { KeepsBefore lists.now 8 }
+    requires within { place < length lists.now }
+    requires size { length rotation.old ≡ 2 * dart_count lists.now }
+    requires before { let n = first_dart lists.now place in
+        IsRotation lists.now n (take (2 * n) rotation.old) }
+    ensures { let n = first_dart lists.now (place + 1) in
+        IsRotation lists.now n (take (2 * n) rotation.new) }
 {
     let list = lists.at(place);
     let first = lists.first_dart(place);
     let end = first + list.len() as u16;
     let mut next = first;
     'darts: for head in list {
+        let pair = 2 * usize::from(next);
         next += 1;
-        heads.push_reserved(*head);
-        rotation.push_reserved(reverse_between(lists, place + 1, *head));
-        rotation.push_reserved(after_in(next, first, end));
+        rotation[pair] = reverse_between(lists, place + 1, *head);
+        rotation[pair + 1] = after_in(next, first, end);
     }
+}
+
+/// Writes the rotation of all darts: of each its reverse, and the dart after it, which is the next one, but of the last
+/// dart of a list its first one.
+pub(crate) fn write_rotation(rotation: &mut [u16], lists: &Lists<'_>)
+    requires rules { KeepsBefore lists.now 8 }
+    requires size { length rotation.old ≡ 2 * dart_count lists.now }
+    ensures { IsRotation lists.now (dart_count lists.now) rotation.new }
+{
+    for place in 0..lists.count() {
+        write_list_rotation(rotation, lists, place);
+    }
+}
+
+/// Makes a table the rotation of all darts.
+fn make_rotation(table: &mut Vec<u16>, lists: &Lists<'_>) -> Result<(), AllocError>
+    requires rules { KeepsBefore lists.now 8 }
+    ensures { OnOk result (IsRotation lists.now (dart_count lists.now) table.new.items) }
+{
+    table.resize(2 * lists.darts(), 0)?;
+    write_rotation(table, lists);
+    Ok(())
 }
 
 /// Adds where each vertex's list begins among the heads of all darts, and at the end how many darts there are.
@@ -79,9 +112,8 @@ pub(crate) struct DartTables {
     pub(crate) faces: u16,
 }
 
-/// What the graph of these lists keeps, in the memory of old lists where that is enough. In the rotation stand of each dart
-/// its reverse, and the dart after it, which is the next one, but of the last dart of a list its first one. The room is
-/// just what a plane needs.
+/// What the graph of these lists keeps, in the memory of old lists where that is enough. The room is just what a plane
+/// needs.
 pub(crate) fn darts_in(
     old_heads: Vec<u8>,
     old_table: Vec<u16>,
@@ -95,10 +127,11 @@ pub(crate) fn darts_in(
 {
     let darts = lists.darts();
     let mut heads = emptied(old_heads, darts)?;
-    let mut table = emptied(old_table, 3 * darts + darts / 2 + 3)?;
     for place in 0..lists.count() {
-        add_darts(&mut heads, &mut table, lists, place);
+        add_heads(&mut heads, lists, place);
     }
+    let mut table = emptied(old_table, 3 * darts + darts / 2 + 3)?;
+    make_rotation(&mut table, lists)?;
     let faces = add_faces(&mut table, darts)?;
     add_starts(&mut table, lists)?;
     Ok(DartTables {

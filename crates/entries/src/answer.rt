@@ -22,6 +22,6 @@ pub enum Answer {
     },
     /// The first rule that the record breaks.
     Refused(Rule),
-    /// Memory ran out, which says nothing of the record.
+    /// Memory ran out.
     NoMemory,
 }

@@ -1,30 +1,13 @@
 -- What is known once the faces are numbered: they make a plane, and the first greatest face is the outer one.
 use Rattle.std.proofs.Common.{◌≡◌, ℕ, ◌+◌, ◌*◌, ◌<◌, ◌≤◌, List, length, inl, inr, ◌∙◌, arith}
 use Rattle.std.proofs.lemmas.Bool.{cases_order}
-use Rattle.embedding.specs.declared.rules.Rule.TheVariants.{Range, Loop, Multi, Asymmetric, Edgeless, Degree, Disconnected, Genus}
 use Rattle.embedding.specs.Darts.{dart_count, next_of}
 use Rattle.embedding.specs.Faces.{HasFaces}
-use Rattle.embedding.specs.Rules.{Breaks, KeepsBefore}
+use Rattle.embedding.specs.Rules.{KeepsBefore}
+use Rattle.embedding.proofs.Euler.{keeps_genus, eight_rules}
 use Rattle.faces.specs.Faces.{IsOuter}
 use Rattle.faces.specs.Planes.{PlaneModel, IsPlane, vertices, darts, next, face_at}
 use Rattle.faces.specs.Greatest.{IsFirstGreatest}
-use Rattle.faces.proofs.Unique.{one_count}
-
--- the last rule is kept where vertices and faces are the edges and two more
-keeps_genus : (g : List (List ℕ)) (face : ℕ → ℕ) (f : ℕ) → HasFaces (dart_count g) (next_of g) face f → 2 * (length g + f) ≡ dart_count g + 4 → Breaks g Genus → ⊥
-keeps_genus g face f faces euler (other, count, others, broken) =
-    let same = one_count (dart_count g) (next_of g) face other f count faces others in
-    broken (omega arith)
-
-eight_rules : (g : List (List ℕ)) → KeepsBefore g 8 → (Breaks g Genus → ⊥) → KeepsBefore g 9
-eight_rules g rules genus Range h = rules Range (omega arith)
-eight_rules g rules genus Loop h = rules Loop (omega arith)
-eight_rules g rules genus Multi h = rules Multi (omega arith)
-eight_rules g rules genus Asymmetric h = rules Asymmetric (omega arith)
-eight_rules g rules genus Edgeless h = rules Edgeless (omega arith)
-eight_rules g rules genus Degree h = rules Degree (omega arith)
-eight_rules g rules genus Disconnected h = rules Disconnected (omega arith)
-eight_rules g rules genus Genus h = genus
 
 -- no rule is broken where the first seven are kept, and vertices and faces are the edges and two more
 pub all_rules : (g : List (List ℕ)) (face : ℕ → ℕ) (f : ℕ) → KeepsBefore g 8 → HasFaces (dart_count g) (next_of g) face f → 2 * (length g + f) ≡ dart_count g + 4 → KeepsBefore g 9

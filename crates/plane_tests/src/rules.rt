@@ -1,7 +1,7 @@
 //! Each of the eight rules, by records that break it first.
 
-use crate::known::{EDGE, TETRAHEDRON, TETRAHEDRON_ON_A_TORUS, read, same};
-use embedding::{Graph, ReadFault, Rule};
+use crate::known::{EDGE, TETRAHEDRON, TETRAHEDRON_ON_A_TORUS, read, record_of, same};
+use embedding::{Graph, ReadFault, Rule, broken_rule};
 use faces::{Plane, TraceFault};
 use std::alloc::{AllocError, Global};
 
@@ -58,6 +58,57 @@ fn each_rule_is_named(rt: HostRuntime) {
     for (bytes, rule) in RECORDS {
         same(&rt, broken(rt.alloc(), bytes), Ok(rule));
     }
+}
+
+/// The same rules are found without a graph. `checks/refuse-allocations` sees that this takes no memory.
+#[test]
+fn rules_are_found_in_no_memory(rt: HostRuntime) {
+    for (bytes, rule) in RECORDS {
+        let record = record_of(rt.alloc(), bytes).expect(&rt, "a record");
+        same(&rt, broken_rule(&record), rule);
+    }
+}
+
+/// The vertex in this column and this row of a grid.
+fn vertex_at(columns: u8, column: u8, row: u8) -> u8 {
+    row.wrapping_mul(columns)
+        .wrapping_add(column)
+        .wrapping_add(1)
+}
+
+/// The places before and after a place, round a circle of this many.
+fn around(place: u8, count: u8) -> (u8, u8) {
+    let last = count.wrapping_sub(1);
+    let before = if place == 0 { last } else { place.wrapping_sub(1) };
+    let after = if place == last { 0 } else { place.wrapping_add(1) };
+    (before, after)
+}
+
+/// The record of a grid on a torus: the neighbours of a vertex are those to its east, south, west and north.
+fn torus(alloc: Global, columns: u8, rows: u8) -> Result<Vec<u8>, AllocError> {
+    let mut bytes = Vec::new(alloc);
+    bytes.push(columns.wrapping_mul(rows))?;
+    for row in 0..rows {
+        for column in 0..columns {
+            let (west, east) = around(column, columns);
+            let (north, south) = around(row, rows);
+            bytes.push(vertex_at(columns, east, row))?;
+            bytes.push(vertex_at(columns, column, south))?;
+            bytes.push(vertex_at(columns, west, row))?;
+            bytes.push(vertex_at(columns, column, north))?;
+            bytes.push(0)?;
+        }
+    }
+    Ok(bytes)
+}
+
+/// A grid on a torus has as many faces as vertices. This one has as many edges as a graph has at most.
+#[test]
+fn a_large_torus_breaks_the_last_rule(rt: HostRuntime) {
+    let bytes = torus(rt.alloc(), 15, 17).expect(&rt, "memory");
+    let record = record_of(rt.alloc(), &bytes).expect(&rt, "a record");
+    same(&rt, broken_rule(&record), Some(Rule::Genus));
+    same(&rt, broken(rt.alloc(), &bytes), Ok(Some(Rule::Genus)));
 }
 
 #[test]

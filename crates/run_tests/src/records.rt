@@ -17,6 +17,9 @@ enum Said {
     Refused(Rule),
 }
 
+/// A tetrahedron on a torus: the last list runs the other way round.
+const TORUS: [u8; 17] = [4, 3, 4, 2, 0, 1, 4, 3, 0, 2, 4, 1, 0, 1, 2, 3, 0];
+
 /// Records by hand. The bends of the octahedron are those of seven faces at distances 1, 1, 1, 2, 2, 2 and 3
 /// from the outer one.
 const CASES: [(&[u8], Said); 15] = [
@@ -28,10 +31,7 @@ const CASES: [(&[u8], Said); 15] = [
         &[4, 3, 4, 2, 0, 1, 4, 3, 0, 2, 4, 1, 0, 3, 2, 1, 0],
         Said::Drawn(4, 6, 4, 4),
     ),
-    (
-        &[4, 3, 4, 2, 0, 1, 4, 3, 0, 2, 4, 1, 0, 1, 2, 3, 0],
-        Said::Refused(Rule::Genus),
-    ),
+    (&TORUS, Said::Refused(Rule::Genus)),
     (
         &[
             6, 2, 3, 4, 5, 0, 6, 3, 1, 5, 0, 2, 6, 4, 1, 0, 1, 3, 6, 5, 0, 2, 1, 4, 6, 0, 2, 5, 4,
@@ -200,4 +200,13 @@ fn refused_allocations(rt: HostRuntime) {
     if !answers_a_triangle(&rt, rt.alloc()) {
         same(&rt, answers_a_triangle(&rt, rt.alloc()), true);
     }
+}
+
+/// `checks/refuse-allocations` refuses each allocation of this test in turn: a record that breaks the last rule alone is
+/// refused with it all the same.
+#[test]
+fn genus_is_named_in_no_memory(rt: HostRuntime) {
+    let rec = record_of(rt.alloc(), &TORUS).expect(&rt, "a record");
+    let entry = answer(rt.alloc(), 1, 2, rec, Choice::First);
+    expect_entry(&rt, entry, Said::Refused(Rule::Genus));
 }

@@ -1,6 +1,5 @@
 use Rattle.std.proofs.Common.{◌≡◌, arith, subst, sym, ℕ}
 use Rattle.embedding.specs.Darts.{dart_count, first_dart}
-use Rattle.embedding.specs.Tables.{IsRotation}
 use Rattle.embedding.specs.Walk.{AreRotations, HasFaceTable}
 use Rattle.embedding.proofs.Building.{first_dart-all, heads_found}
 use Rattle.embedding.proofs.Faced.{tied}
@@ -10,11 +9,8 @@ use Rattle.embedding.proofs.tables.darts_in.Goals as goal
 
 pub add_faces-requires-clause-tied : goal.add_faces-requires-clause-tied
 add_faces-requires-clause-tied c =
-    let g = c.args.lists.now in
-    let all : first_dart g c.loop-place.place ≡ dart_count g =
-    first_dart-all g c.loop-place.place (omega (arith, c.loop-place-test.false, c.count-place-end.ensures.count)) in
-    let rotation = subst (λ (n : ℕ). IsRotation g n c.loop-place.table.items) all c.loop-place.invariant.rotation in
-    subst (λ (n : ℕ). AreRotations n c.loop-place.table.items) (sym c.darts-darts.ensures.count) (tied g c.requires.rules _ rotation)
+    let table = c.make_rotation.new.table.items in
+    subst (λ (n : ℕ). AreRotations n table) (sym c.darts-darts.ensures.count) (tied c.args.lists.now c.requires.rules table c.in_ok-make_rotation.ensures)
 
 pub add_faces-requires-clause-few : goal.add_faces-requires-clause-few
 add_faces-requires-clause-few c =
@@ -25,17 +21,15 @@ returns-clause-kept c =
     let g = c.args.lists.now in
     let all : first_dart g c.loop-place.place ≡ dart_count g =
     first_dart-all g c.loop-place.place (omega (arith, c.loop-place-test.false, c.count-place-end.ensures.count)) in
-    let rotation = subst (λ (n : ℕ). IsRotation g n c.loop-place.table.items) all c.loop-place.invariant.rotation in
-    let faced = subst (λ (n : ℕ). HasFaceTable n c.loop-place.table.items c.in_ok-faces.faces c.add_faces.new.table.items) c.darts-darts.ensures.count c.in_ok-faces.ensures in
+    let faced = subst (λ (n : ℕ). HasFaceTable n c.make_rotation.new.table.items c.in_ok-faces.faces c.add_faces.new.table.items) c.darts-darts.ensures.count c.in_ok-faces.ensures in
     let (starts, table, is) = c.in_ok-add_starts.ensures in
-    (kept_whole g _ _ _ starts _ _ c.requires.rules c.requires.few (heads_found g _ _ all c.loop-place.invariant.heads) rotation faced table is).1
+    (kept_whole g _ _ _ starts _ _ c.requires.rules c.requires.few (heads_found g _ _ all c.loop-place.invariant.heads) c.in_ok-make_rotation.ensures faced table is).1
 
 pub returns-clause-lists : goal.returns-clause-lists
 returns-clause-lists c =
     let g = c.args.lists.now in
     let all : first_dart g c.loop-place.place ≡ dart_count g =
     first_dart-all g c.loop-place.place (omega (arith, c.loop-place-test.false, c.count-place-end.ensures.count)) in
-    let rotation = subst (λ (n : ℕ). IsRotation g n c.loop-place.table.items) all c.loop-place.invariant.rotation in
-    let faced = subst (λ (n : ℕ). HasFaceTable n c.loop-place.table.items c.in_ok-faces.faces c.add_faces.new.table.items) c.darts-darts.ensures.count c.in_ok-faces.ensures in
+    let faced = subst (λ (n : ℕ). HasFaceTable n c.make_rotation.new.table.items c.in_ok-faces.faces c.add_faces.new.table.items) c.darts-darts.ensures.count c.in_ok-faces.ensures in
     let (starts, table, is) = c.in_ok-add_starts.ensures in
-    (kept_whole g _ _ _ starts _ _ c.requires.rules c.requires.few (heads_found g _ _ all c.loop-place.invariant.heads) rotation faced table is).0
+    (kept_whole g _ _ _ starts _ _ c.requires.rules c.requires.few (heads_found g _ _ all c.loop-place.invariant.heads) c.in_ok-make_rotation.ensures faced table is).0

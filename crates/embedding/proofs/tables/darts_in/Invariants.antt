@@ -1,12 +1,10 @@
-use Rattle.std.proofs.Common.{◌*◌, ◌≤◌, vec_capacity}
+use Rattle.std.proofs.Common.{◌≤◌, vec_capacity}
 use Rattle.embedding.specs.Darts.{dart_count, first_dart, head_of}
-use Rattle.embedding.specs.Tables.{IsTable, IsRotation}
+use Rattle.embedding.specs.Tables.{IsTable}
 use Rattle.embedding.proofs.tables.darts_in.Given as goal
 
 abbrev pub invariant-loop-place : goal.invariant-loop-place
 invariant-loop-place l = record {
   heads : IsTable (first_dart l.lists l.place) (head_of l.lists) l.heads.items;
-  rotation : IsRotation l.lists (first_dart l.lists l.place) l.table.items;
-  head_room : dart_count l.lists ≤ vec_capacity l.heads;
-  table_room : 2 * dart_count l.lists ≤ vec_capacity l.table;
+  room : dart_count l.lists ≤ vec_capacity l.heads;
 }
