@@ -4,6 +4,7 @@ pub mod Shapes
 pub mod Repeats
 pub mod ShapeStores
 pub mod Representation
+pub mod Keeping
 pub mod OfFlow
 pub mod Prices
 pub mod PriceStores

@@ -4,6 +4,7 @@
 
 mod best;
 mod certificate;
+mod fault;
 mod flat_points;
 mod least;
 mod lists;
@@ -17,8 +18,9 @@ mod strings;
 mod turn;
 
 pub use best::best_shape;
-pub use certificate::certify;
-pub use least::{least_shape, least_shape_in};
+pub use certificate::{certify, certify_keeping};
+pub use fault::ShapeFault;
+pub use least::{least_shape, least_shape_in, least_shape_keeping, least_shape_keeping_in};
 pub use lists::FlatLists;
 pub use points::{MAX_COORDINATE, Point, Points};
 pub use prices::Prices;
