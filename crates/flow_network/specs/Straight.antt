@@ -3,7 +3,7 @@
 use Rattle.std.specs.Prelude.{ℕ, Bool, false, ◌||◌, List, slice_index_or}
 use Rattle.faces.specs.Planes.{PlaneModel, reverse_dart}
 
--- whether dart d is marked; past the end of the list none is
+-- whether dart d is marked; past the end of the list none is (of faces likewise)
 abbrev pub is_marked : List Bool → ℕ → Bool
 is_marked marks d = slice_index_or marks d false
 

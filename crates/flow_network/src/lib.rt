@@ -9,4 +9,4 @@ mod straight;
 
 pub use face_net::FaceNet;
 pub use scratch::Scratch;
-pub use straight::stays_straight;
+pub use straight::{has_mark, stays_straight};

@@ -15,10 +15,10 @@ pub fn stays_straight(plane: &Plane, straight: &[bool], dart: u16) -> bool
     has_mark(straight, dart) || has_mark(straight, reverse)
 }
 
-/// Whether a dart is marked. Those past the end of the list are not.
-fn has_mark(straight: &[bool], dart: u16) -> bool
-    ensures { result ≡ is_marked straight.now dart }
+/// Whether a dart or a face is marked. Those past the end of the list are not.
+pub fn has_mark(marks: &[bool], number: u16) -> bool
+    ensures { result ≡ is_marked marks.now number }
 {
-    let place = usize::from(dart);
-    place < straight.len() && straight[place]
+    let place = usize::from(number);
+    place < marks.len() && marks[place]
 }

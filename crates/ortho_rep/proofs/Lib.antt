@@ -15,3 +15,4 @@ pub mod IntoFlow
 pub mod PushedLists
 pub mod SameAtDarts
 pub mod Tries
+pub mod Choosing

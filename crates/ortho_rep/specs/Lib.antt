@@ -14,3 +14,4 @@ pub mod PointStores
 pub mod Edges
 pub mod Best
 pub mod Tries
+pub mod BestKeeping

@@ -3,6 +3,7 @@
 #![tactic(auto)]
 
 mod best;
+mod best_keeping;
 mod certificate;
 mod fault;
 mod flat_points;
@@ -18,6 +19,7 @@ mod strings;
 mod turn;
 
 pub use best::best_shape;
+pub use best_keeping::best_shape_keeping;
 pub use certificate::{certify, certify_keeping};
 pub use fault::ShapeFault;
 pub use least::{least_shape, least_shape_in, least_shape_keeping, least_shape_keeping_in};
