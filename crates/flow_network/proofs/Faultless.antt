@@ -1,5 +1,5 @@
 -- The network of a plane is one.
-use Rattle.std.proofs.Common.{◌≡◌, ℕ, ◌+◌, ◌-◌, ◌<◌, ◌≤◌, ◌==◌, if◌then◌else◌, Bool, true, false, arith, subst, ap, inl, inr}
+use Rattle.std.proofs.Common.{◌≡◌, ℕ, ◌+◌, ◌-◌, ◌<◌, ◌≤◌, ◌==◌, if◌then◌else◌, Bool, true, false, List, arith, subst, ap, inl, inr}
 use Rattle.std.specs.Prelude.{ℤ, pos, negsuc, ◌-ℤ◌}
 use Rattle.std.proofs.lemmas.Bool.{cases_lt}
 use Rattle.std.proofs.lemmas.Int.{ints}
@@ -9,11 +9,11 @@ use Rattle.faces.proofs.Ends.{plane_ends}
 use Rattle.faces.proofs.Degrees.{degree_few}
 use Rattle.networks.specs.declared.arc.Arc.{Arc}
 use Rattle.networks.specs.Networks.{NetworkModel, node_count, arc_count, arc_at, supply_at, IsInSupplyRange, IsNetwork}
-use Rattle.flow_network.specs.FaceNet.{IsFaceNet, vertex_degree}
+use Rattle.flow_network.specs.FaceNet.{IsKeepingNet, vertex_degree}
 use Rattle.flow_network.proofs.VertexDegrees.{arrivals_most}
 
 -- a fact of each arc of the network
-pub each_arc : (p : PlaneModel) (net : NetworkModel) → IsFaceNet p net → (P : Arc → Type 0) →
+pub each_arc : {marks : List Bool} (p : PlaneModel) (net : NetworkModel) → IsKeepingNet p marks net → (P : Arc → Type 0) →
     ((d : ℕ) → d < darts p → P (arc_at net d)) → ((d : ℕ) → d < darts p → P (arc_at net (darts p + d))) →
     (i : ℕ) → i < arc_count net → P (arc_at net i)
 each_arc p net is P corner crossing i l =
@@ -24,7 +24,7 @@ each_arc p net is P corner crossing i l =
           subst (λ (j : ℕ). P (arc_at net j)) at (crossing (i - darts p) (omega (arith, is.arcs)))
     ]
 
-pub arc_ends : (p : PlaneModel) (net : NetworkModel) → IsPlane p → IsFaceNet p net → (i : ℕ) → i < arc_count net →
+pub arc_ends : {marks : List Bool} (p : PlaneModel) (net : NetworkModel) → IsPlane p → IsKeepingNet p marks net → (i : ℕ) → i < arc_count net →
     ((arc_at net i).from < node_count net) × ((arc_at net i).to < node_count net)
 arc_ends p net plane is =
     let ends = plane_ends p plane in
@@ -38,7 +38,7 @@ arc_ends p net plane is =
       omega (arith, ap (λ (a : Arc). a.to) (is.crossing d l), is.nodes, ends.face_named (reverse_dart p d) (ends.reverse_dart_in_range d l)),
     ))
 
-pub supply_fair : (p : PlaneModel) (net : NetworkModel) → IsPlane p → IsFaceNet p net → (k : ℕ) → k < node_count net → IsInSupplyRange (supply_at net k)
+pub supply_fair : {marks : List Bool} (p : PlaneModel) (net : NetworkModel) → IsPlane p → IsKeepingNet p marks net → (k : ℕ) → k < node_count net → IsInSupplyRange (supply_at net k)
 supply_fair p net plane is k l =
     let ends = plane_ends p plane in
     elim (cases_lt k (vertices p)) [
@@ -62,7 +62,7 @@ supply_fair p net plane is k l =
     at_face true z k is few = (omega (arith, ints), omega (arith, ints))
     at_face false z k is few = (omega (arith, ints), omega (arith, ints))
 
-pub net_sound : (p : PlaneModel) (net : NetworkModel) → IsPlane p → IsFaceNet p net → IsNetwork net
+pub net_sound : {marks : List Bool} (p : PlaneModel) (net : NetworkModel) → IsPlane p → IsKeepingNet p marks net → IsNetwork net
 net_sound p net plane is =
     let ends = plane_ends p plane in
     record {

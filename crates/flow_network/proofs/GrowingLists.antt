@@ -43,6 +43,15 @@ arc_same from from' to to' cap cost same_from same_to =
     let second : ℕ → Arc = λ k. record { from = from'; to = k; cap = cap; cost = cost } in
     ap first same_from ∙ ap second same_to
 
+-- with other capacities that are the same
+pub arc_alike : (from from' to to' : ℕ) (cap cap' : Cap) (cost : ℕ) → from ≡ from' → to ≡ to' → cap ≡ cap' →
+    let one : Arc = record { from = from; to = to; cap = cap; cost = cost } in
+    let two : Arc = record { from = from'; to = to'; cap = cap'; cost = cost } in
+    one ≡ two
+arc_alike from from' to to' cap cap' cost same_from same_to same_cap =
+    let last : Cap → Arc = λ c. record { from = from'; to = to'; cap = c; cost = cost } in
+    arc_same from from' to to' cap cost same_from same_to ∙ ap last same_cap
+
 -- ones sum to no more than there are
 pub ones_few : (n : ℕ) (at : ℕ → ℕ) (v : ℕ) → sum_below n (λ e. if at e == v then 1 else 0) ≤ n
 ones_few n at v =

@@ -1,5 +1,5 @@
 -- The network of a plane once another face is the outer one.
-use Rattle.std.proofs.Common.{◌≡◌, ℕ, ◌+◌, ◌-◌, ◌<◌, ◌≤◌, ◌==◌, if◌then◌else◌, ◌∙◌, Bool, true, false, cond, eqb, length, arith, subst, sym, inl, inr}
+use Rattle.std.proofs.Common.{◌≡◌, ℕ, ◌+◌, ◌-◌, ◌<◌, ◌≤◌, ◌==◌, if◌then◌else◌, ◌∙◌, Bool, true, false, cond, eqb, List, length, arith, subst, sym, inl, inr}
 use Rattle.std.specs.Prelude.{ℤ, pos, negsuc, ◌+ℤ◌, ◌-ℤ◌, ◌≤ℤ◌}
 use Rattle.std.proofs.lemmas.Bool.{cases_eq, cases_lt, eq-eqb, ne_eqb}
 use Rattle.std.proofs.lemmas.Int.{ints}
@@ -9,7 +9,7 @@ use Rattle.faces.proofs.Ends.{plane_ends}
 use Rattle.faces.proofs.Degrees.{degree_few}
 use Rattle.networks.specs.Networks.{NetworkModel, supply_at, shifted, HasSuppliesInRange}
 use Rattle.networks.proofs.Moving.{delta, moved_at, length-moved}
-use Rattle.flow_network.specs.FaceNet.{IsFaceNet, vertex_degree}
+use Rattle.flow_network.specs.FaceNet.{IsKeepingNet, vertex_degree}
 use Rattle.flow_network.proofs.VertexDegrees.{arrivals_most}
 
 set_face : (b c : Bool) (s s' : ℤ) (k : ℕ) → s ≡ (if b then negsuc 3 else pos 4) -ℤ pos k → s' ≡ s +ℤ (pos (cond {A = ℕ} b 8 0) -ℤ pos (cond {A = ℕ} c 8 0)) → s' ≡ (if c then negsuc 3 else pos 4) -ℤ pos k
@@ -29,7 +29,7 @@ same_test n f g = elim (cases_eq f g) [
   | inr ne ↦ ne_eqb (n + f) (n + g) (λ e. ne (omega arith)) ∙ sym (ne_eqb f g ne)
 ]
 
-pub net_set : (p : PlaneModel) (net : NetworkModel) (face : ℕ) → p.outer < p.faces → face < p.faces → IsFaceNet p net → IsFaceNet (with_outer p face) (shifted net (vertices p + p.outer) (vertices p + face) 8)
+pub net_set : {marks : List Bool} (p : PlaneModel) (net : NetworkModel) (face : ℕ) → p.outer < p.faces → face < p.faces → IsKeepingNet p marks net → IsKeepingNet (with_outer p face) marks (shifted net (vertices p + p.outer) (vertices p + face) 8)
 net_set p net face outer inside is =
     let from : ℕ = vertices p + p.outer in
     let to : ℕ = vertices p + face in
@@ -57,7 +57,7 @@ face_fair true z k is few = (omega (arith, ints), omega (arith, ints))
 face_fair false z k is few = (omega (arith, ints), omega (arith, ints))
 
 -- whichever face is the outer one, the supplies are fair
-pub set_fair : (p : PlaneModel) (net : NetworkModel) (face : ℕ) → IsPlane p → IsFaceNet (with_outer p face) net → HasSuppliesInRange net
+pub set_fair : {marks : List Bool} (p : PlaneModel) (net : NetworkModel) (face : ℕ) → IsPlane p → IsKeepingNet (with_outer p face) marks net → HasSuppliesInRange net
 set_fair p net face plane is k l =
     let ends = plane_ends p plane in
     elim (cases_lt k (vertices p)) [

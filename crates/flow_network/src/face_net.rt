@@ -1,6 +1,6 @@
 //! The flow network of a plane for the fewest bends (Tamassia 1987).
 
-ghost use Rattle.std.specs.Prelude.{◌≡◌, ◌+◌, ◌-◌, ◌<◌, ◌≤◌, ℕ, IfOk, vec_len};
+ghost use Rattle.std.specs.Prelude.{◌≡◌, [], ◌+◌, ◌-◌, ◌<◌, ◌≤◌, ℕ, IfOk, vec_len};
 ghost use Rattle.embedding.specs.declared.graphs.TheConstants.{MAX_DARTS};
 ghost use Rattle.faces.specs.Planes.{darts, vertices, with_outer};
 ghost use Rattle.networks.specs.Networks.{shifted};
@@ -24,7 +24,7 @@ use std::mem;
 /// | node of vertex v | v - 1; it supplies 4 less its degree |
 /// | node of face f | n + f; an inner face supplies 4 less its degree, the outer face -4 less its degree |
 /// | corner arc of dart d | d, from its head to its face, at most 3 units, cost 0 |
-/// | crossing arc of dart d | D + d, from its face to the face across, any number of units, cost 1 each |
+/// | crossing arc of dart d | D + d, from its face to the face across, any number of units, cost 1 each; none where its edge is to stay straight |
 #[derive(Debug, Drop)]
 pub struct FaceNet {
     network: Network,
@@ -45,7 +45,7 @@ impl Model for FaceNet {
 }
 
 impl FaceNet {
-    ghost use Rattle.flow_network.specs.FaceNet.{IsFaceNetOf};
+    ghost use Rattle.flow_network.specs.FaceNet.{IsFaceNetOf, IsKeepingNetOf};
 
     /// The network of a plane. Linear in the darts.
     ///
@@ -74,8 +74,31 @@ impl FaceNet {
         ensures net { IfOk result (IsFaceNetOf plane.now) }
         ensures flow { IfOk result (λ n. (y : ℕ → ℕ) × Flow n.network y) }
     {
+        FaceNet::build_keeping_in(alloc, scratch, plane, &[])
+    }
+
+    /// The network of a plane where the edges of marked darts are to stay straight: nothing crosses them. Darts past
+    /// the end of the list are not marked, and an edge is to stay straight where one of its two darts is. There need
+    /// not be a flow, unless no dart is marked. Linear in the darts.
+    ///
+    /// # Errors
+    ///
+    /// `AllocError` as [`FaceNet::build_in`].
+    pub fn build_keeping_in(
+        alloc: Global,
+        scratch: &mut Scratch,
+        plane: &Plane,
+        straight: &[bool],
+    ) -> Result<FaceNet, AllocError>
+        ensures net { IfOk result (IsKeepingNetOf plane.now straight.now) }
+        ensures flow { straight.now ≡ [] → IfOk result (λ n. (y : ℕ → ℕ) × Flow n.network y) }
+    {
         let supplies = supplies_of(mem::replace(&mut scratch.supplies, Vec::new(alloc)), plane)?;
-        let arcs = arcs_of(mem::replace(&mut scratch.arcs, Vec::new(alloc)), plane)?;
+        let arcs = arcs_of(
+            mem::replace(&mut scratch.arcs, Vec::new(alloc)),
+            plane,
+            straight,
+        )?;
         let vertices = u32::from(plane.graph().vertices());
         let darts = u32::from(plane.graph().darts());
         Ok(FaceNet {

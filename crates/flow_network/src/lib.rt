@@ -5,6 +5,8 @@
 mod face_net;
 mod parts;
 mod scratch;
+mod straight;
 
 pub use face_net::FaceNet;
 pub use scratch::Scratch;
+pub use straight::{has_mark, stays_straight};

@@ -4,8 +4,10 @@ ghost use Rattle.std.specs.Prelude.{◌≡◌, [], ◌+◌, ◌-◌, ◌<◌, �
 ghost use Rattle.faces.specs.Planes.{darts, vertices, head, reverse_dart, face_at, degree};
 ghost use Rattle.networks.specs.declared.arc.Cap.TheVariants.{AtMost, Any};
 ghost use Rattle.networks.specs.Networks.{no_arc};
-ghost use Rattle.flow_network.specs.FaceNet.{vertex_degree};
+ghost use Rattle.flow_network.specs.Straight.{is_straight};
+ghost use Rattle.flow_network.specs.FaceNet.{vertex_degree, crossing_cap};
 
+use crate::straight::stays_straight;
 use common::emptied;
 use faces::Plane;
 use min_cost_flow::{Arc, Cap};
@@ -52,16 +54,28 @@ pub fn supplies_of(old: Vec<i32>, plane: &Plane) -> Result<Vec<i32>, AllocError>
     Ok(supplies)
 }
 
-/// The arcs: the corner arcs of all darts, and then their crossing arcs. They stand in the memory of an old list
-/// where that is enough.
-pub fn arcs_of(old: Vec<Arc>, plane: &Plane) -> Result<Vec<Arc>, AllocError>
+/// What the crossing arc of a dart may carry: nothing where its edge is to stay straight.
+fn cap_across(plane: &Plane, straight: &[bool], dart: u16) -> Cap
+    requires { dart < darts plane.now }
+    ensures { result ≡ crossing_cap (is_straight plane.now straight.now dart) }
+{
+    if stays_straight(plane, straight, dart) {
+        Cap::AtMost(0)
+    } else {
+        Cap::Any
+    }
+}
+
+/// The arcs: the corner arcs of all darts, and then their crossing arcs. The edges of marked darts are to stay
+/// straight. They stand in the memory of an old list where that is enough.
+pub fn arcs_of(old: Vec<Arc>, plane: &Plane, straight: &[bool]) -> Result<Vec<Arc>, AllocError>
     ensures arcs { IfOk result (λ a. length a.items ≡ darts plane.now + darts plane.now) }
     ensures corner { IfOk result (λ a. (d : ℕ) → d < darts plane.now
         → slice_index_or a.items d no_arc
         ≡ record { from = head plane.now d - 1; to = vertices plane.now + face_at plane.now d; cap = AtMost 3; cost = 0 }) }
     ensures crossing { IfOk result (λ a. (d : ℕ) → d < darts plane.now
         → slice_index_or a.items (darts plane.now + d) no_arc
-        ≡ record { from = vertices plane.now + face_at plane.now d; to = vertices plane.now + face_at plane.now (reverse_dart plane.now d); cap = Any; cost = 1 }) }
+        ≡ record { from = vertices plane.now + face_at plane.now d; to = vertices plane.now + face_at plane.now (reverse_dart plane.now d); cap = crossing_cap (is_straight plane.now straight.now d); cost = 1 }) }
 {
     let graph = plane.graph();
     let first_face = u32::from(graph.vertices());
@@ -78,7 +92,7 @@ pub fn arcs_of(old: Vec<Arc>, plane: &Plane) -> Result<Vec<Arc>, AllocError>
         arcs.push(Arc {
             from: first_face + u32::from(plane.face_of(dart)),
             to: first_face + u32::from(plane.face_of(graph.reverse(dart))),
-            cap: Cap::Any,
+            cap: cap_across(plane, straight, dart),
             cost: 1,
         })?;
     }

@@ -1,6 +1,6 @@
 -- A representation that prices prove has short strings: across the faces and vertices whose prices are at most
 -- that of a dart's face nothing comes back, so no more crosses there than they hold.
-use Rattle.std.proofs.Common.{◌≡◌, ◌≤◌, ◌<◌, ℕ, zero, suc, ◌+◌, ◌*◌, Bool, true, false, cond, eqb, List, length, sym, ap, ◌∙◌, inl, inr, arith}
+use Rattle.std.proofs.Common.{◌≡◌, ◌≤◌, ◌<◌, ℕ, zero, suc, ◌+◌, ◌*◌, Bool, true, false, cond, eqb, List, [], length, sym, ap, ◌∙◌, inl, inr, arith}
 use Rattle.std.specs.Prelude.{ℤ, pos, ◌-ℤ◌, ◌≤ℤ◌, ◌<ℤ◌, negsuc}
 use Rattle.std.proofs.lemmas.Bool.{cases_lt, cases_eq, ne_eqb, cond-true, cond-false}
 use Rattle.std.proofs.lemmas.Int.{ints, by_lt_z}
@@ -9,9 +9,11 @@ use Rattle.common.specs.Sums.{sum_below}
 use Rattle.common.proofs.Sums.{sum_below-same, sum_below-add, sum_below-le, sum_below-constant, exchanged}
 use Rattle.ortho_rep.specs.declared.turn.Turn.{Turn}
 use Rattle.faces.specs.Planes.{PlaneModel, HasEnds, darts, vertices, head, reverse_dart, face_at}
+use Rattle.flow_network.specs.Straight.{is_straight}
 use Rattle.ortho_rep.specs.Turns.{lefts, rights}
 use Rattle.ortho_rep.specs.Representation.{Rep, whole_turn}
-use Rattle.ortho_rep.specs.Prices.{IsPriced, Prove}
+use Rattle.ortho_rep.specs.Prices.{IsPricedKeeping, ProveKeeping, Prove}
+use Rattle.ortho_rep.proofs.Priced.{narrower_of, tight_of}
 use Rattle.ortho_rep.proofs.TurnCounts.{lefts-add-rights}
 use Rattle.ortho_rep.proofs.WeakDuality.{weighed, part_at, paired, left_sums, right_sums, turning-split, lefts_of, rights_are}
 
@@ -93,54 +95,54 @@ low_faces p a s w ends rep few =
         omega (arith, ints)
 
 -- a low face has its corners at low vertices, but for a right angle each
-low_corner : (k : ℤ) (angle : ℕ) (turns : List Turn) (vertex face across : ℤ) → IsPriced angle turns vertex face across → low k face * angle ≤ low k vertex * angle + 1
-low_corner k angle turns vertex face across priced =
+low_corner : (straight : Bool) (k : ℤ) (angle : ℕ) (turns : List Turn) (vertex face across : ℤ) → IsPricedKeeping straight angle turns vertex face across → low k face * angle ≤ low k vertex * angle + 1
+low_corner straight k angle turns vertex face across priced =
     by_lt_z k face
     (λ above. omega (arith, ap (λ (x : ℕ). x * angle) (low-zero k face above)))
     (λ under. elim (cases_lt 1 angle) [
       | inl wide ↦
-          let below : vertex ≤ℤ k = omega (arith, ints, priced.narrower wide) in
+          let below : vertex ≤ℤ k = omega (arith, ints, narrower_of straight angle turns vertex face across priced wide) in
           omega (arith, ap (λ (x : ℕ). x * angle) (low-one k face under), ap (λ (x : ℕ). x * angle) (low-one k vertex below))
       | inr narrow ↦ omega (arith, ap (λ (x : ℕ). x * angle) (low-one k face under))
     ])
 
 -- what crosses into a low face comes from one
-low_crossing : (k : ℤ) (angle : ℕ) (turns : List Turn) (vertex face across : ℤ) → IsPriced angle turns vertex face across → low k across * lefts turns ≤ low k face * lefts turns
-low_crossing k angle turns vertex face across priced =
+low_crossing : (straight : Bool) (k : ℤ) (angle : ℕ) (turns : List Turn) (vertex face across : ℤ) → IsPricedKeeping straight angle turns vertex face across → low k across * lefts turns ≤ low k face * lefts turns
+low_crossing straight k angle turns vertex face across priced =
     elim (cases_eq (lefts turns) 0) [
       | inl e ↦ omega (arith, ap (λ (x : ℕ). low k across * x) e)
       | inr ne ↦ by_lt_z k across
           (λ above. omega (arith, ap (λ (x : ℕ). x * lefts turns) (low-zero k across above)))
           (λ under.
-          let below : face ≤ℤ k = omega (arith, ints, priced.tight (omega arith)) in
+          let below : face ≤ℤ k = omega (arith, ints, tight_of straight angle turns vertex face across priced (omega arith)) in
           omega (arith, ap (λ (x : ℕ). x * lefts turns) (low-one k across under), ap (λ (x : ℕ). x * lefts turns) (low-one k face below)))
     ]
 
 -- and what crosses out of a face of price k stays above
-high_crossing : (angle : ℕ) (turns : List Turn) (vertex face across : ℤ) → IsPriced angle turns vertex face across → low face across * lefts turns + lefts turns ≤ low face face * lefts turns
-high_crossing angle turns vertex face across priced =
+high_crossing : (straight : Bool) (angle : ℕ) (turns : List Turn) (vertex face across : ℤ) → IsPricedKeeping straight angle turns vertex face across → low face across * lefts turns + lefts turns ≤ low face face * lefts turns
+high_crossing straight angle turns vertex face across priced =
     elim (cases_eq (lefts turns) 0) [
       | inl e ↦ omega (arith, ap (λ (x : ℕ). low face across * x) e)
       | inr ne ↦
-          let above : face <ℤ across = omega (arith, ints, priced.tight (omega arith)) in
+          let above : face <ℤ across = omega (arith, ints, tight_of straight angle turns vertex face across priced (omega arith)) in
           let level : face ≤ℤ face = omega (arith, ints) in
           omega (arith, ap (λ (x : ℕ). x * lefts turns) (low-zero face across above), ap (λ (x : ℕ). x * lefts turns) (low-one face face level))
     ]
 
 -- a dart of a representation that prices prove has few left turns
-few_lefts : (p : PlaneModel) (a : ℕ → ℕ) (s : ℕ → List Turn) (v q : ℕ → ℤ) → HasEnds p → Rep p a s → Prove p a s v q → (d : ℕ) → d < darts p → lefts (s d) ≤ 4 * (vertices p + 1) + darts p + 4 * p.faces
-few_lefts p a s v q ends rep prove e b =
+few_lefts : (p : PlaneModel) (marks : List Bool) (a : ℕ → ℕ) (s : ℕ → List Turn) (v q : ℕ → ℤ) → HasEnds p → Rep p a s → ProveKeeping p marks a s v q → (d : ℕ) → d < darts p → lefts (s d) ≤ 4 * (vertices p + 1) + darts p + 4 * p.faces
+few_lefts p marks a s v q ends rep prove e b =
     let k = q (face_at p e) in
     let n = darts p in
     let own = λ (d : ℕ). low k (q (face_at p d)) in
     let over = λ (d : ℕ). low k (q (face_at p (reverse_dart p d))) in
     let at_head = λ (d : ℕ). low k (v (head p d)) in
     let corners : sum_below n (λ d. own d * a d) ≤ sum_below n (λ d. at_head d * a d + 1) =
-    sum_below-le n (λ d. own d * a d) (λ d. at_head d * a d + 1) (λ d c. low_corner k (a d) (s d) (v (head p d)) (q (face_at p d)) (q (face_at p (reverse_dart p d))) (prove d c)) in
+    sum_below-le n (λ d. own d * a d) (λ d. at_head d * a d + 1) (λ d c. low_corner (is_straight p marks d) k (a d) (s d) (v (head p d)) (q (face_at p d)) (q (face_at p (reverse_dart p d))) (prove d c)) in
     let crossings : sum_below n (λ d. over d * lefts_of s d) + lefts (s e) ≤ sum_below n (λ d. own d * lefts_of s d) =
     sum-gap n e (lefts (s e)) (λ d. over d * lefts_of s d) (λ d. own d * lefts_of s d) b
-    (λ d c. low_crossing k (a d) (s d) (v (head p d)) (q (face_at p d)) (q (face_at p (reverse_dart p d))) (prove d c))
-    (high_crossing (a e) (s e) (v (head p e)) (q (face_at p e)) (q (face_at p (reverse_dart p e))) (prove e b)) in
+    (λ d c. low_crossing (is_straight p marks d) k (a d) (s d) (v (head p d)) (q (face_at p d)) (q (face_at p (reverse_dart p d))) (prove d c))
+    (high_crossing (is_straight p marks e) (a e) (s e) (v (head p e)) (q (face_at p e)) (q (face_at p (reverse_dart p e))) (prove e b)) in
     let back : weighed n over (lefts_of s) ≡ weighed n own (λ d. lefts_of s (reverse_dart p d)) = paired n (reverse_dart p) own (lefts_of s) ends.reverse_dart_in_range ends.reverse_dart_back in
     let rights_here : sum_below n (λ d. own d * rights (s d)) ≡ weighed n own (λ d. lefts_of s (reverse_dart p d)) =
     sum_below-same n (λ d. own d * rights (s d)) (λ d. own d * lefts_of s (reverse_dart p d)) (λ d c. ap (λ (z : ℕ). own d * z) (rights_are p a s rep d c)) in
@@ -163,14 +165,17 @@ few_lefts p a s v q ends rep prove e b =
     )
 
 -- so its string is short
-pub few_turns : (p : PlaneModel) (a : ℕ → ℕ) (s : ℕ → List Turn) (v q : ℕ → ℤ) → HasEnds p → vertices p ≤ 255 → Rep p a s → Prove p a s v q → (d : ℕ) → d < darts p → length (s d) ≤ 6144
-few_turns p a s v q ends order rep prove d b =
+pub few_turns_keeping : (p : PlaneModel) (marks : List Bool) (a : ℕ → ℕ) (s : ℕ → List Turn) (v q : ℕ → ℤ) → HasEnds p → vertices p ≤ 255 → Rep p a s → ProveKeeping p marks a s v q → (d : ℕ) → d < darts p → length (s d) ≤ 6144
+few_turns_keeping p marks a s v q ends order rep prove d b =
     omega (
       arith,
       lefts-add-rights (s d),
       rights_are p a s rep d b,
       ends.few_darts,
       ends.few_faces,
-      few_lefts p a s v q ends rep prove d b,
-      few_lefts p a s v q ends rep prove (reverse_dart p d) (ends.reverse_dart_in_range d b),
+      few_lefts p marks a s v q ends rep prove d b,
+      few_lefts p marks a s v q ends rep prove (reverse_dart p d) (ends.reverse_dart_in_range d b),
     )
+
+pub few_turns : (p : PlaneModel) (a : ℕ → ℕ) (s : ℕ → List Turn) (v q : ℕ → ℤ) → HasEnds p → vertices p ≤ 255 → Rep p a s → Prove p a s v q → (d : ℕ) → d < darts p → length (s d) ≤ 6144
+few_turns p a s v q ends order rep prove = few_turns_keeping p [] a s v q ends order rep prove

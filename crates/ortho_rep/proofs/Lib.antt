@@ -11,6 +11,8 @@ pub mod FlatPrices
 pub mod Tallied
 pub mod FewTurns
 pub mod FromFlow
+pub mod IntoFlow
 pub mod PushedLists
 pub mod SameAtDarts
 pub mod Tries
+pub mod Choosing

@@ -1,5 +1,5 @@
 -- The best of the faces that were tried.
-use Rattle.std.proofs.Common.{◌≡◌, ◌≤◌, ◌<◌, ◌+◌, ◌-◌, ◌*◌, ℕ, max, ◌⊎◌, inl, inr, List, length, slice_index, set, replicate, get_or-set_other, get_or-set_same, sym, ap, ◌∙◌, subst, below_more, arith}
+use Rattle.std.proofs.Common.{◌≡◌, ◌≤◌, ◌<◌, ◌+◌, ◌-◌, ◌*◌, ℕ, max, ◌⊎◌, inl, inr, List, [], length, slice_index, set, replicate, get_or-set_other, get_or-set_same, sym, ap, ◌∙◌, subst, below_more, arith}
 use Rattle.std.proofs.lemmas.Bool.{cases_eq}
 use Rattle.std.proofs.lemmas.List.{get_or-replicate}
 use Rattle.std.specs.Prelude.{ℤ, pos, ◌+ℤ◌, ◌-ℤ◌, ◌*ℤ◌}
@@ -18,7 +18,7 @@ use Rattle.ortho_rep.specs.Representation.{bends_of}
 use Rattle.ortho_rep.specs.OfFlow.{angles_of, strings_of}
 use Rattle.ortho_rep.specs.Best.{HasRep, NeedsBends, IsBest}
 use Rattle.ortho_rep.specs.Tries.{IsIncumbent, IsNoWorse, IsNoBetter, AreBounds}
-use Rattle.ortho_rep.proofs.WeakDuality.{lefts_of, lengths-twice, least_by_prices, more_by_prices}
+use Rattle.ortho_rep.proofs.WeakDuality.{lefts_of, lengths-twice, least_by_prices, more_by_prices, all_keep}
 use Rattle.ortho_rep.proofs.FromFlow.{lefts-lefts_then_rights, rep_of_flow, prove_of_potentials}
 
 -- a face that is no better than one is no better than a better one
@@ -134,7 +134,7 @@ pub needs_cost : (p : PlaneModel) (net : NetworkModel) (bends : ℕ) (ps : List 
 needs_cost p net bends ps ends is shown = λ a s rep.
     let x = shown.amounts in
     let own = rep_of_flow p net x ends is shown.flow in
-    let least = least_by_prices p (angles_of x) (strings_of p x) (λ v. at_nodes ps (v - 1)) (λ f. at_nodes ps (vertices p + f)) ends own (prove_of_potentials p net x (at_nodes ps) ends is shown.potentials) in
+    let least = least_by_prices p (angles_of x) (strings_of p x) (λ v. at_nodes ps (v - 1)) (λ f. at_nodes ps (vertices p + f)) ends own (prove_of_potentials p net x (at_nodes ps) ends is shown.flow shown.potentials) in
     omega (arith, least.least a s rep, bends_are_cost p net x ends is shown.flow, shown.costs)
 
 -- and its potentials prove a bound for each face
@@ -142,8 +142,8 @@ pub bound_of_potentials : (p : PlaneModel) (net : NetworkModel) (bends : ℕ) (p
 bound_of_potentials p net bends ps face bound own other ends outer inside is shown of_own of_other (inl none) = λ a s rep. omega arith
 bound_of_potentials p net bends ps face bound own other ends outer inside is shown of_own of_other (inr sum) = λ a s rep.
     let x = shown.amounts in
-    let prove = prove_of_potentials p net x (at_nodes ps) ends is shown.potentials in
-    let more = more_by_prices p face (angles_of x) a (strings_of p x) s (λ v. at_nodes ps (v - 1)) (λ f. at_nodes ps (vertices p + f)) ends outer inside (rep_of_flow p net x ends is shown.flow) prove rep in
+    let prove = prove_of_potentials p net x (at_nodes ps) ends is shown.flow shown.potentials in
+    let more = more_by_prices p [] face (angles_of x) a (strings_of p x) s (λ v. at_nodes ps (v - 1)) (λ f. at_nodes ps (vertices p + f)) ends outer inside (rep_of_flow p net x ends is shown.flow) prove rep (all_keep p s) in
     let priced : bends_of (darts p) (strings_of p x) + 8 * up other + 8 * down own ≤ bends_of (darts p) s + 8 * up own + 8 * down other = rw (of_own, of_other) more in
     omega (arith, ints, priced, sum, bends_are_cost p net x ends is shown.flow, shown.costs)
 

@@ -4,6 +4,7 @@ pub mod Shapes
 pub mod Repeats
 pub mod ShapeStores
 pub mod Representation
+pub mod Keeping
 pub mod OfFlow
 pub mod Prices
 pub mod PriceStores
@@ -13,3 +14,4 @@ pub mod PointStores
 pub mod Edges
 pub mod Best
 pub mod Tries
+pub mod BestKeeping

@@ -21,9 +21,9 @@ use std::alloc::{AllocError, Global};
 
 /// The best face so far, and how many bends are needed with it as the outer one.
 #[derive(Clone, Copy)]
-struct Incumbent {
-    face: u16,
-    bends: u64,
+pub(crate) struct Incumbent {
+    pub(crate) face: u16,
+    pub(crate) bends: u64,
 }
 
 impl Incumbent {

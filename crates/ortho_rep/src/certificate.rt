@@ -6,13 +6,15 @@ ghost use Rattle.faces.specs.Planes.{darts};
 ghost use Rattle.ortho_rep.specs.Turns.{lefts};
 ghost use Rattle.ortho_rep.specs.Shapes.{angle_at, turns_at};
 ghost use Rattle.ortho_rep.specs.Representation.{Rep, HasDarts, IsShape, IsLeast};
-ghost use Rattle.ortho_rep.specs.Prices.{IsPriced, IsPricedAt, Prove, HasPrices, IsProof, vertex_price, face_price};
+ghost use Rattle.ortho_rep.specs.Keeping.{IsLeastKeeping};
+ghost use Rattle.ortho_rep.specs.Prices.{IsPriced, IsStraightPriced, IsPricedAt, ProveKeeping, HasPrices, IsProof, IsProofKeeping, vertex_price, face_price};
 
 use crate::prices::Prices;
 use crate::representation::has_darts;
 use crate::shape::Shape;
 use crate::turn::{Turn, count_lefts};
 use faces::Plane;
+use flow_network::stays_straight;
 
 /// Whether the prices prove the shape least: whether all four lists have the plane's lengths, and each
 /// dart's angle and turns agree with the prices of its head, of its face and of the face across.
@@ -23,7 +25,21 @@ pub fn certify(plane: &Plane, shape: &Shape, prices: &Prices) -> bool
     ensures exact { IsTrue result ↔ IsProof plane.now shape.now prices.now }
     ensures least { IsTrue result → IsShape plane.now shape.now → IsLeast plane.now shape.now }
 {
-    has_darts(plane, shape) && has_prices(plane, prices) && are_priced(plane, shape, prices)
+    certify_keeping(plane, &[], shape, prices)
+}
+
+/// The same among the shapes that keep the edges of marked darts straight: whether they have no turns, and the prices of
+/// all other darts agree. For their own darts the price of a bend says nothing.
+///
+/// An edge is to have no turns where one of its two darts is marked; darts past the end of the list are not. A shape that
+/// `is_shape` accepts too has the fewest bends of all that keep these edges straight.
+pub fn certify_keeping(plane: &Plane, straight: &[bool], shape: &Shape, prices: &Prices) -> bool
+    ensures exact { IsTrue result ↔ IsProofKeeping plane.now straight.now shape.now prices.now }
+    ensures least { IsTrue result → IsShape plane.now shape.now → IsLeastKeeping plane.now straight.now shape.now }
+{
+    has_darts(plane, shape)
+        && has_prices(plane, prices)
+        && are_priced(plane, straight, shape, prices)
 }
 
 /// Whether each vertex and each face has a price.
@@ -35,14 +51,14 @@ fn has_prices(plane: &Plane, prices: &Prices) -> bool
 }
 
 /// Whether all darts agree with the prices.
-fn are_priced(plane: &Plane, shape: &Shape, prices: &Prices) -> bool
+fn are_priced(plane: &Plane, straight: &[bool], shape: &Shape, prices: &Prices) -> bool
     requires darts { HasDarts plane.now shape.now }
     requires prices { HasPrices plane.now prices.now }
-    ensures exact { IsTrue result ↔ Prove plane.now (angle_at shape.now) (turns_at shape.now) (vertex_price prices.now) (face_price prices.now) }
-    ensures least { IsTrue result → Rep plane.now (angle_at shape.now) (turns_at shape.now) → IsLeast plane.now shape.now }
+    ensures exact { IsTrue result ↔ ProveKeeping plane.now straight.now (angle_at shape.now) (turns_at shape.now) (vertex_price prices.now) (face_price prices.now) }
+    ensures least { IsTrue result → Rep plane.now (angle_at shape.now) (turns_at shape.now) → IsLeastKeeping plane.now straight.now shape.now }
 {
     for dart in 0..plane.graph().darts() {
-        if !is_priced_at(plane, shape, prices, dart) {
+        if !is_priced_at(plane, straight, shape, prices, dart) {
             return false;
         }
     }
@@ -50,17 +66,28 @@ fn are_priced(plane: &Plane, shape: &Shape, prices: &Prices) -> bool
 }
 
 /// Whether a dart agrees with the prices.
-fn is_priced_at(plane: &Plane, shape: &Shape, prices: &Prices, dart: u16) -> bool
+fn is_priced_at(plane: &Plane, straight: &[bool], shape: &Shape, prices: &Prices, dart: u16) -> bool
     requires within { dart < darts plane.now }
     requires darts { HasDarts plane.now shape.now }
     requires prices { HasPrices plane.now prices.now }
-    ensures { IsTrue result ↔ IsPricedAt plane.now (angle_at shape.now) (turns_at shape.now) (vertex_price prices.now) (face_price prices.now) dart }
+    ensures { IsTrue result ↔ IsPricedAt plane.now straight.now (angle_at shape.now) (turns_at shape.now) (vertex_price prices.now) (face_price prices.now) dart }
 {
     let graph = plane.graph();
     let vertex = prices.vertex(graph.head(dart));
     let face = prices.face(plane.face_of(dart));
+    let (angle, turns) = (shape.angle(dart), shape.turns(dart));
+    if stays_straight(plane, straight, dart) {
+        return is_straight_priced(angle, turns, vertex, face);
+    }
     let across = prices.face(plane.face_of(graph.reverse(dart)));
-    is_priced(shape.angle(dart), shape.turns(dart), vertex, face, across)
+    is_priced(angle, turns, vertex, face, across)
+}
+
+/// Whether a dart without turns, and its angle, agree with the prices of its head and of its face.
+fn is_straight_priced(angle: u8, turns: &[Turn], vertex: i32, face: i32) -> bool
+    ensures { IsTrue result ↔ IsStraightPriced angle turns.now vertex face }
+{
+    turns.is_empty() && angle_agrees(angle, vertex, face)
 }
 
 /// Whether one dart's angle and turns agree with the prices of its head, of its face and of the face across.

@@ -1,16 +1,19 @@
-//! Orthogonal representations with the fewest bends (least shapes), by a flow of least cost (Tamassia 1987).
+//! Orthogonal representations with the fewest bends (least shapes), by a flow of least cost (Tamassia 1987), also among those
+//! that keep edges straight.
 
-ghost use Rattle.std.specs.Prelude.{◌≡◌, ◌+◌, ◌<◌, ◌≤◌, ◌++◌, [], ℕ, OnOk, IfOk, length, map, replicate, slice_index, slice_index_or, vec_len, ◌^◌};
+ghost use Rattle.std.specs.Prelude.{◌≡◌, ◌+◌, ◌<◌, ◌≤◌, ◌++◌, [], ℕ, Bool, List, OnOk, IfOk, IfErr, length, map, replicate, slice_index, slice_index_or, vec_len, ◌^◌};
 ghost use Rattle.std.specs.List.{range_with_len};
 ghost use Rattle.faces.specs.Planes.{darts, vertices};
-ghost use Rattle.networks.specs.Flow.{Flow, Solves, amounts, at_nodes};
-ghost use Rattle.flow_network.specs.FaceNet.{IsFaceNetOf};
+ghost use Rattle.networks.specs.Flow.{HasNoFlow, Solves, amounts, at_nodes};
+ghost use Rattle.flow_network.specs.FaceNet.{IsKeepingNet, IsSomeNetOf};
 ghost use Rattle.ortho_rep.specs.declared.turn.TheConstants.{MAX_REPEATS};
 ghost use Rattle.ortho_rep.specs.OfFlow.{angles_of, strings_of};
 ghost use Rattle.ortho_rep.specs.Repeats.{turns_in, AreRepeats, HaveShapes};
 ghost use Rattle.ortho_rep.specs.Representation.{IsShape, IsLeast};
-ghost use Rattle.ortho_rep.specs.Prices.{IsProof};
+ghost use Rattle.ortho_rep.specs.Keeping.{IsLeastKeeping, HasNoneKeeping};
+ghost use Rattle.ortho_rep.specs.Prices.{IsProof, IsProofKeeping};
 
+use crate::fault::ShapeFault;
 use crate::prices::Prices;
 use crate::repeats::DartShape;
 use crate::scratch::{Scratch, ShapeLists};
@@ -55,7 +58,59 @@ pub fn least_shape_in(
     ensures least { IfOk result (λ found. IsLeast plane.now found.0) }
     ensures proof { IfOk result (λ found. IsProof plane.now found.0 found.1) }
 {
-    let net = FaceNet::build_in(alloc, &mut scratch.net, plane)?;
+    match least_shape_keeping_in(alloc, scratch, plane, &[]) {
+        Ok(solution) => Ok(solution),
+        Err(ShapeFault::Memory) => Err(AllocError),
+        Err(ShapeFault::NoShape) => unreachable!(),
+    }
+}
+
+/// An orthogonal representation of the plane with the fewest bends among those that keep the edges of marked darts
+/// straight, and prices that prove it.
+///
+/// An edge is to have no turns where one of its two darts is marked; darts past the end of the list are not. It is
+/// [`least_shape`] with nothing crossing these edges, and whatever a unit across them would gain.
+///
+/// # Errors
+///
+/// `NoShape` exactly where no representation keeps these edges straight, memory aside, and `Memory` where there is
+/// none for the network, its flow, the shape or the prices.
+pub fn least_shape_keeping(
+    alloc: Global,
+    plane: &Plane,
+    straight: &[bool],
+) -> Result<(Shape, Prices), ShapeFault>
+    ensures shape { IfOk result (λ found. IsShape plane.now found.0) }
+    ensures least { IfOk result (λ found. IsLeastKeeping plane.now straight.now found.0) }
+    ensures proof { IfOk result (λ found. IsProofKeeping plane.now straight.now found.0 found.1) }
+    ensures none { IfErr result (λ fault. fault ≡ ShapeFault.NoShape → HasNoneKeeping plane.now straight.now) }
+    ensures always { straight.now ≡ [] → IfErr result (λ fault. fault ≡ ShapeFault.Memory) }
+{
+    let mut scratch = Scratch::empty(alloc);
+    least_shape_keeping_in(alloc, &mut scratch, plane, straight)
+}
+
+/// The same as [`least_shape_keeping`], in memory that is lent, as by [`least_shape_in`]. After a refusal some of it may
+/// be lost; the next call then takes it anew.
+///
+/// # Errors
+///
+/// As those of [`least_shape_keeping`].
+pub fn least_shape_keeping_in(
+    alloc: Global,
+    scratch: &mut Scratch,
+    plane: &Plane,
+    straight: &[bool],
+) -> Result<(Shape, Prices), ShapeFault>
+    ensures shape { IfOk result (λ found. IsShape plane.now found.0) }
+    ensures least { IfOk result (λ found. IsLeastKeeping plane.now straight.now found.0) }
+    ensures proof { IfOk result (λ found. IsProofKeeping plane.now straight.now found.0 found.1) }
+    ensures none { IfErr result (λ fault. fault ≡ ShapeFault.NoShape → HasNoneKeeping plane.now straight.now) }
+    ensures always { straight.now ≡ [] → IfErr result (λ fault. fault ≡ ShapeFault.Memory) }
+{
+    // Only the proof needs this: `graph` says that the plane is one.
+    let _graph = plane.graph();
+    let net = FaceNet::build_keeping_in(alloc, &mut scratch.net, plane, straight)?;
     let solved = least_flow(alloc, &mut scratch.solver, net.network())?;
     let made = shape_in(alloc, &mut scratch.lists, plane, &net, &solved)?;
     solved.give_back(&mut scratch.solver);
@@ -63,7 +118,8 @@ pub fn least_shape_in(
     Ok(made)
 }
 
-/// The representation that a flow of least cost is, and its prices, in the memory of these lists.
+/// The representation that a flow of least cost is, and its prices, in the memory of these lists. It keeps the edges
+/// straight that are to stay so in the network.
 pub(crate) fn shape_in(
     alloc: Global,
     lists: &mut ShapeLists,
@@ -71,11 +127,13 @@ pub(crate) fn shape_in(
     net: &FaceNet,
     solved: &Solved,
 ) -> Result<(Shape, Prices), AllocError>
-    requires net { IsFaceNetOf plane.now net.now }
+    requires net { IsSomeNetOf plane.now net.now }
     requires solves { Solves net.now.network solved.now }
     ensures shape { IfOk result (λ found. IsShape plane.now found.0) }
-    ensures least { IfOk result (λ found. IsLeast plane.now found.0) }
-    ensures proof { IfOk result (λ found. IsProof plane.now found.0 found.1) }
+    ensures least { IfOk result (λ found. (marks : List Bool) → IsKeepingNet plane.now marks net.now.network
+        → IsLeastKeeping plane.now marks found.0) }
+    ensures proof { IfOk result (λ found. (marks : List Bool) → IsKeepingNet plane.now marks net.now.network
+        → IsProofKeeping plane.now marks found.0 found.1) }
 {
     let vertices = plane.graph().vertices();
     let lent = mem::replace(&mut lists.darts, Vec::new(alloc));
@@ -88,19 +146,19 @@ pub(crate) fn shape_in(
     ))
 }
 
-/// A flow of least cost in a network that has some flow.
+/// A flow of least cost in a network; `NoShape` where it has no flow.
 fn least_flow(
     alloc: Global,
     scratch: &mut min_cost_flow::Scratch,
     network: &Network,
-) -> Result<Solved, AllocError>
-    requires { (x : ℕ → ℕ) × Flow network.now x }
-    ensures { IfOk result (λ solved. Solves network.now solved) }
+) -> Result<Solved, ShapeFault>
+    ensures solves { IfOk result (λ solved. Solves network.now solved) }
+    ensures none { IfErr result (λ fault. fault ≡ ShapeFault.NoShape → HasNoFlow network.now) }
 {
     match solve_in(alloc, scratch, network) {
         Ok(solved) => Ok(solved),
-        Err(SolveFault::Memory) => Err(AllocError),
-        Err(SolveFault::Infeasible) => unreachable!(),
+        Err(SolveFault::Memory) => Err(ShapeFault::Memory),
+        Err(SolveFault::Infeasible) => Err(ShapeFault::NoShape),
     }
 }
 
@@ -119,7 +177,7 @@ fn darts_in(
     net: &FaceNet,
     solved: &Solved,
 ) -> Result<Vec<DartShape>, AllocError>
-    requires net { IsFaceNetOf plane.now net.now }
+    requires net { IsSomeNetOf plane.now net.now }
     requires solves { Solves net.now.network solved.now }
     ensures repeats { IfOk result (λ found. AreRepeats found.items) }
     ensures flow { IfOk result (λ found. HaveShapes (angles_of (amounts solved.now.flow))
@@ -136,7 +194,7 @@ fn darts_in(
 /// The angle and the turns of a dart in a flow. No least flow uses an edge both ways, so they are all left turns or
 /// all right turns.
 fn dart_shape(plane: &Plane, net: &FaceNet, solved: &Solved, dart: u16) -> DartShape
-    requires net { IsFaceNetOf plane.now net.now }
+    requires net { IsSomeNetOf plane.now net.now }
     requires solves { Solves net.now.network solved.now }
     requires within { dart < darts plane.now }
     ensures angle { result.angle ≡ angles_of (amounts solved.now.flow) dart }
@@ -171,7 +229,7 @@ fn prices_in(
     net: &FaceNet,
     solved: &Solved,
 ) -> Result<Vec<i32>, AllocError>
-    requires net { IsFaceNetOf plane.now net.now }
+    requires net { IsSomeNetOf plane.now net.now }
     requires solves { Solves net.now.network solved.now }
     ensures { IfOk result (λ prices. prices.items
         ≡ map (at_nodes solved.now.potential) (range_with_len 0 (vertices plane.now + plane.now.faces))) }

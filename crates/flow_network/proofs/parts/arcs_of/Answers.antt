@@ -1,9 +1,11 @@
 use Rattle.std.proofs.Common.{◌≡◌, ◌+◌, ◌-◌, ℕ, List, length, get_or, arith, sym, ap, subst, zero-add, ◌∙◌}
-use Rattle.networks.specs.declared.arc.Cap.TheVariants.{AtMost, Any}
+use Rattle.networks.specs.declared.arc.Cap.TheVariants.{AtMost}
 use Rattle.networks.specs.Networks.{no_arc}
 use Rattle.embedding.specs.Darts.{head_of, reverse_of, dart_count}
 use Rattle.faces.specs.Planes.{darts, vertices, head, reverse_dart, face_at}
-use Rattle.flow_network.proofs.GrowingLists.{push_length, push_keeps, push_more, arc_same}
+use Rattle.flow_network.specs.Straight.{is_straight}
+use Rattle.flow_network.specs.FaceNet.{crossing_cap}
+use Rattle.flow_network.proofs.GrowingLists.{push_length, push_keeps, push_more, arc_same, arc_alike}
 use Rattle.flow_network.proofs.parts.arcs_of.Goals as goal
 
 pub corners-preserved : goal.corners-preserved
@@ -54,8 +56,8 @@ crossings-preserved c =
       size = push_length xs ys _ said ∙ ap (λ (k : ℕ). k + 1) size ∙ omega arith;
       corner = λ d l. push_keeps xs ys _ no_arc d said (omega (arith, size)) ∙ c.crossings.invariant.corner d l;
       crossing = push_more xs ys _ no_arc (darts p) c.crossings.dart
-          (λ d. record { from = vertices p + face_at p d; to = vertices p + face_at p (reverse_dart p d); cap = Any; cost = 1 }) said size
-          (arc_same _ _ _ _ Any 1
+          (λ d. record { from = vertices p + face_at p d; to = vertices p + face_at p (reverse_dart p d); cap = crossing_cap (is_straight p c.args.straight.now d); cost = 1 }) said size
+          (arc_alike _ _ _ _ _ _ 1
           (omega (
             arith,
             c.from-first_face.ensures,
@@ -72,7 +74,8 @@ crossings-preserved c =
             c.from-in-crossings-2.ensures,
             c.face_of-in-crossings-2.ensures.value,
             ap (λ (d : ℕ). face_at p d) (c.reverse.ensures.value ∙ ap (λ (g : List (List ℕ)). reverse_of g c.crossings.dart) c.graph-graph.ensures.value),
-          )))
+          ))
+          c.cap_across.ensures)
           c.crossings.invariant.crossing;
     }
 

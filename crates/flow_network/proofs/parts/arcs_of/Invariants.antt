@@ -1,7 +1,9 @@
 use Rattle.std.proofs.Common.{◌≡◌, ◌+◌, ◌-◌, ◌<◌, ℕ, length, get_or}
 use Rattle.faces.specs.Planes.{darts, vertices, head, reverse_dart, face_at}
-use Rattle.networks.specs.declared.arc.Cap.TheVariants.{AtMost, Any}
+use Rattle.networks.specs.declared.arc.Cap.TheVariants.{AtMost}
 use Rattle.networks.specs.Networks.{no_arc}
+use Rattle.flow_network.specs.Straight.{is_straight}
+use Rattle.flow_network.specs.FaceNet.{crossing_cap}
 use Rattle.flow_network.proofs.parts.arcs_of.Given as goal
 
 abbrev pub invariant-corners : goal.invariant-corners
@@ -14,5 +16,5 @@ abbrev pub invariant-crossings : goal.invariant-crossings
 invariant-crossings l = record {
   size : length l.arcs.items ≡ darts l.plane + l.dart;
   corner : (d : ℕ) → d < darts l.plane → get_or l.arcs.items d no_arc ≡ record { from = head l.plane d - 1; to = vertices l.plane + face_at l.plane d; cap = AtMost 3; cost = 0 };
-  crossing : (d : ℕ) → d < l.dart → get_or l.arcs.items (darts l.plane + d) no_arc ≡ record { from = vertices l.plane + face_at l.plane d; to = vertices l.plane + face_at l.plane (reverse_dart l.plane d); cap = Any; cost = 1 };
+  crossing : (d : ℕ) → d < l.dart → get_or l.arcs.items (darts l.plane + d) no_arc ≡ record { from = vertices l.plane + face_at l.plane d; to = vertices l.plane + face_at l.plane (reverse_dart l.plane d); cap = crossing_cap (is_straight l.plane l.straight d); cost = 1 };
 }

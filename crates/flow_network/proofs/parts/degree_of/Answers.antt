@@ -1,4 +1,4 @@
-use Rattle.std.proofs.Common.{◌≡◌, ◌∙◌, ℕ, List, length, ap, sym}
+use Rattle.std.proofs.Common.{◌∙◌, ℕ, List, length, ap, sym}
 use Rattle.embedding.specs.Lists.{list_of}
 use Rattle.flow_network.proofs.VertexDegrees.{vertex_degree-degree}
 use Rattle.flow_network.proofs.parts.degree_of.Goals as goal

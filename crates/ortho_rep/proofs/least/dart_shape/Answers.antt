@@ -26,7 +26,7 @@ pub returns-then-lefts-gt0-clause-turns : goal.returns-then-lefts-gt0-clause-tur
 returns-then-lefts-gt0-clause-turns c =
     let x = amounts c.args.solved.now.flow in
     let lefts : c.crossing_flow-lefts.result ≡ x (darts c.args.plane.now + c.args.dart) = c.crossing_flow-lefts.ensures ∙ ap x (omega (arith, c.requires.net.darts)) in
-    let none = one_sided_of_flow c.args.plane.now c.args.net.now.network x (at_nodes c.args.solved.now.potential) c.graph.ensures.ends c.requires.net.network c.requires.solves.potentials c.args.dart c.requires.within (omega (arith, lefts, c.if-lefts-gt0.true)) in
+    let none = one_sided_of_flow c.args.plane.now c.args.net.now.network x (at_nodes c.args.solved.now.potential) c.graph.ensures.ends c.requires.net.network c.requires.solves.flow c.requires.solves.potentials c.args.dart c.requires.within (omega (arith, lefts, c.if-lefts-gt0.true)) in
     sym (ap (lefts_then_rights (x (darts c.args.plane.now + c.args.dart))) none ∙ (append-nil (replicate (x (darts c.args.plane.now + c.args.dart)) Left) ∙ ap (λ (n : ℕ). replicate n Left) (sym lefts)))
 
 pub returns-then-lefts-gt0-clause-short : goal.returns-then-lefts-gt0-clause-short

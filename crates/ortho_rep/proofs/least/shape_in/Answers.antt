@@ -36,6 +36,6 @@ returns c =
     }) in
     record {
       shape = shape_of_flow plane net x q c.of_darts.result c.concatenated.result ends is solves.flow found;
-      least = least_of_flow plane net x q c.of_darts.result c.concatenated.result ends is solves.flow solves.potentials found;
-      proof = proof_of_flow plane net x q c.of_darts.result c.concatenated.result ends is solves.potentials found;
+      least = λ marks keeping. least_of_flow plane net x q c.of_darts.result c.concatenated.result ends keeping solves.flow solves.potentials found;
+      proof = λ marks keeping. proof_of_flow plane net x q c.of_darts.result c.concatenated.result ends keeping solves.flow solves.potentials found;
     }

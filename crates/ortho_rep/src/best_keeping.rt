@@ -1,0 +1,149 @@
+//! The best outer face among those that are not barred, with edges kept straight: each is tried.
+
+ghost use Rattle.std.specs.Prelude.{◌≡◌, ◌<◌, if◌then◌else◌, nat_lt, OnOk, IfOk, IfErr, OnErr};
+ghost use Rattle.faces.specs.Planes.{with_outer};
+ghost use Rattle.ortho_rep.specs.Representation.{IsShape};
+ghost use Rattle.ortho_rep.specs.Keeping.{IsLeastKeeping};
+ghost use Rattle.ortho_rep.specs.Prices.{IsProofKeeping};
+ghost use Rattle.ortho_rep.specs.BestKeeping.{IsBestKeeping, HasNoFace, IsTriedBefore, IsCounted, better_of};
+
+use crate::best::Incumbent;
+use crate::fault::ShapeFault;
+use crate::least::least_shape_keeping_in;
+use crate::prices::Prices;
+use crate::scratch::Scratch;
+use crate::shape::Shape;
+use faces::Plane;
+use flow_network::has_mark;
+use std::alloc::{AllocError, Global};
+
+/// Makes the best face among those that are not barred the outer one, and gives a least shape among those that keep the
+/// edges of marked darts straight, with prices that prove it.
+///
+/// The best face is the one with which the fewest bends are needed for that, among equals the one with the least number.
+/// `straight` has a place for each dart and `barred` one for each face; places past the end of either count as false. An
+/// edge is to have no turns where one of its two darts is marked. Each face is tried by a flow of its own.
+///
+/// # Errors
+///
+/// `NoShape` exactly where with no face that is not barred a representation keeps these edges straight, memory aside, and
+/// `Memory` where there is none for the network, its flow, the shape or the prices. The plane is then what it was.
+pub fn best_shape_keeping(
+    alloc: Global,
+    plane: &mut Plane,
+    straight: &[bool],
+    barred: &[bool],
+) -> Result<(Shape, Prices), ShapeFault>
+    ensures outer_moved { OnOk result (plane.new ≡ with_outer plane.old plane.new.outer) }
+    ensures best { OnOk result (IsBestKeeping plane.new straight.now barred.now) }
+    ensures shape { IfOk result (λ found. IsShape plane.new found.0) }
+    ensures least { IfOk result (λ found. IsLeastKeeping plane.new straight.now found.0) }
+    ensures proof { IfOk result (λ found. IsProofKeeping plane.new straight.now found.0 found.1) }
+    ensures none { IfErr result (λ fault. fault ≡ ShapeFault.NoShape → HasNoFace plane.old straight.now barred.now) }
+    ensures unchanged { OnErr result (plane.new ≡ plane.old) }
+{
+    let outer = plane.outer();
+    let mut scratch = Scratch::empty(alloc);
+    match best_found(alloc, &mut scratch, plane, straight, barred) {
+        Ok(solution) => Ok(solution),
+        Err(fault) => {
+            plane.set_outer(outer);
+            Err(fault)
+        }
+    }
+}
+
+/// The same, but after a refusal some face that was tried may be left as the outer one.
+fn best_found(
+    alloc: Global,
+    scratch: &mut Scratch,
+    plane: &mut Plane,
+    straight: &[bool],
+    barred: &[bool],
+) -> Result<(Shape, Prices), ShapeFault>
+    ensures outer_moved { plane.new ≡ with_outer plane.old plane.new.outer }
+    ensures best { OnOk result (IsBestKeeping plane.new straight.now barred.now) }
+    ensures shape { IfOk result (λ found. IsShape plane.new found.0) }
+    ensures least { IfOk result (λ found. IsLeastKeeping plane.new straight.now found.0) }
+    ensures proof { IfOk result (λ found. IsProofKeeping plane.new straight.now found.0 found.1) }
+    ensures none { IfErr result (λ fault. fault ≡ ShapeFault.NoShape → HasNoFace plane.old straight.now barred.now) }
+{
+    match best_face(alloc, scratch, plane, straight, barred)? {
+        Some(incumbent) => {
+            plane.set_outer(incumbent.face);
+            least_shape_keeping_in(alloc, scratch, plane, straight)
+        }
+        None => Err(ShapeFault::NoShape),
+    }
+}
+
+/// The best face that is not barred, if with any of them there is a shape. The outer face is left as it was set last.
+fn best_face(
+    alloc: Global,
+    scratch: &mut Scratch,
+    plane: &mut Plane,
+    straight: &[bool],
+    barred: &[bool],
+) -> Result<Option<Incumbent>, AllocError>
+    ensures outer_moved { plane.new ≡ with_outer plane.old plane.new.outer }
+    ensures tried { IfOk result (IsTriedBefore plane.old straight.now barred.now plane.old.faces) }
+{
+    let mut best = None;
+    for face in 0..plane.face_count() {
+        if has_mark(barred, face) {
+            continue;
+        }
+        let bends = bends_with(alloc, scratch, plane, straight, face)?;
+        best = better(best, face, bends);
+    }
+    Ok(best)
+}
+
+/// Makes a face the outer one. How many bends are needed then, if there is a shape.
+fn bends_with(
+    alloc: Global,
+    scratch: &mut Scratch,
+    plane: &mut Plane,
+    straight: &[bool],
+    face: u16,
+) -> Result<Option<u64>, AllocError>
+    requires { face < plane.old.faces }
+    ensures outer_moved { plane.new ≡ with_outer plane.old face }
+    ensures counted { IfOk result (IsCounted plane.new straight.now) }
+{
+    plane.set_outer(face);
+    match least_shape_keeping_in(alloc, scratch, plane, straight) {
+        Ok((shape, prices)) => {
+            let bends = u64::from(shape.bends());
+            shape.give_back(scratch);
+            prices.give_back(scratch);
+            Ok(Some(bends))
+        }
+        Err(ShapeFault::NoShape) => Ok(None),
+        Err(ShapeFault::Memory) => Err(AllocError),
+    }
+}
+
+/// The better one of the best face so far and a face with which so many bends are needed, if there is a shape.
+fn better(best: Option<Incumbent>, face: u16, bends: Option<u64>) -> Option<Incumbent>
+    ensures { result ≡ better_of best face bends }
+{
+    match bends {
+        None => best,
+        Some(bends) => match best {
+            None => Some(Incumbent { face, bends }),
+            Some(incumbent) => Some(with_fewer_bends(incumbent, face, bends)),
+        },
+    }
+}
+
+/// The face, if so many bends are fewer, or the incumbent.
+fn with_fewer_bends(incumbent: Incumbent, face: u16, bends: u64) -> Incumbent
+    ensures { result ≡ (if nat_lt bends incumbent.bends then record { face = face; bends = bends } else incumbent) }
+{
+    if bends < incumbent.bends {
+        Incumbent { face, bends }
+    } else {
+        incumbent
+    }
+}

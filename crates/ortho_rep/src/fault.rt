@@ -1,0 +1,26 @@
+//! Why a plane is given no shape.
+
+ghost use Rattle.std.specs.Prelude.{◌≡◌};
+ghost use Rattle.ortho_rep.specs.declared.fault.ShapeFault.TheVariants.{Memory};
+
+use std::alloc::AllocError;
+use thiserror::Error;
+
+/// Why there is no shape.
+#[derive(Clone, Copy, Debug, PartialEq, Eq, Error)]
+pub enum ShapeFault {
+    /// No orthogonal representation of the plane with its outer face keeps these edges straight.
+    #[error("no shape keeps these edges straight")]
+    NoShape,
+    /// An allocation was refused.
+    #[error("out of memory")]
+    Memory,
+}
+
+impl From<AllocError> for ShapeFault {
+    ghost from_gives = { λ _ fault. fault ≡ Memory };
+
+    fn from(_refused: AllocError) -> ShapeFault {
+        ShapeFault::Memory
+    }
+}
