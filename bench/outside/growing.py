@@ -5,7 +5,8 @@ of every order from 2 to 255, of every number of faces from 1 to 257, all of max
 The last one is the medial graph of a prism over a cycle of 85 vertices: its vertices are the 255 edges of the prism,
 and two are joined where one follows the other round a face. They are numbered by a search by breadth from the first.
 The others have its first edges, in the order of their greater ends, and of their lesser ends where these are the same;
-each keeps the order of neighbours round a vertex. checks/drawings lays them out.
+each keeps the order of neighbours round a vertex. checks/drawings lays them out, and so does the program `corpus`, which
+makes them of the last one (crates/corpus/data/prism85.pc).
 """
 from __future__ import annotations
 
@@ -75,9 +76,12 @@ def main() -> None:
     """Writes the file."""
     parser = argparse.ArgumentParser(description=__doc__, formatter_class=argparse.RawDescriptionHelpFormatter)
     parser.add_argument("file", metavar="FILE.pc", help="the file that is written")
-    with open(parser.parse_args().file, "wb") as out:
+    parser.add_argument("--last", action="store_true", help="write the last graph alone")
+    told = parser.parse_args()
+    whole = by_breadth(medial(prism(SIDES)))
+    with open(told.file, "wb") as out:
         out.write(HEADER)
-        for lists in growing(by_breadth(medial(prism(SIDES)))):
+        for lists in [whole] if told.last else growing(whole):
             out.write(record_of([other + 1 for other in around] for around in lists))
 
 

@@ -3,11 +3,18 @@
 // keep their order on each level that two of them share, one unit apart at least: the dual of that linear program sends
 // units from segments where more edges begin to those where more end, over each such pair, and as many as can be.
 // Drawings are made as crates/length_tests/src/random.rt makes them.
+//
+// With the word `given` drawings stand on standard input instead, each as whole numbers: how many segments there are; how
+// many wires, and the segments of each, counted from 0, the lesser coordinate first; how many pairs that are one unit
+// apart at least, and likewise their segments. The line of each drawing is its least length with these pairs. Wires are
+// pairs too.
 #include <algorithm>
 #include <cstdint>
 #include <iostream>
 #include <lemon/list_graph.h>
 #include <lemon/network_simplex.h>
+#include <string>
+#include <utility>
 #include <vector>
 
 struct Random {
@@ -31,6 +38,25 @@ struct Size {
   int count, levels, height, wires;
 };
 
+using Pairs = std::vector<std::pair<int, int>>;
+
+static long least_length(int count, const Pairs &wires, const Pairs &apart) {
+  lemon::ListDigraph graph;
+  std::vector<lemon::ListDigraph::Node> nodes;
+  for (int r = 0; r < count; ++r) nodes.push_back(graph.addNode());
+  lemon::ListDigraph::NodeMap<long> supply(graph, 0);
+  lemon::ListDigraph::ArcMap<long> cost(graph, -1);
+  for (const auto &[low, high] : wires) {
+    ++supply[nodes[low]];
+    --supply[nodes[high]];
+  }
+  for (const auto &[low, high] : apart) cost[graph.addArc(nodes[low], nodes[high])] = -1;
+  lemon::NetworkSimplex<lemon::ListDigraph, long, long> simplex(graph);
+  simplex.costMap(cost).supplyMap(supply);
+  if (simplex.run() != simplex.OPTIMAL) throw std::runtime_error("no least length");
+  return -simplex.totalCost<long>();
+}
+
 static long least_length(Random &random, const Size &size) {
   const int count = size.count;
   std::vector<Segment> segments;
@@ -39,27 +65,42 @@ static long least_length(Random &random, const Size &size) {
     const int low = random.below(size.levels);
     segments.push_back({low, std::min(low + random.below(size.height), size.levels - 1)});
   }
-  lemon::ListDigraph graph;
-  std::vector<lemon::ListDigraph::Node> nodes;
-  for (int r = 0; r < count; ++r) nodes.push_back(graph.addNode());
-  lemon::ListDigraph::NodeMap<long> supply(graph, 0);
-  lemon::ListDigraph::ArcMap<long> cost(graph, -1);
+  Pairs wires, apart;
   for (int tried = 0; tried < size.wires; ++tried) {
     const int one = random.below(count), other = random.below(count);
     if (one == other || !share_a_level(segments[one], segments[other])) continue;
-    ++supply[nodes[std::min(one, other)]];
-    --supply[nodes[std::max(one, other)]];
+    wires.push_back({std::min(one, other), std::max(one, other)});
   }
   for (int r = 0; r < count; ++r)
     for (int s = r + 1; s < count; ++s)
-      if (share_a_level(segments[r], segments[s])) cost[graph.addArc(nodes[r], nodes[s])] = -1;
-  lemon::NetworkSimplex<lemon::ListDigraph, long, long> simplex(graph);
-  simplex.costMap(cost).supplyMap(supply);
-  if (simplex.run() != simplex.OPTIMAL) throw std::runtime_error("no least length");
-  return -simplex.totalCost<long>();
+      if (share_a_level(segments[r], segments[s])) apart.push_back({r, s});
+  return least_length(count, wires, apart);
 }
 
-int main() {
+// The next pairs, and as many of them as are said to come.
+static Pairs next_pairs() {
+  int count = 0;
+  std::cin >> count;
+  Pairs pairs(count);
+  for (auto &[low, high] : pairs) std::cin >> low >> high;
+  return pairs;
+}
+
+static int print_given() {
+  std::ios::sync_with_stdio(false);
+  int count = 0;
+  while (std::cin >> count) {
+    const Pairs wires = next_pairs();
+    Pairs apart = next_pairs();
+    if (!std::cin) return 1;
+    apart.insert(apart.end(), wires.begin(), wires.end());
+    std::cout << least_length(count, wires, apart) << "\n";
+  }
+  return 0;
+}
+
+int main(int words, char **word) {
+  if (words > 1 && std::string(word[1]) == "given") return print_given();
   for (uint64_t first = 0; first < 1000; first += 100) {
     long total = 0;
     for (uint64_t drawing = first; drawing < first + 100; ++drawing) {
