@@ -6,12 +6,12 @@ use std::fmt::Debug;
 use std::process::Abort;
 use std::thread::{JoinHandle, Threads};
 
-/// Sees that two values are the same.
+/// Checks that two values are the same.
 pub(crate) fn same<T: PartialEq + Debug + Drop>(rt: &impl Abort, got: T, want: T) {
     assert_eq!(rt; got, want);
 }
 
-/// What a call on a link or a fan answered, or what it handed back where it was refused.
+/// The answer of a call on a link or a fan, or the value that a refused call returned.
 pub(crate) fn answer<T, U>(got: Result<T, Closed<U>>) -> Result<T, U> {
     match got {
         Ok(value) => Ok(value),
@@ -19,7 +19,7 @@ pub(crate) fn answer<T, U>(got: Result<T, Closed<U>>) -> Result<T, U> {
     }
 }
 
-/// Waits for a thread, whose number is to be one of these two or between them.
+/// Waits for a thread, and checks that its number is between these two, inclusive.
 pub(crate) fn joins<R: Threads + Abort>(rt: &R, child: JoinHandle<u32>, least: u32, most: u32) {
     let number = child.join(rt);
     same(rt, number.max(least).min(most), number);

@@ -11,8 +11,8 @@ use std::test::*;
 use std::thread;
 use std::thread::{JoinHandle, Threads};
 
-/// A refused allocation is a fault, and a second call makes the fan. Items come in order with their lanes, and then no
-/// more come once all givers are gone.
+/// A refused allocation is a fault, and a second call makes the fan. Items arrive in order with their lanes, and then
+/// no more arrive once all givers are gone.
 #[test]
 fn refused_memory_is_told(rt: HostRuntime) {
     let (mut givers, mut gatherer) = match fan_in(rt.alloc(), 8) {
@@ -30,7 +30,7 @@ fn refused_memory_is_told(rt: HostRuntime) {
     same(&rt, answer(gatherer.take(&rt)), Err(()));
 }
 
-/// Items come in order with their lanes, and then the gatherer takes all givers in.
+/// Items arrive in order with their lanes, and then the gatherer takes all givers in.
 #[test]
 fn all_givers_are_taken_in(rt: HostRuntime) {
     let (mut givers, mut gatherer) = fan_in(rt.alloc(), 8).expect(&rt, "memory");
@@ -52,7 +52,7 @@ fn the_gatherer_is_gone(rt: HostRuntime) {
     }
 }
 
-// Gives the numbers below `count`, until one is refused: that one, or `count`.
+// Gives the numbers below `count`, until one is refused; returns that one, or `count`.
 pub(crate) fn give_below(rt: &impl Wait, mut giver: LaneGiver<u32>, count: u32) -> u32 {
     for item in 0..count {
         if let Err(closed) = giver.give(rt, item) {
@@ -80,7 +80,7 @@ fn start<R: Threads + Wait + Abort + Copy + Send + 'static>(
 
 const LANE_COUNT: usize = LANES as usize;
 
-// Takes 250 numbers of each lane, each lane's in order, and then no more come.
+// Takes 250 numbers of each lane, each lane's in order, and then no more arrive.
 fn take_all<R: Wait + Abort>(rt: &R, mut gatherer: Gatherer<u32>) {
     let mut next = [0u32; LANE_COUNT];
     for _ in 0..LANES * 250 {
@@ -93,7 +93,7 @@ fn take_all<R: Wait + Abort>(rt: &R, mut gatherer: Gatherer<u32>) {
     same(rt, answer(gatherer.take(rt)), Err(()));
 }
 
-// Each lane gives from a thread of its own, and the numbers of each come in order.
+// Each lane gives from a thread of its own, and the numbers of each arrive in order.
 fn gather_through<R: Threads + Wait + Abort + Copy + Send + 'static>(
     rt: R,
     alloc: Global,

@@ -1,4 +1,4 @@
-//! What no clause says: that calls succeed on ample memory, and that the least costs are those that
+//! Tests of what no clause says: that calls succeed if there is enough memory, and that the least costs are those that
 //! other solvers found.
 ghost use Rattle.std.specs.Prelude.{◌<◌};
 ghost use Rattle.networks.specs.Flow.{Solves};
@@ -30,7 +30,7 @@ pub(crate) fn network(
     Network::new(supplies, list)
 }
 
-/// The least cost of a flow as the solver finds it, or why there is none.
+/// The least cost of a flow as the solver finds it, or the reason why there is no flow.
 fn least_cost(alloc: Global, network: &Network) -> Result<u64, SolveFault> {
     match solve(alloc, network) {
         Ok(solved) => Ok(cost_of(network, &solved)),
@@ -38,7 +38,7 @@ fn least_cost(alloc: Global, network: &Network) -> Result<u64, SolveFault> {
     }
 }
 
-/// What a solution costs.
+/// The cost of a solution.
 pub(crate) fn cost_of(network: &Network, solved: &Solved) -> u64
     requires { Solves network.now solved.now }
 {
@@ -52,7 +52,7 @@ pub(crate) fn cost_of(network: &Network, solved: &Solved) -> u64
     total
 }
 
-/// Each of three arcs carries one unit, no potential of the three nodes is above 0, and so much work was done.
+/// Each of three arcs carries one unit, no potential of the three nodes is above 0, and the counts of work are these.
 fn expect_free_way(rt: &impl Abort, network: &Network, solved: &Solved)
     requires { Solves network.now solved.now }
 {
@@ -67,7 +67,7 @@ fn expect_free_way(rt: &impl Abort, network: &Network, solved: &Solved)
     same(rt, (solved.searches(), solved.looks()), (2, 6));
 }
 
-/// Arcs of three nodes: a dear one from the first to the last, and a free way for one unit.
+/// Arcs of three nodes: an expensive one from the first to the last, and a free way for one unit.
 pub(crate) const FREE_WAY: [(u32, u32, Cap, u32); 3] = [
     (0, 2, Cap::Any, 1),
     (0, 1, Cap::AtMost(1), 0),
@@ -81,8 +81,8 @@ fn units_take_the_free_way_first(rt: HostRuntime) {
     expect_free_way(&rt, &network, &solved);
 }
 
-/// So many units at one node, 1,000 at most, which go through a second one and from there by an arc each to as many
-/// others. Every second arc is dear.
+/// A network with this many units at one node, 1,000 at most, which go through a second one and from there by an arc
+/// each to as many others. Every second arc is expensive.
 fn fountain(rt: &impl Abort, alloc: Global, units: u32) -> Network {
     let units = units.min(1000);
     let mut supplies = vec![in alloc; -1i32; units as usize + 2].expect(rt, "memory");
@@ -97,14 +97,14 @@ fn fountain(rt: &impl Abort, alloc: Global, units: u32) -> Network {
     network(rt, alloc, &supplies, &arcs).expect(rt, "a network")
 }
 
-/// How many searches and looks the solver takes.
+/// The numbers of searches and looks that the solver takes.
 fn work_of(rt: &impl Abort, alloc: Global, network: &Network) -> (u32, u64) {
     let solved = solve(alloc, network).expect(rt, "a flow");
     (solved.searches(), solved.looks())
 }
 
-/// Each search finds one unit's end. It scans the first node, which has one residual arc, and the second one, which
-/// has one for each unit and one back: so it looks at two more than there are units, whichever end it finds.
+/// Each search finds one unit's end. It scans the first node, which has one residual arc, and the second one, which has
+/// one for each unit and one back. In all it looks at two more than there are units, whichever end it finds.
 #[test]
 fn looks_are_told_exactly(rt: HostRuntime) {
     for (units, looks) in [(1, 3), (9, 99), (10, 120), (300, 90_600), (1000, 1_002_000)] {
@@ -113,9 +113,9 @@ fn looks_are_told_exactly(rt: HostRuntime) {
     }
 }
 
-/// Of two nodes equally near to the first one the one that only it leads to has the lesser score, and is found: so the
-/// first search looks at two residual arcs, and that of the second node at one. Had it found the other one, the second
-/// search would have to go back along its unit, and look at five.
+/// Of two nodes equally near to the first one the one that only it leads to has the lesser score, and is found. The
+/// first search therefore looks at two residual arcs, and that of the second node at one. Had it found the other one,
+/// the second search would have to go back along its unit, and look at five.
 #[test]
 fn the_least_score_is_found(rt: HostRuntime) {
     for (first, second) in [(2, 3), (3, 2)] {
@@ -130,7 +130,7 @@ fn the_least_score_is_found(rt: HostRuntime) {
     }
 }
 
-/// No flow.
+/// The answer for a network without a flow.
 const NONE: Result<u64, SolveFault> = Err(SolveFault::Infeasible);
 
 /// Supplies, arcs, and the least cost, or that there is no flow.
@@ -210,7 +210,7 @@ impl Numbers {
     }
 }
 
-/// The supplies of the next random network of so many nodes.
+/// The supplies of the next random network with this many nodes.
 fn random_supplies(rt: &impl Abort, alloc: Global, numbers: &mut Numbers, nodes: u32) -> Vec<i32>
     requires { 1 < nodes }
 {
@@ -259,7 +259,7 @@ fn random_arc(numbers: &mut Numbers, nodes: u32) -> Arc
     }
 }
 
-/// Sees that a random network has the least cost that is expected, or no flow, and that the slow solver says so too.
+/// Checks that a random network has the least cost that is expected, or no flow, and that the slow solver agrees.
 fn expect_random(
     rt: &impl Abort,
     alloc: Global,
@@ -286,7 +286,7 @@ fn random_networks_cost_what_other_solvers_found(rt: HostRuntime) {
     same(&rt, count, 1000);
 }
 
-/// What networkx and LEMON found, `-` where there is no flow (`bench/networks/least_costs.py`).
+/// The least costs that networkx and LEMON found, `-` if there is no flow (`bench/networks/least_costs.py`).
 const LEAST_COSTS: &str = "\
     - 7 9 7 6 5 10 2 0 - 1 4 4 - - 2 0 - 2 - 2 - 2 - 3 2 2 1 - - - - 0 - - - 2 - 12 - 0 4 0 - 1 \
     1 - - - - - 2 4 0 14 14 4 - 6 - - - 10 - 0 5 2 - 1 - 5 - 10 2 0 7 - - - 3 - 0 - 4 - 3 3 5 4 \

@@ -1,4 +1,4 @@
-//! Ends that come late: a call waits for the other end however long that takes.
+//! Ends that are late: a call waits for the other end however long that takes.
 
 use crate::compared::{joins, same};
 use crate::{fan, link};
@@ -9,17 +9,17 @@ use std::test::*;
 use std::thread;
 use std::time::Duration;
 
-// Lets two seconds pass, which is long after all tries of a call.
+// Sleeps for two seconds, which is long after all attempts of a call.
 fn be_late(rt: &impl Clock) {
     thread::sleep(rt, Duration::from_secs(2));
 }
 
-// The number that comes of a link, or 0.
+// The number taken of a link, or 0.
 fn taken(rt: &impl Wait, mut taker: Taker<u32>) -> u32 {
     taker.take(rt).unwrap_or(0)
 }
 
-// The number that comes of a fan, or 0.
+// The number taken of a fan, or 0.
 fn gathered(rt: &impl Wait, mut gatherer: Gatherer<u32>) -> u32 {
     match gatherer.take(rt) {
         Ok((_lane, item)) => item,

@@ -1,5 +1,5 @@
-//! Tests of what knows no graph. Flows of least cost: networks whose least cost is known, by hand, from other
-//! solvers, and by a slow solver beside them. Links, fans and tickets, on one thread and between threads.
+//! Tests of the crates that know no graphs. Flows of least cost: networks whose least cost is known, by hand, from
+//! other solvers, and by a slow solver beside them. Links, fans and tickets, on one thread and between threads.
 #![tactic(auto)]
 
 #[cfg(test)]

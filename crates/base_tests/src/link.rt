@@ -11,7 +11,7 @@ use std::test::*;
 use std::thread;
 use std::thread::Threads;
 
-// Takes the numbers below `count`, and then no more come.
+// Takes the numbers below `count`, and then no more arrive.
 pub(crate) fn take_below<R: Wait + Abort>(rt: &R, mut taker: Taker<u32>, count: u32) {
     for item in 0..count {
         same(rt, taker.take(rt), Ok(item));
@@ -19,7 +19,7 @@ pub(crate) fn take_below<R: Wait + Abort>(rt: &R, mut taker: Taker<u32>, count: 
     same(rt, answer(taker.take(rt)), Err(()));
 }
 
-// Gives the numbers below `count`, until one is refused: that one, or `count`.
+// Gives the numbers below `count`, until one is refused; returns that one, or `count`.
 pub(crate) fn give_below(rt: &impl Wait, mut giver: Giver<u32>, count: u32) -> u32 {
     for item in 0..count {
         if let Err(closed) = giver.give(rt, item) {

@@ -1,5 +1,5 @@
-//! Calls that take no memory. `checks/refuse-allocations` refuses each allocation of these tests in turn: those are all
-//! of the calls that make the ends, where a test then ends.
+//! Calls that allocate nothing. `checks/refuse-allocations` refuses each allocation of these tests in turn: those are
+//! all of the calls that make the ends, where a test then ends.
 
 use crate::compared::same;
 use ruled_lanes::{Tickets, fan_in, link};

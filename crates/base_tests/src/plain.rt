@@ -1,5 +1,5 @@
-//! A slow solver to compare with: successive shortest paths, one unit at a time, each path found by going over all
-//! arcs until no label falls (Bellman 1958).
+//! A slow reference solver: successive shortest paths, one unit at a time, each path found by going over all arcs until
+//! no label falls (Bellman 1958).
 use min_cost_flow::{Arc, Cap, Network};
 use std::alloc::Global;
 use std::process::Abort;
@@ -7,14 +7,14 @@ use std::process::Abort;
 /// The label of a node that no path reaches.
 const FAR: i64 = 1 << 40;
 
-/// An arc that ends a path at a node, and whether it is taken against itself.
+/// The last arc of a path to a node, and whether it is taken backwards.
 #[derive(Clone, Copy, Debug, PartialEq, Eq)]
 struct Step {
     arc: usize,
     back: bool,
 }
 
-/// Units on the way: what each arc carries, and what each node has left over or wants.
+/// A flow in progress: what each arc carries, and the remaining surplus or demand of each node.
 #[derive(Drop)]
 struct Sending {
     arcs: Vec<Arc>,
@@ -22,7 +22,7 @@ struct Sending {
     excess: Vec<i32>,
 }
 
-/// The least cost of a flow, or none where there is no flow.
+/// The least cost of a flow, or `None` if there is no flow.
 pub(crate) fn least_cost(rt: &impl Abort, alloc: Global, network: &Network) -> Option<u64> {
     let mut sending = begin(rt, alloc, network);
     for _ in 0..100_000 {
@@ -39,7 +39,7 @@ pub(crate) fn least_cost(rt: &impl Abort, alloc: Global, network: &Network) -> O
     Some(cost_of(&sending))
 }
 
-/// What the units cost that the arcs carry.
+/// The cost of the units that the arcs carry.
 fn cost_of(sending: &Sending) -> u64 {
     let mut total = 0u64;
     for (arc, units) in sending.arcs.iter().zip(&sending.carried) {
@@ -48,7 +48,7 @@ fn cost_of(sending: &Sending) -> u64 {
     total
 }
 
-/// Sends one unit from a node to where one is wanting, and says whether there is a path.
+/// Sends one unit from a node to one with demand; returns whether there is a path.
 fn send_from(rt: &impl Abort, alloc: Global, sending: &mut Sending, root: usize) -> bool {
     let labels = labels_from(rt, alloc, sending, root);
     let Some(target) = nearest(sending, &labels) else {
@@ -123,7 +123,7 @@ fn relax(sending: &Sending, labels: &mut [(i64, Option<Step>)], step: Step) {
     }
 }
 
-/// The node at the end of a path of least cost among those where units are wanting.
+/// The node at the end of a path of least cost among those with demand.
 fn nearest(sending: &Sending, labels: &[(i64, Option<Step>)]) -> Option<usize> {
     let mut best = None;
     let mut least = FAR;

@@ -10,7 +10,7 @@ use std::sync::atomic::{AtomicU32, Ordering};
 use std::test::*;
 use std::thread::{Threads, for_each_mut};
 
-// Draws at the seat of a number, and sees what the answer is.
+// Draws at the seat of a number, and checks the answer.
 fn draws(
     rt: &impl Abort,
     tickets: &Tickets,
@@ -63,7 +63,7 @@ fn draw_all(tickets: &Tickets, seat: &mut Seat, sum: &AtomicU32)
     }
 }
 
-// The same at each of these seats, in a thread of its own.
+// Draws at each of these seats, in a thread of its own, until there is nothing left, and adds the numbers to a sum.
 fn draw_in_threads<R: Threads + Sync>(
     rt: &R,
     tickets: &Tickets,
@@ -82,7 +82,7 @@ fn draw_in_threads<R: Threads + Sync>(
     );
 }
 
-// All numbers below 256 are dealt in threads, one for each of so many seats: they add up to 32,640.
+// All numbers below 256 are dealt in threads, one for each of `lanes` seats: they add up to 32,640.
 fn deals<R: Abort + AllocGlobal + Threads + Sync>(rt: &R, lanes: u32, word: u32)
     requires lanes { (1 ≤ lanes) × (lanes ≤ LANES) }
 {

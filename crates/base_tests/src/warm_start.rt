@@ -1,4 +1,4 @@
-//! A flow that stands while supplies move.
+//! A flow that is kept while supplies move.
 ghost use Rattle.std.specs.Prelude.{◌≡◌, ◌<◌, ◌≤◌, ◌≤ℤ◌, pos, negsuc, true, IfSome};
 ghost use Rattle.networks.specs.Networks.{node_count, supply_at};
 
@@ -14,7 +14,7 @@ fn is_within(more: i32, less: i32) -> bool
     more <= 2000 && less >= -2000
 }
 
-/// What a node supplies.
+/// The supply of a node.
 fn supply(network: &Network, node: u32) -> i32
     requires { node < node_count network.now }
     ensures { result ≡ supply_at network.now node }
@@ -22,8 +22,8 @@ fn supply(network: &Network, node: u32) -> i32
     network.supplies()[node as usize]
 }
 
-/// Lets one node supply more and another less in a standing flow and in a network that is the same, unless
-/// their supplies are too great already.
+/// Lets one node supply more and another less in a kept flow and in a network that is the same, unless their supplies
+/// are too great already.
 fn moved(
     warm_start: WarmStart,
     twin: &mut Network,
@@ -48,8 +48,8 @@ fn moved(
     warm_start.shift(from, to, amount)
 }
 
-// At first a unit takes the dear arc. Then the first node supplies one unit less, so that none has to. In the end the
-// second node wants two units, and the one arc to it carries only one.
+// At first a unit takes the expensive arc. Then the first node supplies one unit less, so that none has to. In the end
+// the second node demands two units, and the one arc to it carries only one.
 #[test]
 fn moved_supplies_have_their_costs(rt: HostRuntime) {
     let twin = network(&rt, rt.alloc(), &[2, 0, -2], &FREE_WAY);

@@ -1,4 +1,4 @@
--- What a run over files says of one that opens and gives all its bytes, where memory sufficed.
+-- The guarantee of a run for a file that opens and gives all its bytes, if memory suffices.
 use Rattle.std.specs.Prelude.{◌≡◌, ◌≢◌, ℕ, ◌+◌, List, [], ◌∷◌, All, ⊤}
 use Rattle.planar_code.specs.declared.ending.Ending.{Ending}
 use Rattle.planar_code.specs.Stream.{lists_of}
@@ -20,8 +20,8 @@ IsDecided choice bytes (Laid plane shape prices drawing) = IsLaid choice bytes p
 IsDecided choice bytes (Refused rule) = FirstBroken (lists_of bytes) rule
 IsDecided choice bytes NoMemory = ⊥
 
--- the entry is about the record of these bytes, at this place of this file, decides it under this choice, and where it has a
--- shape has points that draw it
+-- the entry is about the record of these bytes, at this place of this file, decides it under this choice, and if it has
+-- a shape has points that draw it
 pub record IsEntryFor (choice : Choice) (file ordinal : ℕ) (bytes : List ℕ) (entry : Entry) : Type 0 where
   pub file_is : entry.file ≡ file
   pub ordinal_is : entry.ordinal ≡ ordinal
@@ -45,7 +45,7 @@ pub record IsWholeRun (choice : Choice) (file : ℕ) (bytes : List ℕ) (book : 
   pub entries : AreOneForEach choice file 0 records book.entries
   pub mark : book.mark ≡ Mark.Ended end
 
--- no want of memory stands in the book
+-- memory did not run out anywhere in the book
 pub record HasMemory (book : BookModel) : Type 0 where
   pub mark : book.mark ≢ Mark.Ended Ending.Memory
   pub answers : All (λ entry. entry.answer ≢ Answer.NoMemory) book.entries

@@ -1,4 +1,4 @@
-//! What a run's lanes do.
+//! The kind of lanes whose entries a run collects.
 ghost use Rattle.std.specs.Prelude.{⊤};
 
 use answers::{DrawScratch, EmbedScratch, Embedded, Framed, Keeping, ShapeScratch, Shaped, Task};
@@ -9,7 +9,7 @@ use planar_code::Record;
 use std::alloc::{AllocError, Global};
 use streams::SourceEnd;
 
-/// Lanes that answer records by quick drawings, and keep the entries.
+/// The kind of lanes that answer records with quick drawings and keep whole entries.
 #[derive(Clone, Copy, Debug)]
 pub struct Answering;
 
@@ -44,7 +44,7 @@ impl LaneKind for Answering {
 
     fn end(&self, _file: u32, _end: SourceEnd) {}
 
-    // Entries are kept whole, so nothing goes back.
+    // Entries are kept whole, so no lists return.
     fn scratch(
         &self,
         alloc: Global,

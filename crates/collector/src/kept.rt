@@ -1,4 +1,4 @@
-//! Entries of a file that is read and answered on one thread.
+//! The entries of a file that is read and answered on one thread.
 ghost use Rattle.std.specs.Prelude.{⊤, map};
 ghost use Rattle.lanes.specs.Notes.{Item};
 ghost use Rattle.entries.specs.Abouts.{about_of};

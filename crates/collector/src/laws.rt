@@ -1,4 +1,4 @@
-//! The promise of a run in short, as the contract of a function that does nothing.
+//! The guarantee of a run in short, as the contract of an empty function.
 ghost use Rattle.std.specs.Prelude.{◌≡◌, ℕ, ◌<◌, List, false, slice_index_or};
 ghost use Rattle.common.specs.declared.choice.Choice.{Choice};
 ghost use Rattle.lanes.specs.Opening.{Meaning, Opened};
@@ -6,11 +6,14 @@ ghost use Rattle.entries.specs.Books.{BookModel};
 ghost use Rattle.entries.specs.AllBooks.{AreAllBooks};
 ghost use Rattle.collector.specs.Headline.{IsWholeRun, HasMemory};
 
-/// Where `run_plain` or `run_batch` hands out books, the book of each file that opens and gives all
-/// its bytes, and in which no want of memory stands, has one entry for each record of these bytes,
-/// each once and in order, and their ending as its mark. Each entry names the first rule that its
-/// record breaks, or gives an orthogonal representation of its embedding and chosen outer face with the
-/// fewest bends, and coordinates that draw it without crossings.
+/// In the books of a run, a file that opens and is read without error has one right entry for each record, if memory
+/// suffices.
+///
+/// The books are those that `run_plain` or `run_batch` returns. The book of each file that opens and gives all its
+/// bytes, and in which memory did not run out, has one entry for each record of these bytes, each once and in order,
+/// and their ending as its mark. Each entry names the first rule that its record breaks, or gives an orthogonal
+/// representation of its embedding and chosen outer face with the fewest bends, and coordinates that draw it without
+/// crossings.
 pub fn whole_run()
     ensures { (choice : Choice) (meaning : ℕ → Meaning) (files : ℕ) (books : List BookModel) (other : BookModel)
         → AreAllBooks choice meaning files books

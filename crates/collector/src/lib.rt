@@ -1,4 +1,4 @@
-//! Whole files: each record is answered, and a run hands out a book for each file.
+//! Runs over whole files: each record is answered, and a run returns a book for each file.
 #![tactic(auto)]
 
 mod answering;

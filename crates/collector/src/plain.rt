@@ -12,14 +12,15 @@ use lanes::{Opener, read_file};
 use std::alloc::{AllocError, Global};
 use streams::{BatchFault, piece_buffer};
 
-/// Reads the first `files` files of the opener, answers each record under this choice of the outer face, and
-/// hands out a book for each file, whose mark also tells where a file could not be opened, failed or found no
-/// memory. It does all on the caller's thread.
+/// Answers all records of the first `files` files on this thread; returns a book for each file.
+///
+/// Each record is answered under this choice of the outer face. The mark of a book says how its file ended, also if it
+/// could not be opened, failed, or memory ran out.
 ///
 /// # Errors
 ///
-/// `TooManyFiles` exactly where there are more than `MAX_FILES`; `Memory` where there was no memory for the buffer
-/// that files are read into or for the books. There is no other.
+/// `TooManyFiles` exactly if there are more than `MAX_FILES`; `Memory` if there was no memory for the buffer that files
+/// are read into or for the books. There is no other error.
 pub fn run_plain<O: Opener>(
     alloc: Global,
     opener: &O,

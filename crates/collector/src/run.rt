@@ -16,30 +16,31 @@ use std::sync::Wait;
 use std::thread::Threads;
 use streams::BatchFault;
 
-/// How many lanes a run has at most.
+/// The maximum number of lanes of a run.
 pub const MAX_LANES: u32 = LANES;
 
-// The texts of faults and of the help have these numbers.
+// The texts of faults and of the help contain these numbers.
 const _: () = prove!(MAX_FILES == 256);
 
 const _: () = prove!(MAX_LANES == 8);
 
-/// Reads the first `files` files of the opener, answers each record under this choice of the outer face, and
-/// hands out a book for each file, whose mark also tells where a file could not be opened, failed or found no
-/// memory.
+/// Answers all records of the first `files` files on `lanes` lanes of four threads each; returns a book for each file.
 ///
-/// Files go over lanes of four threads each: one reads the file, one reads graphs and traces faces, one finds
-/// shapes, one draws. A lane takes the next file when it is free. At most `capacity` messages wait between two
-/// stages, and as many between all lanes and the calling thread.
+/// Each record is answered under this choice of the outer face. The mark of a book says how its file ended, also if it
+/// could not be opened, failed, or memory ran out.
 ///
-/// Each stage passes the gate once for each record: the read stage before it gives it, each later one before it
-/// works on it.
+/// One thread of a lane reads the file, one reads graphs and traces faces, one finds shapes, one draws. A lane takes
+/// the next file when it is free. At most `capacity` messages wait between two stages, and as many between all lanes
+/// and the calling thread.
+///
+/// Each stage passes the gate once for each record: the read stage before it gives it, each later one before it works
+/// on it.
 ///
 /// # Errors
 ///
-/// `TooManyFiles` exactly where there are more than `MAX_FILES`; `BadLanes` exactly where there are no lanes or
-/// more than `MAX_LANES`, and no more files than that. `Memory`: no memory for links, the fan, tickets,
-/// buffers, lists of lanes or books. `LaneLost`: an end of a link or of the fan was gone. `Thread`: a thread could not be started.
+/// `TooManyFiles` exactly if there are more than `MAX_FILES`; `BadLanes` exactly if there are no lanes or more than
+/// `MAX_LANES`, and no more files than that. `Memory`: no memory for links, the fan, tickets, buffers, lists of lanes
+/// or books. `LaneLost`: an end of a link or of the fan was gone. `Thread`: a thread could not be started.
 pub fn run_batch<R: Threads + Wait + Sync, O: Opener, G: Gate>(
     rt: &R,
     alloc: Global,

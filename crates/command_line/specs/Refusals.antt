@@ -1,10 +1,10 @@
--- Which faults refuse what was asked for.
+-- The faults by which a request is refused.
 use Rattle.std.specs.Prelude.{⊤}
 use Rattle.streams.specs.declared.faults.BatchFault.TheVariants.{TooManyFiles, BadLanes}
 use Rattle.command_line.specs.declared.faults.Fault.{Fault}
 use Rattle.command_line.specs.declared.faults.Fault.TheVariants.{Memory, NotText, BadWaiting, Run, Write}
 
--- what was asked for is refused
+-- the request is refused
 abbrev pub IsMisuse : Fault → Type 0
 IsMisuse (NotText argument) = ⊤
 IsMisuse BadWaiting = ⊤

@@ -1,4 +1,4 @@
--- What the words of a command line ask for.
+-- The requests that the arguments of a command line make.
 use Rattle.std.specs.Prelude.{◌≡◌, ◌<◌, ◌≤◌, ◌↔◌, ◌&&◌, ◌||◌, if◌then◌else◌, ℕ, Bool, true, false, not, nat_eq, List, [], ◌∷◌, map, length, drop, String, Vec, Option, None, Some, Result, Ok, Err, ⊤, codes, bytes_eq, slice_index, string_bytes, vec_len}
 use Rattle.std.specs.List.{count_by, starts_with}
 use Rattle.std.specs.Str.Parse.{ParsesUnsigned}
@@ -19,15 +19,15 @@ use Rattle.command_line.specs.declared.reading.Keyword.TheVariants as keyword
 use Rattle.command_line.specs.declared.request.Request.{Request}
 use Rattle.command_line.specs.declared.request.Request.TheVariants.{Frames, Layout}
 
--- the word begins with these two bytes
+-- the argument begins with these two bytes
 abbrev pub has_prefix : ℕ → ℕ → List ℕ → Bool
 has_prefix first second word = nat_eq (slice_index word 0) first && nat_eq (slice_index word 1) second
 
--- an option that asks for help: '--help', or '-h' with what may follow
+-- an option that asks for help: '--help', or '-h' with anything after it
 abbrev pub is_help : List ℕ → Bool
 is_help word = bytes_eq word (codes "--help") || has_prefix 45 104 word
 
--- the role of the word behind this one, which has this role
+-- the role of the argument after this one, which has this role
 abbrev pub role_after : Role → List ℕ → Role
 role_after Any word =
     if bytes_eq word (codes "--") then File
@@ -39,13 +39,13 @@ role_after Any word =
 role_after File word = File
 role_after _ word = Any
 
--- the word is a file: it begins with no '--' where an option may stand
+-- the argument is a file: it does not begin with '--' at a place where an option may be
 abbrev pub is_file : Role → List ℕ → Bool
 is_file Any word = not (has_prefix 45 45 word)
 is_file File word = true
 is_file _ word = false
 
--- the word asks for this
+-- the argument asks for this
 abbrev pub asks : Keyword → Role → List ℕ → Bool
 asks keyword.Version Command word = bytes_eq word (codes "--version")
 asks keyword.Frames Command word = bytes_eq word (codes "frames")
@@ -62,24 +62,25 @@ asks keyword.Help Command word = bytes_eq word (codes "help") || is_help word
 asks keyword.Help _ word = is_help word
 asks _ _ word = false
 
--- one of these words asks for this, the first of which has this role
+-- one of these arguments asks for this, the first of which has this role
 abbrev pub asks_from : Keyword → Role → List (String Global) → Bool
 asks_from w role [] = false
 asks_from w role (word ∷ words) =
     if asks w role (string_bytes word) then true else asks_from w (role_after role (string_bytes word)) words
 
--- the files among these words, in their order, the first of which has this role
+-- the files among these arguments, in order, the first of which has this role
 abbrev pub files_from : Role → List (String Global) → List (List ℕ)
 files_from role [] = []
 files_from role (word ∷ words) =
     if is_file role (string_bytes word) then string_bytes word ∷ files_from (role_after role (string_bytes word)) words
     else files_from (role_after role (string_bytes word)) words
 
--- one of the words of a command line asks for this
+-- one of the arguments of a command line asks for this
 abbrev pub asks_in : Keyword → List (String Global) → Bool
 asks_in w words = asks_from w Command words
 
--- the files that a command line names, in their order: what is neither the command nor an option nor the value of one, and all behind '--'
+-- the files that a command line names, in order: all arguments that are neither the command nor an option nor the value
+-- of one, and all after '--'
 abbrev pub files_in : List (String Global) → List (List ℕ)
 files_in words = files_from Command words
 
@@ -87,7 +88,7 @@ files_in words = files_from Command words
 abbrev pub inputs_in : List (String Global) → ℕ
 inputs_in words = count_by is_input (files_in words)
 
--- the drawing that a command line asks for: where it names none, a short one in JSON lines and a quick one in the report
+-- the drawing that a command line asks for; if it names none, a short one in JSON lines and a quick one in the report
 abbrev pub drawing_in : List (String Global) → DrawingKind
 drawing_in words =
     if asks_in keyword.ShortDrawing words then Short
@@ -95,11 +96,11 @@ drawing_in words =
     else if asks_in keyword.Json words then Short
     else Quick
 
--- what follows this beginning in a word, where it begins so
+-- the rest of an argument after this prefix, if it begins with it
 abbrev pub given_after : List ℕ → List ℕ → Option (List ℕ)
 given_after front word = if starts_with nat_eq word front then Some (drop (length front) word) else None
 
--- the text that a word in this role gives for a number: the word itself, or what follows '='
+-- the text that an argument in this role gives for a number: the argument itself, or what follows '='
 abbrev pub number_text : Number → Role → List ℕ → Option (List ℕ)
 number_text number.Lanes Lanes word = Some word
 number_text number.Lanes Any word = given_after (codes "--lanes=") word
@@ -107,12 +108,12 @@ number_text number.Waiting Waiting word = Some word
 number_text number.Waiting Any word = given_after (codes "--waiting=") word
 number_text _ _ word = None
 
--- the first of two texts
+-- the first of two texts that there is
 abbrev pub text_or : Option (List ℕ) → Option (List ℕ) → Option (List ℕ)
 text_or (Some text) other = Some text
 text_or None other = other
 
--- the text that the first of these words which gives a number gives for it, where the first word has this role
+-- the text given for a number by the first of these arguments that gives one, where the first argument has this role
 abbrev pub number_text_from : Number → Role → List (String Global) → Option (List ℕ)
 number_text_from n role [] = None
 number_text_from n role (word ∷ words) = text_or (number_text n role (string_bytes word)) (number_text_from n (role_after role (string_bytes word)) words)
@@ -121,12 +122,12 @@ number_text_from n role (word ∷ words) = text_or (number_text n role (string_b
 abbrev pub number_text_in : Number → List (String Global) → Option (List ℕ)
 number_text_in n words = number_text_from n Command words
 
--- the value of a number's text: where it is no decimal number or does not fit in 32 bits, 0
+-- the value of a number's text; 0 if it is not a decimal number or does not fit in 32 bits
 abbrev pub number_or_0 : Result ℕ ⊤ → ℕ
 number_or_0 (Ok n) = n
 number_or_0 (Err fault) = 0
 
--- a number is what its text says, and where there is no text, this
+-- a number is what its text says, and if there is no text, this
 abbrev pub IsNumberOf : ℕ → Option (List ℕ) → ℕ → Type 0
 IsNumberOf otherwise None n = n ≡ otherwise
 IsNumberOf otherwise (Some text) n = (parsed : Result ℕ ⊤) × ParsesUnsigned 32 10 text parsed × (n ≡ number_or_0 parsed)
@@ -138,8 +139,9 @@ AreLanesIn words n = IsNumberOf 1 (number_text_in number.Lanes words) n
 abbrev pub IsWaitingIn : List (String Global) → ℕ → Type 0
 IsWaitingIn words n = IsNumberOf 64 (number_text_in number.Waiting words) n
 
--- the words ask for a layout of these files, of which one at most is standard input, under this choice and in this style, over so many lanes,
--- and so many megabytes may wait. A kind of drawing is named for JSON lines alone
+-- the arguments ask for a layout of these files, of which at most one is standard input, under this choice and in this
+-- style, over this many lanes, with this limit on buffered text in megabytes. A kind of drawing is named for JSON lines
+-- alone
 pub record AsksLayout (words : List (String Global)) (names : Vec (Bor (List ℕ)) Global) (choice : Choice) (style : Style) (lanes waiting : ℕ) : Type 0 where
   pub command : asks_in keyword.Layout words ≡ true
   pub files : map (λ name. name.now) names.items ≡ files_in words
@@ -152,21 +154,21 @@ pub record AsksLayout (words : List (String Global)) (names : Vec (Bor (List ℕ
   pub waiting_in : IsWaitingIn words waiting
   pub needs_json : (asks_in keyword.ShortDrawing words || asks_in keyword.QuickDrawing words) ≡ true → asks_in keyword.Json words ≡ true
 
--- the words ask for the records of this file
+-- the arguments ask for the records of this file
 pub record AsksFrames (words : List (String Global)) (name : List ℕ) : Type 0 where
   pub command : asks_in keyword.Frames words ≡ true
   pub file : files_in words ≡ name ∷ []
 
--- so many megabytes can wait
+-- this limit on buffered text, in megabytes, is in range
 abbrev pub IsWaiting : ℕ → Type 0
 IsWaiting waiting = (1 ≤ waiting) × (waiting ≤ 65536)
 
--- where the request says how many megabytes may wait, they can
+-- if the request has a limit on buffered text, it is in range
 abbrev pub HasWaiting : Request → Type 0
 HasWaiting (Frames name) = ⊤
 HasWaiting (Layout asked) = IsWaiting asked.waiting
 
--- the request is what the words ask for
+-- the request is what the arguments ask for
 abbrev pub IsAskedBy : List (String Global) → Request → Type 0
 IsAskedBy words (Frames name) = AsksFrames words name.now
 IsAskedBy words (Layout asked) = AsksLayout words asked.names asked.choice asked.style asked.lanes asked.waiting

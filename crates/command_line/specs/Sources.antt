@@ -19,14 +19,14 @@ module _ {F I : Type 0} where
   named_fails of_file of_input (Input input) = of_input input
 
 module _ {F : Type 0} where
-  -- what is noted of a source changes nothing of it
+  -- the notes on a source do not change it
   abbrev pub noted_to_come : (F → Option (List ℕ)) → NotedSource F → Option (List ℕ)
   noted_to_come to_come noted = to_come noted.source
 
   abbrev pub noted_fails : (F → Bool) → NotedSource F → Bool
   noted_fails fails noted = fails noted.source
 
-  -- the bytes that are to come: of a file that was refused there are none
+  -- the bytes that are to come; a file that was refused has none
   abbrev pub opened_to_come : (F → Option (List ℕ)) → FileSource F → Option (List ℕ)
   opened_to_come to_come (Open file) = to_come file
   opened_to_come to_come Unopened = Some []
@@ -36,7 +36,7 @@ module _ {F : Type 0} where
   opened_fails fails (Open file) = fails file
   opened_fails fails Unopened = true
 
-  -- where a file's bytes are known, they are those of this source
+  -- if a file's bytes are known, they are those of this source
   abbrev pub IsKnownAs : (F → Option (List ℕ)) → (F → Bool) → opening.Meaning → FileSource F → Type 0
   IsKnownAs to_come fails meaning source = (bytes : List ℕ) → opening.known_of meaning ≡ Some bytes
       → (opened_to_come to_come source ≡ Some bytes) × (opened_fails fails source ≡ opening.fails_of meaning)

@@ -1,4 +1,4 @@
-//! Short lines of text. They are made without memory.
+//! Short lines of text, built without allocation.
 ghost use Rattle.std.specs.Prelude.{◌≡◌, ◌≤◌, false};
 ghost use Rattle.command_line.specs.declared.fault_line.TheConstants.{LINE_ROOM};
 
@@ -8,10 +8,10 @@ use std::fmt;
 use std::fmt::Write;
 use streams::{BatchFault, Sink, WriteFault, put_all};
 
-/// As many bytes as a line has room for.
+/// The capacity of a line, in bytes.
 const LINE_ROOM: usize = 128;
 
-/// A short line of text in a fixed buffer; what does not fit is left out.
+/// A short line of text in a fixed buffer; what does not fit is cut off.
 #[derive(Drop)]
 pub(crate) struct ShortLine {
     bytes: [u8; LINE_ROOM],
@@ -45,8 +45,9 @@ impl fmt::Write for ShortLine {
     }
 }
 
-/// Writes `planarbend: `, the text of a failed write of output and its reason, if there is one. A reader that has enough
-/// is told nothing. That this may fail changes nothing.
+/// Writes `planarbend: ` and the message of a failed write of output, with its reason, to `err`.
+///
+/// If the reader of the output has closed it, nothing is written. A failure of this write changes nothing.
 pub fn write_output_fault<E: Sink>(reason: Reason, err: &mut E)
     requires { E.failed err.old ≡ false }
 {
@@ -61,7 +62,7 @@ pub fn write_output_fault<E: Sink>(reason: Reason, err: &mut E)
     let _ = put_all(err, line.text());
 }
 
-/// Writes `planarbend: ` and the text of the fault. That this may fail changes nothing.
+/// Writes `planarbend: ` and the message of the fault to `err`. A failure of this write changes nothing.
 pub fn write_fault<E: Sink>(fault: Fault, err: &mut E)
     requires { E.failed err.old ≡ false }
 {

@@ -1,26 +1,25 @@
-//! What ends the program without a whole text, and its exit status.
+//! The faults that end the program without complete output, and their exit status.
 ghost use Rattle.std.specs.Prelude.{◌≡◌};
 
 use streams::{BatchFault, WriteFault};
 use thiserror::Error;
 
-/// Why there is no whole text. The line of each is what the program prints of it behind its own name.
+/// The reason why there is no complete output. Its message is what the program prints after its own name.
 #[derive(Clone, Copy, Debug, PartialEq, Eq, Error)]
 pub enum Fault {
-    /// There was no memory for the words after the program's name, for the text that helps with them or refuses
-    /// them, or to open a file.
+    /// Out of memory for the arguments, for the text of help or of an error message, or while a file was opened.
     #[error("out of memory")]
     Memory,
-    /// The argument of this number, from 1, is no text.
+    /// The argument with this number, from 1, is not valid UTF-8.
     #[error("argument {0} is not valid UTF-8")]
     NotText(u32),
     /// The value of `--waiting` is out of range.
     #[error("waiting must be 1 to 65536")]
     BadWaiting,
-    /// The run gave no result.
+    /// The run failed.
     #[error(transparent)]
     Run(BatchFault),
-    /// A text was not written whole.
+    /// The output was not written completely.
     #[error(transparent)]
     Write(WriteFault),
 }
@@ -28,7 +27,7 @@ pub enum Fault {
 impl Fault {
     ghost use Rattle.command_line.specs.Refusals.{IsMisuse};
 
-    /// The program's exit status: 2 where what was asked for is refused, and else 1.
+    /// The program's exit status: 2 if the request is refused, and otherwise 1.
     pub fn status(self) -> u8
         ensures refused { IsMisuse self → result ≡ 2 }
         ensures failed { ¬ IsMisuse self → result ≡ 1 }

@@ -1,4 +1,4 @@
-//! What is noted of the files of a run while they are read: why one failed, how it ended and how it begins.
+//! Notes on the files of a run while they are read: why a file failed, how it ended and its first bytes.
 ghost use Rattle.std.specs.Prelude.{◌≡◌, false, OnOk};
 
 use crate::fault_line::ShortLine;
@@ -9,24 +9,24 @@ use std::fmt::Write;
 use std::sync::atomic::{AtomicU8, AtomicU64, Ordering};
 use streams::{Mark, Sink, WriteFault, put_all};
 
-/// How many of a file's first bytes are noted.
+/// The number of a file's first bytes that are noted.
 pub(crate) const FRONT: usize = 96;
 
-/// What is noted of one file, from any thread.
+/// The notes on one file, which any thread may write.
 #[derive(Drop)]
 pub struct FileNote {
-    /// Why it was not opened or a read of it failed, as `number_of` counts reasons, or 0.
+    /// The reason why it was not opened or a read of it failed, encoded as by `number_of`, or 0.
     failure: AtomicU64,
-    /// How it ended, if it is no planar_code, as `Misfit` counts, or 0.
+    /// How it ended, if it is not planar_code, encoded as by `Misfit`, or 0.
     misfit: AtomicU64,
     /// Its first bytes.
     front: Vec<AtomicU8>,
-    /// How many of them were read.
+    /// The number of bytes in `front`.
     len: AtomicU64,
 }
 
 impl FileNote {
-    /// Nothing is noted yet.
+    /// An empty note.
     fn new(alloc: Global) -> Result<FileNote, AllocError> {
         let mut front = Vec::with_capacity(alloc, FRONT)?;
         for _ in 0..FRONT {
@@ -40,12 +40,12 @@ impl FileNote {
         })
     }
 
-    /// The file was not opened, or a read of it failed.
+    /// Notes that the file was not opened, or that a read of it failed.
     pub(crate) fn fail(&self, reason: Reason) {
         self.failure.store(number_of(reason), Ordering::SeqCst);
     }
 
-    /// The file goes on with these bytes, after `place` others.
+    /// Notes bytes of the file that follow the first `place` bytes.
     pub(crate) fn begin(&self, place: usize, bytes: &[u8]) {
         let mut end = place;
         for byte in bytes.iter().take(FRONT) {
@@ -58,7 +58,7 @@ impl FileNote {
         self.len.store(end as u64, Ordering::SeqCst);
     }
 
-    /// The file ended with this mark.
+    /// Notes that the file ended with this mark.
     pub fn end(&self, mark: Mark) {
         self.misfit.store(Misfit::number_of(mark), Ordering::SeqCst);
     }
@@ -75,7 +75,7 @@ impl FileNote {
         Ok(bytes)
     }
 
-    /// What the file looks like, if it is no planar_code and that is known.
+    /// A hint at the format of the file, if it is not planar_code and the format is recognised.
     fn hint(&self, alloc: Global) -> Option<&'static str> {
         let misfit = Misfit::of_number(self.misfit.load(Ordering::SeqCst))?;
         let front = self.front(alloc).ok()?;
@@ -83,7 +83,7 @@ impl FileNote {
     }
 }
 
-/// The number that stands for a reason: from 1 on.
+/// The number that encodes a reason, from 1.
 fn number_of(reason: Reason) -> u64 {
     match reason.code {
         Some(code) => u64::from(code.unsigned_abs()) + 2,
@@ -91,7 +91,7 @@ fn number_of(reason: Reason) -> u64 {
     }
 }
 
-/// The reason that a number stands for: none for 0.
+/// The reason that a number encodes; `None` for 0.
 fn reason_of(number: u64) -> Option<Reason> {
     match number.checked_sub(1)? {
         0 => Some(Reason::UNKNOWN),
@@ -101,18 +101,14 @@ fn reason_of(number: u64) -> Option<Reason> {
     }
 }
 
-/// What is noted of each file of a run.
+/// The notes on each file of a run.
 #[derive(Drop)]
 pub struct FileNotes {
     notes: Vec<FileNote>,
 }
 
 impl FileNotes {
-    /// Notes of this many files.
-    ///
-    /// # Errors
-    ///
-    /// `AllocError` if there is no memory for them.
+    /// Empty notes on `files` files.
     pub fn new(alloc: Global, files: usize) -> Result<FileNotes, AllocError> {
         let mut notes = Vec::with_capacity(alloc, files)?;
         for _ in 0..files {
@@ -121,13 +117,15 @@ impl FileNotes {
         Ok(FileNotes { notes })
     }
 
-    /// The note of the file of this number. `None` past the last.
+    /// The note on the file with this number; `None` past the last.
     pub fn note(&self, file: u32) -> Option<&FileNote> {
         self.notes.get(file as usize)
     }
 
-    /// Writes a line for each file that was not opened or not read to its end, with the system's reason, and for each
-    /// that is no planar_code, with what it looks like, if that is known. That this may fail changes nothing.
+    /// Writes to `err` a line for each file that failed, or that is not planar_code and has a recognised format.
+    ///
+    /// The line of a file that was not opened or not read to its end says why, with the system's reason; that of one
+    /// that is not planar_code says what it looks like. A failure of this write changes nothing.
     pub fn write<E: Sink>(&self, alloc: Global, names: &[&str], err: &mut E)
         requires { E.failed err.old ≡ false }
     {

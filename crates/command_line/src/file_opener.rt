@@ -1,4 +1,4 @@
-//! Files by their places in a list of names.
+//! Files, numbered by their places in a list of names.
 ghost use Rattle.std.specs.Prelude.{◌≡◌, slice_get};
 ghost use Rattle.command_line.specs.Naming.{meanings_in};
 
@@ -9,9 +9,10 @@ use lanes::{OpenFault, Opener};
 use std::alloc::Global;
 use std::sync::atomic::{AtomicU64, Ordering};
 
-/// Files by their places in a list of names, in which a name may stand more than once: a file's number is the place
-/// of its name. A number past the list is not opened. Each call of `open` for a name is counted in `opened`, also
-/// where it is refused. How each file begins, and why it fails, goes to `notes`.
+/// An opener of the files in a list of names; a file's number is the index of its name.
+///
+/// A name may be listed more than once. A number past the list is not opened. Each call of `open` for a name is counted
+/// in `opened`, even if it is refused. How each file begins, and why it fails, is written to `notes`.
 ///
 /// In contracts what is known of a file is what `files` says of its name.
 #[derive(Drop)]

@@ -1,9 +1,9 @@
-//! What a file that is no planar_code in the one-byte form looks like.
+//! Recognising the format of a file that is not planar_code in the one-byte form.
 
 use planar_code::{Ending, HEADER};
 use streams::Mark;
 
-/// How a file ended that is no planar_code in the one-byte form.
+/// How a file ended that is not planar_code in the one-byte form.
 #[derive(Clone, Copy, Debug, PartialEq, Eq)]
 pub enum Misfit {
     Header,
@@ -13,7 +13,7 @@ pub enum Misfit {
 }
 
 impl Misfit {
-    /// The number that stands for a mark: 0 for one of a file that is planar_code as far as it was read.
+    /// The number that encodes a mark; 0 for one of a file that is planar_code as far as it was read.
     pub(crate) fn number_of(mark: Mark) -> u64 {
         match mark {
             Mark::Ended(Ending::Header) => 1,
@@ -24,7 +24,7 @@ impl Misfit {
         }
     }
 
-    /// What a number stands for.
+    /// The misfit that a number encodes.
     pub(crate) fn of_number(number: u64) -> Option<Misfit> {
         match number {
             1 => Some(Misfit::Header),
@@ -36,7 +36,7 @@ impl Misfit {
     }
 }
 
-/// Files that begin with these bytes, and what is said of them.
+/// The first bytes of known formats, and the hint for each.
 const KINDS: [(&[u8], &str); 14] = [
     (b"\x1f\x8b", "gzip-compressed: use zcat"),
     (b"\xfd7zXZ\0", "xz-compressed: use xzcat"),
@@ -60,7 +60,7 @@ const GRAPH6: &str = "graph6: use planarg -p";
 
 const SPARSE6: &str = "sparse6: use planarg -p";
 
-/// What a file looks like that ended in this way and begins with these bytes.
+/// A hint at the format of a file that ended in this way and begins with these bytes.
 pub(crate) fn hint_of(misfit: Misfit, front: &[u8]) -> Option<&'static str> {
     match misfit {
         Misfit::Header => Some(hint_without_header(front)),
@@ -68,7 +68,7 @@ pub(crate) fn hint_of(misfit: Misfit, front: &[u8]) -> Option<&'static str> {
     }
 }
 
-/// What a file looks like that does not begin with the header.
+/// A hint at the format of a file that does not begin with the header.
 fn hint_without_header(front: &[u8]) -> &'static str {
     for (begins, hint) in KINDS {
         if front.starts_with(begins) {
@@ -88,7 +88,7 @@ fn hint_without_header(front: &[u8]) -> &'static str {
     }
 }
 
-/// What the bytes after the header look like, if they are no records in the one-byte form.
+/// A hint at the format of the bytes after the header, if they are not records in the one-byte form.
 fn hint_after_header(misfit: Misfit, body: &[u8]) -> Option<&'static str> {
     if begins_with_line_end(body) {
         Some("a line end follows the header: remove it")
@@ -111,7 +111,7 @@ fn begins_with_line_end(body: &[u8]) -> bool {
 }
 
 /// Whether these bytes cannot begin the lists of a simple graph with this many vertices: an entry is too great, is the
-/// vertex itself, comes twice, or the list of that neighbour is known and lacks the vertex.
+/// vertex itself, occurs twice, or the list of that neighbour is known and lacks the vertex.
 fn is_no_graph(vertices: u8, bytes: &[u8]) -> bool {
     let known = bytes.iter().filter(|byte| **byte == 0).count();
     for vertex in 1..=vertices {
@@ -138,7 +138,7 @@ fn list_of(bytes: &[u8], vertex: u8) -> &[u8] {
         .unwrap_or(&[])
 }
 
-/// Whether this is the beginning of a line of graph6: the number of vertices, and as many bytes as their pairs need.
+/// Whether these bytes begin a line of graph6: the number of vertices, and as many bytes as their pairs need.
 fn is_graph6(front: &[u8]) -> bool {
     let Some(first) = front.first() else {
         return false;

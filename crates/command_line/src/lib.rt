@@ -1,5 +1,5 @@
-//! The command line: what its words ask for, files and standard input by their names as sources of a run, the line that
-//! tells how far a run is, and the line and the status of a fault that ends it.
+//! The command line: parsing of arguments, named files and standard input as sources of a run, progress output, and the
+//! message and exit status of a fault.
 #![tactic(auto)]
 
 mod fault_line;

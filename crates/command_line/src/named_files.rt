@@ -15,7 +15,7 @@ use std::io::Read;
 use std::rt::Files;
 use streams::Tap;
 
-/// Why a file was not opened: the fault of the run, and the system's reason.
+/// The reason why a file was not opened: the fault of the run, and the system's reason.
 #[derive(Clone, Copy, Debug, PartialEq, Eq)]
 pub struct Refused {
     pub fault: OpenFault,
@@ -24,24 +24,24 @@ pub struct Refused {
 
 /// Opens files by their names, from any thread.
 ///
-/// For proofs it may be known of each name whether a file of this name opens, and then which bytes it gives and
-/// whether it fails after the last of them. Of the files of a system nothing is known.
+/// In proofs it may be known of each name whether a file of this name opens, and then which bytes it gives and whether
+/// it fails after the last of them. Of the files of a system nothing is known.
 pub trait NamedFiles: Sync {
-    /// An open file. It keeps why a read of it failed.
+    /// An open file, which keeps the reason of a failed read.
     type Source: Tap + KeepsReason + Send;
 
     ghost meaning: { Self → List ℕ → Meaning };
 
-    /// Opens the file of this name.
+    /// Opens the file with this name.
     ///
     /// # Errors
     ///
-    /// The fault is `Io` where it could not be opened, `Memory` where there was no memory to. The reason is the system's.
+    /// The fault is `Io` if the file could not be opened, `Memory` if memory ran out. The reason is the system's.
     fn open(&self, alloc: Global, name: &str) -> Result<Self::Source, Refused>
         ensures { Opens Self.Source.to_come Self.Source.fails (meaning self.now name.now) (by_fault result) };
 }
 
-/// The files of a system. Nothing is known of their bytes.
+/// The files of the system. Nothing is known of their bytes.
 #[derive(Drop)]
 pub struct SystemFiles<'r, R> {
     pub rt: &'r R,
@@ -67,7 +67,7 @@ where
     }
 }
 
-/// Files by name, with the name `-` for standard input, which is the file 0 of `input`.
+/// Files by name, where the name `-` stands for standard input, which is file 0 of `input`.
 #[derive(Drop)]
 pub struct FilesAndInput<'r, N, I> {
     pub files: &'r N,
@@ -104,5 +104,6 @@ where
     }
 }
 
-/// Why standard input is not opened: it was closed when the program began, so its file descriptor is bad (`EBADF`).
+/// The reason why standard input is not opened: it was closed when the program began, so its file descriptor is bad
+/// (`EBADF`).
 const CLOSED: Reason = Reason { code: Some(9) };

@@ -1,12 +1,13 @@
-//! Writers as sinks that keep why a write failed.
+//! Sinks over writers that keep the reason of a failed write.
 ghost use Rattle.std.specs.Prelude.{◌≡◌, false};
 
 use crate::reason::{KeepsReason, Reason};
 use std::io::Write;
 use streams::{Sink, SinkFault};
 
-/// A sink over a writer of std, as `IoSink`, that keeps why a write failed. A write that fails, or that takes nothing of a
-/// nonempty piece, is its fault.
+/// A sink over a writer of std that keeps the reason of a failed write, and otherwise behaves as `IoSink`.
+///
+/// It fails if a write fails or takes nothing of a nonempty piece.
 #[derive(Drop)]
 pub struct OutputSink<W> {
     writer: W,
@@ -15,7 +16,7 @@ pub struct OutputSink<W> {
 }
 
 impl<W: Write> OutputSink<W> {
-    /// A sink over this writer. It has taken what the writer contains, and has not failed.
+    /// A sink over this writer. The bytes taken are those that the writer already contains, and it has not failed.
     pub fn new(writer: W) -> OutputSink<W>
         ensures taken { ⟦<OutputSink<W> as Sink>⟧.taken result ≡ W.contents writer }
         ensures intact { ⟦<OutputSink<W> as Sink>⟧.failed result ≡ false }

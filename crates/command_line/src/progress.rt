@@ -1,4 +1,4 @@
-//! A line that tells how far a run is.
+//! Progress output of a run.
 ghost use Rattle.std.specs.Prelude.{◌≡◌};
 
 use crate::fault_line::ShortLine;
@@ -7,22 +7,22 @@ use std::fmt;
 use std::fmt::Write;
 use std::sync::atomic::{AtomicU64, Ordering};
 
-/// How many milliseconds lie between two lines at least. The last one waits for none.
+/// The minimum time between two lines, in milliseconds. The last line does not wait.
 const INTERVAL: u64 = 250;
 
-/// Where it is written how far a run is.
+/// Where progress is shown.
 #[derive(Clone, Copy, Debug, PartialEq, Eq)]
 pub enum Progress {
-    /// Nowhere: nothing is written.
+    /// Nowhere: nothing is shown.
     Nowhere,
-    /// On a terminal, in one line that is written over.
+    /// On a terminal, in one line that is overwritten.
     OnTerminal,
-    /// On a terminal as `OnTerminal`, elsewhere in lines of their own.
+    /// On a terminal as `OnTerminal`, and elsewhere in separate lines.
     Everywhere,
 }
 
 impl Progress {
-    /// What is asked for by an option that is given so often.
+    /// The setting requested by giving the option this many times.
     pub fn of_count(count: u8) -> Progress {
         match count {
             0 => Progress::Nowhere,
@@ -32,19 +32,19 @@ impl Progress {
     }
 }
 
-/// Where lines of progress go, from any thread, with a clock.
+/// An output for lines of progress, usable from any thread, with a clock.
 pub trait Console {
-    /// Whether a line there can be written over.
+    /// Whether its last line can be overwritten.
     fn is_terminal(&self) -> bool;
 
-    /// How many milliseconds have passed since some start, or 0 where the clock cannot be read.
+    /// The time since some fixed start, in milliseconds, or 0 if the clock cannot be read.
     fn time(&self) -> u64;
 
-    /// Writes a text. That this may fail changes nothing.
+    /// Writes a text. A failure of this write changes nothing.
     fn show(&self, text: &[u8]);
 }
 
-/// How lines stand on a console.
+/// How lines are shown on a console.
 #[derive(Clone, Copy, Debug, PartialEq, Eq)]
 enum ConsoleMode {
     Hidden,
@@ -53,7 +53,7 @@ enum ConsoleMode {
 }
 
 impl ConsoleMode {
-    /// How lines stand on this console.
+    /// How lines are shown on this console.
     fn of<C: Console>(progress: Progress, console: &C) -> ConsoleMode {
         match progress {
             Progress::Nowhere => ConsoleMode::Hidden,
@@ -64,25 +64,26 @@ impl ConsoleMode {
     }
 }
 
-/// Counts the graphs of a run at the gate before its last stage, and tells how far the run is: at most four times
-/// a second, and once more at its end.
+/// Counts the graphs of a run at the gate of its last stage, and shows the progress of the run.
+///
+/// It shows it at most four times a second, and once more at the end of the run.
 #[derive(Drop)]
 pub struct Meter<'c, C> {
     console: &'c C,
     mode: ConsoleMode,
     files: usize,
-    /// When the run began, by the console's clock.
+    /// The start of the run, by the console's clock.
     start: u64,
-    /// How many files were opened, or could not be.
+    /// The number of files that were opened, or could not be.
     opened: AtomicU64,
-    /// How many graphs came to the last stage.
+    /// The number of graphs that reached the last stage.
     graphs: AtomicU64,
-    /// When the last line was written, in milliseconds since the start.
+    /// The time of the last line, in milliseconds since the start.
     last_told: AtomicU64,
 }
 
 impl<'c, C: Console> Meter<'c, C> {
-    /// A meter of a run over so many files, which begins now.
+    /// A meter of a run over `files` files that begins now.
     pub fn new(console: &'c C, progress: Progress, files: usize) -> Meter<'c, C> {
         Meter {
             console,
@@ -95,24 +96,24 @@ impl<'c, C: Console> Meter<'c, C> {
         }
     }
 
-    /// The count of the files that were opened, or could not be.
+    /// The counter of the files that were opened, or could not be.
     pub fn opened(&self) -> &AtomicU64 {
         &self.opened
     }
 
-    /// Tells how far the run came, where it began a file, and ends the line.
+    /// Shows the final progress, if the run began a file, and ends the line.
     pub fn finish(&self) {
         if self.mode != ConsoleMode::Hidden && self.opened.load(Ordering::SeqCst) > 0 {
             self.tell(self.time(), "\n");
         }
     }
 
-    /// How many milliseconds the run has taken.
+    /// The duration of the run so far, in milliseconds.
     fn time(&self) -> u64 {
         self.console.time().saturating_sub(self.start)
     }
 
-    /// Writes how far the run is, unless that was written a moment ago, or another thread writes it now.
+    /// Shows the progress, unless that was done a moment ago, or another thread does it now.
     fn tell_in_time(&self) {
         let last_told = self.last_told.load(Ordering::SeqCst);
         let time = self.time();
@@ -134,12 +135,12 @@ impl<'c, C: Console> Meter<'c, C> {
         }
     }
 
-    /// Writes the line of what was counted in so many milliseconds.
+    /// Shows the counts after `time` milliseconds in a line.
     fn tell(&self, time: u64, end: &str) {
         let opened = self.opened.load(Ordering::SeqCst);
         let graphs = self.graphs.load(Ordering::SeqCst);
         let rate = graphs.saturating_mul(1000) / time.max(1);
-        // The spaces cover what is left of a longer line.
+        // The spaces cover the rest of a longer line.
         let (front, back) = match self.mode {
             ConsoleMode::WrittenOver => ("\r", "   "),
             _ => ("", ""),
@@ -154,7 +155,7 @@ impl<'c, C: Console> Meter<'c, C> {
     }
 }
 
-/// What one stands for in each group of three digits, the greatest first.
+/// The place value of each group of three digits, the greatest first.
 const POWERS: [u64; 7] = [
     1_000_000_000_000_000_000,
     1_000_000_000_000_000,
@@ -165,7 +166,7 @@ const POWERS: [u64; 7] = [
     1,
 ];
 
-/// Writes a number with a comma between each three digits.
+/// Writes a number with thousands separators (commas).
 fn write_grouped(line: &mut ShortLine, number: u64) -> fmt::Result {
     let mut begun = false;
     for power in POWERS {

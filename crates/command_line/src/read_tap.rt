@@ -7,8 +7,10 @@ use crate::reason::{KeepsReason, Reason};
 use std::io::Read;
 use streams::{Tap, TapFault};
 
-/// A reader as a source. Nothing is known of its bytes beforehand, as any read may fail. What it gives is what the
-/// reader gave, and it ends where the reader does. It keeps why a read failed.
+/// A reader as a source of a run, which keeps the reason of a failed read.
+///
+/// Nothing is known of its bytes in advance, as any read may fail. It gives the bytes that the reader gives, and ends
+/// where the reader does.
 #[derive(Drop)]
 pub struct ReadTap<R> {
     reader: R,
@@ -41,8 +43,8 @@ impl<R: Read + Drop> Tap for ReadTap<R> {
 
     ghost fails = { λ _. false };
 
-    // What every tap keeps; and what is left of the reader loses the bytes that are given. They are none only at
-    // its end, and where a read fails, none are lost.
+    // The contract of every tap; and the bytes given are removed from those that are left of the reader. No bytes are
+    // given only at its end, and if a read fails, none are lost.
     fn read(&mut self, buf: &mut [u8]) -> Result<usize, TapFault>
         ensures bound { IfOk result (λ n. n ≤ length buf.new) }
         ensures given { IfOk result (λ n. Consumes (⟦<ReadTap<R> as Tap>⟧.to_come self.old)

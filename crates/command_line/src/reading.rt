@@ -1,4 +1,4 @@
-//! What the words of a command line ask for, one after another.
+//! The meaning of the arguments of a command line, one after another.
 ghost use Rattle.std.specs.Prelude.{◌≡◌, ◌<◌, IfOk, map, option_map};
 ghost use Rattle.std.specs.List.{count_by};
 ghost use Rattle.command_line.specs.Naming as naming;
@@ -7,12 +7,12 @@ ghost use Rattle.command_line.specs.Requests.{role_after, asks, asks_in, files_i
 use crate::standard_input::is_input;
 use std::alloc::{AllocError, Global};
 
-/// What a word may be, by the words before it.
+/// The role of an argument, given the arguments before it.
 #[derive(Clone, Copy)]
 pub enum Role {
-    /// The first word: a command, or `--version`.
+    /// The first argument: a command, or `--version`.
     Command,
-    /// An option, a file, or the `--` behind which all are files.
+    /// An option, a file, or the `--` after which all are files.
     Any,
     /// The value of `--lanes`.
     Lanes,
@@ -26,7 +26,7 @@ pub enum Role {
     File,
 }
 
-/// What words can ask for, beside files, numbers and lines of progress.
+/// What arguments can ask for, besides files, numbers and progress output.
 #[derive(Clone, Copy)]
 pub enum Keyword {
     Version,
@@ -39,7 +39,7 @@ pub enum Keyword {
     QuickDrawing,
 }
 
-/// The numbers that words can give.
+/// The numbers that arguments can give.
 #[derive(Clone, Copy)]
 pub enum Number {
     /// The value of `--lanes`.
@@ -49,7 +49,7 @@ pub enum Number {
 }
 
 impl Role {
-    /// What the next word may be, behind this one in this role.
+    /// The role of the argument after this one, which has this role.
     fn role_after(self, word: &str) -> Role
         ensures { result ≡ role_after self word.now }
     {
@@ -64,7 +64,7 @@ impl Role {
         }
     }
 
-    /// Whether a word in this role is a file.
+    /// Whether an argument in this role is a file.
     fn is_file(self, word: &str) -> bool
         ensures { result ≡ is_file self word.now }
     {
@@ -75,7 +75,7 @@ impl Role {
         }
     }
 
-    /// Whether a word in this role asks for this.
+    /// Whether an argument in this role asks for `keyword`.
     fn asks(self, keyword: Keyword, word: &str) -> bool
         ensures { result ≡ asks keyword self word.now }
     {
@@ -97,7 +97,7 @@ impl Role {
         }
     }
 
-    /// The text that a word in this role gives for this number. `None` if it gives none.
+    /// The text that an argument in this role gives for this number; `None` if it gives none.
     fn number_text<'a>(self, number: Number, word: &'a str) -> Option<&'a str>
         ensures { option_map (λ text. text.now) result ≡ number_text number self word.now }
     {
@@ -111,14 +111,14 @@ impl Role {
     }
 }
 
-/// What follows this beginning in a word. `None` if the word does not begin with it.
+/// The rest of an argument after this prefix; `None` if the argument does not begin with it.
 fn given_after<'a>(front: &str, word: &'a str) -> Option<&'a str>
     ensures { option_map (λ text. text.now) result ≡ given_after front.now word.now }
 {
     word.strip_prefix(front)
 }
 
-/// The text that the first word which gives this number gives for it. `None` if no word gives it.
+/// The text given for this number by the first argument that gives it; `None` if no argument does.
 pub fn number_text<'a>(number: Number, words: &'a [String]) -> Option<&'a str>
     ensures { option_map (λ text. text.now) result ≡ number_text_in number words.now }
 {
@@ -133,15 +133,15 @@ pub fn number_text<'a>(number: Number, words: &'a [String]) -> Option<&'a str>
     None
 }
 
-/// Whether a word is an option that asks for help.
+/// Whether an argument is an option that asks for help.
 fn is_help(word: &str) -> bool
     ensures { result ≡ is_help word.now }
 {
     word == "--help" || has_prefix(word, b'-', b'h')
 }
 
-/// Whether a word begins with these two bytes. The second is not 0, as which the definition reads a byte that is not
-/// there.
+/// Whether an argument begins with these two bytes. The second is not 0, since the definition reads a missing byte as
+/// 0.
 fn has_prefix(word: &str, first: u8, second: u8) -> bool
     requires { 0 < second }
     ensures { result ≡ has_prefix first second word.now }
@@ -150,7 +150,7 @@ fn has_prefix(word: &str, first: u8, second: u8) -> bool
     bytes.len() > 1 && bytes[0] == first && bytes[1] == second
 }
 
-/// Whether some word asks for this.
+/// Whether any argument asks for `keyword`.
 pub fn asks(keyword: Keyword, words: &[String]) -> bool
     ensures { result ≡ asks_in keyword words.now }
 {
@@ -165,11 +165,11 @@ pub fn asks(keyword: Keyword, words: &[String]) -> bool
     false
 }
 
-/// The files that the words name, in their order.
+/// The files that the arguments name, in order.
 ///
 /// # Errors
 ///
-/// `AllocError` where there is no memory for the list.
+/// `AllocError` if there is no memory for the list.
 pub fn files_of<'a>(alloc: Global, words: &'a [String]) -> Result<Vec<&'a str>, AllocError>
     ensures { IfOk result (λ files. map (λ file. file.now) files.items ≡ files_in words.now) }
 {
@@ -185,7 +185,7 @@ pub fn files_of<'a>(alloc: Global, words: &'a [String]) -> Result<Vec<&'a str>, 
     Ok(files)
 }
 
-/// How many of these files are standard input.
+/// The number of these files that are standard input.
 pub fn inputs_among(files: &[&str]) -> usize
     ensures { result ≡ count_by naming.is_input (map (λ file. file.now) files.now) }
 {

@@ -1,4 +1,4 @@
-//! Why the system refused a call.
+//! The reasons why the system refuses a call.
 
 use crate::fault_line::ShortLine;
 use std::fmt::{Display, Formatter, Write};
@@ -6,17 +6,17 @@ use std::io::Error;
 use std::{fmt, io};
 use streams::{IoSink, MemTap};
 
-/// Why the system refused a call: the code of its error, if it gave one. Its text is the system's.
+/// The reason why the system refused a call: its error code, if it gave one. Its text is the system's.
 #[derive(Clone, Copy, Debug, PartialEq, Eq)]
 pub struct Reason {
     pub code: Option<i32>,
 }
 
 impl Reason {
-    /// A reason that is not known.
+    /// An unknown reason.
     pub const UNKNOWN: Reason = Reason { code: None };
 
-    /// Whether a reader is gone that has enough (`EPIPE`).
+    /// Whether the reader of a pipe has closed it (`EPIPE`).
     pub(crate) fn is_broken_pipe(self) -> bool {
         self.code == Some(32)
     }
@@ -37,7 +37,7 @@ impl Display for Reason {
         let mut line = ShortLine::new();
         let _ = write!(line, "{}", Error::from_raw_os_error(code));
         let text = str::from_utf8(line.text()).unwrap_or("unknown error");
-        // The system's text, without the number that std writes after it.
+        // The system's text, without the number that std appends.
         match text.split_once(" (os error ") {
             Some((front, _)) => f.write_str(front),
             None => f.write_str(text),
@@ -45,22 +45,22 @@ impl Display for Reason {
     }
 }
 
-// Bytes in memory do not fail.
+// Bytes in memory never fail.
 impl KeepsReason for MemTap {
     fn reason(&self) -> Reason {
         Reason::UNKNOWN
     }
 }
 
-// It keeps none.
+// It keeps no reason.
 impl<W: io::Write> KeepsReason for IoSink<W> {
     fn reason(&self) -> Reason {
         Reason::UNKNOWN
     }
 }
 
-/// A source or a sink that keeps why a read or a write of it failed.
+/// A source or a sink that keeps the reason of a failed read or write.
 pub trait KeepsReason {
-    /// Why the last read or write that failed did so.
+    /// The reason of the last read or write that failed.
     fn reason(&self) -> Reason;
 }

@@ -1,4 +1,4 @@
-//! The command line.
+//! Parsing of the command line.
 ghost use Rattle.std.specs.Prelude.{◌≡◌, ◌≢◌, ◌≤◌, ◌↔◌, ◌∷◌, [], ◌||◌, IfOk, IfNone, IfSome, IsTrue, length, map, option_map, true};
 ghost use Rattle.common.specs.declared.choice.Choice.{Choice};
 ghost use Rattle.reports.specs.declared.form.Form.{Form};
@@ -13,47 +13,50 @@ use common::{Choice, DrawingKind};
 use reports::{Form, Style};
 use std::alloc::{AllocError, Global};
 
-/// What the command line asks for.
+/// The request that a command line makes.
 #[derive(Drop)]
 pub enum Request<'a> {
-    /// The records of one file.
+    /// The records of one file (the command `frames`).
     Frames { name: &'a str },
-    /// Answers to the records of files.
+    /// Answers to the records of files (the command `layout`).
     Layout(LayoutRequest<'a>),
 }
 
-/// Which answers a layout is to have, and how it is to be worked out.
+/// The options and files of the command `layout`.
 #[derive(Drop)]
 pub struct LayoutRequest<'a> {
     /// The files, in order.
     pub names: Vec<&'a str>,
-    /// How many lanes work on them.
+    /// The number of lanes that work on them.
     pub lanes: u32,
-    /// How many megabytes of text of later files may wait until their reading pauses.
+    /// The limit on buffered text of later files, in megabytes, from which on their reading pauses.
     pub waiting: u32,
-    /// How the outer face of each plane is chosen.
+    /// The rule by which the outer face of each plane is chosen.
     pub choice: Choice,
-    /// The form of the text, and which drawings it is of.
+    /// The output format, and the kind of its drawings.
     pub style: Style,
-    /// Whether and where it is written how far the run is.
+    /// Whether and where progress is shown.
     pub progress: Progress,
 }
 
-/// Why the words after the program's name ask for nothing that can be done.
+/// The reason why the arguments are not a valid request.
 #[derive(Drop)]
 pub enum ParseFault {
-    /// The help, where it is asked for; why the words are refused; or that memory ran out, of the kind `OutOfMemory`.
+    /// The help, if it is asked for; the reason why the arguments are refused; or that memory ran out, of the kind
+    /// `OutOfMemory`.
     Told(Error),
     /// The value of `--waiting` is not 1 to 65536.
     BadWaiting,
 }
 
-/// Reads the words after the program's name, and returns what they ask for. A `layout` has a file at least, and
-/// standard input at most once. The number of lanes may be any: one that is no number is 0.
+/// Parses the arguments after the program's name into a request.
+///
+/// A `layout` has at least one file, and standard input at most once. The number of lanes is not checked: one that is
+/// not a number is 0.
 ///
 /// # Errors
 ///
-/// `Told` where the words are not taken, and `BadWaiting` where they are but for the value of `--waiting`.
+/// `Told` if the arguments are refused, and `BadWaiting` if only the value of `--waiting` is bad.
 pub fn parse<'a>(alloc: Global, words: &'a [String]) -> Result<Request<'a>, ParseFault>
     ensures asked { IfOk result (IsAskedBy words.now) }
     ensures waits { IfOk result HasWaiting }
@@ -69,7 +72,7 @@ pub fn parse<'a>(alloc: Global, words: &'a [String]) -> Result<Request<'a>, Pars
     }
 }
 
-/// Whether as many megabytes can wait as a request says.
+/// Whether the limit on buffered text of a request is in range.
 fn can_wait(request: &Request) -> bool
     ensures { IsTrue result → HasWaiting request.now }
 {
@@ -79,11 +82,12 @@ fn can_wait(request: &Request) -> bool
     }
 }
 
-/// What the words ask for, which may say that any number of megabytes waits.
+/// The request that the arguments make, whose limit on buffered text is not checked.
 ///
 /// # Errors
 ///
-/// The help, where it is asked for; why the words are refused; or that memory ran out, of the kind `OutOfMemory`.
+/// The help, if it is asked for; the reason why the arguments are refused; or that memory ran out, of the kind
+/// `OutOfMemory`.
 fn read<'a>(alloc: Global, words: &'a [String]) -> Result<Request<'a>, Error>
     ensures { IfOk result (IsAskedBy words.now) }
 {
@@ -98,13 +102,13 @@ fn read<'a>(alloc: Global, words: &'a [String]) -> Result<Request<'a>, Error>
     }
     match request_of(words, files, &matches) {
         Some(request) => Ok(request),
-        // The file is required, so a line that was taken names one.
+        // The file is required, so accepted arguments name one.
         None => Err(program.error(ErrorKind::MissingRequiredArgument, "no file is named")?),
     }
 }
 
-/// What the words ask for, which clap has taken and which name these files; none where they name no file. Clap's
-/// own reading gives the progress; the rest is taken from the words, as `command` promises.
+/// The request made by arguments that clap has accepted and that name these files; `None` if they name no file. Clap's
+/// own reading gives the progress; the rest is taken from the arguments, as `command` promises.
 fn request_of<'a>(
     words: &[String],
     files: Vec<&'a str>,
@@ -136,7 +140,7 @@ fn request_of<'a>(
     }))
 }
 
-/// The only one of these files; none where there is another number of them.
+/// The only one of these files; `None` if their number is not 1.
 fn only_file<'a>(files: &[&'a str]) -> Option<&'a str>
     ensures one { IfSome result (λ name. map (λ file. file.now) files.now ≡ name.now ∷ []) }
     ensures none { IfNone result (length files.now ≢ 1) }
@@ -147,21 +151,21 @@ fn only_file<'a>(files: &[&'a str]) -> Option<&'a str>
     }
 }
 
-/// The number of lanes that the words ask for: 0 for what is no number.
+/// The number of lanes that the arguments ask for; 0 if it is not a number.
 fn lanes_of(words: &[String]) -> u32
     ensures { AreLanesIn words.now result }
 {
     number_or(1, number_text(Number::Lanes, words))
 }
 
-/// The number of megabytes that may wait, as the words ask for: 0 for what is no number.
+/// The limit on buffered text that the arguments ask for, in megabytes; 0 if it is not a number.
 fn waiting_of(words: &[String]) -> u32
     ensures { IsWaitingIn words.now result }
 {
     number_or(64, number_text(Number::Waiting, words))
 }
 
-/// The number that a text gives: 0 where it is none. Where there is no text, `otherwise`.
+/// The number in a text, 0 if it is not a number; `otherwise` if there is no text.
 fn number_or(otherwise: u32, text: Option<&str>) -> u32
     ensures { IsNumberOf otherwise (option_map (λ t. t.now) text.entry) result }
 {
@@ -171,14 +175,14 @@ fn number_or(otherwise: u32, text: Option<&str>) -> u32
     }
 }
 
-/// Whether the words name a kind of drawing.
+/// Whether the arguments name a kind of drawing.
 fn names_drawing(words: &[String]) -> bool
     ensures { result ≡ (asks_in Keyword.ShortDrawing words.now || asks_in Keyword.QuickDrawing words.now) }
 {
     asks(Keyword::ShortDrawing, words) || asks(Keyword::QuickDrawing, words)
 }
 
-/// Where it is written how far a run is, by what clap found.
+/// Where progress is shown, according to clap.
 fn progress_of(matches: &ArgMatches) -> Progress {
     match matches.subcommand_matches("layout") {
         Some(layout) => Progress::of_count(layout.get_count("progress")),
@@ -186,7 +190,7 @@ fn progress_of(matches: &ArgMatches) -> Progress {
     }
 }
 
-/// The choice of the outer face that the words ask for.
+/// The choice of the outer face that the arguments ask for.
 fn choice_of(words: &[String]) -> Choice
     ensures { (result ≡ Choice.Best) ↔ (asks_in Keyword.BestOuter words.now ≡ true) }
 {
@@ -197,7 +201,7 @@ fn choice_of(words: &[String]) -> Choice
     }
 }
 
-/// The form that the words ask for.
+/// The output format that the arguments ask for.
 fn form_of(words: &[String]) -> Form
     ensures { (result ≡ Form.Json) ↔ (asks_in Keyword.Json words.now ≡ true) }
 {
@@ -208,7 +212,7 @@ fn form_of(words: &[String]) -> Form
     }
 }
 
-/// The drawing that the words ask for.
+/// The kind of drawing that the arguments ask for.
 fn drawing_of(words: &[String]) -> DrawingKind
     ensures { result ≡ drawing_in words.now }
 {
@@ -223,17 +227,17 @@ fn drawing_of(words: &[String]) -> DrawingKind
     }
 }
 
-/// What the program takes, with the texts of its help.
+/// The definition of the command line for clap, with the texts of its help.
 fn describe<'a>(alloc: Global) -> Result<Command<'a>, AllocError> {
     take_frames(alloc, take_layout(alloc, describe_program(alloc)?)?)
 }
 
-/// The program, with the command `layout`.
+/// Adds the command `layout` to the program.
 fn take_layout<'a>(alloc: Global, program: Command<'a>) -> Result<Command<'a>, AllocError> {
     program.subcommand(describe_layout(alloc)?)
 }
 
-/// The program, with the command `frames`.
+/// Adds the command `frames` to the program.
 fn take_frames<'a>(alloc: Global, program: Command<'a>) -> Result<Command<'a>, AllocError> {
     program.subcommand(describe_frames(alloc)?)
 }
@@ -265,17 +269,17 @@ fn describe_layout<'a>(alloc: Global) -> Result<Command<'a>, AllocError> {
     take_texts(alloc, take_drawings(alloc, take_lanes(alloc, layout)?)?)
 }
 
-/// The command, with the options of lanes.
+/// Adds the options of lanes to the command.
 fn take_lanes<'a>(alloc: Global, layout: Command<'a>) -> Result<Command<'a>, AllocError> {
     layout.arg(lanes_option(alloc))?.arg(waiting_option(alloc))
 }
 
-/// The command, with the options of drawings.
+/// Adds the options of drawings to the command.
 fn take_drawings<'a>(alloc: Global, layout: Command<'a>) -> Result<Command<'a>, AllocError> {
     layout.arg(outer_option(alloc))?.arg(drawing_option(alloc))
 }
 
-/// The command, with the options of texts, and the files.
+/// Adds the options of the output, and the files, to the command.
 fn take_texts<'a>(alloc: Global, layout: Command<'a>) -> Result<Command<'a>, AllocError> {
     layout
         .arg(json_option(alloc))?
@@ -355,19 +359,19 @@ fn describe_frames<'a>(alloc: Global) -> Result<Command<'a>, AllocError> {
         .arg(file)
 }
 
-/// How many megabytes of text may wait at most.
+/// The maximum limit on buffered text, in megabytes.
 const GREATEST_WAITING: u32 = 65_536;
 
-/// Why no kind of drawing is taken for the report.
+/// The error message for a kind of drawing with the report.
 const DRAWING_ALONE: &str = "--drawing needs --json: the report has no drawings";
 
-/// Why standard input is not taken twice.
+/// The error message for standard input named twice.
 const INPUT_TWICE: &str = "standard input, the file '-', can be read only once, and is named twice";
 
-/// The words for the choices of the outer face.
+/// The values of `--outer`.
 const OUTER: &[&str] = &["first", "best"];
 
-/// The words for the kinds of drawings.
+/// The values of `--drawing`.
 const DRAWING: &[&str] = &["short", "quick"];
 
 const HELP: &str = "Examples:

@@ -11,10 +11,10 @@ use std::alloc::Global;
 use std::io::ErrorKind;
 use streams::{Tap, TapFault};
 
-/// A file that was named, or standard input.
+/// A named file, or standard input.
 #[derive(Drop)]
 pub enum NamedSource<F, I> {
-    /// A file of this name.
+    /// The file with this name.
     File(F),
     /// Standard input.
     Input(I),
@@ -42,12 +42,12 @@ impl<F: KeepsReason, I: KeepsReason> KeepsReason for NamedSource<F, I> {
     }
 }
 
-/// A source of which it is noted how it begins, and why a read of it failed.
+/// A source whose first bytes and whose failure are noted.
 #[derive(Drop)]
 pub struct NotedSource<'r, F> {
     source: F,
     note: Option<&'r FileNote>,
-    /// How many bytes of it were read.
+    /// The number of bytes read of it.
     place: usize,
 }
 
@@ -89,7 +89,7 @@ impl<F: Tap + KeepsReason> Tap for NotedSource<'_, F> {
     }
 }
 
-/// An open file, or one that could not be opened, whose every read fails.
+/// An open file, or one that could not be opened, every read of which fails.
 #[derive(Drop)]
 pub enum FileSource<F> {
     /// An open file.
@@ -111,12 +111,11 @@ impl<F: Tap> Tap for FileSource<F> {
     }
 }
 
-/// Opens the file of this name. A file that could not be opened is a source that fails. What is to be said of it goes to
-/// the note.
+/// Opens the file with this name; a file that could not be opened is a source that fails. The reason is noted.
 ///
 /// # Errors
 ///
-/// `Memory` where the open found no memory. There is no other.
+/// `Memory` if memory ran out while it was opened. There is no other error.
 pub fn open_source<'r, N: NamedFiles>(
     files: &N,
     alloc: Global,
@@ -148,7 +147,7 @@ pub fn open_source<'r, N: NamedFiles>(
     }
 }
 
-/// Why a file was not opened, by the kind of the error.
+/// The fault of a file that was not opened, from the kind of the error.
 pub fn open_fault(kind: ErrorKind) -> OpenFault
     ensures memory { (result ≡ OpenFault.Memory) ↔ (kind ≡ ErrorKind.OutOfMemory) }
 {

@@ -13,7 +13,7 @@ use streams::Tap;
 /// The name that stands for standard input.
 pub const INPUT: &str = "-";
 
-/// Whether a name stands for standard input.
+/// Whether a file name stands for standard input.
 pub fn is_input(name: &str) -> bool
     ensures { result ≡ is_input name.now }
 {
@@ -28,8 +28,9 @@ pub struct StandardInput<I> {
 }
 
 impl<I: AsFd + Copy> StandardInput<I> {
-    /// Standard input as it is now. Where it is closed it stays so, also once a file that was opened has got its
-    /// number. So this is called before any file is opened.
+    /// Standard input in its current state, to be called before any file is opened.
+    ///
+    /// If it is closed it stays closed, even after a file that was opened has got its file descriptor.
     pub fn new(input: I) -> StandardInput<I> {
         StandardInput {
             input,
@@ -45,7 +46,7 @@ impl<I: Read + Copy + Send + Sync> Opener for StandardInput<I> {
 
     ghost meaning = { λ _ _. Silent };
 
-    // What every opener keeps, and that the source has all that standard input has.
+    // The contract of every opener, and that the source has all bytes that standard input has.
     fn open(&self, _alloc: Global, file: u32) -> Result<ReadTap<I>, OpenFault>
         ensures opens { Opens ⟦<ReadTap<I> as Tap>⟧.to_come ⟦<ReadTap<I> as Tap>⟧.fails
             (⟦<StandardInput<I> as Opener>⟧.meaning self.now file) result }

@@ -6,18 +6,18 @@ use std::io::{IsTerminal, Write};
 use std::rt::Clock;
 use std::sync::{Mutex, Wait};
 
-/// What stands on the last line of a terminal.
+/// The content of the last line of a terminal.
 #[derive(Clone, Copy, Debug, PartialEq, Eq)]
 enum LastLine {
     /// Nothing.
     Empty,
-    /// A line of progress, which may be written over.
+    /// A line of progress, which may be overwritten.
     Progress,
     /// The beginning of a line of text.
     Text,
 }
 
-/// Standard error with a clock, as a console.
+/// A console on standard error, with a clock.
 #[derive(Drop)]
 pub struct ErrorConsole<R, E> {
     rt: R,
@@ -26,7 +26,7 @@ pub struct ErrorConsole<R, E> {
 }
 
 impl<R: Clock + Wait, E: io::Write + IsTerminal + Copy> ErrorConsole<R, E> {
-    /// A console on which nothing stands yet.
+    /// A console on which nothing is shown yet.
     pub fn new(rt: R, err: E) -> ErrorConsole<R, E> {
         ErrorConsole {
             rt,
@@ -48,7 +48,7 @@ impl<R: Clock + Wait, E: io::Write + IsTerminal + Copy> Console for ErrorConsole
         }
     }
 
-    // Where a line of text has only begun, nothing is written over it.
+    // The beginning of a line of text is not overwritten.
     fn show(&self, text: &[u8]) {
         let mut last = self.last.lock(&self.rt);
         if *last == LastLine::Text {
@@ -78,7 +78,7 @@ impl<'c, W: io::Write, R: Clock + Wait, E: io::Write + IsTerminal + Copy> Shared
     R,
     E,
 > {
-    /// A writer that is a terminal or not. It shares the console's if both are.
+    /// A writer with its console, whose terminal it shares if both are terminals.
     pub fn new(
         writer: W,
         is_terminal: bool,
@@ -118,7 +118,7 @@ impl<W: io::Write, R: Clock + Wait, E: io::Write + IsTerminal + Copy> io::Write
     }
 }
 
-/// What stands on the last line after this text.
+/// The content of the last line after this text.
 fn last_line_after(text: &[u8]) -> LastLine {
     if text.is_empty() || text.ends_with(b"\n") {
         LastLine::Empty

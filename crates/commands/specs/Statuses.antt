@@ -1,4 +1,4 @@
--- What the program's exit status says.
+-- The meaning of the program's exit status.
 use Rattle.std.specs.Prelude.{◌≡◌, ◌≢◌, ◌<◌, ◌≤◌, ◌↔◌, ◌⊎◌, ℕ, Bool, true, false, String, List, ◌++◌, Option, Some, All, codes, slice_index, vec_len}
 use Rattle.std.specs.Io.KnownBytes.{Appends}
 use Rattle.std.specs.declared.alloc.Global.{Global}
@@ -25,18 +25,20 @@ use Rattle.printing.specs.Telling.{AddsNoneUndrawn}
 use Rattle.command_line.specs.declared.request.Request.{Request}
 use Rattle.command_line.specs.declared.request.Request.TheVariants.{Frames, Layout}
 
--- what '--version' prints
+-- the output of '--version'
 abbrev pub version_text : List ℕ
 version_text = codes "planarbend 0.3.0\nproved with rattle-kit-13 logic dac8208d650f15bf\n"
 
--- The text begins with a capital letter, and is no beginning of what a run writes: neither of the text of some books, in any form, nor
--- of the lines of some records. (Books have right entries alone, so what only looks like such a text is told apart by its first byte.)
+-- The text begins with a capital letter, and is no prefix of what a run writes: neither of the text of some books, in
+-- any format, nor of the lines of some records. (Books have right entries alone, so a text that only resembles one is
+-- told apart by its first byte.)
 pub record IsNoText (text : List ℕ) : Type 0 where
   pub capital : (65 ≤ slice_index text 0) × (slice_index text 0 ≤ 90)
   pub no_books : (form : Form) (books : List BookModel) (rest : List ℕ) → text_in form books ≡ text ++ rest → ⊥
   pub no_records : (found : FramesModel) (rest : List ℕ) → frames_text found ≡ text ++ rest → ⊥
 
--- this text and nothing else was added to the output, with status 0; or the output failed, with a beginning of it and status 1
+-- this text and nothing else was added to the output, with status 0; or the output failed, with a prefix of it and
+-- status 1
 abbrev pub IsPrinted : List ℕ → Option (List ℕ) → Option (List ℕ) → Bool → ℕ → Type 0
 IsPrinted text old new failed status =
     ((status ≡ 0) × (failed ≡ false) × Appends old new text) ⊎ ((status ≡ 1) × (failed ≡ true) × AppendsPrefix old new text)
@@ -45,8 +47,9 @@ IsPrinted text old new failed status =
 abbrev pub IsComplete : FramesModel → Type 0
 IsComplete found = found.mark ≡ Mark.Ended Ending.Complete
 
--- The whole text of the records of a file that means this was added to the output, and the status tells how the file ended. The records and the
--- mark are those of some bytes, after which it ends or fails, and where the file's bytes are known, of these.
+-- The whole text of the records of a file that means this was added to the output, and the status says how the file
+-- ended. The records and the mark are those of some bytes, after which it ends or fails, and if the file's bytes are
+-- known, of these.
 pub record IsTextOfRecords (meaning : Meaning) (old new : Option (List ℕ)) (failed : Bool) (status : ℕ) : Type 0 where
   pub found : FramesModel
   pub bytes : List ℕ
@@ -58,8 +61,8 @@ pub record IsTextOfRecords (meaning : Meaning) (old new : Option (List ℕ)) (fa
   pub complete : IsComplete found ↔ (status ≡ 0)
   pub other : status ≢ 0 → status ≡ 3
 
--- The whole text of the books of so many files, which mean this, under this choice and in this form, was added to the output, and the
--- status tells whether each book is flawless.
+-- The whole text of the books of this many files, which mean this, under this choice and in this format, was added to
+-- the output, and the status says whether each book is flawless.
 pub record IsTextOfBooks (choice : Choice) (form : Form) (meaning : ℕ → Meaning) (files : ℕ) (old new : Option (List ℕ)) (failed : Bool) (status : ℕ) : Type 0 where
   pub books : List BookModel
   pub of_files : AreAllBooks choice meaning files books
@@ -68,13 +71,13 @@ pub record IsTextOfBooks (choice : Choice) (form : Form) (meaning : ℕ → Mean
   pub flawless : All IsFlawlessBook books ↔ (status ≡ 0)
   pub other : status ≢ 0 → status ≡ 3
 
--- A beginning of the text of the books of the first of so many files, which mean this, was added to the output, or of it and the lines of the next
--- one, which has no last line, under this choice and in this form.
+-- A prefix of the text of the books of the first of this many files, which mean this, was added to the output, or of it
+-- and the lines of the next one, which has no last line, under this choice and in this format.
 abbrev pub IsBegunTextOfBooks : Choice → Form → (ℕ → Meaning) → ℕ → Option (List ℕ) → Option (List ℕ) → Type 0
 IsBegunTextOfBooks choice form meaning files old new = ∥ IsBegun choice meaning form files old new ∥₁
 
--- A beginning of the text of the records of a file that means this was added to the output. The records and the mark are those of some bytes, as
--- in a whole text.
+-- A prefix of the text of the records of a file that means this was added to the output. The records and the mark are
+-- those of some bytes, as in a whole text.
 pub record IsBegunTextOfRecords (meaning : Meaning) (old new : Option (List ℕ)) : Type 0 where
   pub found : FramesModel
   pub bytes : List ℕ
@@ -83,20 +86,22 @@ pub record IsBegunTextOfRecords (meaning : Meaning) (old new : Option (List ℕ)
   pub known : (all : List ℕ) → known_of meaning ≡ Some all → IsMarked all (fails_of meaning) found.records found.mark
   pub text : AppendsPrefix old new (frames_text found)
 
--- the whole text that a request asks for, where the file of a name means what `files` says, was added to the output, with this status
+-- the whole text that a request asks for, where the file with a name means what `files` says, was added to the output,
+-- with this status
 abbrev pub IsDone : (List ℕ → Meaning) → Request → Option (List ℕ) → Option (List ℕ) → Bool → ℕ → Type 0
 IsDone files (Frames name) old new failed status = IsTextOfRecords (files name.now) old new failed status
 IsDone files (Layout asked) old new failed status =
     IsTextOfBooks asked.choice asked.style.form (meanings_in files asked.names.items) (vec_len asked.names) old new failed status
 
--- a beginning of the text that a request asks for, where the file of a name means what `files` says, was added to the output
+-- a prefix of the text that a request asks for, where the file with a name means what `files` says, was added to the
+-- output
 abbrev pub IsBegunToBeDone : (List ℕ → Meaning) → Request → Option (List ℕ) → Option (List ℕ) → Type 0
 IsBegunToBeDone files (Frames name) old new = IsBegunTextOfRecords (files name.now) old new
 IsBegunToBeDone files (Layout asked) old new =
     IsBegunTextOfBooks asked.choice asked.style.form (meanings_in files asked.names.items) (vec_len asked.names) old new
 
--- What status 0 or 3 says: the version, or help, which begins with a capital letter and as no text of a run does, was added to the output, or the text
--- of all files that the words name, as they ask for it.
+-- The meaning of status 0 or 3: the version, or help, which begins with a capital letter and as no text of a run does,
+-- was added to the output, or the text of all files that the arguments name, as they ask for it.
 abbrev pub IsDoneFor : (List ℕ → Meaning) → List (String Global) → Option (List ℕ) → Option (List ℕ) → Bool → ℕ → Type 0
 IsDoneFor files words old new failed status =
     ((status ≡ 0) × (asks_in Keyword.Version words ≡ true))
@@ -108,8 +113,8 @@ abbrev pub IsRefusable : Request → Type 0
 IsRefusable (Frames name) = ⊥
 IsRefusable (Layout asked) = (MAX_FILES < vec_len asked.names) ⊎ ((asked.lanes ≡ 0) ⊎ (LANES < asked.lanes))
 
--- What a command line led to, where the file of a name means what `files` says: the output was `old` and is `new`, of which these
--- bytes are taken and which may have failed, and the program ends with this status.
+-- The outcome of a command line, where the file with a name means what `files` says: the output was `old` and is `new`,
+-- of which these bytes are taken and which may have failed, and the program ends with this status.
 pub record IsOutcome {S : Type 0} (files : List ℕ → Meaning) (words : List (String Global)) (taken : S → Option (List ℕ)) (failed : S → Bool) (old new : S) (status : ℕ) : Type 0 where
   pub in_range : status ≤ 3
   pub failed_write : failed new ≡ true → status ≡ 1

@@ -1,4 +1,4 @@
--- Which runs that write a text are refused at once, beside `IsBegun` of `printing`.
+-- The streaming runs that are refused at once, beside `IsBegun` of `printing`.
 use Rattle.std.specs.Prelude.{⊤}
 use Rattle.streams.specs.declared.faults.BatchFault.TheVariants.{TooManyFiles, BadLanes}
 pub use Rattle.printing.specs.Whole.{IsBegun}

@@ -1,4 +1,4 @@
-//! What `layout` does.
+//! The command `layout`.
 ghost use Rattle.std.specs.Prelude.{◌≡◌, ◌<◌, ◌≤◌, ◌⊎◌, ◌↔◌, false, Err, IfOk, IfErr, OnErr, vec_len};
 ghost use Rattle.command_line.specs.Refusals.{IsMisuse};
 ghost use Rattle.ruled_lanes.specs.declared.limits.TheConstants.{LANES};
@@ -13,22 +13,25 @@ use std::sync::Wait;
 use std::thread::Threads;
 use streams::{BatchFault, MAX_CAPACITY, Sink, WriteFault};
 
-/// How many messages wait between two threads of a run at most.
+/// The maximum number of messages that wait between two threads of a run.
 pub const CAPACITY: u32 = MAX_CAPACITY;
 
-/// How many bytes a megabyte has.
+/// The number of bytes of a megabyte.
 const MEGABYTE: usize = 1_000_000;
 
-/// Writes the answers that are asked for, while the files are read, and returns the status of their text. `files` opens
-/// the files that are named. The meter counts files and graphs. How files begin, end and fail goes to the notes. Later
-/// files pause once `waiting` megabytes of their text are buffered.
+/// Writes the answers that a `layout` request asks for, while the files are read; returns the exit status of their
+/// text.
+///
+/// `files` opens the files that are named. The meter counts files and graphs. How files begin, end and fail is noted in
+/// `notes`. Later files pause once `waiting` megabytes of their text are buffered.
 ///
 /// # Errors
 ///
-/// `TooManyFiles` exactly where there are more than `MAX_FILES` files, and `BadLanes` exactly where there are
-/// no more than that and no lanes or more than `MAX_LANES`; nothing is then written. Else what a run or the
-/// writing met; then a beginning of the text is written: that of books of the first files, of which any may end
-/// `memory`, and the lines of the next one, which has no last line. Of a file of which no bytes are known, as a real one, they are those of some bytes.
+/// `TooManyFiles` exactly if there are more than `MAX_FILES` files, and `BadLanes` exactly if there are no more than
+/// that and no lanes or more than `MAX_LANES`; nothing is then written. Otherwise the fault of a run or of the writing;
+/// then a prefix of the text is written: that of books of the first files, of which any may end `memory`, and the lines
+/// of the next one, which has no last line. If no bytes of a file are known, as of a real one, they are those of some
+/// bytes.
 pub fn layout<
     'a,
     R: AllocGlobal + Threads + Wait + Sync,

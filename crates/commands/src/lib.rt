@@ -1,5 +1,5 @@
-//! The commands of the program: what each does for the words after its name, and the status that it ends with. What
-//! `layout` writes is a run whose text leaves as it is made.
+//! The commands of the program: what each does for the arguments after its name, and its exit status. `layout` is a run
+//! whose output is streamed.
 #![tactic(auto)]
 
 mod layout;

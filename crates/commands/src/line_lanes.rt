@@ -1,4 +1,4 @@
-//! Lanes whose last stage prints lines.
+//! The kind of lanes whose last stage makes output lines.
 ghost use Rattle.std.specs.Prelude.{◌≡◌, ◌≤◌};
 ghost use Rattle.common.specs.declared.drawing_kind.DrawingKind.TheVariants.{Quick};
 ghost use Rattle.lanes.specs.Opening.{IsPlacedAt, IsEndAt};
@@ -19,8 +19,8 @@ use std::alloc::{AllocError, Global};
 use std::marker::PhantomData;
 use streams::SourceEnd;
 
-/// Lanes that answer records and print their lines, in one form and with drawings of one kind. `watch` hears how each
-/// file ends.
+/// The kind of lanes that answer records and make their output lines, in one format and with drawings of one kind.
+/// `watch` is told how each file ends.
 #[derive(Drop)]
 pub struct LineLanes<'w, J: Meant, G> {
     pub form: Form,
@@ -30,8 +30,8 @@ pub struct LineLanes<'w, J: Meant, G> {
 }
 
 impl<'w, J: Meant, G> LineLanes<'w, J, G> {
-    /// Lanes that print lines in this style. The report form has no points, so it is of quick drawings, whatever kind is
-    /// asked for.
+    /// Lanes that make lines in this style. The report shows no coordinates, so it uses quick drawings, whatever kind
+    /// is asked for.
     pub fn new(style: Style, watch: &'w G) -> LineLanes<'w, J, G>
         ensures form { result.form ≡ style.form }
         ensures report { style.form ≡ Form.Report → result.drawing_kind ≡ Quick }
@@ -91,7 +91,7 @@ impl<J: Meant + Send + Sync, G: Watch> LaneKind for LineLanes<'_, J, G> {
         known_end(file, end)
     }
 
-    // What an entry is made of goes back once its line is printed.
+    // The parts of an entry return once its line is made.
     fn scratch(
         &self,
         alloc: Global,
@@ -102,7 +102,7 @@ impl<J: Meant + Send + Sync, G: Watch> LaneKind for LineLanes<'_, J, G> {
     }
 }
 
-/// The lists of a record spell it. This does nothing.
+/// A record is encoded by its lists. This function does nothing.
 fn spelt(rec: &Record)
     ensures { IsSpelt rec.now }
 {

@@ -16,12 +16,14 @@ use std::sync::Wait;
 use std::thread::Threads;
 use streams::Sink;
 
-/// How many bytes an argument of a program has at most, with the 0 after it, on Linux.
+/// The maximum number of bytes of an argument on Linux, with the 0 after it.
 const LONGEST: usize = 131_072;
 
-/// Does what the arguments after the program's name ask for, as `command` does, and ends with its status. The file named
-/// `-` is the file 0 of `input`, and others are those of the system. If the arguments are no text or memory for them
-/// runs out, the line of that fault goes to `err`, and the status is that of the fault.
+/// Runs the whole program as its arguments ask, like `command`, and ends it with the exit status.
+///
+/// The file named `-` is file 0 of `input`, and others are those of the system. If an argument is not valid UTF-8 or
+/// memory for the arguments runs out, the message of that fault is written to `err`, and the status is that of the
+/// fault.
 pub fn run<
     R: Env + Files + AllocGlobal + Threads + Wait + Sync,
     I: Opener,
@@ -37,7 +39,7 @@ where
     requires err_is_intact { E.failed err.old ≡ false }
     ensures in_range { exit_status result ≤ 3 }
 
-    // For some arguments all holds that `command` promises; or they could not be had, and nothing is written.
+    // For some arguments all that `command` promises holds; or the arguments could not be read, and nothing is written.
     ensures outcome { ((words : List (String Global))
         × IsOutcome (meaning_of (I.meaning input.now 0)) words S.taken S.failed out.old out.new (exit_status result))
         ⊎ (((exit_status result ≡ 1) ⊎ (exit_status result ≡ 2)) × (out.new ≡ out.old)) }

@@ -1,4 +1,4 @@
-//! What the program does with its words.
+//! The program as a function of its arguments.
 ghost use Rattle.std.specs.Prelude.{◌≡◌, ◌<◌, ◌≤◌, ◌⊎◌, ℕ, List, length, vec_len, slice_index, true, false, IfOk, IfErr, IsTrue, OnErr};
 ghost use Rattle.std.specs.Borrow.{Bor};
 ghost use Rattle.std.specs.Io.KnownBytes.{Appends};
@@ -30,14 +30,14 @@ use std::sync::Wait;
 use std::thread::Threads;
 use streams::{Sink, WriteFault, put_all, run_frames, write_frames};
 
-/// Does what the words after the program's name ask for, and returns the program's exit status.
-/// `files` opens the files that are named, and standard input by its name. A text goes to `out`, the line of a fault
-/// and a line for each file that fails or is no planar_code to `err`; that these may fail changes nothing, nor does what
-/// `console` writes of the progress of a run.
+/// Does what the arguments after the program's name ask for, and returns the program's exit status.
 ///
-/// The status is 0 for the version, for help and for a whole text in which each file ends complete and
-/// every graph is answered, 3 for any other whole text, 2 for a command line that is refused, and 1
-/// where there is no whole text.
+/// `files` opens the files that are named, and standard input by its name. Output is written to `out`; the message of a
+/// fault and a line for each file that fails or is not planar_code are written to `err`. A failure of these writes to
+/// `err` changes nothing, nor does the progress that `console` shows.
+///
+/// The status is 0 for the version, for help and for a whole text in which each file ends complete and every graph is
+/// answered, 3 for any other whole text, 2 for a command line that is refused, and 1 if there is no whole text.
 pub fn command<
     R: AllocGlobal + Threads + Wait + Sync,
     N: NamedFiles,
@@ -50,11 +50,11 @@ pub fn command<
     ensures in_range { result ≤ 3 }
     ensures failed_write { S.failed out.new ≡ true → result ≡ 1 }
 
-    // Where the command line is refused, nothing is written.
+    // If the command line is refused, nothing is written.
     ensures refused { result ≡ 2 → out.new ≡ out.old }
 
-    // Status 3 comes with a whole text: of a file that does not end complete, or of files of which
-    // one does not or lacks an answer for want of memory.
+    // With status 3 the text is whole: of a file that does not end complete, or of files of which one does not or lacks
+    // an answer because memory ran out.
     ensures written { result ≡ 3
         → ((name : List ℕ)
         × IsTextOfRecords (N.meaning files.now name) (S.taken out.old) (S.taken out.new) (S.failed out.new) 3)
@@ -62,24 +62,25 @@ pub fn command<
         × IsTextOfBooks choice form (meanings_in (N.meaning files.now) names) (length names)
         (S.taken out.old) (S.taken out.new) (S.failed out.new) 3) }
 
-    // Where the first word is `--version`, the version is printed.
+    // If the first argument is `--version`, the version is printed.
     ensures version { asks_in Keyword.Version words.now ≡ true
         → IsPrinted version_text (S.taken out.old) (S.taken out.new) (S.failed out.new) result }
 
-    // With status 0 and 3 there is the version, or help, which begins with a capital letter and as no text of a run does, or the
-    // text of all files that the words name, as they ask for it, each of what the file of its name gives.
+    // With status 0 and 3 the output is the version, or help, which begins with a capital letter and as no text of a
+    // run does, or the text of all files that the arguments name, as they ask for it, each of what the file with its
+    // name gives.
     ensures done { (result ≡ 0) ⊎ (result ≡ 3)
         → IsDoneFor (N.meaning files.now) words.now (S.taken out.old) (S.taken out.new) (S.failed out.new) result }
 
-    // With status 1, where neither the version nor help is asked for, nothing is written, or a beginning of the
-    // text of what the words ask for.
+    // With status 1, if neither the version nor help is asked for, nothing is written, or a prefix of the text that the
+    // arguments ask for.
     ensures begun { result ≡ 1 → asks_in Keyword.Version words.now ≡ false → asks_in Keyword.Help words.now ≡ false
         → (out.new ≡ out.old)
         ⊎ ((request : Request) × IsAskedBy words.now request
         × IsBegunToBeDone (N.meaning files.now) request (S.taken out.old) (S.taken out.new)) }
 
-    // Whatever the status, what is written tells of no graph without a drawing, as the line `drawn=no` of a report would. Of help,
-    // where that is asked for, it is known that it begins with a capital letter, and as no text of a run does.
+    // Whatever the status, the output reports no graph without a drawing, as the line `drawn=no` of a report would. If
+    // help is asked for, it is known of it that it begins with a capital letter, and as no text of a run does.
     ensures drawn { AddsNoneUndrawn (S.taken out.old) (S.taken out.new)
         ⊎ ((asks_in Keyword.Help words.now ≡ true)
         × ((text : List ℕ) × IsNoText text × Appends (S.taken out.old) (S.taken out.new) text)) }
@@ -97,9 +98,9 @@ pub fn command<
     }
 }
 
-/// Does what a request asks for, and returns the exit status. It is 0 or 3 only where the whole text
-/// was written, of all files that the request names, and then as `command` says; and 2 only where there are too many
-/// files or the number of lanes is bad.
+/// Does what a request asks for, and returns the exit status. It is 0 or 3 only if the whole text was written, of all
+/// files that the request names, and then as `command` says; and 2 only if there are too many files or the number of
+/// lanes is bad.
 fn perform<
     R: AllocGlobal + Threads + Wait + Sync,
     N: NamedFiles,
@@ -129,7 +130,8 @@ fn perform<
     }
 }
 
-/// Writes the answers that are asked for, and the lines of progress and of files. Returns the status of the answers.
+/// Writes the answers that are asked for, the progress, and the lines about files. Returns the exit status of the
+/// answers.
 fn lay_out<
     R: AllocGlobal + Threads + Wait + Sync,
     N: NamedFiles,
@@ -167,7 +169,7 @@ fn lay_out<
     Ok(status)
 }
 
-/// Writes the line of a fault, and returns its status. The reason is that of the output, if it failed.
+/// Writes the message of a fault, and returns its exit status. The reason is that of the output, if it failed.
 fn end_by<E: Sink>(fault: Fault, reason: Reason, err: &mut E) -> u8
     requires { E.failed err.old ≡ false }
     ensures refused { IsMisuse fault → result ≡ 2 }
@@ -180,7 +182,7 @@ fn end_by<E: Sink>(fault: Fault, reason: Reason, err: &mut E) -> u8
     fault.status()
 }
 
-/// Writes the records of one file and how it ends, and the line of the file. Returns the status of the records.
+/// Writes the records of one file and how it ends, and the line about the file. Returns the exit status of the records.
 fn frames<R: AllocGlobal + Threads + Wait + Sync, N: NamedFiles, S: Sink, E: Sink>(
     rt: &R,
     name: &str,
@@ -210,7 +212,7 @@ fn frames<R: AllocGlobal + Threads + Wait + Sync, N: NamedFiles, S: Sink, E: Sin
     Ok(status_of(found.mark()))
 }
 
-/// Writes why the command line is refused, and returns the status: 2, or 1 for want of memory.
+/// Writes why the command line is refused, and returns the exit status: 2, or 1 if memory ran out.
 fn refuse<E: Sink>(alloc: Global, error: &Error, err: &mut E) -> u8
     requires { E.failed err.old ≡ false }
     ensures in_range { (result ≡ 1) ⊎ (result ≡ 2) }
@@ -228,7 +230,7 @@ fn refuse<E: Sink>(alloc: Global, error: &Error, err: &mut E) -> u8
     }
 }
 
-/// Writes the version, and returns the status.
+/// Writes the version, and returns the exit status.
 fn show_version<S: Sink + KeepsReason, E: Sink>(out: &mut S, err: &mut E) -> u8
     requires out_is_intact { S.failed out.old ≡ false }
     requires err_is_intact { E.failed err.old ≡ false }
@@ -240,7 +242,7 @@ fn show_version<S: Sink + KeepsReason, E: Sink>(out: &mut S, err: &mut E) -> u8
     }
 }
 
-/// Writes the help that was asked for, and returns the status. What does not begin as help is refused.
+/// Writes the help that was asked for, and returns the exit status. A text that does not begin as help does is refused.
 fn show_help<S: Sink + KeepsReason, E: Sink>(
     alloc: Global,
     help: &Error,
@@ -268,7 +270,7 @@ fn show_help<S: Sink + KeepsReason, E: Sink>(
     }
 }
 
-/// Whether a text begins as help does, and as no text of a run.
+/// Whether a text begins as help does, and as no text of a run does.
 fn begins_as_help(text: &[u8]) -> bool
     ensures no_text { IsTrue result → IsNoText text.now }
     ensures capital { IsTrue result → (65 ≤ slice_index text.now 0) × (slice_index text.now 0 ≤ 90) }

@@ -1,4 +1,4 @@
-//! A run whose text leaves as it is made.
+//! A run whose output is streamed.
 ghost use Rattle.std.specs.Prelude.{◌≡◌, ◌≤◌, ◌<◌, ◌⊎◌, ◌↔◌, List, [], Err, false, true, IfOk, IfErr, OnOk, OnErr};
 ghost use Rattle.ruled_lanes.specs.declared.limits.TheConstants.{LANES, MAX_CAPACITY};
 ghost use Rattle.entries.specs.declared.limits.TheConstants.{MAX_FILES};
@@ -25,35 +25,37 @@ use std::sync::Wait;
 use std::thread::Threads;
 use streams::{BatchFault, Sink, WriteFault};
 
-/// Why a text was not written whole. What was written is then a beginning of one.
+/// The reason why the text of a run was not written completely. What was written is then a prefix of one.
 #[derive(Clone, Copy, Debug, PartialEq, Eq)]
 pub enum TextFault {
-    /// The run came to nothing.
+    /// The run failed.
     Run(BatchFault),
     /// The sink has failed.
     Write,
 }
 
-/// Reads the first `files` files of the opener, answers each record under this choice of the outer face, and
-/// writes the text of their books in the form of this style, as `Form::write` writes books, while they are
-/// read. JSON lines have drawings of the style's kind; the report form has no points, and is of quick ones. It returns the
-/// status of the whole text: 0 where each file ended complete and no record lacks its answer or its line for want of
-/// memory, and else 3.
+/// Answers all records of the first `files` files on `lanes` lanes and streams the text to a sink; returns the exit
+/// status.
 ///
-/// Files go over lanes as in `run_batch`. They leave in their order: the lines of the first file that has not
-/// ended go to the sink as they come, and those of later files wait. What was laid out for a record is let go
-/// once its line is made. Where what waits holds `waiting` bytes of memory or more, the reading of later files
-/// pauses until there is room again or they come first; what lanes have read by then still comes and waits too.
+/// Each record is answered under this choice of the outer face. The text is that of the files' books in the format of
+/// this style, as `Form::write` writes books, and is written while the files are read. JSON lines have drawings of the
+/// style's kind; the report shows no coordinates, and uses quick ones. The status is that of the whole text: 0 if each
+/// file ended complete and memory ran out for no record's answer or line, and otherwise 3.
+///
+/// Files go over lanes as in `run_batch`. They are written in their order: the lines of the first file that has not
+/// ended go to the sink as they arrive, and those of later files are buffered. The layout of a record is freed once its
+/// line is made. If the buffered lines hold `waiting` bytes of memory or more, the reading of later files pauses until
+/// there is room again or they become first; what lanes have read by then still arrives and is buffered too.
 ///
 /// # Errors
 ///
-/// `TooManyFiles` exactly where there are more than `MAX_FILES`; `BadLanes` exactly where there are no lanes or
-/// more than `LANES`, and no more files than that; nothing is then written. `Write` exactly where the sink
-/// has then failed. `Memory`: no memory for links, the fan, tickets, buffers, lists of lanes or lines.
-/// `LaneLost`: an end of a link or of the fan was gone, or the text was handed a message that no lane gives.
-/// `Thread`: a thread could not be started. Whatever it is, what was written is a beginning of this: the text of
-/// books of the first files, of which any may end `memory`, and the lines of the next file so far, which has no last
-/// line. Of a file of which no bytes are known, as a real one, records and mark are those of some bytes.
+/// `TooManyFiles` exactly if there are more than `MAX_FILES`; `BadLanes` exactly if there are no lanes or more than
+/// `LANES`, and no more files than that; nothing is then written. `Write` exactly if the sink has then failed.
+/// `Memory`: no memory for links, the fan, tickets, buffers, lists of lanes or lines. `LaneLost`: an end of a link or
+/// of the fan was gone, or the text received a message that no lane gives. `Thread`: a thread could not be started. In
+/// each case what was written is a prefix of this: the text of books of the first files, of which any may end `memory`,
+/// and the lines of the next file so far, which has no last line. If no bytes of a file are known, as of a real one,
+/// records and mark are those of some bytes.
 pub fn write_batch<R: Threads + Wait + Sync, O: Opener, G: Gate, S: Sink>(
     rt: &R,
     alloc: Global,
@@ -95,7 +97,7 @@ pub fn write_batch<R: Threads + Wait + Sync, O: Opener, G: Gate, S: Sink>(
     )
 }
 
-/// The same, and `watch`, which is also the gate, hears how each file ends.
+/// Streams the text of a run as `write_batch` does; `watch`, which is also the gate, is told how each file ends.
 pub(crate) fn write_watched<R: Threads + Wait + Sync, O: Opener, G: Gate + Watch, S: Sink>(
     rt: &R,
     alloc: Global,
@@ -151,7 +153,7 @@ pub(crate) fn write_watched<R: Threads + Wait + Sync, O: Opener, G: Gate + Watch
     write_files::<Brand, _, _, _, _>(&run, style, pace, sink)
 }
 
-/// Writes the text of a run in this style and at this pace. The type `J` stands for what the files mean.
+/// Writes the text of a run in this style and at this pace. The type `J` represents what the files mean.
 fn write_files<
     J: Meant + Send + Sync,
     R: Threads + Wait + Sync,
@@ -186,14 +188,14 @@ fn write_files<
     }
 }
 
-/// Lets a text go, whose sink stays as it is.
+/// Drops a text, whose sink stays as it is.
 fn let_go<S: Sink>(texts: Texts<'_, S, Lines>)
     ensures { texts.exit.0.now ≡ texts.entry.sink.now }
 {
     let Texts { .. } = texts;
 }
 
-/// Why a run came to nothing, as it is returned.
+/// The returned fault for the fault of a run.
 fn fault_of(fault: RunFault<Refusal>) -> TextFault
     ensures write { (result ≡ TextFault.Write) ↔ (fault ≡ RunFault.Refused Refusal.Write) }
     ensures begun { ¬ IsMisuseOfRun result }
@@ -208,8 +210,8 @@ fn fault_of(fault: RunFault<Refusal>) -> TextFault
     }
 }
 
-/// Runs lanes of this kind, and puts what came of them into `ran`: beside it in a pair, what becomes of the sink that the
-/// consumer holds would not be known.
+/// Runs lanes of this kind, and stores the result in `ran`: returned beside it in a pair, the state of the sink that
+/// the consumer holds would not be known.
 fn run_into<
     L: LaneKind,
     C: Consumer<L::Entry, L::End>,

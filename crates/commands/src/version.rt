@@ -1,5 +1,5 @@
 //! The program's version.
 
-/// What `--version` prints: the program's version, and the toolchain that it is proved with, by the kit's number and
-/// its logic, as `rt version` has them.
+/// The output of `--version`: the program's version, and the toolchain that it is proved with, by the kit's number and
+/// its logic, as `rt version` prints them.
 pub const VERSION: &str = "planarbend 0.3.0\nproved with rattle-kit-13 logic dac8208d650f15bf\n";

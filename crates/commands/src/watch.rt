@@ -1,16 +1,16 @@
-//! Who hears how the files of a run end.
+//! Observers of how the files of a run end.
 
 use command_line::{Console, FileNotes, Meter};
 use lanes::{Gate, Stage};
 use streams::Mark;
 
-/// Hears from any thread how each file of a run ends. It says nothing about results.
+/// A callback that is told, on any thread, how each file of a run ends. It has no influence on results.
 pub trait Watch: Sync {
     /// Called once for each file, with its mark.
     fn end(&self, file: u32, mark: Mark);
 }
 
-/// A gate that does not care how files end.
+/// A gate as a watch that ignores how files end.
 #[derive(Clone, Copy)]
 pub struct Unwatched<'g, G> {
     pub gate: &'g G,
@@ -26,7 +26,7 @@ impl<G: Gate> Watch for Unwatched<'_, G> {
     fn end(&self, _file: u32, _mark: Mark) {}
 }
 
-/// Counts files and graphs, and notes how files end.
+/// A watch that counts files and graphs, and notes how files end.
 #[derive(Clone, Copy)]
 pub struct Observer<'m, C> {
     pub meter: &'m Meter<'m, C>,

@@ -1,4 +1,4 @@
-//! Lanes that print the lines of what is answered.
+//! The kind of answers that become output lines.
 ghost use Rattle.std.specs.Prelude.{◌≡◌};
 ghost use Rattle.lanes.specs.Opening.{IsPlacedAt};
 ghost use Rattle.entries.specs.Answers.{Answers};
@@ -15,8 +15,10 @@ use std::alloc::Global;
 use std::marker::PhantomData;
 use std::snapshot::Snapshot;
 
-/// The form in which lines are wanted. Records are known to have their places in what their files mean, and nothing is
-/// carried of them once their graphs are read.
+/// The purpose of answers that become output lines in a format.
+///
+/// The type guarantees that records have their places in what their files mean; nothing is carried of them once their
+/// graphs are read.
 #[derive(Drop)]
 pub struct Worded<J: Meant> {
     pub form: Form,
@@ -24,7 +26,7 @@ pub struct Worded<J: Meant> {
 }
 
 impl<J: Meant> Worded<J> {
-    /// Lines in this form.
+    /// The purpose for lines in this format.
     pub(crate) fn new(form: Form) -> Worded<J>
         ensures { result.form ≡ form }
     {
@@ -42,7 +44,7 @@ impl<J: Meant + Send + Sync> Purpose for Worded<J> {
 
     ghost knows = { λ about. IsPlacedAt (J.meaning about.file) about.ordinal about.bytes × IsSpelt about.bytes };
 
-    // The lists of the answer go back once its line is printed.
+    // The lists of the answer return once its line is made.
     fn finish(
         self,
         alloc: Global,

@@ -6,7 +6,7 @@ abbrev pub sum_below : ℕ → (ℕ → ℕ) → ℕ
 sum_below zero f = 0
 sum_below (suc n) f = sum_below n f + f n
 
--- the same of integers
+-- the sum of an integer function: f 0 + .. + f (n - 1)
 abbrev pub total_below : ℕ → (ℕ → ℤ) → ℤ
 total_below zero f = pos 0
 total_below (suc n) f = total_below n f +ℤ f n

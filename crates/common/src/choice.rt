@@ -1,11 +1,11 @@
 //! How the outer face of a plane is chosen.
 
-/// Which face of a plane is its outer face.
+/// The rule by which the outer face of a plane is chosen.
 #[derive(Clone, Copy, Debug, Default, PartialEq, Eq)]
 pub enum Choice {
-    /// The face with the most darts, among equals the one that holds the least dart.
+    /// The face with the most darts; among faces of equal degree, the one that contains the least dart.
     #[default]
     First,
-    /// The face with which the fewest bends are needed, among equals the one with the least number.
+    /// The face that minimises bends; among equals, the one with the least number.
     Best,
 }

@@ -1,10 +1,10 @@
 //! The two kinds of drawings.
 
-/// Which drawing is made of a plane. Both have the fewest bends.
+/// Which of the two drawings of a plane to compute; both have the fewest bends.
 #[derive(Clone, Copy, Debug, PartialEq, Eq)]
 pub enum DrawingKind {
-    /// The one that is found first.
+    /// The drawing that is quicker to compute.
     Quick,
-    /// One with shorter edges: few vertices of degree 2 turn, and the drawing is compacted by visibility.
+    /// A drawing with shorter edges: few vertices of degree 2 turn, and it is compacted by visibility.
     Short,
 }

@@ -1,5 +1,5 @@
-//! What many crates use: sums of numbers below a bound, lists filled anew in their memory, the choice of the outer
-//! face, and the kinds of drawings.
+//! What many crates use: sums of numbers below a bound, lists that reuse their buffers, the choice of the outer face,
+//! and the kinds of drawings.
 #![tactic(auto)]
 
 mod choice;

@@ -1,15 +1,16 @@
-//! Lists that are filled anew in the memory that they have.
+//! Lists that are refilled in the buffers that they have.
 
 ghost use Rattle.std.specs.Prelude.{◌≡◌, ◌≤◌, [], IfOk, replicate, vec_len, vec_capacity};
 
 use std::alloc::AllocError;
 
-/// The list with this value at each of so many places, and nothing of what it held. It takes memory only
-/// where it has not enough.
+/// A list of `count` copies of `value`, which reuses the buffer of `list`.
+///
+/// The items of `list` are dropped. It allocates only if the buffer is too small.
 ///
 /// # Errors
 ///
-/// `AllocError` where there is no memory for so many places; the list is then gone.
+/// `AllocError` if there is no memory for `count` items; the list is then gone.
 pub fn filled<T: Copy + Drop>(
     mut list: Vec<T>,
     count: usize,
@@ -23,12 +24,13 @@ pub fn filled<T: Copy + Drop>(
     Ok(list)
 }
 
-/// The list with nothing of what it held, and room for so many items. It takes memory only where it has
-/// not enough, and then for just so many.
+/// An empty list with room for at least `room` items, which reuses the buffer of `list`.
+///
+/// The items of `list` are dropped. It allocates only if the buffer is too small, and then for exactly `room` items.
 ///
 /// # Errors
 ///
-/// `AllocError` where there is no memory for so many items; the list is then gone.
+/// `AllocError` if there is no memory for `room` items; the list is then gone.
 pub fn emptied<T: Drop>(mut list: Vec<T>, room: usize) -> Result<Vec<T>, AllocError>
     ensures items { IfOk result (λ v. v.items ≡ []) }
     ensures len { IfOk result (λ v. vec_len v ≡ 0) }

@@ -1,4 +1,4 @@
--- When an answer is one for a record.
+-- The condition that an answer is right for a record.
 use Rattle.std.specs.Prelude.{◌≡◌, ℕ, List, Result, ⊤}
 use Rattle.planar_code.specs.Stream.{lists_of}
 use Rattle.embedding.specs.Rules.{FirstBroken}
@@ -25,13 +25,13 @@ pub record IsLaid (choice : Choice) (bytes : List ℕ) (plane : PlaneModel) (sha
   pub chosen : IsChosen choice plane
   -- the shape is an orthogonal representation of the plane with its outer face
   pub shape_is : IsShape plane shape
-  -- each other one has at least as many bends
+  -- each other shape has at least as many bends
   pub least : IsLeast plane shape
-  -- the prices prove so
+  -- the prices prove that
   pub proof : IsProof plane shape prices
   pub drawn : IsDrawn plane shape drawing
 
--- the answer is one for a record of these bytes under this choice
+-- the answer is right for a record of these bytes under this choice
 abbrev pub Answers : Choice → List ℕ → Answer → Type 0
 Answers choice bytes (Laid plane shape prices drawing) = IsLaid choice bytes plane shape prices drawing
 -- the rule is broken, and none before it

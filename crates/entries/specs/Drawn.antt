@@ -1,4 +1,4 @@
--- What a drawing shows of a shape, and what the cause in its place shows.
+-- The meaning of a drawing for its shape, and of the cause in its place.
 use Rattle.std.specs.Prelude.{◌≡◌, ◌*◌, Result, Ok, Err, length}
 use Rattle.faces.specs.Planes.{PlaneModel, vertices, darts}
 use Rattle.ortho_rep.specs.Shapes.{ShapeModel}
@@ -13,14 +13,14 @@ use Rattle.drawing_check.specs.Faults.{IsFirstFault}
 use Rattle.entries.specs.declared.cause.Cause.{Cause}
 use Rattle.entries.specs.declared.cause.Cause.TheVariants.{Wide, OutOfGrid, NotAxis, WrongTurn, Meet}
 
--- some points that are taken from numbers that grow along the darts of the boxes, within the grid, fail a condition of a drawing, and
--- that one first
+-- some points that are derived from numbers that grow along the darts of the boxes, within the grid, fail a condition
+-- of a drawing, and that one first
 pub record FailFirst (plane : PlaneModel) (shape : ShapeModel) (boxes : BoxesModel) (fault : CheckFault) : Type 0 where
   pub points : PointsModel
   pub least_points : AreLeastPoints boxes points
   pub first : IsFirstFault plane shape points fault
 
--- the boxes show that this is why the shape is not drawn
+-- the boxes show that this is the cause why the shape is not drawn
 abbrev pub ShowsCause : PlaneModel → ShapeModel → BoxesModel → Cause → Type 0
 -- no numbers that grow along their darts are within the grid
 ShowsCause plane shape boxes Wide = FitsNoGrid boxes

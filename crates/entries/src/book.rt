@@ -1,4 +1,4 @@
-//! What a run hands out.
+//! The result of a run: a book for each file.
 ghost use Rattle.std.specs.Prelude.{◌≡◌, ◌<◌, ◌≤◌, length, slice_index_or, vec_len};
 ghost use Rattle.entries.specs.declared.limits.TheConstants.{MAX_FILES};
 ghost use Rattle.entries.specs.Books.{BookModel};
@@ -7,8 +7,7 @@ use crate::entry::Entry;
 use std::marker::Model;
 use streams::Mark;
 
-/// The entries of one file, one for each record and in order, and how the file ended. No accessor takes
-/// memory.
+/// The entries of one file, one for each record and in order, and its mark. No accessor allocates.
 #[derive(Drop)]
 pub struct Book {
     entries: Vec<Entry>,
@@ -46,8 +45,8 @@ impl Book {
     }
 }
 
-/// A book for each file of a run, at most `MAX_FILES`. In contracts it is the list of them. No accessor takes
-/// memory.
+/// The books of a run, one for each file, at most `MAX_FILES`. In contracts it is the list of them. No accessor
+/// allocates.
 #[derive(Drop)]
 pub struct Batch {
     books: Vec<Book>,
@@ -66,7 +65,7 @@ impl Model for Batch {
 }
 
 impl Batch {
-    /// The batch of these books.
+    /// The batch with these books.
     pub fn new(books: Vec<Book>) -> Batch
         requires { vec_len books ≤ MAX_FILES }
         ensures { result ≡ books.items }
@@ -74,7 +73,7 @@ impl Batch {
         Batch { books }
     }
 
-    /// How many files there are, at most `MAX_FILES`.
+    /// The number of files, at most `MAX_FILES`.
     pub fn files(&self) -> u32
         ensures count { result ≡ length self.now }
         ensures few { result ≤ MAX_FILES }
@@ -82,7 +81,7 @@ impl Batch {
         self.books.len() as u32
     }
 
-    /// The book of a file.
+    /// The book of the file with this index.
     pub fn book(&self, file: u32) -> &Book
         requires { file < length self.now }
         ensures { (other : BookModel) → result.now ≡ slice_index_or self.now file other }

@@ -1,4 +1,4 @@
-//! Books from drafts that are ready.
+//! Books made of complete drafts.
 ghost use Rattle.std.specs.Prelude.{◌≡◌, ◌≤◌, ℕ, IfOk, IsSome, Some, length, vec_len};
 ghost use Rattle.streams.specs.declared.frames.Mark.{Mark};
 ghost use Rattle.common.specs.declared.choice.Choice.{Choice};
@@ -13,11 +13,11 @@ use crate::entry::Entry;
 use lanes::Draft;
 use std::alloc::{AllocError, Global};
 
-/// The books of drafts that are each all of their file.
+/// The books of drafts, each of which holds all of its file.
 ///
 /// # Errors
 ///
-/// `AllocError` where there is no memory for the list of books.
+/// `AllocError` if there is no memory for the list of books.
 pub fn books_of(alloc: Global, drafts: Vec<Draft<Entry>>) -> Result<Batch, AllocError>
     requires few { vec_len drafts ≤ MAX_FILES }
     requires ready { (choice : Choice) × (meaning : ℕ → Meaning) × AreReady about_of choice meaning 0 drafts.items }

@@ -1,8 +1,8 @@
-//! Why a shape was not drawn.
+//! The causes why a shape is not drawn.
 
 ghost use Rattle.std.specs.Prelude.{◌≡◌};
 
-/// Why a shape of a record's plane has no drawing.
+/// The cause why the shape of a record's plane has no drawing.
 #[derive(Clone, Copy, Debug, PartialEq, Eq)]
 pub enum Cause {
     /// Its boxes have no coordinates that are all at most 65,535.
@@ -13,7 +13,7 @@ pub enum Cause {
     NotAxis,
     /// A corner or an angle is not that of the shape.
     WrongTurn,
-    /// A point is met twice.
+    /// A grid point is used twice.
     Meet,
 }
 

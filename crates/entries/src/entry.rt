@@ -7,15 +7,15 @@ use common::Choice;
 use lanes::Numbered;
 use planar_code::Record;
 
-/// A record of a file, and what is answered to it.
+/// A record of a file and its answer.
 #[derive(Drop)]
 pub struct Entry {
-    /// The file, from 0.
+    /// The index of the file, from 0.
     pub file: u32,
-    /// The record's place in its file, from 0.
+    /// The index of the record in its file, from 0.
     pub ordinal: u32,
     pub rec: Record,
-    /// How the outer face of its plane is chosen.
+    /// The rule by which the outer face of its plane is chosen.
     pub choice: Choice,
     pub answer: Answer,
     pub ghost answers: { ∥ Answers choice rec answer ∥₁ },

@@ -1,7 +1,6 @@
-//! What is answered to a record: the rule that it breaks, or its plane, a shape of it with the fewest bends,
-//! prices that prove so, and a drawing or the cause in its place. An entry keeps in its type that its
-//! answer is one for its record. A run over files hands out books: a book for each file, with its entries in
-//! order and its one mark.
+//! Answers to records: the rule that a record breaks, or its plane, a shape with the fewest bends, prices that prove
+//! so, and a drawing or the cause in its place. The type of an entry guarantees that its answer is right for its
+//! record. A run over files returns books: a book for each file, with its entries in order and its one mark.
 #![tactic(auto)]
 
 mod answer;

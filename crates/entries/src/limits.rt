@@ -1,4 +1,4 @@
-//! The limit of a run. Clauses cite it.
+//! The limit of a run, which clauses cite.
 
-/// How many files a run takes at most.
+/// The maximum number of files of a run.
 pub const MAX_FILES: u32 = 256;

@@ -7,7 +7,7 @@ pub use Rattle.embedding.specs.Faces.{degree_in, IsClosedUnder}
 pub record IsOuter (n : ℕ) (face : ℕ → ℕ) (f o : ℕ) : Type 0 where
   pub named : o < f
   pub most : (k : ℕ) → k < f → degree_in n face k ≤ degree_in n face o
-  -- each dart of a face that is as large has a dart of the outer face at its place or before it
+  -- each dart of a face that is as large is preceded by a dart of the outer face, or is one
   pub first : (k d : ℕ) → degree_in n face k ≡ degree_in n face o → d < n → face d ≡ k
       → (e : ℕ) × (e ≤ d) × (face e ≡ o)
 

@@ -1,4 +1,4 @@
--- The numbering of a graph's faces. There is one, so a plane need not keep it.
+-- The numbering of a graph's faces. There is exactly one, so a plane need not keep it.
 use Rattle.std.specs.Prelude.{◌≡◌, ◌<◌, ℕ, List, length}
 use Rattle.std.specs.Coded.{Coded-set, coded×, coded_list, coded_ℕ}
 use Rattle.std.proofs.Common.{sym, ap, ◌∙◌, subst}
@@ -10,7 +10,7 @@ use Rattle.embedding.specs.Faces.{HasFaces}
 use Rattle.embedding.specs.Walk.{at}
 use Rattle.embedding.proofs.Unique.{one_numbering, one_count}
 
--- the faces of all darts, and how many there are
+-- the faces of all darts, and the number of faces
 abbrev pub Numbers : List (List ℕ) → List ℕ × ℕ → Type 0
 Numbers g n = (length n.0 ≡ dart_count g) × HasFaces (dart_count g) (next_of g) (at n.0) n.1
 

@@ -1,4 +1,4 @@
--- What is seen of a plane: the neighbour lists of its graph, the face of each dart, the outer face.
+-- The model of a plane: the neighbour lists of its graph, the face of each dart, the outer face.
 use Rattle.std.specs.Prelude.{◌≡◌, ℕ, ◌+◌, ◌*◌, ◌<◌, ◌≤◌, ◌≢◌, List, length, slice_index}
 use Rattle.embedding.specs.declared.graphs.TheConstants.{MAX_DARTS}
 use Rattle.embedding.specs.Darts.{dart_count, head_of, tail_of, reverse_of, after_of, next_of, IsOneToOne}
@@ -11,7 +11,7 @@ pub record PlaneModel : Type 0 where
   pub lists : List (List ℕ)
   -- the face of each dart
   pub face : List ℕ
-  -- how many faces there are
+  -- the number of faces
   pub faces : ℕ
   pub outer : ℕ
 

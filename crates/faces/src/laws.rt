@@ -1,4 +1,4 @@
-//! Laws of faces and their numbers, each as the contract of a function that does nothing.
+//! Theorems about faces and their numbers, each as the contract of an empty function.
 
 ghost use Rattle.std.specs.Prelude.{◌≡◌, ◌==◌, ◌<◌, ◌↔◌, ℕ, Bool, List, true};
 ghost use Rattle.common.specs.Sums.{sum_below};

@@ -1,8 +1,7 @@
-//! The faces of a graph with a rotation, and the planes among such graphs.
+//! The faces of a graph with a rotation system, and plane graphs.
 //!
-//! The face of a dart is walked with the face on its left: after the dart u to v comes the dart from v
-//! that follows v to u clockwise. A graph whose vertices and faces are two more than its edges is a
-//! plane (Euler's formula); of its faces one is the outer one.
+//! The face of a dart is walked with the face on its left: the dart u to v is followed by the dart from v that follows
+//! v to u clockwise. A graph with V − E + F = 2 is a plane (Euler's formula); one of its faces is the outer face.
 #![tactic(auto)]
 
 pub mod laws;

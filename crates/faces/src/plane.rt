@@ -1,4 +1,4 @@
-//! Planes, by Euler's formula: connected graphs with their faces, one of which is the outer one.
+//! Plane graphs (Euler's formula): connected embedded graphs with their faces, one of which is the outer face.
 
 ghost use Rattle.std.specs.Prelude.{◌≡◌, ◌≢◌, ◌<◌, ◌≤◌, ℕ, IfOk, IfErr, Err};
 ghost use Rattle.embedding.specs.Darts.{dart_count, next_of};
@@ -14,14 +14,13 @@ use std::alloc::Global;
 use std::marker::Model;
 use thiserror::Error;
 
-/// How many faces a plane has at most: 510 edges less 255 vertices, and two more.
+/// The maximum number of faces of a plane: 510 edges less 255 vertices, and two more.
 pub const MAX_FACES: usize = 257;
 
-/// A connected graph of maximum degree at most 4 that is embedded on the sphere: its
-/// faces, and which of them is the outer one. In contracts it is a `PlaneModel`.
+/// A connected graph of maximum degree at most 4 embedded on the sphere, with its faces, one of them the outer face.
 ///
-/// A face is walked by `next`, with the face on the left. Faces are numbered from 0 in the order of
-/// their least darts. No accessor takes memory, and each but `least_dart` takes constant time.
+/// In contracts it is a `PlaneModel`. A face is walked by `next`, with the face on the left. Faces are numbered from 0
+/// in the order of their least darts. No accessor allocates, and each but `least_dart` takes constant time.
 #[derive(Debug, Drop)]
 pub struct Plane {
     graph: Graph,
@@ -39,18 +38,18 @@ impl Model for Plane {
     ghost invariant = { λ p. IsPlane (model_of p.graph p.numbering.0.0 p.numbering.0.1 p.outer) };
 }
 
-/// Why a graph gives no plane. It hands the graph back as it was.
+/// The reason why a graph is not a plane. Each variant returns the graph unchanged.
 #[derive(Debug, Drop, Error)]
 pub enum TraceFault {
-    /// Vertices less edges plus faces are not two.
+    /// The number of vertices less edges plus faces is not two.
     #[error("vertices less edges plus faces are not two")]
     Genus(Graph),
-    /// Memory ran out. Since a graph keeps its faces, no call tells it.
+    /// Out of memory. Since a graph keeps its faces, no call returns this.
     #[error("out of memory")]
     Memory(Graph),
 }
 
-/// The face with the most darts, among equals the first.
+/// The face with the most darts, the first one among equals.
 fn greatest_face(graph: &Graph) -> u16
     requires { KeepsBefore graph.now 8 }
     ensures { (face : ℕ → ℕ) (f : ℕ) → HasFaces (dart_count graph.now) (next_of graph.now) face f
@@ -72,13 +71,15 @@ impl Plane {
     ghost use Rattle.faces.specs.Planes.{PlaneModel, IsPlane, HasGreatestOuter, HasEnds, darts, next, face_at, degree, with_outer};
     ghost use Rattle.faces.specs.Faults.{IsTraceFault};
 
-    /// Takes the face of a graph with the most darts as the outer one, among equals the one that holds the
-    /// least dart. It looks once at each face and takes no memory, since a graph keeps its faces.
+    /// The plane of a graph, with the face of most darts as its outer face.
+    ///
+    /// Among faces of equal degree the outer one is that which contains the least dart. It looks once at each face and
+    /// allocates nothing, since a graph keeps its faces.
     ///
     /// # Errors
     ///
-    /// The graph is handed back by `Genus` exactly where its vertices less its edges plus its faces are
-    /// not two. `Memory` never comes.
+    /// `Genus` returns the graph exactly if its vertices less its edges plus its faces are not two. `Memory` is never
+    /// returned.
     pub fn trace(alloc: Global, graph: Graph) -> Result<Plane, TraceFault>
         ensures graph { IfOk result (λ p. p.lists ≡ graph) }
         ensures plane { IfOk result IsPlane }
@@ -90,8 +91,10 @@ impl Plane {
         Plane::trace_in(alloc, &mut scratch, graph)
     }
 
-    /// The same as [`Plane::trace`]. Nothing is taken from the scratch; the plane's lists, which are its graph's, can
-    /// be given back by [`Plane::give_back`].
+    /// The plane of a graph, with the face of most darts as its outer face, exactly as [`Plane::trace`].
+    ///
+    /// It takes nothing from the scratch; the plane's lists, which are those of its graph, can be returned to it by
+    /// [`Plane::give_back`].
     ///
     /// # Errors
     ///
@@ -110,12 +113,12 @@ impl Plane {
         Ok(Plane { graph, outer })
     }
 
-    /// Gives the lists of this plane's graph to `scratch.graph`, to be used again. It takes no memory.
+    /// Returns the lists of this plane's graph to `scratch.graph`, to be reused. It allocates nothing.
     pub fn give_back(self, scratch: &mut Scratch) {
         self.graph.give_back(&mut scratch.graph);
     }
 
-    /// The graph whose faces these are.
+    /// The graph of this plane.
     pub fn graph(&self) -> &Graph
         ensures value { result.now ≡ self.now.lists }
         ensures plane { IsPlane self.now }
@@ -124,7 +127,7 @@ impl Plane {
         &self.graph
     }
 
-    /// The dart that follows a dart on its face.
+    /// The dart that follows this dart on its face.
     pub fn next(&self, dart: u16) -> u16
         requires { dart < darts self.now }
         ensures value { result ≡ next self.now dart }
@@ -143,7 +146,7 @@ impl Plane {
         self.graph.face_of(dart)
     }
 
-    /// The least dart of a face. It looks at each dart up to it.
+    /// The least dart of a face. The time is linear in its number.
     pub fn least_dart(&self, face: u16) -> u16
         requires { face < self.now.faces }
         ensures inside { result < darts self.now }
@@ -158,7 +161,7 @@ impl Plane {
         unreachable!()
     }
 
-    /// How many faces there are, 1 to 257.
+    /// The number of faces, 1 to 257.
     pub fn face_count(&self) -> u16
         ensures value { result ≡ self.now.faces }
         ensures some { 0 < result }
@@ -169,7 +172,7 @@ impl Plane {
         self.graph.face_count()
     }
 
-    /// How many darts a face has.
+    /// The number of darts of a face.
     pub fn degree(&self, face: u16) -> u16
         requires { face < self.now.faces }
         ensures value { result ≡ degree self.now face }
@@ -185,7 +188,7 @@ impl Plane {
         self.outer
     }
 
-    /// Makes a face the outer one, and changes nothing else. It takes no memory.
+    /// Makes `face` the outer face; nothing else changes. It allocates nothing.
     pub fn set_outer(&mut self, face: u16)
         requires { face < self.old.faces }
         ensures { self.new ≡ with_outer self.old face }

@@ -1,16 +1,16 @@
-//! Memory that one call after another is lent.
+//! Buffers that one call after another reuses.
 
 use std::alloc::Global;
 
-/// The lists of a plane's graph, to be used again. A plane has none of its own.
+/// The buffers of a plane's graph, to be reused. A plane has none of its own.
 #[derive(Drop)]
 pub struct Scratch {
-    /// The lists of a graph, to be lent where it is read.
+    /// The buffers of a graph, for the next graph that is read.
     pub graph: embedding::Scratch,
 }
 
 impl Scratch {
-    /// An empty one, for which no memory is taken.
+    /// An empty scratch. It allocates nothing.
     pub fn empty(alloc: Global) -> Scratch {
         Scratch {
             graph: embedding::Scratch::empty(alloc),

@@ -18,7 +18,7 @@ right_of North = East
 right_of West = North
 right_of South = West
 
--- half a turn
+-- the opposite direction
 abbrev pub opposite_of : Direction → Direction
 opposite_of East = West
 opposite_of North = South
@@ -32,7 +32,7 @@ quarters North = 1
 quarters West = 2
 quarters South = 3
 
--- so many quarter turns to the left
+-- the direction that is this many quarter turns to the left
 abbrev pub left_quarters : ℕ → Direction → Direction
 left_quarters zero direction = direction
 left_quarters (suc n) direction = left_of (left_quarters n direction)

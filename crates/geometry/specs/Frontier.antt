@@ -1,5 +1,5 @@
--- The frontier of a sweep: for each row, the first column right of all that the sweep met there. Only the
--- contracts of the sweep's private steps speak of it.
+-- The frontier of a sweep: for each row, the first column right of all that the sweep met there. Only the contracts of
+-- the sweep's private steps mention it.
 use Rattle.std.specs.Prelude.{◌≡◌, ℕ, ◌+◌, ◌<◌, ◌≤◌, List, slice_index}
 use Rattle.geometry.specs.declared.rectangles.Rectangle.{Rectangle}
 

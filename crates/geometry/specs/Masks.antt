@@ -1,10 +1,10 @@
--- Flags on a grid: for each row a number with a bit for each column. Only the contracts of private steps speak of them.
+-- Flags on a grid: for each row a number with a bit for each column. Only the contracts of private steps mention them.
 use Rattle.std.specs.Prelude.{◌≡◌, ℕ, List, slice_index}
 use Rattle.std.specs.Int.{bit_at}
 use Rattle.geometry.specs.declared.rectangles.Rectangle.{Rectangle}
 use Rattle.geometry.specs.Rectangles.{Covers}
 
--- no point of the rectangle had a flag; now each has one, and no other point has another than before
+-- no point of the rectangle had a flag; now each has one, and the flags of all other points are unchanged
 pub record Flags (before after : List ℕ) (new : Rectangle) : Type 0 where
   pub free : (x y : ℕ) → Covers new x y → bit_at (slice_index before y) x ≡ 0
   pub flagged : (x y : ℕ) → Covers new x y → bit_at (slice_index after y) x ≡ 1

@@ -1,6 +1,6 @@
-//! The sweep (Shamos and Hoey 1976) with a dictionary of the rectangles still met, by bottom rows. While no two have a
-//! point in common these rows are disjoint, so a new one needs to be held only against its neighbour below
-//! its top row. It takes O(log n) time for each of n rectangles, however many rows they have.
+//! The sweep (Shamos and Hoey 1976) with a dictionary of the active rectangles by their bottom rows. While no two have
+//! a point in common their rows are disjoint, so a new one needs to be compared only with its neighbour below its top
+//! row. It takes O(log n) time for each of n rectangles, however many rows they have.
 
 ghost use Rattle.std.specs.Prelude.{◌≡◌, ℕ, ◌≤◌, ◌↔◌, None, Some, IsTrue, IsSome, IfOk, IfNone, IfSome, All, AllPairs};
 ghost use Rattle.std.specs.Bool.{OnTrue, OnFalse};
@@ -14,7 +14,7 @@ use crate::rectangles::Rectangle;
 use std::alloc::{AllocError, Global};
 use std::collections::BTreeMap;
 
-// Whether no two of the rectangles have a point in common. They are sorted by their left columns.
+// Whether no two of the rectangles, sorted by their left columns, have a point in common.
 pub(crate) fn sweep(alloc: Global, rectangles: &[Rectangle]) -> Result<bool, AllocError>
     requires filled { All IsNonempty rectangles.now }
     requires ordered { IsNonDecreasingBy (λ r. r.left) rectangles.now }
@@ -30,8 +30,8 @@ pub(crate) fn sweep(alloc: Global, rectangles: &[Rectangle]) -> Result<bool, All
     Ok(true)
 }
 
-// Takes out what lies in the way of a new rectangle and ends left of it; false where something that
-// still reaches its left column lies there.
+// Removes the rectangles that share a row with a new one and end left of it; false if one that shares a row reaches its
+// left column.
 fn clear_ended(active: &mut BTreeMap<u32, Rectangle>, new: Rectangle) -> bool
     requires { IsSweepDictionary (get nat_cmp active.old) }
     ensures clears { Clears (get nat_cmp active.old) (get nat_cmp active.new) new }

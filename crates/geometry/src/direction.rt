@@ -2,9 +2,8 @@
 
 /// A direction along an axis: x grows to the east, y to the north.
 ///
-/// Where a number stands for a direction, as in a table of darts, it counts quarter turns to the left from
-/// east: 0 is east, 1 north, 2 west and 3 south. `quarters` and `from_quarters` alone turn the one into
-/// the other.
+/// A number that represents a direction, as in a table of darts, counts quarter turns to the left from east: 0 is east,
+/// 1 north, 2 west and 3 south. Only `quarters` and `from_quarters` convert between the two.
 #[derive(Clone, Copy, Debug, PartialEq, Eq)]
 pub enum Direction {
     East,
@@ -41,7 +40,7 @@ impl Direction {
         }
     }
 
-    /// The direction half a turn away.
+    /// The opposite direction.
     pub fn opposite(self) -> Direction
         ensures { result ≡ opposite_of self }
     {
@@ -66,12 +65,12 @@ impl Direction {
         }
     }
 
-    /// The direction with this number: so many quarter turns to the left from east.
+    /// The direction with this number: `number` quarter turns to the left from east.
     pub fn from_quarters(number: u8) -> Direction
         requires { number < 4 }
         ensures { quarters result ≡ number }
     {
-        // The remainder tells the compiler that the last arm is direction 3, so no comparison is left.
+        // The remainder shows the compiler that the last arm is direction 3, so no comparison is left.
         match number % 4 {
             0 => Direction::East,
             1 => Direction::North,
@@ -80,7 +79,7 @@ impl Direction {
         }
     }
 
-    /// The direction so many quarter turns to the left. It takes constant time.
+    /// The direction that is `quarters` quarter turns to the left. It takes constant time.
     pub fn left_quarters(self, quarters: u8) -> Direction
         ensures { result ≡ left_quarters quarters self }
     {

@@ -1,5 +1,5 @@
 //! The sweep (Shamos and Hoey 1976) with its frontier in a table: for each row, the first column right of all that were
-//! met there. Linear in the rows of the table and the rows of all rectangles.
+//! met there. It is linear in the rows of the table and the rows of all rectangles.
 
 ghost use Rattle.std.specs.Prelude.{◌≡◌, ◌<◌, ◌≤◌, ◌↔◌, IsTrue, IfOk, All, AllPairs, length, slice_index, SomeIndex, EachIndex};
 ghost use Rattle.std.specs.Bool.{OnTrue, OnFalse};
@@ -10,8 +10,8 @@ ghost use Rattle.geometry.specs.Frontier.{MovesPast, IsBeyond};
 use crate::rectangles::Rectangle;
 use std::alloc::AllocError;
 
-// Whether no two of the rectangles have a point in common. They are sorted by their left columns, and all
-// lie below row `height`. The frontier stands in the memory of the list that is lent.
+// Whether no two of the rectangles, sorted by their left columns and all below row `height`, have a point in common.
+// Reuses `frontier` as its table.
 pub(crate) fn sweep(
     rectangles: &[Rectangle],
     height: usize,
@@ -32,8 +32,7 @@ pub(crate) fn sweep(
     Ok(true)
 }
 
-// Moves the frontier past a new rectangle; false where it is already beyond the left column in one of the
-// rectangle's rows.
+// Moves the frontier past a new rectangle; false if in one of its rows the frontier is already beyond its left column.
 fn move_past(frontier: &mut [u64], new: Rectangle) -> bool
     requires filled { IsNonempty new }
     requires low { new.top < length frontier.old }

@@ -1,8 +1,7 @@
 //! Whether any two rectangles of grid points meet, by a sweep from left to right (Shamos and Hoey 1976).
 //!
-//! Where all rectangles lie in few rows and columns, their points are flagged by bits instead. Where the rectangles
-//! have few rows, the frontier of the sweep stands in a table by rows; else the rectangles that it still
-//! meets stand in a dictionary.
+//! If all rectangles lie in few rows and columns, their points are flagged by bits instead. If they have few rows, the
+//! frontier of the sweep is kept in a table by rows; otherwise the active rectangles are kept in a dictionary.
 
 ghost use Rattle.std.specs.Prelude.{◌<◌, ◌≤◌, ◌↔◌, IsTrue, IfOk, IfSome, All, AllPairs};
 ghost use Rattle.std.specs.Bool.{OnTrue};
@@ -13,7 +12,7 @@ ghost use Rattle.geometry.specs.Rectangles.{IsNonempty, AreApart};
 use crate::{dictionary, frontier, masks};
 use std::alloc::{AllocError, Global};
 
-/// The grid points (x, y) with `left <= x <= right` and `bottom <= y <= top`.
+/// A rectangle of grid points: all (x, y) with `left <= x <= right` and `bottom <= y <= top`.
 #[derive(Clone, Copy)]
 pub struct Rectangle {
     pub left: u32,
@@ -22,21 +21,21 @@ pub struct Rectangle {
     pub top: u32,
 }
 
-// The most rows of a table, for each rectangle.
+// The maximum number of rows of a table, for each rectangle.
 const TABLE_ROWS: usize = 8;
 
-// The most rows of all rectangles together, for each rectangle, where there is a table. The dictionary was seen
-// to be faster from some 350 on.
+// The maximum number of rows of all rectangles together, for each rectangle, with which a table is used. The dictionary
+// was measured to be faster from some 350 on.
 const ALL_ROWS: usize = 128;
 
-/// Whether no two of the rectangles have a point in common. It may sort the list of them, and has its table in
-/// the memory of the other list.
+/// Whether no two of the rectangles have a point in common. It may reorder `rectangles`, and reuses `table` as its
+/// table.
 ///
-/// Takes O(n log n) time for n rectangles, however many points they hold.
+/// Takes O(n log n) time for n rectangles, however many points they contain.
 ///
 /// # Errors
 ///
-/// `AllocError` where there is no memory for the dictionary, or for the table where the other list has not enough.
+/// `AllocError` if there is no memory for the dictionary, or for the table if `table` is too small.
 pub fn all_apart_in(
     alloc: Global,
     rectangles: &mut Vec<Rectangle>,
@@ -54,7 +53,7 @@ pub fn all_apart_in(
     }
 }
 
-// The same of rectangles that are sorted by their left columns.
+// Whether no two of the rectangles, sorted by their left columns, have a point in common.
 fn sweep(alloc: Global, rectangles: &[Rectangle], table: &mut Vec<u64>) -> Result<bool, AllocError>
     requires filled { All IsNonempty rectangles.now }
     requires ordered { IsNonDecreasingBy (λ r. r.left) rectangles.now }
@@ -66,8 +65,8 @@ fn sweep(alloc: Global, rectangles: &[Rectangle], table: &mut Vec<u64>) -> Resul
     }
 }
 
-// The number of rows of a table that has each row of the rectangles; none where the table or all
-// rectangles together would have too many.
+// The number of rows of a table that covers all rows of the rectangles; `None` if the table or all rectangles together
+// would have too many.
 fn table_height(rectangles: &[Rectangle]) -> Option<usize>
     requires { All IsNonempty rectangles.now }
     ensures { IfSome result (λ height. All (λ r. r.top < height) rectangles.now) }
@@ -84,10 +83,10 @@ fn table_height(rectangles: &[Rectangle]) -> Option<usize>
     Some(height)
 }
 
-// A number of rows that has each row of the rectangles, less than twice as many as they need, where all of them lie in
-// the columns that have bits; none where it is too great. Numbers are gathered by `or`, in which no step is a branch.
-// The rows of all rectangles together need no count here: those that are flagged are apart, so that at most `COLUMNS` of
-// them have a row in common.
+// A number of rows, less than twice as many as needed, that covers all rows of the rectangles, if all of them lie in
+// the columns that have bits; `None` otherwise or if it is too great. Numbers are gathered by `or`, in which no step is
+// a branch. The rows of all rectangles together need no count here: those that are flagged are disjoint, so at most
+// `COLUMNS` of them share a row.
 fn narrow_height(rectangles: &[Rectangle]) -> Option<usize>
     ensures narrow { IfSome result (λ _. All (λ r. r.right < COLUMNS) rectangles.now) }
     ensures low { IfSome result (λ height. All (λ r. r.top < height) rectangles.now) }

@@ -1,4 +1,4 @@
--- What the threads of a lane give back.
+-- The values that the threads of a lane return.
 use Rattle.std.specs.Prelude.{◌≡◌, ◌++◌, ◌∷◌, ℕ, List, [], true, Result, IfOk, IfErr, OnOk}
 use Rattle.common.specs.declared.choice.Choice.{Choice}
 use Rattle.ruled_lanes.specs.declared.link_ends.Giver.{Giver}
@@ -22,7 +22,7 @@ use Rattle.lanes.specs.Files.{HasDrawn, TellsDrawn}
 use Rattle.lane_runs.specs.declared.fault.LaneFault.{LaneFault}
 
 module _ {A : Type 0} where
-  -- both ends of a link that has room for so many messages, and to which nothing was given
+  -- both ends of a link that has room for this many messages, and to which nothing was given
   pub record IsNewLink (capacity : ℕ) (giver : Giver A) (taker : Taker A) : Type 0 where
     pub room : capacity_of giver ≡ capacity
     pub ends : AreEnds giver taker
@@ -30,46 +30,47 @@ module _ {A : Type 0} where
     pub none_taken : taken taker ≡ []
 
 module _ {A M : Type 0} where
-  -- a seat of these tickets has drawn until none remained, and the messages are all that is told of the files it drew,
-  -- under this choice
+  -- a seat of these tickets has drawn until none remained, and the messages say all of the files it drew, under this
+  -- choice
   pub record TellsSeat (about : A → About) (choice : Choice) (meaning : ℕ → Meaning) (tickets : Tickets) (seat : Seat) (gave : List (Message A M)) : Type 0 where
     pub seat_of : IsSeatOf tickets seat
     pub ended : has_ended seat ≡ true
     pub tells : TellsDrawn about choice meaning (drawn seat) gave
 
-  -- what the first stage starts with: a seat of these tickets that has drawn nothing, room for a piece, and the end of a link to
-  -- which nothing was given
+  -- the first stage starts with a seat of these tickets that has drawn nothing, a buffer for a piece, and the end of a
+  -- link to which nothing was given
   pub record StartsToRead (tickets : Tickets) (seat : Seat) (room : ℕ) (giver : Giver (Message A M)) : Type 0 where
     pub seat_of : IsSeatOf tickets seat
     pub unused : IsUnused seat
     pub none_given : given giver ≡ []
     pub room_for : room ≡ PIECE
 
-  -- what a lane starts with: a seat of these tickets that has drawn nothing, and an end of the fan, to which nothing was given
+  -- a lane starts with a seat of these tickets that has drawn nothing, and an end of the fan, to which nothing was
+  -- given
   pub record StartsLane (tickets : Tickets) (seat : Seat) (giver : LaneGiver (Message A M)) : Type 0 where
     pub seat_of : IsSeatOf tickets seat
     pub unused : IsUnused seat
     pub none_given : given_at giver ≡ []
 
-  -- the end and the seat that the first stage gives back: the end is that of the same link
+  -- the end and the seat that the first stage returns: the end is that of the same link
   pub record ReadsSeat (about : A → About) (choice : Choice) (meaning : ℕ → Meaning) (tickets : Tickets) (giver after : Giver (Message A M)) (seat : Seat) : Type 0 where
     pub to_same : GivesToSame giver after
     pub tells : TellsSeat about choice meaning tickets seat (given after)
 
-  -- what a lane gives back: the end of the fan at its own number, where one stop came last, whatever the lane met, or none where a give of the
-  -- stop was refused; and where it was not, its seat if nothing was lost
+  -- a lane returns the end of the fan at its own number, where one stop came last, whatever happened in the lane, or
+  -- none if a give of the stop was refused; and if it was not refused, its seat if nothing was lost
   pub record LeavesLane {R : Type 0} (about : A → About) (choice : Choice) (meaning : ℕ → Meaning) (tickets : Tickets) (giver after : LaneGiver (Message A M)) (stop : Result R (Closed (Message A M))) (seat : Result Seat LaneFault) : Type 0 where
     pub to_same : GivesToSameLane giver after
     pub stopped : OnOk stop (IsStopped (notes about (given_at after)))
     pub refused : IfErr stop (λ closed. (handed_back closed ≡ Stop) × GoOn (notes about (given_at after)))
     pub tells : OnOk stop (IfOk seat (λ s. TellsSeat about choice meaning tickets s (given_at after)))
 
--- so far all is told of the files that were drawn, and there was no stop
+-- so far the notes say all of the files that were drawn, and there was no stop
 pub record HasTold (choice : Choice) (meaning : ℕ → Meaning) (drawn : List ℕ) (ns : List Note) : Type 0 where
   pub going : GoOn ns
   pub told : HasDrawn choice meaning drawn ns
 
--- all that a file with this meaning has was told after what was told before: its records and one end
+-- after the earlier notes come all those of a file with this meaning: its records and one end
 pub record TellsFile (choice : Choice) (meaning : Meaning) (file : ℕ) (before after : List Note) : Type 0 where
   pub count : ℕ
   pub mark : Mark

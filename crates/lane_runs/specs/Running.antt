@@ -30,13 +30,13 @@ module _ {E : Type 0} where
     pub to_fan : receives_on fan.receiver ≡ sends_on giver.sender
     pub at_lane : lane_of giver ≡ lane
 
-  -- and has given nothing
+  -- an idle lane gives at this lane of the fan, and has given nothing
   pub record IsIdle (fan : Gatherer E) (lane : ℕ) (giver : LaneGiver E) : Type 0 where
     pub gives_at : GivesAt fan lane giver
     pub none_given : given_at giver ≡ []
 
-  -- the thread of this lane promises to tell, under this choice, the files of this opener that a seat of these tickets
-  -- draws
+  -- the thread of this lane promises to give all, under this choice, of the files of this opener that a seat of these
+  -- tickets draws
   pub record IsRunning {O : Type 0} (fan : Gatherer E) (choice : Choice) (opener : O) (tickets : Tickets) (lane : ℕ) (promised_choice : Choice) (promised_opener : O) (promised_tickets : Tickets) (giver : LaneGiver E) : Type 0 where
     pub gives_at : GivesAt fan lane giver
     pub same_choice : promised_choice ≡ choice
@@ -44,20 +44,20 @@ module _ {E : Type 0} where
     pub same_tickets : promised_tickets ≡ tickets
 
 module _ {E M : Type 0} where
-  -- a lane has told all of the files that its seat drew
+  -- a lane has given all of the files that its seat drew
   pub record HasRun (about : E → About) (choice : Choice) (meaning : ℕ → Meaning) (tickets : Tickets) (fan : Gatherer (Message E M)) (lane : ℕ) (giver : LaneGiver (Message E M)) (seat : Seat) : Type 0 where
     pub gives_at : GivesAt fan lane giver
     pub tells : TellsSeat about choice meaning tickets seat (given_at giver)
 
-  -- so have lanes in a row, the first of which has this number
+  -- this holds for consecutive lanes, the first of which has this number
   abbrev pub HaveRun : (E → About) → Choice → (ℕ → Meaning) → Tickets → Gatherer (Message E M) → ℕ → List (LaneGiver (Message E M)) → List Seat → Type 0
   HaveRun about choice meaning tickets fan lane [] [] = ⊤
   HaveRun about choice meaning tickets fan lane (giver ∷ givers) (seat ∷ seats) =
       HasRun about choice meaning tickets fan lane giver seat × HaveRun about choice meaning tickets fan (lane + 1) givers seats
   HaveRun about choice meaning tickets fan lane _ _ = ⊥
 
--- What a run leaves of a consumer, and which seats it gives back: so many, all of these tickets, each of which has drawn until
--- none remained; then the consumer holds notes that tell all of each file that was drawn once.
+-- What a run does to a consumer, and which seats it returns: this many, all of these tickets, each of which has drawn
+-- until none remained; then the consumer holds notes that say all of each file that was drawn once.
 abbrev pub LeavesConsumer : {C F : Type 0} → (C → List Note → Type 0) → (C → F → Type 0) → Choice → (ℕ → Meaning) → Tickets → ℕ → C
     → Result (Vec Seat Global) (RunFault F) → Type 0
 LeavesConsumer holds gave_up choice meaning tickets count consumer (Ok seats) =
@@ -66,8 +66,8 @@ LeavesConsumer holds gave_up choice meaning tickets count consumer (Ok seats) =
     × ((file : ℕ) → times file (all_drawn seats.items) ≡ 1 → HasFile choice (meaning file) file ns))
 LeavesConsumer holds gave_up choice meaning tickets count consumer (Err fault) = HoldsOnRunFault (gave_up consumer) (holds consumer) fault
 
--- what a run starts with: seats of these tickets that have drawn nothing, the ends of an unused fan, a giver for
--- each seat and the others, and a consumer that holds nothing
+-- a run starts with seats of these tickets that have drawn nothing, the ends of an unused fan, a giver for each seat
+-- and the others, and a consumer that holds nothing
 pub record StartsRun {C E : Type 0} (holds : C → List Note → Type 0) (tickets : Tickets) (seats : Vec Seat Global) (givers idle : Vec (LaneGiver E) Global) (fan : Gatherer E) (consumer : C) : Type 0 where
   pub some : 1 ≤ vec_len seats
   pub each : vec_len givers ≡ vec_len seats
@@ -79,7 +79,7 @@ pub record StartsRun {C E : Type 0} (holds : C → List Note → Type 0) (ticket
   pub none_gathered : gathered fan ≡ []
   pub empty : holds consumer []
 
--- what a run leaves of a consumer, of which what stays the same has stayed so, and the seats that it gives back
+-- a run leaves the part of the consumer that stays the same unchanged, does this to the rest, and returns these seats
 pub record LeavesRun {C F : Type 0} (holds : C → List Note → Type 0) (gave_up : C → F → Type 0) (stays_same : C → C → Type 0) (choice : Choice) (meaning : ℕ → Meaning) (tickets : Tickets) (count : ℕ) (consumer after : C)
     (ran : Result (Vec Seat Global) (RunFault F)) : Type 0 where
   pub ended : LeavesConsumer holds gave_up choice meaning tickets count after ran

@@ -1,4 +1,4 @@
-//! All lanes of a run.
+//! Running all lanes of a run.
 ghost use Rattle.std.specs.Prelude.{◌≡◌, List, [], All, IfOk, IfErr, map, vec_len};
 ghost use Rattle.ruled_lanes.specs.FanEnds.{given_at};
 ghost use Rattle.ruled_lanes.specs.TicketSeats.{IsSeatOf, IsUnused};
@@ -23,14 +23,16 @@ use std::sync::Wait;
 use std::thread;
 use std::thread::{Scope, Threads};
 
-/// Runs the lanes of a run, in threads of their own, which draw its files as they become free, and hands what
-/// they give from one fan to the consumer, on this thread. What they do is said by the kind. The consumer is given back; where the run ends well, it
-/// holds all of each file under the run's choice of the outer face.
+/// Runs the lanes of a run, each in threads of its own, and passes their messages to the consumer, which is returned.
+///
+/// The lanes draw the run's files as they become free, and give to one fan; this thread passes its messages on. `kind`
+/// says what they do. If the run ends well, the consumer holds all of each file under the run's choice of the outer
+/// face.
 ///
 /// # Errors
 ///
-/// `Memory`: no memory for links, the fan, tickets, buffers, or the lists of lanes. `LaneLost`: an end of a link
-/// or of the fan was gone. `Thread`: a thread could not be started. `Refused`: the consumer refused a message.
+/// `Memory`: no memory for links, the fan, tickets, buffers, or the lists of lanes. `LaneLost`: an end of a link or of
+/// the fan was gone. `Thread`: a thread could not be started. `Refused`: the consumer refused a message.
 pub fn run_lanes<
     L: LaneKind,
     C: Consumer<L::Entry, L::End>,
@@ -67,8 +69,7 @@ pub fn run_lanes<
 }
 
 impl<'s, R: Threads + Wait + Sync, O: Opener, G: Gate, L: LaneKind + 's> Shared<'s, R, O, G, L> {
-    /// Runs a lane for each seat, gathers what they give, and joins their threads. The consumer is given back,
-    /// and the seats.
+    /// Runs a lane for each seat, gathers their messages, and joins their threads. Returns the consumer and the seats.
     fn run_seats<C: Consumer<L::Entry, L::End>>(
         &self,
         seats: Vec<Seat>,
@@ -94,7 +95,7 @@ impl<'s, R: Threads + Wait + Sync, O: Opener, G: Gate, L: LaneKind + 's> Shared<
         )
     }
 
-    /// Starts a lane for each seat and gathers what they give.
+    /// Starts a lane for each seat and gathers their messages.
     fn run_in<'e, C: Consumer<L::Entry, L::End>>(
         &'s self,
         scope: &'s Scope<'s, &'e ()>,

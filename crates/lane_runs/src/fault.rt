@@ -1,10 +1,10 @@
-//! Why lanes come to nothing.
+//! The reasons why a lane or a run of lanes fails.
 ghost use Rattle.lane_runs.specs.Faults.{IsOfLanes};
 
-/// Why a lane came to nothing.
+/// The reason why a lane failed.
 #[derive(Clone, Copy, Debug, PartialEq, Eq)]
 pub enum LaneFault {
-    /// There was no memory for links, a buffer, or the lists of lanes.
+    /// Memory ran out for links, a buffer, or the lists of lanes.
     Memory,
     /// An end of a link or of the fan was gone.
     LaneLost,
@@ -12,10 +12,10 @@ pub enum LaneFault {
     Thread,
 }
 
-/// Why a run of lanes came to nothing.
+/// The reason why a run of lanes failed.
 #[derive(Drop)]
 pub enum RunFault<F: Drop> {
-    /// There was no memory for links, the fan, tickets, buffers, or the lists of lanes.
+    /// Memory ran out for links, the fan, tickets, buffers, or the lists of lanes.
     Memory,
     /// An end of a link or of the fan was gone.
     LaneLost,

@@ -1,4 +1,4 @@
-//! Lanes that run are joined here, by the calling thread.
+//! Joining of running lanes by the calling thread.
 ghost use Rattle.std.specs.Prelude.{◌≡◌, ◌≤◌, ◌+◌, ℕ, List, [], All, IfOk, IfErr, true, vec_len};
 ghost use Rattle.ruled_lanes.specs.declared.limits.TheConstants.{LANES};
 ghost use Rattle.ruled_lanes.specs.FanEnds.{given_at, gathered, GivesToSameLane};
@@ -20,7 +20,7 @@ use ruled_lanes::{Gatherer, LaneGiver, Seat};
 use std::sync::Wait;
 use std::thread::Threads;
 
-/// Joins the thread of a lane. Its seat and its end of the fan are given back, where it gave its stop and lost nothing.
+/// Joins the thread of a lane. Returns its seat and its end of the fan, if it gave its stop and lost nothing.
 fn join_lane<E: Numbered, M: Drop + Send, R: Threads, O: Opener>(
     rt: &R,
     handle: Running<E, M, O>,
@@ -41,9 +41,9 @@ fn join_lane<E: Numbered, M: Drop + Send, R: Threads, O: Opener>(
 }
 
 impl<R: Threads + Wait + Sync, O: Opener, G: Gate, L> Shared<'_, R, O, G, L> {
-    /// Joins the threads of the lanes and settles the fan with the givers of all lanes, also of those that do
-    /// not run. So what was taken of each lane is all that it told, and a file that one seat drew was told
-    /// whole. The seats are given back.
+    /// Joins the threads of the lanes and settles the fan with the givers of all lanes, also of those that do not run.
+    /// This proves that the messages taken of each lane are all that it gave, and that all messages of a file drawn by
+    /// one seat arrived. Returns the seats.
     fn join_lanes<E: Numbered, M: Drop + Send>(
         &self,
         gatherer: Gatherer<Message<E, M>>,
@@ -81,8 +81,10 @@ impl<R: Threads + Wait + Sync, O: Opener, G: Gate, L> Shared<'_, R, O, G, L> {
         Ok(seats)
     }
 
-    /// Hands all that the lanes give, up to the stop of each, to the consumer, and joins their threads. Then the
-    /// consumer holds all of each file that one seat drew. The seats are given back.
+    /// Passes all messages of the lanes, up to the stop of each, to the consumer, and joins the lanes' threads. Returns
+    /// the seats.
+    ///
+    /// Then the consumer holds all of each file that one seat drew.
     pub fn finish_lanes<E: Numbered, M: Drop + Send, C: Consumer<E, M>>(
         &self,
         gatherer: Gatherer<Message<E, M>>,

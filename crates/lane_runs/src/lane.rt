@@ -23,7 +23,7 @@ use ruled_lanes::{LaneGiver, Seat, Taker};
 use std::sync::Wait;
 use std::thread::{Scope, Threads};
 
-/// A lane that does not run: the seat by which it draws files, and the end of the fan at which it gives.
+/// A lane that does not run: the seat by which it draws files, and its end of the fan.
 #[derive(Drop)]
 pub struct Lane<E: Numbered, M: Drop + Send> {
     pub seat: Seat,
@@ -31,9 +31,11 @@ pub struct Lane<E: Numbered, M: Drop + Send> {
 }
 
 impl<'s, R: Threads + Wait + Sync, O: Opener, G: Gate, L: LaneKind + 's> Shared<'s, R, O, G, L> {
-    /// Runs a lane: its last stage on the caller's thread, the others in a thread each. What the last stage
-    /// makes of each record, and the end of each file, go to the giver, and after them, whatever the lane met,
-    /// one stop; what the give of it answered is given back, with the giver.
+    /// Runs a lane, with its last stage on this thread and the others on a thread each; returns its seat and its end of
+    /// the fan.
+    ///
+    /// The result of the last stage for each record, and the end of each file, go to the giver, and after them one
+    /// stop, whatever happened in the lane; the result of that last give is returned with the giver.
     pub fn run_lane<'e>(
         &'s self,
         scope: &'s Scope<'s, &'e ()>,
@@ -50,8 +52,8 @@ impl<'s, R: Threads + Wait + Sync, O: Opener, G: Gate, L: LaneKind + 's> Shared<
         LaneReturn { giver, stop, seat }
     }
 
-    /// Makes the stages of a lane, starts the first three and runs the last one. The stop is the caller's to
-    /// give. It gives the lane's seat back.
+    /// Makes the stages of a lane, starts the first three and runs the last one; returns the lane's seat. It does not
+    /// give the stop: that is left to the caller.
     fn run_stages<'e>(
         &'s self,
         scope: &'s Scope<'s, &'e ()>,
@@ -135,8 +137,8 @@ struct StartedStages<L: LaneKind, O: Opener> {
 }
 
 impl<L: LaneKind, O: Opener> StartedStages<L, O> {
-    /// Joins the threads, and settles the links of the lane by the ends that all its stages gave back. It gives the
-    /// lane's seat back, or none where an end of a link was gone.
+    /// Joins the threads, and settles the links of the lane by the ends that all its stages returned. Returns the
+    /// lane's seat, or `None` if an end of a link was gone.
     fn join<R: Threads + Wait>(
         self,
         rt: &R,
@@ -163,7 +165,7 @@ impl<L: LaneKind, O: Opener> StartedStages<L, O> {
     }
 }
 
-/// All four, where none is missing.
+/// All four values, or `None` if one is missing.
 fn all_of<A: Drop, B: Drop, C: Drop, D: Drop>(
     first: Option<A>,
     second: Option<B>,

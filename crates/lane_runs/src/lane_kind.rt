@@ -1,4 +1,4 @@
-//! What travels through a lane.
+//! The kinds of lanes: the items of each stage.
 ghost use Rattle.std.specs.Prelude.{◌≡◌, ◌≤◌, ℕ, List};
 ghost use Rattle.streams.specs.declared.frames.Mark.{Mark};
 
@@ -8,7 +8,7 @@ use planar_code::Record;
 use std::alloc::{AllocError, Global};
 use streams::SourceEnd;
 
-/// The scratch of each stage of a lane that has one.
+/// The scratch of each stage of a lane after the first.
 #[derive(Drop)]
 pub struct LaneScratch<E: Drop, S: Drop, D: Drop> {
     pub embed: E,
@@ -23,45 +23,46 @@ pub type ScratchOf<L> = LaneScratch<
     <<L as LaneKind>::Shaped as Staged>::Scratch,
 >;
 
-/// What the lanes of a run do: what is known of a record at each of the four stages, where each stage makes the next
-/// from it, and of the end of a file. All lanes are lent one value of it.
+/// What the lanes of a run do: the item of each of the four stages, and what is known of the end of a file.
+///
+/// Each stage makes the next item from its own. All lanes share one value of this type.
 pub trait LaneKind: Sync {
-    /// A record that was read from its file.
+    /// A record that was read from its file, the item of the first stage.
     type Framed: Staged<Next = Self::Embedded>;
 
-    /// What the second stage gives.
+    /// The item that the second stage makes.
     type Embedded: Staged<Next = Self::Shaped>;
 
-    /// What the third stage gives.
+    /// The item that the third stage makes.
     type Shaped: Staged<Next = Self::Entry>;
 
-    /// What the lane gives.
+    /// The item that the lane gives in the end.
     type Entry: Numbered;
 
-    /// What is known of the end of a file beside its mark.
+    /// What is known of the end of a file besides its mark.
     type End: Drop + Send;
 
-    // Which records it may be handed: of which file, and at which place there.
+    // Which records it may be passed: of which file, and at which place there.
     ghost accepts: { ℕ → ℕ → List ℕ → Type 0 };
 
-    // Which ends it may be handed: of which file, with how many records and which mark.
+    // Which ends it may be passed: of which file, with how many records and which mark.
     ghost ends: { ℕ → ℕ → Mark → Type 0 };
 
-    /// The record that has this place in this file, with this choice of the outer face.
+    /// The first item for the record at place `ordinal` of a file, with this choice of the outer face.
     fn framed(&self, file: u32, ordinal: u32, rec: Record, choice: Choice) -> Self::Framed
         requires { accepts file ordinal rec }
         ensures { Self.Framed.about result ≡ record { file = file; ordinal = ordinal; bytes = rec; choice = choice } };
 
-    /// What is known of this end of this file.
+    /// What is known of this end of a file besides its mark.
     fn end(&self, file: u32, end: SourceEnd) -> Self::End
         requires { ends file end.count end.mark };
 
-    /// The scratch of each stage of a lane whose links have room for `capacity` messages. Lists that one stage is done
-    /// with may go back through it to the stage that fills them.
+    /// The scratch of each stage of a lane whose links have room for `capacity` messages. Lists that one stage no
+    /// longer needs may return through it to the stage that fills them.
     ///
     /// # Errors
     ///
-    /// `AllocError` where there is no memory for the ways back.
+    /// `AllocError` if there is no memory for the channels by which lists return.
     fn scratch(&self, alloc: Global, capacity: u32) -> Result<ScratchOf<Self>, AllocError>
         requires { 1 ≤ capacity };
 }

@@ -1,5 +1,5 @@
-//! Lanes that run: each draws files until none is left and works on their records in four threads, and
-//! the calling thread hands what they give from one fan to a consumer. What the stages do is said by a `LaneKind`.
+//! Running lanes: each draws files until none is left and works on their records in four threads, and the calling
+//! thread passes their messages from one fan to a consumer. A `LaneKind` says what the stages do.
 #![tactic(auto)]
 
 mod all_lanes;

@@ -1,4 +1,4 @@
-//! A new fan, to which all lanes of a run give.
+//! Creating the fan to which all lanes of a run give.
 ghost use Rattle.std.specs.Prelude.{◌≡◌, ◌≤◌, ◌+◌, [], IfOk, vec_len};
 ghost use Rattle.ruled_lanes.specs.declared.limits.TheConstants.{LANES, MAX_CAPACITY};
 ghost use Rattle.ruled_lanes.specs.FanEnds.{gathered, capacity_of_fan};
@@ -16,8 +16,8 @@ pub struct Fan<E: Numbered, M: Drop + Send> {
     pub gatherer: Gatherer<Message<E, M>>,
 }
 
-/// A new fan with room for `capacity` messages, of which the first `lanes` lanes run. The givers stand in the order
-/// of their lanes.
+/// A new fan with room for `capacity` messages, of which the first `lanes` lanes run. The givers are in the order of
+/// their lanes.
 pub fn new_fan<E: Numbered, M: Drop + Send>(
     alloc: Global,
     capacity: u32,

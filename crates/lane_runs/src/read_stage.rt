@@ -12,8 +12,8 @@ use lanes::{Gate, Message, Numbered, Opener, read_file};
 use ruled_lanes::{Giver, Seat};
 use std::sync::Wait;
 
-/// The first stage of a lane that does not run yet: the number of the lane, the seat by which it draws files, room for
-/// a piece of a file, and the end at which it gives.
+/// A first stage that does not run yet: its lane number, the seat by which it draws files, a buffer for a piece of a
+/// file, and the end at which it gives.
 #[derive(Drop)]
 pub struct Reading<A: Numbered, M: Drop + Send> {
     pub lane: u32,
@@ -23,8 +23,10 @@ pub struct Reading<A: Numbered, M: Drop + Send> {
 }
 
 impl<R: Wait, O: Opener, G: Gate, L: LaneKind> Shared<'_, R, O, G, L> {
-    /// Draws files until none remains, and reads each. Of each it gives its records and one end, and after
-    /// the last file one stop. It gives the end of its link and its seat back, or none where the other end was gone.
+    /// Draws files until none is left, and gives the records of each, one end for each, and one stop after the last;
+    /// returns its giver and its seat.
+    ///
+    /// `None` if the other end of its link was gone.
     pub fn read_stage(
         &self,
         reading: Reading<L::Framed, L::End>,
@@ -62,7 +64,7 @@ impl<R: Wait, O: Opener, G: Gate, L: LaneKind> Shared<'_, R, O, G, L> {
         unreachable!()
     }
 
-    /// Reads a file that was drawn, and gives its records and one end.
+    /// Reads one drawn file, and gives its records and one end.
     fn read_drawn(
         &self,
         file: u32,

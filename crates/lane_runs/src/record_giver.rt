@@ -1,4 +1,4 @@
-//! The records of a lane as its first stage gives them.
+//! The messages by which the first stage of a lane gives its records.
 ghost use Rattle.std.proofs.Common.{refl, ◌∙◌};
 ghost use Rattle.ruled_lanes.specs.LinkEnds.{given, GivesToSame};
 ghost use Rattle.lanes.specs.Notes.{notes};
@@ -11,7 +11,7 @@ use ruled_lanes::Giver;
 use std::alloc::Global;
 use std::sync::Wait;
 
-/// The other end of a link was gone.
+/// The error that the other end of a link was gone.
 #[derive(Clone, Copy, Debug)]
 pub struct Gone;
 

@@ -1,28 +1,28 @@
-//! What a run of lanes works with.
+//! The parameters of a run of lanes.
 ghost use Rattle.std.specs.Prelude.{◌≤◌, ◌<◌};
 ghost use Rattle.ruled_lanes.specs.declared.limits.TheConstants.{LANES, MAX_CAPACITY, MAX_TICKETS};
 
 use common::Choice;
 use std::alloc::Global;
 
-/// A run of lanes over the first files of an opener, with all that it works with beside its consumer.
+/// The parameters of a run of lanes over the first files of an opener: everything but its kind and its consumer.
 #[derive(Drop)]
 pub struct Run<'r, R, O, G> {
-    /// The runtime: it starts threads and lets them wait.
+    /// The runtime, which starts threads and lets them wait.
     pub rt: &'r R,
-    /// Where memory comes from.
+    /// The allocator.
     pub alloc: Global,
-    /// Opens the files.
+    /// The opener of the files.
     pub opener: &'r O,
-    /// Passed by each stage once for each record.
+    /// The gate that each stage passes once for each record.
     pub gate: &'r G,
-    /// How many files are read.
+    /// The number of files to read.
     pub files: u32,
-    /// How many lanes read them.
+    /// The number of lanes that read them.
     pub lanes: u32,
-    /// How many messages a link has room for; the fan has room for as many.
+    /// The number of messages for which a link has room, and for which the fan has.
     pub capacity: u32,
-    /// How the outer face of each plane is chosen.
+    /// The rule by which the outer face of each plane is chosen.
     pub choice: Choice,
     ghost few_files: { files ≤ MAX_TICKETS },
     ghost some: { 0 < lanes },

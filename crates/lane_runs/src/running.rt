@@ -9,17 +9,16 @@ use ruled_lanes::{Closed, LaneGiver, Seat, Tickets};
 use std::snapshot::Snapshot;
 use std::thread::{Promise, PromisedHandle};
 
-/// What the thread of a lane gives back: in any case the end at which it gave, what the give of its stop answered,
-/// and its seat or what it met.
+/// The return value of a lane's thread: its end of the fan, the result of giving its stop, and its seat or its fault.
 #[derive(Drop)]
 pub struct LaneReturn<E: Numbered, M: Drop + Send> {
     pub giver: LaneGiver<Message<E, M>>,
-    /// Only a give that was refused makes the error, so that no lane can leave its stop untried.
+    /// Only a refused give makes the error, so that no lane can omit its stop.
     pub stop: Result<(), Closed<Message<E, M>>>,
     pub seat: Result<Seat, LaneFault>,
 }
 
-/// What the thread of a lane promises of the end and the seat that it gives back.
+/// What the thread of a lane promises of the end and the seat that it returns.
 #[derive(Drop)]
 pub struct LanePromise<E: Numbered, M: Drop + Send, O: Opener> {
     pub choice: Choice,
@@ -32,5 +31,5 @@ impl<E: Numbered, M: Drop + Send, O: Opener> Promise<LaneReturn<E, M>> for LaneP
     ghost kept_by = { λ p end. LeavesLane E.about p.choice (O.meaning p.opener.value) p.tickets.value p.giver.value end.giver end.stop end.seat };
 }
 
-/// A lane that runs.
+/// The handle of a running lane.
 pub type Running<E, M, O> = PromisedHandle<LaneReturn<E, M>, LanePromise<E, M, O>>;

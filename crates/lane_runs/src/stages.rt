@@ -36,7 +36,7 @@ pub struct Stages<L: LaneKind> {
     pub draw: LastStage<L::Shaped, L::End>,
 }
 
-/// The stages of the lane of this number, which draws files by this seat. Each link has room for `capacity` messages.
+/// The stages of the lane with this number, which draws files by this seat. Each link has room for `capacity` messages.
 pub fn new_stages<L: LaneKind>(
     kind: &L,
     alloc: Global,

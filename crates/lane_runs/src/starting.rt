@@ -1,4 +1,4 @@
-//! Stages that are started in threads of their own.
+//! Starting stages in threads of their own.
 ghost use Rattle.std.specs.Prelude.{◌≡◌, [], IfOk, IfSome, vec_len};
 ghost use Rattle.ruled_lanes.specs.LinkEnds.{given, taken};
 ghost use Rattle.lanes.specs.Stages.{HandedOnAll};
@@ -18,7 +18,7 @@ use std::snapshot::Snapshot;
 use std::sync::Wait;
 use std::thread::{Promise, PromisedHandle, Scope, Threads};
 
-/// What the thread of a lane's first stage promises of the end and the seat that it gives back.
+/// What the thread of a lane's first stage promises of the end and the seat that it returns.
 #[derive(Drop)]
 pub struct ReadPromise<A: Numbered, M: Drop + Send, O: Opener> {
     pub choice: Choice,
@@ -33,13 +33,13 @@ impl<A: Numbered, M: Drop + Send, O: Opener> Promise<Option<(Giver<Message<A, M>
         ReadsSeat A.about p.choice (O.meaning p.opener.value) p.tickets.value p.giver.value ends.0 ends.1) };
 }
 
-/// A first stage that runs in a thread of its own.
+/// The handle of a first stage that runs in a thread of its own.
 pub type StartedRead<A, M, O> = PromisedHandle<
     Option<(Giver<Message<A, M>>, Seat)>,
     ReadPromise<A, M, O>,
 >;
 
-/// What the thread of a stage promises of the ends that it gives back.
+/// What the thread of a stage promises of the ends that it returns.
 #[derive(Drop)]
 pub struct StagePromise<A: Staged, M: Drop + Send> {
     pub taker: Snapshot<Taker<Message<A, M>>>,
@@ -52,7 +52,7 @@ impl<A: Staged, M: Drop + Send> Promise<Option<(Taker<Message<A, M>>, Giver<Mess
         HandedOnAll A.about A.Next.about p.taker.value p.giver.value ends.0 ends.1) };
 }
 
-/// A stage that runs in a thread of its own.
+/// The handle of a stage that runs in a thread of its own.
 pub type Started<A, M> = PromisedHandle<
     Option<(Taker<Message<A, M>>, Giver<Message<<A as Staged>::Next, M>>)>,
     StagePromise<A, M>,

@@ -12,19 +12,19 @@ abouts [] = []
 abouts (Item about ∷ ns) = about ∷ abouts ns
 abouts (_ ∷ ns) = abouts ns
 
--- the last mark among notes, or else this one
+-- the last mark among notes, or this one if they have none
 abbrev pub mark_after : Option Mark → List Note → Option Mark
 mark_after mark [] = mark
 mark_after mark (End file later ∷ ns) = mark_after (Some later) ns
 mark_after mark (_ ∷ ns) = mark_after mark ns
 
 module _ {E : Type 0} where
-  -- the draft has what the notes tell of the file
+  -- the draft has what the notes say of the file
   pub record IsDraft (about : E → About) (file : ℕ) (ns : List Note) (draft : Draft E) : Type 0 where
     pub entries : map about draft.entries.items ≡ abouts (of_file file ns)
     pub mark : draft.mark ≡ mark_after None (of_file file ns)
 
-  -- the drafts are those of files in a row, the first of which has this number
+  -- the drafts are those of consecutive files, the first of which has this number
   abbrev pub AreDrafts : (E → About) → ℕ → List Note → List (Draft E) → Type 0
   AreDrafts about file ns [] = ⊤
   AreDrafts about file ns (draft ∷ drafts) = IsDraft about file ns draft × AreDrafts about (file + 1) ns drafts

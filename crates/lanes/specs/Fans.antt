@@ -1,10 +1,10 @@
--- What is told of the messages of a fan.
+-- The content of the messages of a fan.
 use Rattle.std.specs.Prelude.{◌≡◌, ℕ, ◌<◌, Bool, true, false, List, ◌∷◌, ◌++◌, map, slice_index_or}
 use Rattle.ruled_lanes.specs.FanProtocol.{of_lane}
 use Rattle.lanes.specs.declared.message.Message.{Message}
 use Rattle.lanes.specs.Notes.{About, Note, notes, Stop}
 
--- a stop stands among the notes
+-- there is a stop among the notes
 abbrev pub HasStop : List Note → Type 0
 HasStop ns = (front : List Note) × (rest : List Note) × (ns ≡ front ++ Stop ∷ rest)
 

@@ -1,4 +1,4 @@
--- What a lane tells of its files.
+-- The content of a lane's messages about its files.
 use Rattle.std.specs.Prelude.{◌≡◌, ℕ, ◌+◌, ◌<◌, List, [], ◌∷◌, Some, ⊤}
 use Rattle.ruled_lanes.specs.TicketProtocol.{times}
 use Rattle.streams.specs.declared.frames.Mark.{Mark}
@@ -9,24 +9,24 @@ use Rattle.lanes.specs.Notes.{About, Note, notes, of_file, file_notes, IsStopped
 use Rattle.lanes.specs.Opening.{Meaning, IsFoundAt}
 use Rattle.lanes.specs.Drafts.{IsWhole}
 
--- of the file they tell its records, in order and under this choice, and then its one mark
+-- the notes of the file are its records, in order and under this choice, followed by its one mark
 pub record HasFile (choice : Choice) (meaning : Meaning) (file : ℕ) (ns : List Note) : Type 0 where
   pub records : List (List ℕ)
   pub mark : Mark
   pub told : of_file file ns ≡ file_notes choice file records mark
   pub found : IsFoundAt meaning records mark
 
--- so of each file below this number
+-- this holds for each file below this number
 abbrev pub AreToldWhole : Choice → (ℕ → Meaning) → ℕ → List Note → Type 0
 AreToldWhole choice meaning files ns = (file : ℕ) → file < files → HasFile choice (meaning file) file ns
 
--- of each file that was drawn once they tell all, and of one that was not drawn nothing
+-- the notes say all of each file that was drawn once, and nothing of one that was not drawn
 pub record HasDrawn (choice : Choice) (meaning : ℕ → Meaning) (drawn : List ℕ) (ns : List Note) : Type 0 where
   pub own : (file : ℕ) → times file drawn ≡ 1 → HasFile choice (meaning file) file ns
   pub others : (file : ℕ) → times file drawn ≡ 0 → of_file file ns ≡ []
 
 module _ {A M : Type 0} where
-  -- the messages are all that is told of the files that were drawn, up to one stop
+  -- the messages say all of the files that were drawn, up to one stop
   pub record TellsDrawn (about : A → About) (choice : Choice) (meaning : ℕ → Meaning) (drawn : List ℕ) (gave : List (Message A M)) : Type 0 where
     pub stopped : IsStopped (notes about gave)
     pub told : HasDrawn choice meaning drawn (notes about gave)
@@ -38,7 +38,7 @@ module _ {A : Type 0} where
     pub marked : draft.mark ≡ Some mark
     pub whole : IsWhole about choice meaning file draft.entries.items mark
 
-  -- so are the drafts of files in a row, the first of which has this number
+  -- this holds for the drafts of consecutive files, the first of which has this number
   abbrev pub AreReady : (A → About) → Choice → (ℕ → Meaning) → ℕ → List (Draft A) → Type 0
   AreReady about choice meaning file [] = ⊤
   AreReady about choice meaning file (draft ∷ drafts) = IsWholeDraft about choice (meaning file) file draft × AreReady about choice meaning (file + 1) drafts

@@ -14,7 +14,8 @@ pub record KeepsFile (choice : Choice) (meaning : Meaning) (file : ℕ) (before 
   pub kept : after ≡ before ++ map Item (numbered choice file 0 records)
   pub found : IsFoundAt meaning records mark
 
--- the same of a source of which this is known
+-- of a source of which this is known, the records were kept in order, numbered from 0 and with this choice, after what
+-- was kept before; they, their number and the mark are those of the source
 pub record KeepsSource (choice : Choice) (known : Option (List ℕ)) (fails : Bool) (file : ℕ) (before after : List Note) (count : ℕ) (mark : Mark) : Type 0 where
   pub records : List (List ℕ)
   pub counted : length records ≡ count

@@ -1,4 +1,4 @@
--- What is told of the messages of a lane: which record each is about, which file has ended, and the stop.
+-- The content of the messages of a lane: which record each is about, which file has ended, and the stop.
 use Rattle.std.specs.Prelude.{◌≡◌, ℕ, ◌+◌, ◌==◌, Bool, false, List, [], ◌∷◌, ◌++◌, map, ⊤}
 use Rattle.std.specs.List.{filter}
 use Rattle.streams.specs.declared.frames.Mark.{Mark}
@@ -20,7 +20,7 @@ pub data Note : Type 0 where
   Stop : Note
 
 module _ {A M : Type 0} where
-  -- what is told of a message, where `about` tells which record an item is about
+  -- the content of a message, if `about` says which record an item is about
   abbrev pub note : (A → About) → Message A M → Note
   note about (message.Item item) = Item (about item)
   note about (message.End file mark known) = End file mark
@@ -55,6 +55,6 @@ GoOn [] = ⊤
 GoOn (Stop ∷ ns) = ⊥
 GoOn (_ ∷ ns) = GoOn ns
 
--- one stop is the last of the notes
+-- the last note is a stop, and it is the only one
 abbrev pub IsStopped : List Note → Type 0
 IsStopped ns = (front : List Note) × (ns ≡ front ++ Stop ∷ []) × GoOn front

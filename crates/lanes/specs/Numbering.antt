@@ -18,7 +18,7 @@ same_itself choice file = (refl, refl)
 pub same_on : (choice choice' choice'' : Choice) (file file' file'' : ℕ) → AreOfSame choice file choice' file' → AreOfSame choice' file' choice'' file'' → AreOfSame choice file choice'' file''
 same_on choice choice' choice'' file file' file'' p q = (q.0 ∙ p.0, q.1 ∙ p.1)
 
--- the numbers of the others go on where those of the first end
+-- the numbers of the others continue where those of the first end
 pub numbered-append : (choice : Choice) (file first : ℕ) (records others : List (List ℕ))
     → map Item (numbered choice file first (records ++ others)) ≡ map Item (numbered choice file first records) ++ map Item (numbered choice file (first + length records) others)
 numbered-append choice file first [] others = let same : first ≡ first + 0 = omega arith in ap (λ n. map Item (numbered choice file n others)) same

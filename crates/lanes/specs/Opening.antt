@@ -1,4 +1,4 @@
--- What is known beforehand of a file that an opener opens.
+-- What is known in advance of a file that an opener opens.
 use Rattle.std.specs.Prelude.{◌≡◌, ℕ, Bool, true, false, List, [], Option, None, Some, Result, Ok, Err, length, ⊤}
 use Rattle.streams.specs.declared.frames.Mark.{Mark}
 use Rattle.streams.specs.Reading.{IsFoundIn}
@@ -12,7 +12,7 @@ pub data Meaning : Type 0 where
   Unopened : Meaning
   Opened : List ℕ → Bool → Meaning
 
--- the bytes that are known of it: one that does not open gives none and fails
+-- the bytes that are known of it: a file that does not open gives none and fails
 abbrev pub known_of : Meaning → Option (List ℕ)
 known_of Silent = None
 known_of Unopened = Some []
@@ -40,7 +40,7 @@ IsFoundAt meaning records mark = IsFoundIn (known_of meaning) (fails_of meaning)
 abbrev pub IsPlacedAt : Meaning → ℕ → List ℕ → Type 0
 IsPlacedAt meaning place bytes = IsPlaced (known_of meaning) place bytes
 
--- a file that means this has this mark and so many records
+-- a file that means this has this mark and this many records
 pub record IsEndAt (meaning : Meaning) (count : ℕ) (mark : Mark) : Type 0 where
   pub records : List (List ℕ)
   pub counted : length records ≡ count

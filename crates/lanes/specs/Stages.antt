@@ -1,4 +1,4 @@
--- What a stage of a lane makes of its messages.
+-- The messages that a stage of a lane gives.
 use Rattle.std.specs.Prelude.{◌≡◌, List}
 use Rattle.ruled_lanes.specs.declared.link_ends.Giver.{Giver}
 use Rattle.ruled_lanes.specs.declared.link_ends.Taker.{Taker}
@@ -12,7 +12,7 @@ module _ {A B M : Type 0} where
     pub same : notes next_about gave ≡ notes about took
     pub stopped : IsStopped (notes about took)
 
-  -- the ends that a stage gives back are those of its links, and it handed on all messages
+  -- the ends that a stage returns are those of its links, and it passed on all messages
   pub record HandedOnAll (about : A → About) (next_about : B → About) (taker : Taker (Message A M)) (giver : Giver (Message B M)) (took : Taker (Message A M)) (gave : Giver (Message B M)) : Type 0 where
     pub from_same : TakesFromSame taker took
     pub to_same : GivesToSame giver gave

@@ -1,4 +1,4 @@
--- A stop tells nothing of any file.
+-- A stop says nothing about any file.
 use Rattle.std.proofs.Common.{◌≡◌, ℕ, ◌+◌, cond, List, [], ◌∷◌, ◌++◌, None, refl, sym, ap, ◌∙◌}
 use Rattle.lanes.specs.declared.drafts.Draft.{Draft}
 use Rattle.lanes.specs.Notes.{About, Note, is_of, of_file, Stop}

@@ -1,4 +1,4 @@
-//! Drafts of files: all that was told of each so far.
+//! Drafts of files: everything received about each of them so far.
 ghost use Rattle.std.specs.Prelude.{◌≡◌, ◌++◌, ◌∷◌, [], ℕ, List, IfOk, OnOk, ⊤, vec_len};
 ghost use Rattle.std.proofs.Common.{refl, ◌∙◌};
 ghost use Rattle.common.specs.declared.choice.Choice.{Choice};
@@ -13,21 +13,21 @@ use crate::numbered::Numbered;
 use std::alloc::{AllocError, Global};
 use streams::Mark;
 
-/// What has come of one file so far.
+/// The entries of one file received so far, and its mark if it has ended.
 #[derive(Drop)]
 pub struct Draft<E: Drop> {
     pub entries: Vec<E>,
     pub mark: Option<Mark>,
 }
 
-/// The drafts of the first files of a run, from file 0 on. A message of another file is dropped.
+/// The drafts of the first files of a run, from file 0 on. A message of any other file is dropped.
 #[derive(Drop)]
 pub struct Drafts<E: Numbered> {
     pub files: Vec<Draft<E>>,
 }
 
 impl<E: Numbered> Drafts<E> {
-    /// An empty draft for each of so many files. `AllocError` where there is no memory for them.
+    /// An empty draft for each of `files` files. `AllocError` if there is no memory for them.
     pub fn new(alloc: Global, files: u32) -> Result<Drafts<E>, AllocError>
         ensures count { IfOk result (λ drafts. vec_len drafts.files ≡ files) }
         ensures empty { IfOk result (λ drafts. AreDrafts E.about 0 [] drafts.files.items) }
@@ -42,7 +42,7 @@ impl<E: Numbered> Drafts<E> {
         Ok(Drafts { files: drafts })
     }
 
-    /// The drafts of files of which all was told: each is ready.
+    /// Returns the drafts, each of which must be ready: everything about its file was received.
     pub fn into_ready(self) -> Vec<Draft<E>>
         ensures count { vec_len result ≡ vec_len self.files }
         ensures ready { (choice : Choice) (meaning : ℕ → Meaning) (ns : List Note) → AreDrafts E.about 0 ns self.files.items

@@ -1,4 +1,4 @@
-//! How the calling thread gathers what the lanes give.
+//! Gathering, by the calling thread, of the messages that the lanes give.
 ghost use Rattle.std.specs.Prelude.{◌≡◌, ◌⊎◌, ◌≤◌, ◌∷◌, ◌++◌, [], ℕ, List, IfOk, OnOk, IfErr, true, false, vec_len, slice_index_or};
 ghost use Rattle.ruled_lanes.specs.declared.limits.TheConstants.{LANES};
 ghost use Rattle.ruled_lanes.specs.FanEnds.{gathered, TakesFromSameFan};
@@ -13,13 +13,14 @@ use ruled_lanes::Gatherer;
 use std::alloc::Global;
 use std::sync::Wait;
 
-/// How long something waits in the consumer, in microseconds of sleep, until it is passed on though no message comes.
+/// How long something stays buffered in the consumer, in microseconds of sleep, before it is flushed although no
+/// message arrives.
 const PATIENCE: u64 = 250_000;
 
-/// Why gathering came to nothing.
+/// The reason why gathering failed.
 #[derive(Drop)]
 pub enum GatherFault<F: Drop> {
-    /// There was no memory for the list of lanes that have stopped.
+    /// Memory ran out for the list of lanes that have stopped.
     Memory,
     /// The givers of all lanes were gone.
     LaneLost,
@@ -27,7 +28,7 @@ pub enum GatherFault<F: Drop> {
     Refused(F),
 }
 
-/// Flags a lane as stopped.
+/// Marks a lane as stopped.
 fn set_stopped(stops: &mut Vec<bool>, lane: u32)
     ensures count { vec_len stops.new ≡ vec_len stops.old }
     ensures noted { (k : ℕ) → slice_index_or stops.new.items k false ≡ true
@@ -39,9 +40,9 @@ fn set_stopped(stops: &mut Vec<bool>, lane: u32)
     }
 }
 
-/// The next message of the fan. As long as something waits in the consumer, it waits for one for what remains of
-/// `patience` at most, in microseconds; then the consumer flushes, and it waits until one comes. `LaneLost`: the givers
-/// of all lanes were gone. `Refused`: the consumer could not flush.
+/// The next message of the fan. While something is buffered in the consumer, it waits at most the remaining `patience`,
+/// in microseconds; then the consumer flushes, and it waits until a message arrives. `LaneLost`: the givers of all
+/// lanes were gone. `Refused`: the consumer could not flush.
 fn next_message<E: Numbered, M: Drop, C: Consumer<E, M>, R: Wait>(
     rt: &R,
     gatherer: &mut Gatherer<Message<E, M>>,
@@ -73,11 +74,14 @@ fn next_message<E: Numbered, M: Drop, C: Consumer<E, M>, R: Wait>(
     }
 }
 
-/// Takes the messages of the fan up to the stop of each of its first `lanes` lanes, and hands them to the
-/// consumer as they come, whichever lane they come from. Where they come slowly, what waits in the consumer is passed on
-/// about a quarter of a second later at most. It gives the end back. `LaneLost`: the givers of all
-/// lanes were gone. `Memory`: no memory for the list of lanes that have stopped. `Refused`: the consumer refused a message. In
-/// these cases it lets its end go, so that no lane waits for it.
+/// Passes the messages of a fan to the consumer until each of the first `lanes` lanes has stopped; returns the
+/// gatherer.
+///
+/// The messages are passed on as they arrive, from whichever lane. If they arrive slowly, what is buffered in the
+/// consumer is flushed at most about a quarter of a second later.
+///
+/// `LaneLost`: the givers of all lanes were gone. `Memory`: no memory for the list of lanes that have stopped.
+/// `Refused`: the consumer refused a message. In these cases it drops the gatherer, so that no lane waits for it.
 pub fn gather<E: Numbered, M: Drop, C: Consumer<E, M>, R: Wait>(
     rt: &R,
     alloc: Global,

@@ -1,4 +1,4 @@
-//! What becomes of a file's records as they are read.
+//! What is done with a file's records as they are read.
 ghost use Rattle.std.specs.Prelude.{◌≡◌, ℕ, List, [], ◌∷◌, ◌++◌, OnOk};
 ghost use Rattle.lanes.specs.Notes.{Note, Item};
 
@@ -6,26 +6,26 @@ use common::Choice;
 use planar_code::Record;
 use std::alloc::Global;
 
-/// Takes a file's records as they are read.
+/// A receiver of a file's records, one by one, as they are read.
 ///
-/// For proofs it has what it has kept so far, in order; what it may be handed; and what stays the same of it from
+/// In proofs it has what it has kept so far, in order; what it may be passed; and which part of it stays the same from
 /// one value to a later one.
 pub trait Keep {
-    /// Why a record was not kept.
+    /// The reason why a record was not kept.
     type Refusal: Drop;
 
     ghost kept: { Self → List Note };
 
     ghost stays: { Self → Self → Type 0 };
 
-    // Which record it may be handed, of which file and at which place there.
+    // Which record it may be passed, of which file and at which place there.
     ghost accepts: { Self → ℕ → ℕ → List ℕ → Type 0 };
 
-    /// Keeps a record, which has this place in this file, with this choice of the outer face.
+    /// Keeps the record at place `ordinal` of a file, with this choice of the outer face.
     ///
     /// # Errors
     ///
-    /// A reason of its own. The file is then read no further.
+    /// A reason of the implementation. The file is then read no further.
     fn keep(
         &mut self,
         alloc: Global,
@@ -39,11 +39,11 @@ pub trait Keep {
             ++ Item (record { file = file; ordinal = ordinal; bytes = rec; choice = choice }) ∷ []) }
         ensures stays { stays self.old self.new };
 
-    // What it may be handed once, it may be handed later.
+    // What it may be passed once, it may be passed later.
     ghost accepts_on: { (x y : Self) (file ordinal : ℕ) (bytes : List ℕ)
         → stays x y → accepts x file ordinal bytes → accepts y file ordinal bytes };
 
-    // What stays, stays over any calls.
+    // What stays the same stays so over any number of calls.
     ghost stays_itself: { (x : Self) → stays x x };
 
     ghost stays_on: { (x y z : Self) → stays x y → stays y z → stays x z };

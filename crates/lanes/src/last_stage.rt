@@ -1,4 +1,4 @@
-//! How the last stage of a lane runs, which gives to the fan.
+//! The last stage of a lane, which gives to the fan.
 ghost use Rattle.std.specs.Prelude.{◌≡◌, ◌∷◌, ◌++◌, [], IfSome};
 ghost use Rattle.ruled_lanes.specs.LinkEnds.{taken, TakesFromSame};
 ghost use Rattle.ruled_lanes.specs.FanEnds.{given_at, GivesToSameLane};
@@ -13,11 +13,12 @@ use ruled_lanes::{LaneGiver, Taker};
 use std::alloc::Global;
 use std::sync::Wait;
 
-/// Takes the messages of the stage before, up to the stop, and gives one at its lane for each before the
-/// stop, in order: a record with the work of this stage done, or an end as it is. The stop is the
-/// caller's to give. Before it works on a record it passes the gate and exchanges lists with other stages; all
-/// records are lent one scratch. It gives the end of its link back, or none where the other end or the gatherer was
-/// gone.
+/// Runs the last stage of a lane until the stop; returns the receiving end, or `None` if another end was gone.
+///
+/// For each message of the stage before, in order, it gives one at its lane: a record with the work of this stage done,
+/// or an end unchanged. It does not give the stop: that is left to the caller. Before it works on a record it passes
+/// the gate and exchanges lists with other stages; all records use one scratch. `None` if the other end of its link or
+/// the gatherer was gone.
 pub fn run_last_stage<A: Staged, M: Drop, R: Wait, G: Gate>(
     rt: &R,
     alloc: Global,

@@ -1,6 +1,6 @@
-//! The stages of a lane. The first reads files and gives a message for each record and one for each
-//! mark; each later one takes the messages of the stage before it and gives one for each. The
-//! calling thread gathers what the last stages give, and hands it to a consumer.
+//! The stages of a lane, which is a pipeline. The first reads files and gives a message for each record and one for
+//! each mark; each later stage takes the messages of the one before it and gives one for each. The calling thread
+//! gathers the messages of the last stages and passes them to a consumer.
 #![tactic(auto)]
 
 mod consumer;

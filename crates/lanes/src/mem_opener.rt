@@ -7,8 +7,10 @@ use crate::opener::{OpenFault, Opener};
 use std::alloc::Global;
 use streams::{MemTap, Tap};
 
-/// Files in memory: the list of bytes with a file's number is that file. A read gives at most a chosen
-/// number of bytes, and none fails. A number past the lists does not open.
+/// An opener of files in memory, whose reads never fail.
+///
+/// The file with a number is the list of bytes with that index. A read returns at most a chosen number of bytes. A
+/// number past the lists does not open.
 #[derive(Drop)]
 pub struct MemOpener {
     files: Vec<Vec<u8>>,
@@ -19,7 +21,7 @@ pub struct MemOpener {
 impl MemOpener {
     ghost use Rattle.lanes.specs.MemReads.{most_of};
 
-    /// Files of these bytes; a read gives at most `most` of them.
+    /// An opener of files with these bytes; a read returns at most `most` of them.
     pub fn new(files: Vec<Vec<u8>>, most: usize) -> MemOpener
         requires { 0 < most }
         ensures opens { (k : ℕ) → k < vec_len files
@@ -40,7 +42,7 @@ impl Opener for MemOpener {
 
     ghost meaning = { λ o k. meaning_in o.files.items k };
 
-    // What every opener keeps, and that no read gives more bytes than was chosen.
+    // The contract of every opener, and that no read returns more bytes than chosen.
     fn open(&self, alloc: Global, file: u32) -> Result<MemTap, OpenFault>
         ensures opens { Opens ⟦<MemTap as Tap>⟧.to_come ⟦<MemTap as Tap>⟧.fails
             (⟦<MemOpener as Opener>⟧.meaning self.now file) result }

@@ -1,37 +1,38 @@
-//! Backpressure: from which file on reading pauses.
+//! Backpressure: the first file whose reading pauses.
 
 use std::sync::Wait;
 use std::sync::atomic::{AtomicU64, Ordering};
 
-/// No file has this number.
+/// A value that is no file's number.
 const NO_FILE: u64 = u32::MAX as u64;
 
-/// From which file on reading pauses, on one word that all read stages share. One thread writes it. A pause says
-/// nothing of what is read.
+/// The number of the first file whose reading pauses, in one atomic word that all read stages share.
+///
+/// One thread writes it. A pause has no influence on what is read.
 #[derive(Drop)]
 pub struct Pauses {
     first: AtomicU64,
 }
 
 impl Pauses {
-    /// No file pauses.
+    /// A value with which no file pauses.
     pub fn none() -> Pauses {
         Pauses {
             first: AtomicU64::new(NO_FILE),
         }
     }
 
-    /// The files behind this one pause; it and those before it go on.
+    /// Pauses the files after this one; it and those before it go on.
     pub fn pause_behind(&self, file: u32) {
         self.set(u64::from(file) + 1);
     }
 
-    /// All files go on.
+    /// Lets all files go on.
     pub fn lift(&self) {
         self.set(NO_FILE);
     }
 
-    /// Waits as long as this file pauses. Its thread sleeps until the word is written.
+    /// Blocks as long as this file is paused. Its thread sleeps until the word is written.
     pub fn wait<R: Wait>(&self, rt: &R, file: u32) {
         for _ in rt.forever() {
             let first = self.first.load(Ordering::SeqCst);
@@ -42,7 +43,7 @@ impl Pauses {
         }
     }
 
-    // Writes the word where it changes, and wakes all that sleep on it.
+    // Writes the word if it changes, and wakes all threads that sleep on it.
     fn set(&self, first: u64) {
         if self.first.load(Ordering::SeqCst) != first {
             self.first.store(first, Ordering::SeqCst);

@@ -1,4 +1,4 @@
-//! Files whose reading pauses.
+//! An opener of files whose reading pauses.
 
 use crate::opener::{OpenFault, Opener};
 use crate::pauses::Pauses;
@@ -6,7 +6,7 @@ use crate::pausing_tap::PausingTap;
 use std::alloc::Global;
 use std::sync::Wait;
 
-/// The files of an opener, each of which waits before each read as long as it pauses.
+/// An opener of another opener's files, each of which blocks before each read as long as it is paused.
 #[derive(Drop)]
 pub struct PausingOpener<'r, R, O> {
     pub rt: &'r R,

@@ -4,7 +4,7 @@ use crate::pauses::Pauses;
 use std::sync::Wait;
 use streams::{Tap, TapFault};
 
-/// An open file of a run. Before each read it waits as long as its file pauses; what it gives is what the file gives.
+/// A source that blocks before each read as long as its file is paused. Its bytes are those of the file.
 #[derive(Drop)]
 pub struct PausingTap<'r, R, T> {
     pub rt: &'r R,

@@ -10,7 +10,7 @@ use planar_code::Record;
 use std::alloc::Global;
 use streams::Receiver;
 
-/// Keeps the records of a file as they are read, each with its place.
+/// Passes the records of a file on as they are read, each with its place.
 #[derive(Drop)]
 pub(crate) struct Places<'k, K> {
     pub(crate) keep: &'k mut K,

@@ -1,4 +1,4 @@
-//! How a file is read.
+//! Reading a file.
 ghost use Rattle.std.specs.Prelude.{◌<◌, ℕ, List, length, IfOk};
 ghost use Rattle.streams.specs.Placing.{IsPlaced};
 ghost use Rattle.lanes.specs.Opening.{IsPlacedAt};
@@ -12,17 +12,18 @@ use planar_code::Ending;
 use std::alloc::Global;
 use streams::{Mark, SourceEnd, Tap, read_source};
 
-/// Reads a file to its end, to its failure or to the first fault in its bytes, and keeps its records
-/// in order, numbered from 0 and with this choice of the outer face. It gives back how many there were and the
-/// file's mark.
+/// Reads a file and passes its records to `keep`, in order; returns their number and the file's mark.
 ///
-/// A file that could not be opened has the mark `Io`, and one for whose opening there was no memory `Memory`;
-/// neither has records. Besides what the opener and `keep` take, it takes memory for the framer's buffer, the
-/// records of one piece and the list of them.
+/// It reads to the end of the file, to its failure or to the first fault in its bytes. The records are numbered from 0
+/// and have this choice of the outer face.
+///
+/// A file that could not be opened has the mark `Io`, and one for whose opening there was no memory `Memory`; neither
+/// has records. Besides what the opener and `keep` allocate, it allocates the framer's buffer, the records of one piece
+/// and the list of them.
 ///
 /// # Errors
 ///
-/// What `keep` answers where it does not keep a record. It has then kept the records before.
+/// The refusal of `keep`, if it does not keep a record. It has then kept the records before.
 pub fn read_file<O: Opener, K: Keep>(
     opener: &O,
     alloc: Global,

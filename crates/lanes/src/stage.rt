@@ -1,4 +1,4 @@
-//! How a stage of a lane, which is a pipeline, runs.
+//! A stage of a lane, which is a pipeline.
 ghost use Rattle.std.specs.Prelude.{◌≡◌, [], IfSome};
 ghost use Rattle.ruled_lanes.specs.LinkEnds.{given, taken};
 ghost use Rattle.lanes.specs.Stages.{HandedOnAll};
@@ -10,17 +10,18 @@ use ruled_lanes::{Giver, Taker};
 use std::alloc::Global;
 use std::sync::Wait;
 
-/// What a stage works with: the number of its lane, and the scratch that is lent to each record.
+/// The lane number of a stage, and the scratch that all its records reuse.
 #[derive(Drop)]
 pub struct StageWork<A: Staged> {
     pub lane: u32,
     pub scratch: A::Scratch,
 }
 
-/// Takes the messages of the stage before, up to the stop, and gives one for each, in order: a record
-/// with the work of this stage done, an end or the stop as it is. Before it works on a record it
-/// passes the gate and exchanges lists with other stages. It gives both ends back, or none where the other end
-/// of a link was gone.
+/// Runs a middle stage of a lane until the stop; returns both its ends, or `None` if another end was gone.
+///
+/// For each message of the stage before, in order, it gives one: a record with the work of this stage done, an end or
+/// the stop unchanged. Before it works on a record it passes the gate and exchanges lists with other stages. `None` if
+/// the other end of a link was gone.
 pub fn run_stage<A: Staged, M: Drop, R: Wait, G: Gate>(
     rt: &R,
     alloc: Global,

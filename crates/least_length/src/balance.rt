@@ -1,4 +1,4 @@
-//! Sums of what moves each segment up and down.
+//! Sums of the pulls that move each segment up and down.
 
 ghost use Rattle.std.specs.Prelude.{◌≡◌, ◌<◌, ◌≤◌, ◌↔◌, ◌+◌, ◌==◌, if◌then◌else◌, ℕ, [], length, true, IfOk, slice_index};
 ghost use Rattle.common.specs.Sums.{sum_below};
@@ -10,18 +10,18 @@ use crate::segments::{Sight, Wire};
 use crate::sweep::Sweep;
 use std::alloc::{AllocError, Global};
 
-/// Memory for a test: what moves each segment up and down, and a sweep.
+/// Buffers for a test: the pulls on each segment up and down, and a sweep.
 #[derive(Drop)]
 pub(crate) struct Balance {
-    /// For each segment what moves it up.
+    /// For each segment, the sum of the pulls up.
     up: Vec<u64>,
-    /// For each segment what moves it down.
+    /// For each segment, the sum of the pulls down.
     down: Vec<u64>,
     pub(crate) sweep: Sweep,
 }
 
 impl Balance {
-    /// No memory yet.
+    /// Empty buffers; nothing is allocated.
     pub(crate) fn empty(alloc: Global) -> Balance
         ensures { result.up.items ≡ [] }
     {
@@ -59,7 +59,7 @@ impl Balance {
     }
 }
 
-/// Whether at each segment wires and weights are in balance, by adding them up in two lists of zeros.
+/// Whether wires and weights are in balance at each segment, by adding them up in two lists of zeros.
 fn is_balanced_in(wires: &[Wire], sights: &[Sight], up: &mut [u64], down: &mut [u64]) -> bool
     requires wires { length wires.now ≤ MAX_WIRES }
     requires sights { length sights.now ≤ MAX_SIGHTS }
@@ -93,7 +93,7 @@ fn add_wires(wires: &[Wire], up: &mut [u64], down: &mut [u64])
     }
 }
 
-/// Adds the weight of each pair up at the segment behind, and down at the segment before.
+/// Adds the weight of each pair to `up` at its second segment, and to `down` at its first.
 fn add_sights(sights: &[Sight], up: &mut [u64], down: &mut [u64])
     requires few { length sights.now ≤ MAX_SIGHTS }
     requires behind { (i : ℕ) → i < length sights.now → (sight_at sights.now i).behind < length up.old }
@@ -109,7 +109,7 @@ fn add_sights(sights: &[Sight], up: &mut [u64], down: &mut [u64])
     }
 }
 
-/// Whether two lists of one length are the same.
+/// Whether two lists of equal length are equal.
 fn are_same(up: &[u64], down: &[u64]) -> bool
     requires { length up.now ≡ length down.now }
     ensures { (result ≡ true) ↔ ((r : ℕ) → r < length up.now → slice_index up.now r ≡ slice_index down.now r) }

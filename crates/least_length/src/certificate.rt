@@ -1,4 +1,4 @@
-//! The test of a certificate by linear programming duality (Ahuja, Magnanti and Orlin, Network Flows, 1993, section
+//! The check of a certificate by linear programming duality (Ahuja, Magnanti and Orlin, Network Flows, 1993, section
 //! 9.4): weights of pairs bound all lengths from below.
 
 ghost use Rattle.std.specs.Prelude.{◌≡◌, ◌<◌, ◌≤◌, ◌↔◌, ℕ, length, true, IfOk};
@@ -11,15 +11,16 @@ use crate::scratch::Scratch;
 use crate::segments::{Segment, Sight, Wire};
 use std::alloc::AllocError;
 
-/// Whether pairs of segments and their weights show that the wires are shortest in all with these coordinates, one
-/// for each segment: that no coordinates with which segments keep their order on each level give a lesser total
-/// length.
+/// Whether the weighted pairs `sights` certify that the total length of the wires is least with these coordinates.
 ///
-/// The time is linear in the segments and their levels, wires and pairs, where segments are listed in the order
-/// of their coordinates and the answer is yes. Else it is quadratic in the segments.
+/// There is one coordinate for each segment. True means that no coordinates with which segments keep their order on
+/// each level give a lesser total length.
+///
+/// The time is linear in the segments and their levels, wires and pairs if segments are listed in the order of their
+/// coordinates and the answer is yes. Otherwise it is quadratic in the segments.
 ///
 /// # Errors
-/// `AllocError` where the lent memory is too small and there is no more.
+/// `AllocError` if the scratch is too small and there is no more memory.
 pub fn certify_lengths(
     scratch: &mut Scratch,
     segments: &[Segment],
@@ -36,7 +37,7 @@ pub fn certify_lengths(
     certify(&mut scratch.balance, segments, wires, coordinates, sights)
 }
 
-/// The same as [`certify_lengths`], in just the memory that it needs.
+/// Whether the weighted pairs certify least total length, as [`certify_lengths`], with only the buffers that it needs.
 pub(crate) fn certify(
     balance: &mut Balance,
     segments: &[Segment],
@@ -76,7 +77,7 @@ fn have_ends(segments: &[Segment], wires: &[Wire]) -> bool
     true
 }
 
-/// Whether in each pair one segment stands before the other.
+/// Whether the first segment of each pair is before the second.
 fn are_sights(segments: &[Segment], sights: &[Sight]) -> bool
     ensures { (result ≡ true) ↔ ((i : ℕ) → i < length sights.now → IsSight segments.now (sight_at sights.now i)) }
 {
@@ -88,7 +89,7 @@ fn are_sights(segments: &[Segment], sights: &[Sight]) -> bool
     true
 }
 
-/// Whether one segment of a pair stands before the other.
+/// Whether the first segment of a pair is before the second.
 fn is_sight(segments: &[Segment], sight: Sight) -> bool
     ensures { (result ≡ true) ↔ IsSight segments.now sight }
 {
@@ -100,7 +101,7 @@ fn is_sight(segments: &[Segment], sight: Sight) -> bool
     stands_before(segments[first], segments[second])
 }
 
-/// Whether some level is crossed by both segments, and there the first stands before the second.
+/// Whether some level is crossed by both segments, and there the first is before the second.
 fn stands_before(first: Segment, second: Segment) -> bool
     ensures { (result ≡ true) ↔ StandsBefore first second }
 {
@@ -109,7 +110,7 @@ fn stands_before(first: Segment, second: Segment) -> bool
     low <= high && first.coordinate < second.coordinate
 }
 
-/// Whether segments keep their order with these coordinates, segment by segment.
+/// Whether segments keep their order with these coordinates, checked segment by segment.
 pub(crate) fn keep_order(segments: &[Segment], coordinates: &[u16]) -> bool
     requires { length coordinates.now ≡ length segments.now }
     ensures { (result ≡ true) ↔ KeepsOrder segments.now (coordinates_in coordinates.now) }
@@ -122,7 +123,7 @@ pub(crate) fn keep_order(segments: &[Segment], coordinates: &[u16]) -> bool
     true
 }
 
-/// Whether one segment stays before all that it is before now.
+/// Whether one segment stays before all those that it is before now.
 fn keeps_order(segments: &[Segment], coordinates: &[u16], place: usize) -> bool
     requires count { length coordinates.now ≡ length segments.now }
     requires place { place < length segments.now }
@@ -138,7 +139,7 @@ fn keeps_order(segments: &[Segment], coordinates: &[u16], place: usize) -> bool
     true
 }
 
-/// The sum of all weights.
+/// The sum of the weights of all pairs.
 fn weigh(sights: &[Sight]) -> u64
     requires { length sights.now ≤ MAX_SIGHTS }
     ensures { result ≡ total_weight sights.now }
@@ -150,7 +151,7 @@ fn weigh(sights: &[Sight]) -> u64
     total
 }
 
-/// How long all wires are together.
+/// The total length of the wires.
 fn measure(wires: &[Wire], coordinates: &[u16]) -> u64
     requires few { length wires.now ≤ MAX_WIRES }
     requires ends { (i : ℕ) → i < length wires.now → ((wire_at wires.now i).from < length coordinates.now) × ((wire_at wires.now i).to < length coordinates.now) }

@@ -1,4 +1,4 @@
-//! What weights say of lengths, and what shortest coordinates are.
+//! Theorems: weights bound lengths, and what shortest coordinates have in common.
 
 ghost use Rattle.std.specs.Prelude.{◌≡◌, ◌≤◌, ℕ, List, length};
 ghost use Rattle.least_length.specs.declared.segments.Wire.{Wire};
@@ -13,12 +13,12 @@ pub fn weights_bound_lengths()
     ensures { (segments : List Segment) (wires : List Wire) (sights : List Sight) (coordinates : ℕ → ℕ) → AreWeights segments wires sights → KeepsOrder segments coordinates → total_weight sights ≤ total_length wires coordinates }
 {}
 
-/// With shortest coordinates segments stand on each level in the order in which they stand there now.
+/// With shortest coordinates, segments keep their current order on each level.
 pub fn shortest_keep_order()
     ensures { (segments : List Segment) (wires : List Wire) (coordinates : ℕ → ℕ) → IsShortest segments wires coordinates → KeepsOrder segments coordinates }
 {}
 
-/// With any two shortest coordinates the wires are equally long in all.
+/// With any two shortest coordinates the total length of the wires is the same.
 pub fn shortest_are_equally_long()
     ensures { (segments : List Segment) (wires : List Wire) (first second : ℕ → ℕ) → IsShortest segments wires first → IsShortest segments wires second → total_length wires first ≡ total_length wires second }
 {}

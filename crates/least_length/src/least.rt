@@ -10,20 +10,21 @@ use crate::scratch::Scratch;
 use crate::segments::{MAX_SIGHTS, MAX_WIRES, Segment, Wire};
 use std::alloc::{AllocError, Global};
 
-/// Coordinates, one for each segment, with which segments keep their order on each level, and with no such coordinates
-/// is the total length of the wires less. The segments are given in the order of their coordinates; wires run along
-/// levels, to a segment further on.
+/// Coordinates of the segments with which the total length of the wires is least, or `None` if none were found.
 ///
-/// Each wire pulls its two segments together by one unit. Segment by segment, units that pull up are sent along
-/// pairs to segments that are pulled down: over segments that are next to each other, and where
-/// these lead no further, all segments reached move up together (the primal-dual method for least-cost flow:
-/// Ahuja, Magnanti and Orlin, Network Flows, 1993). What comes of it is handed out only where
-/// [`certify_lengths`](crate::certify_lengths) accepts it. There is none where more than 4,096 pairs
-/// are met, more than 65,536 wires or 65,533 segments given, or where the input is other than said
-/// above; that there is one else is measured and not proved.
+/// There is one coordinate for each segment. With them segments keep their order on each level, and no such coordinates
+/// give a lesser total length. The segments must be given in the order of their coordinates; wires run along levels, to
+/// a segment further on.
+///
+/// Each wire pulls its two segments together by one unit. Segment by segment, units that pull up are sent along pairs
+/// to segments that are pulled down: over segments that are next to each other, and if these lead no further, all
+/// segments reached move up together (the primal-dual method for least-cost flow: Ahuja, Magnanti and Orlin, Network
+/// Flows, 1993). The result is returned only if [`certify_lengths`](crate::certify_lengths) accepts it. It is `None` if
+/// more than 4,096 pairs are met, if more than 65,536 wires or 65,533 segments are given, or if the input is other than
+/// said above; that it is never `None` otherwise is measured and not proved.
 ///
 /// # Errors
-/// `AllocError` where there is no memory for the coordinates or for the search.
+/// `AllocError` if there is no memory for the coordinates or for the search.
 pub fn shortest_coordinates(
     alloc: Global,
     segments: &[Segment],
@@ -36,7 +37,7 @@ pub fn shortest_coordinates(
     shortest_coordinates_in(alloc, &mut scratch, segments, wires)
 }
 
-/// The same as [`shortest_coordinates`], in memory that is lent.
+/// Coordinates of least total length, or `None`, exactly as [`shortest_coordinates`]; reuses the caller's scratch.
 pub fn shortest_coordinates_in(
     alloc: Global,
     scratch: &mut Scratch,
@@ -54,7 +55,9 @@ pub fn shortest_coordinates_in(
     }
 }
 
-/// The same as [`shortest_coordinates`], in memory that is lent, and into a list; whether there are such coordinates.
+/// Writes coordinates of least total length into `coordinates`, and returns whether any were found.
+///
+/// They are as in [`shortest_coordinates`]. It reuses the caller's scratch and list.
 pub fn find_shortest(
     scratch: &mut Scratch,
     segments: &[Segment],
@@ -70,7 +73,10 @@ pub fn find_shortest(
     write_certified(scratch, segments, wires, coordinates)
 }
 
-/// The same, but there are none where those that the segments have are such coordinates.
+/// Writes coordinates of least total length into `coordinates`; false also if the segments already have such
+/// coordinates.
+///
+/// As [`find_shortest`] otherwise.
 pub fn find_shorter(
     scratch: &mut Scratch,
     segments: &[Segment],
@@ -89,7 +95,7 @@ pub fn find_shorter(
     write_certified(scratch, segments, wires, coordinates)
 }
 
-/// Lists the coordinates to which segments were pulled; whether the weights of pairs prove them least.
+/// Writes the coordinates that the pulls led to, and returns whether the weights of pairs certify them as least.
 fn write_certified(
     scratch: &mut Scratch,
     segments: &[Segment],

@@ -1,10 +1,10 @@
-//! Coordinates of segments along one axis with which edges are shortest in all, and their proof.
+//! Coordinates of segments along one axis with which the total edge length is least, and a certificate that it is.
 //!
-//! A *segment* is a largest set of vertices and corners that edges join along the other axis; along this one
-//! it has one coordinate. A *wire* leads along this axis from one segment to another. The segments on a level keep
-//! their order, and nothing else is kept. Least total length is then a linear program over the segments; its dual
-//! gives each pair of segments that stand on one level a weight, and weights that are in balance at each segment
-//! bound the length of all coordinates from below (Tamassia 1987, by a flow; strong duality).
+//! A *segment* is a maximal set of vertices and corners that edges join along the other axis; along this one it has one
+//! coordinate. A *wire* leads along this axis from one segment to another. The segments on a level keep their order,
+//! and nothing else is kept. Least total length is then a linear program over the segments; its dual gives a weight to
+//! each pair of segments that share a level, and weights that are in balance at each segment bound the length of all
+//! coordinates from below (Tamassia 1987, by a flow; strong duality).
 #![tactic(auto)]
 
 mod balance;

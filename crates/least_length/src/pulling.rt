@@ -1,5 +1,5 @@
-//! The primal-dual method (Ahuja, Magnanti and Orlin, Network Flows, 1993, section 9.8): wires pull segments until all is
-//! in balance.
+//! The primal-dual method (Ahuja, Magnanti and Orlin, Network Flows, 1993, section 9.8): wires pull segments until all
+//! are in balance.
 
 ghost use Rattle.std.specs.Prelude.{◌≡◌, []};
 
@@ -7,35 +7,35 @@ use crate::segments::{MAX_SIGHTS, Segment, Sight, Wire};
 use crate::sight_lists::SightLists;
 use std::alloc::{AllocError, Global};
 
-/// How many times a segment is pulled on at most.
+/// The maximum number of pulls on one segment.
 const MAX_PULLS: usize = 65_536;
 
-/// Stands for the pair by which the search came to a segment that it has not reached.
+/// Marks a segment that the search has not reached, in place of the pair by which it was reached.
 const UNREACHED: u16 = u16::MAX;
 
-/// Stands for that of the segment where the search began.
+/// Marks the segment where the search began, in place of the pair by which it was reached.
 const ROOT: u16 = u16::MAX - 1;
 
-/// What the search for least coordinates works in.
+/// The state and buffers of the search for least coordinates.
 #[derive(Drop)]
 pub(crate) struct Pulling {
     pub(crate) sight_lists: SightLists,
-    /// For each segment how many more units pull it up than down.
+    /// For each segment, the number of units that pull it up less those that pull it down.
     excess: Vec<i32>,
-    /// The coordinates of the segments so far.
+    /// The current coordinates of the segments.
     coordinates: Vec<u32>,
-    /// For each segment the pair by which the search came to it.
+    /// For each segment, the pair by which the search reached it.
     from: Vec<u16>,
     /// The segments that the search has reached.
     reached: Vec<u16>,
-    /// Those of them at which it has not looked yet.
+    /// The segments reached that the search has not looked at yet.
     unlooked: Vec<u16>,
-    /// Whether some segments have moved, and others have not.
+    /// Whether some segments have moved and others have not.
     moved: bool,
 }
 
 impl Pulling {
-    /// No memory yet.
+    /// Empty buffers; nothing is allocated.
     pub(crate) fn empty(alloc: Global) -> Pulling
         ensures { result.coordinates.items ≡ [] }
     {
@@ -50,13 +50,15 @@ impl Pulling {
         }
     }
 
-    /// Whether the coordinates found are others than those that the segments had, and not all by the same amount.
+    /// Whether the coordinates found differ from those of the segments by more than a common amount.
     pub(crate) fn has_moved(&self) -> bool {
         self.moved
     }
 
-    /// Gives pairs of segments weights that are in balance, and segments coordinates with which those with a
-    /// weight are next to each other; whether that was done. The segments are in the order of their coordinates.
+    /// Computes weights in balance at each segment, and coordinates with which weighted pairs are adjacent; returns
+    /// whether it succeeded.
+    ///
+    /// The segments are in the order of their coordinates.
     pub(crate) fn balance(
         &mut self,
         segments: &[Segment],
@@ -87,8 +89,8 @@ impl Pulling {
         Ok(true)
     }
 
-    /// Takes the coordinates of the segments, and a unit up where each wire begins, and down where it ends, less
-    /// the weights of pairs that are next to each other. No other pair has a weight then.
+    /// Initialises the search with the coordinates of the segments, and one unit up where each wire begins and one down
+    /// where it ends, less the weights of adjacent pairs. No other pair has a weight yet.
     fn begin(&mut self, segments: &[Segment], wires: &[Wire]) -> Result<(), AllocError> {
         self.moved = false;
         self.coordinates.clear();
@@ -115,8 +117,8 @@ impl Pulling {
         Ok(())
     }
 
-    /// Sends units that pull a segment up along pairs to one that is pulled down; whether there is one. Where
-    /// no pair leads on, all segments reached move up together until one does.
+    /// Sends units that pull a segment up along pairs to one that is pulled down; returns whether there is one. If no
+    /// pair leads on, all segments reached move up together until one does.
     fn send(&mut self, root: u16) -> Result<bool, AllocError> {
         let from = self.from.as_mut_slice();
         for segment in self.reached.as_slice() {
@@ -137,8 +139,8 @@ impl Pulling {
         Ok(false)
     }
 
-    /// Reaches all segments to which pairs lead, up to the first one that is pulled down. From the last segment
-    /// reached it goes on first, which finds one after fewer segments than in their order.
+    /// Reaches all segments to which pairs lead, up to the first one that is pulled down, which it returns. It searches
+    /// depth first, which finds one after fewer segments than their order does.
     fn search_pairs(&mut self) -> Result<Option<u16>, AllocError> {
         self.unlooked.clear();
         self.unlooked.extend_from_slice(self.reached.as_slice())?;
@@ -153,7 +155,8 @@ impl Pulling {
         Ok(None)
     }
 
-    /// Reaches the segments to which the pairs of one segment lead, up to the first one that is pulled down.
+    /// Reaches the segments to which the pairs of one segment lead, up to the first one that is pulled down, which it
+    /// returns.
     fn visit(&mut self, segment: u16) -> Result<Option<u16>, AllocError> {
         let (from, to) = self.sight_lists.span(segment);
         for place in from..to {
@@ -170,8 +173,8 @@ impl Pulling {
         Ok(None)
     }
 
-    /// The segment to which a pair leads from this one, where that is not reached: the one behind, where it is
-    /// next to this one, or the one before, where the pair has a weight to take back.
+    /// The segment to which a pair leads from this one, if it is not reached yet: the second of the pair, if the two
+    /// are adjacent, or the first, if the pair has a weight to take back.
     fn next(&self, pair: u16, segment: u16) -> Option<u16> {
         let sight = self.sight_lists.sight(pair)?;
         let next = if sight.before == segment {
@@ -191,7 +194,8 @@ impl Pulling {
         Some(next)
     }
 
-    /// Moves all segments reached up until one of them is next to one that is not reached; whether there is one.
+    /// Moves all segments reached up until one of them is adjacent to one that is not reached; returns whether there is
+    /// one.
     fn move_up(&mut self) -> bool {
         let slack = self.least_slack();
         if slack == u32::MAX {
@@ -207,7 +211,7 @@ impl Pulling {
         true
     }
 
-    /// How far all segments reached can move up together, and the greatest coordinate where none is in their way.
+    /// How far all segments reached can move up together; the greatest coordinate if none is in their way.
     fn least_slack(&self) -> u32 {
         let mut least = u32::MAX;
         for segment in self.reached.as_slice() {
@@ -216,7 +220,7 @@ impl Pulling {
         least
     }
 
-    /// How far this segment can move up to those that are not reached.
+    /// How far this segment can move up towards segments that are not reached.
     fn slack_of(&self, segment: u16) -> u32 {
         let (from, to) = self.sight_lists.span(segment);
         let mut least = u32::MAX;
@@ -230,7 +234,7 @@ impl Pulling {
         least
     }
 
-    /// Carries as many units as can be from where the search began to this segment.
+    /// Sends as many units as possible from where the search began to this segment.
     fn augment(&mut self, target: u16) {
         let (root, units) = self.measure(target);
         let mut segment = target;
@@ -252,7 +256,7 @@ impl Pulling {
         add(self.excess.as_mut_slice(), target, amount);
     }
 
-    /// Where the way to this segment begins, and how many units it carries.
+    /// The segment where the path to this one begins, and how many units the path carries.
     fn measure(&self, target: u16) -> (u16, u32) {
         let mut units = self.excess_at(target).unsigned_abs();
         let mut segment = target;
@@ -287,7 +291,7 @@ impl Pulling {
         self.excess.get(usize::from(segment)).copied().unwrap_or(0)
     }
 
-    /// Lists the coordinates of all segments, the least of them as 0.
+    /// Writes the coordinates of all segments, shifted so that the least is 0.
     pub(crate) fn write(&self, coordinates: &mut Vec<u16>) -> Result<(), AllocError> {
         let mut least = u32::MAX;
         for coordinate in self.coordinates.as_slice() {
@@ -302,14 +306,14 @@ impl Pulling {
     }
 }
 
-/// Writes what belongs to a segment.
+/// Sets the entry of a segment.
 fn set(list: &mut [u16], segment: u16, value: u16) {
     if let Some(entry) = list.get_mut(usize::from(segment)) {
         *entry = value;
     }
 }
 
-/// Adds to what belongs to a segment.
+/// Adds to the entry of a segment.
 fn add(list: &mut [i32], segment: u16, amount: i32) {
     if let Some(entry) = list.get_mut(usize::from(segment)) {
         *entry = entry.saturating_add(amount);

@@ -1,4 +1,4 @@
-//! Memory that is used again.
+//! Buffers that are reused.
 
 ghost use Rattle.std.specs.Prelude.{◌≡◌, []};
 
@@ -6,7 +6,7 @@ use crate::balance::Balance;
 use crate::pulling::Pulling;
 use std::alloc::Global;
 
-/// Memory in which one axis after another is looked at. What it holds between two of them is of no use.
+/// Buffers that the computations on one axis after another reuse. Their contents between two calls do not matter.
 #[derive(Drop)]
 pub struct Scratch {
     pub(crate) balance: Balance,
@@ -14,7 +14,7 @@ pub struct Scratch {
 }
 
 impl Scratch {
-    /// No memory yet.
+    /// An empty scratch. It allocates nothing.
     pub fn empty(alloc: Global) -> Scratch
         ensures { result.balance.up.items ≡ [] }
     {

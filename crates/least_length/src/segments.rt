@@ -1,9 +1,9 @@
-//! Segments, wires between them, and pairs that stand on one level.
+//! Segments, wires between them, and pairs that share a level.
 
-/// How many wires there are at most.
+/// The maximum number of wires.
 pub const MAX_WIRES: usize = 65_536;
 
-/// How many pairs of segments have a weight at most.
+/// The maximum number of pairs of segments that have a weight.
 pub const MAX_SIGHTS: usize = 4_096;
 
 /// A segment: its coordinate along the axis, and the levels that it crosses, from the lowest to the highest.
@@ -14,8 +14,8 @@ pub struct Segment {
     pub high: u16,
 }
 
-/// A wire along the axis, by the segments at its ends. The level on which it runs tells a search where to
-/// begin, and what is found is the same with any level.
+/// A wire along the axis, given by the segments at its ends. `level`, on which it runs, only guides the search; the
+/// result does not depend on it.
 #[derive(Clone, Copy, Debug, PartialEq, Eq)]
 pub struct Wire {
     pub from: u16,
@@ -23,7 +23,7 @@ pub struct Wire {
     pub level: u16,
 }
 
-/// Two segments, of which the first stands before the second on some level, and a weight.
+/// A pair of segments with a weight; on some level the first is before the second.
 #[derive(Clone, Copy, Debug, PartialEq, Eq)]
 pub struct Sight {
     pub before: u16,

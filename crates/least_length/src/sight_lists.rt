@@ -1,4 +1,4 @@
-//! The visibility graph of segments (Lengauer 1990): pairs that see each other on a level, and where they are listed.
+//! The visibility graph of segments (Lengauer 1990): the pairs that see each other on a level, listed by segment.
 
 ghost use Rattle.std.specs.Prelude.{◌≡◌, []};
 
@@ -7,36 +7,36 @@ use crate::sweep::highest;
 use std::alloc::{AllocError, Global};
 use std::mem;
 
-/// What was met last on a level.
+/// The last segment and wire end met on a level.
 #[derive(Clone, Copy, Debug)]
 struct LastSeen {
-    /// One more than the place of the segment, or 0.
+    /// The index of the segment plus 1, or 0 if none.
     segment: u16,
-    /// One more than the place of the segment where the wire ends, or 0.
+    /// The index of the segment where the wire ends, plus 1, or 0 if none.
     end: u16,
 }
 
-/// Nothing was met yet.
+/// Nothing has been met yet.
 const NONE_SEEN: LastSeen = LastSeen { segment: 0, end: 0 };
 
-/// Pairs of segments that see each other on some level, and where those of each segment are listed.
+/// The pairs of segments that see each other on some level, and the lists of pairs of each segment.
 #[derive(Drop)]
 pub(crate) struct SightLists {
     pub(crate) sights: Vec<Sight>,
-    /// What was met last on each level.
+    /// For each level, what was met last.
     frontier: Vec<LastSeen>,
-    /// For each segment one more than the place of a wire that begins there, or 0.
+    /// For each segment, the index of a wire that begins there, plus 1; 0 if none.
     firsts: Vec<u32>,
-    /// For each wire one more than the place of another one that begins on the same segment, or 0.
+    /// For each wire, the index of another wire that begins at the same segment, plus 1; 0 if none.
     nexts: Vec<u32>,
-    /// For each segment where its pairs begin in `pairs`; one place more, where the last ones end.
+    /// For each segment, where its pairs begin in `pairs`; a last entry says where the last ones end.
     starts: Vec<u16>,
-    /// The places of the pairs of each segment, segment after segment.
+    /// The indices of the pairs of each segment, segment after segment.
     pairs: Vec<u16>,
 }
 
 impl SightLists {
-    /// No memory yet.
+    /// Empty buffers; nothing is allocated.
     pub(crate) fn empty(alloc: Global) -> SightLists
         ensures { result.sights.items ≡ [] }
     {
@@ -50,9 +50,9 @@ impl SightLists {
         }
     }
 
-    /// Lists the pairs of segments that are in the order of their coordinates: for each segment those that
-    /// stand next before it. The weight of a pair is the number of wires that run from one to the other. A pair
-    /// that is met on several levels in a row is listed once.
+    /// Lists the pairs of segments that are in the order of their coordinates: for each segment those immediately
+    /// before it. The weight of a pair is the number of wires that run from one to the other. A pair that is met on
+    /// several adjacent levels is listed once.
     pub(crate) fn list(&mut self, segments: &[Segment], wires: &[Wire]) -> Result<(), AllocError> {
         self.list_wires(segments.len(), wires)?;
         self.sights.clear();
@@ -90,7 +90,7 @@ impl SightLists {
         Ok(())
     }
 
-    /// Notes at the frontier where the wires end that begin on this segment.
+    /// Notes at the frontier the ends of the wires that begin at this segment.
     fn begin_wires(&mut self, wires: &[Wire], segment: usize) {
         let mut listed = self.firsts.get(segment).copied().unwrap_or(0);
         for _ in 0..wires.len() {
@@ -105,7 +105,7 @@ impl SightLists {
         }
     }
 
-    /// Lists where the pairs of each of so many segments are, by counting.
+    /// Lists, by counting, the pairs of each of `segments` segments.
     pub(crate) fn list_pairs(&mut self, segments: usize) -> Result<(), AllocError> {
         self.starts.clear();
         self.starts.resize(segments.saturating_add(2), 0)?;
@@ -130,7 +130,7 @@ impl SightLists {
         Ok(())
     }
 
-    /// Where the pairs of a segment begin, and where they end.
+    /// Where the list of pairs of a segment begins and ends.
     pub(crate) fn span(&self, segment: u16) -> (u16, u16) {
         let place = usize::from(segment);
         let from = self.starts.get(place).copied().unwrap_or(0);
@@ -138,7 +138,7 @@ impl SightLists {
         (from, to)
     }
 
-    /// The place of the pair that is listed here.
+    /// The index of the pair listed at this place.
     pub(crate) fn pair_at(&self, place: u16) -> u16 {
         self.pairs
             .get(usize::from(place))
@@ -146,13 +146,13 @@ impl SightLists {
             .unwrap_or(u16::MAX)
     }
 
-    /// The pair at a place.
+    /// The pair with this index.
     pub(crate) fn sight(&self, pair: u16) -> Option<Sight> {
         self.sights.get(usize::from(pair)).copied()
     }
 }
 
-/// Lists the segments that stand on these levels at the frontier before this one, which takes their places.
+/// Lists the segments that are before this one at the frontier on these levels, where it replaces them.
 fn list_before(
     sights: &mut Vec<Sight>,
     met: &mut [LastSeen],
@@ -174,7 +174,7 @@ fn list_before(
     list_pair(sights, last, behind, weight)
 }
 
-/// Lists a pair, if there is a segment before the other.
+/// Lists a pair, if there is a segment before this one.
 fn list_pair(
     sights: &mut Vec<Sight>,
     before: u16,
@@ -191,14 +191,14 @@ fn list_pair(
     Ok(())
 }
 
-/// Counts a pair at a segment, two places further on.
+/// Counts a pair of a segment, two entries further on.
 fn count(starts: &mut [u16], segment: u16) {
     if let Some(start) = starts.get_mut(usize::from(segment) + 2) {
         *start = start.wrapping_add(1);
     }
 }
 
-/// Puts a pair of a segment where its next one goes.
+/// Writes a pair of a segment to its next free entry.
 fn put(starts: &mut [u16], pairs: &mut [u16], segment: u16, pair: u16) {
     if let Some(start) = starts.get_mut(usize::from(segment) + 1) {
         if let Some(entry) = pairs.get_mut(usize::from(*start)) {

@@ -1,4 +1,4 @@
-//! A sweep along the axis with a frontier (after Shamos and Hoey 1976): whether segments keep their order.
+//! A sweep along the axis with a frontier (after Shamos and Hoey 1976) that checks whether segments keep their order.
 
 ghost use Rattle.std.specs.Prelude.{◌≡◌, ◌<◌, ◌≤◌, ◌+◌, ◌^◌, ◌↔◌, ℕ, [], length, true, IfOk, slice_index};
 ghost use Rattle.least_length.specs.Lengths.{coordinates_in, HasLevel, KeepsOrder};
@@ -7,15 +7,15 @@ use crate::certificate::keep_order;
 use crate::segments::Segment;
 use std::alloc::{AllocError, Global};
 
-/// Memory for the sweep.
+/// Buffers for the sweep.
 #[derive(Drop)]
 pub(crate) struct Sweep {
-    /// For each level one more than the greatest coordinate met there.
+    /// For each level, the greatest coordinate met there, plus 1.
     frontier: Vec<u32>,
 }
 
 impl Sweep {
-    /// No memory yet.
+    /// Empty buffers; nothing is allocated.
     pub(crate) fn empty(alloc: Global) -> Sweep
         ensures { result.frontier.items ≡ [] }
     {
@@ -24,8 +24,8 @@ impl Sweep {
         }
     }
 
-    /// Whether segments keep their order with these coordinates. Where they are listed in the order of the coordinates
-    /// that they have, the time is linear in their levels, else quadratic in the segments.
+    /// Whether segments keep their order with these coordinates. The time is linear in their levels if they are listed
+    /// in the order of their own coordinates, and otherwise quadratic in the segments.
     pub(crate) fn keep_order(
         &mut self,
         segments: &[Segment],
@@ -51,8 +51,8 @@ fn keep_order_in(frontier: &mut [u32], segments: &[Segment], coordinates: &[u16]
     keep_order(segments, coordinates)
 }
 
-/// Whether each segment, in the order in which they are listed, has a coordinate above those of all segments before
-/// it on its levels; and whether that is the order of the coordinates that they have.
+/// Whether each segment, in the order in which they are listed, has a coordinate above those of all segments before it
+/// on its levels, and whether they are listed in the order of their own coordinates.
 fn is_swept(frontier: &mut [u32], segments: &[Segment], coordinates: &[u16]) -> bool
     requires { length coordinates.now ≡ length segments.now }
     ensures { result ≡ true → KeepsOrder segments.now (coordinates_in coordinates.now) }
@@ -71,7 +71,7 @@ fn is_swept(frontier: &mut [u32], segments: &[Segment], coordinates: &[u16]) -> 
     true
 }
 
-/// Whether no level of a segment has met a coordinate as great as this one; it is met there now.
+/// Records a coordinate on the levels of a segment; false if one of them has met one as great.
 fn move_past(frontier: &mut [u32], segment: Segment, coordinate: u32) -> bool
     requires levels { segment.high < length frontier.old }
     requires coordinate { coordinate < 2 ^ 16 }
@@ -88,7 +88,7 @@ fn move_past(frontier: &mut [u32], segment: Segment, coordinate: u32) -> bool
     true
 }
 
-/// The highest level that a segment crosses, and 0 where there are no segments.
+/// The highest level that a segment crosses, or 0 if there are no segments.
 pub(crate) fn highest(segments: &[Segment]) -> u16 {
     let mut most = 0;
     for segment in segments {

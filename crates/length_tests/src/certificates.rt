@@ -1,4 +1,4 @@
-//! Certificates by hand, and lists that are none.
+//! Certificates made by hand, and lists that are not certificates.
 use crate::compared::same;
 use crate::made::{Drawn, is_certified};
 
@@ -36,7 +36,7 @@ const BOX_WEIGHTS: &[(u16, u16, u32)] = &[(0, 1, 2), (1, 2, 2), (2, 4, 2), (3, 4
 /// Coordinates, weights, and whether they are a certificate of the box.
 const OF_BOX: [(&[u16], &[(u16, u16, u32)], bool); 13] = [
     (&[0, 1, 2, 2, 3], BOX_WEIGHTS, true),
-    // the same further on
+    // the same coordinates, shifted
     (&[7, 8, 9, 9, 10], BOX_WEIGHTS, true),
     // other points: the leaf where it was, the box as wide as it was
     (&[0, 1, 2, 1, 3], BOX_WEIGHTS, false),

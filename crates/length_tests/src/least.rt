@@ -29,7 +29,7 @@ const DRAWINGS: [(Drawn<'static>, Option<u32>); 10] = [
         },
         Some(2),
     ),
-    // leaves of a line, ahead of it and behind it, on levels of their own
+    // leaves of a line, before it and after it, on levels of their own
     (
         Drawn {
             segments: &[(0, 0, 4), (5, 0, 0), (7, 2, 2), (9, 4, 4)],
@@ -52,7 +52,7 @@ const DRAWINGS: [(Drawn<'static>, Option<u32>); 10] = [
         },
         Some(7),
     ),
-    // the same with a leaf of each side: 3 + 1 + 1 + 3
+    // the same box with a leaf of each side: 3 + 1 + 1 + 3
     (
         Drawn {
             segments: &[
@@ -92,7 +92,7 @@ const DRAWINGS: [(Drawn<'static>, Option<u32>); 10] = [
         },
         Some(11),
     ),
-    // one wire to its left and two to its right: 5 + 4 + 1 + 1
+    // the same box with one wire to its left and two to its right: 5 + 4 + 1 + 1
     (
         Drawn {
             segments: &[
@@ -127,7 +127,7 @@ const DRAWINGS: [(Drawn<'static>, Option<u32>); 10] = [
     ),
 ];
 
-/// The total length of the wires with the coordinates found, or none where none are found.
+/// The total length of the wires with the coordinates found, or `None` if none are found.
 fn least_length_of(alloc: Global, drawn: Drawn<'_>) -> Result<Option<u32>, AllocError> {
     let segments = segments_of(alloc, drawn.segments)?;
     let wires = wires_of(alloc, &segments, drawn.wires)?;

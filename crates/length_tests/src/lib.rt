@@ -1,5 +1,5 @@
-//! Tests of least lengths: segments whose least length is known, by hand and from another solver, and what is no
-//! certificate of theirs.
+//! Tests of least lengths: segments whose least length is known, by hand and from another solver, and lists that are no
+//! certificates of it.
 #![tactic(auto)]
 
 #[cfg(test)]

@@ -4,15 +4,15 @@ ghost use Rattle.std.specs.Prelude.{◌≡◌, ◌≤◌, length, IfOk};
 use least_length::{MAX_SIGHTS, MAX_WIRES, Scratch, Segment, Sight, Wire, certify_lengths};
 use std::alloc::{AllocError, Global};
 
-/// A drawing along one axis: of each segment its coordinate and its levels, and of each wire its segments.
+/// A drawing along one axis: the coordinate and the levels of each segment, and the segments of each wire.
 #[derive(Clone, Copy)]
 pub(crate) struct Drawn<'a> {
     pub(crate) segments: &'a [(u16, u16, u16)],
     pub(crate) wires: &'a [(u16, u16)],
 }
 
-/// Whether these weights of pairs of segments show that a drawing is shortest with these coordinates; no where they
-/// are too many, or not one a segment.
+/// Whether these weights of pairs of segments certify that a drawing is shortest with these coordinates; false if there
+/// are too many, or not one coordinate for each segment.
 pub(crate) fn is_certified(
     alloc: Global,
     drawn: Drawn<'_>,
@@ -47,7 +47,7 @@ pub(crate) fn segments_of(
     Ok(made)
 }
 
-/// Edges between segments, each on the lowest level that both its segments cross.
+/// Wires between segments, each on the lowest level that both its segments cross.
 pub(crate) fn wires_of(
     alloc: Global,
     segments: &[Segment],

@@ -5,15 +5,16 @@ use crate::least::length_of;
 use least_length::{Scratch, Segment, Wire, find_shortest};
 use std::alloc::{AllocError, Global};
 
-/// The least lengths of each hundred of drawings, added up.
+/// For each hundred of drawings, the sum of their least lengths.
 const LEAST: [u32; 10] = [
     14_829, 12_242, 11_757, 12_373, 13_934, 13_636, 11_467, 12_748, 11_249, 12_966,
 ];
 
-/// Numbers of segments, and the least length of a drawing with so many.
+/// Numbers of segments, and the least length of a drawing with this many.
 const LARGE_LEAST: [(u16, u32); 3] = [(300, 2_637), (600, 10_923), (1_000, 30_318)];
 
-/// How many segments a drawing has, on how many levels and each on how many at most, and how many wires are tried.
+/// The size of a drawing: how many segments, on how many levels and each on how many at most, and how many wires are
+/// tried.
 #[derive(Clone, Copy)]
 struct Size {
     count: u16,
@@ -40,7 +41,7 @@ impl Random {
     }
 }
 
-/// Memory that is lent to each drawing, with its segments, its wires and the coordinates found.
+/// Buffers that each drawing reuses, with its segments, its wires and the coordinates found.
 #[derive(Drop)]
 struct Lent {
     scratch: Scratch,
@@ -50,7 +51,7 @@ struct Lent {
 }
 
 impl Lent {
-    /// No memory yet.
+    /// Empty buffers; nothing is allocated.
     fn empty(alloc: Global) -> Lent {
         Lent {
             scratch: Scratch::empty(alloc),
@@ -74,7 +75,7 @@ impl Lent {
         self.make(random, size)
     }
 
-    /// Makes a drawing with so many segments.
+    /// Makes a drawing with this many segments.
     fn make_large(&mut self, count: u16) -> Result<(), AllocError> {
         let random = Random {
             state: u64::from(count),
@@ -133,7 +134,7 @@ impl Lent {
         Ok(())
     }
 
-    /// The length of the wires of the drawing with the coordinates found, and 0 where there are none.
+    /// The length of the wires of the drawing with the coordinates found, or 0 if there are none.
     fn least_length(&mut self) -> Result<u32, AllocError> {
         let segments = self.segments.as_slice();
         let wires = self.wires.as_slice();
@@ -145,7 +146,7 @@ impl Lent {
     }
 }
 
-/// The least lengths of a hundred drawings, added up.
+/// The sum of the least lengths of a hundred drawings.
 fn hundred(lent: &mut Lent, first: u64) -> Result<u32, AllocError> {
     let mut total: u32 = 0;
     for place in 0..100 {
@@ -166,7 +167,7 @@ fn random_drawings_are_as_short_as_by_lemon(rt: HostRuntime) {
     }
 }
 
-/// The least length of a drawing with so many segments.
+/// The least length of a drawing with this many segments.
 fn large(lent: &mut Lent, count: u16) -> Result<u32, AllocError> {
     lent.make_large(count)?;
     lent.least_length()

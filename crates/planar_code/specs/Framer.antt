@@ -6,7 +6,7 @@ use Rattle.planar_code.specs.declared.framer.Phase.{Phase}
 use Rattle.planar_code.specs.declared.framer.Phase.TheVariants as phase
 use Rattle.planar_code.specs.FramerState.{FramerState, Early, After, Failed}
 
--- the state that the phase, a number of records and the bytes of the partial one are
+-- the state given by the phase, a number of records, and the bytes of the partial one
 abbrev pub framer_state_at : Phase → ℕ → List ℕ → FramerState
 framer_state_at (phase.Header passed) records rest = Early (take passed HEADER)
 framer_state_at phase.Records records rest = After records rest

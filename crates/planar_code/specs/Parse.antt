@@ -6,7 +6,7 @@ use Rattle.planar_code.specs.Stream.{IsRecord, IsUnfinished}
 use Rattle.planar_code.specs.Split.{BeginsWithZero}
 use Rattle.planar_code.specs.Started.{IsOversize}
 
--- a record stands first in the bytes, and more bytes after it
+-- the bytes are a record followed by more bytes
 pub record HasBytesAfter (bytes : List ℕ) : Type 0 where
   pub first : List ℕ
   pub after : List ℕ
@@ -14,7 +14,7 @@ pub record HasBytesAfter (bytes : List ℕ) : Type 0 where
   pub whole : IsRecord first
   pub more : after ≢ []
 
--- the fault of the bytes; of want of memory all that they say is that they are a record
+-- the fault of the bytes; `Memory` says only that they are a record
 abbrev pub IsParseFault : List ℕ → ParseFault → Type 0
 IsParseFault bytes fault.Unfinished = IsUnfinished bytes
 IsParseFault bytes fault.Order = BeginsWithZero bytes

@@ -1,4 +1,4 @@
--- What reading on in a record finds.
+-- The results of reading further in a record.
 use Rattle.std.specs.Prelude.{◌≡◌, ℕ, ◌<◌, ◌≤◌, List, [], ◌++◌, length, take, Option, Some, None, Result, Ok, Err}
 use Rattle.planar_code.specs.declared.scan.Scan.{Scan}
 use Rattle.planar_code.specs.declared.scan.Scan.TheVariants as scan
@@ -8,7 +8,7 @@ use Rattle.planar_code.specs.Stream.{IsRecord, IsUnfinished}
 use Rattle.planar_code.specs.Split.{BeginsWithZero}
 use Rattle.planar_code.specs.Started.{IsStarted, IsOversize}
 
--- what the bytes of a text make of the bytes before it, the beginning of a record
+-- how far a text takes the record that the bytes before it begin
 abbrev pub Scans : List ℕ → List ℕ → Result Scan FeedFault → Type 0
 Scans before text (Ok (scan.Whole end)) = (0 < end) × (end ≤ length text) × IsRecord (before ++ take end text)
 Scans before text (Ok (scan.Open remaining entries)) = IsStarted (before ++ text) remaining entries
@@ -16,7 +16,7 @@ Scans before text (Err fault.Large) = BeginsWithZero (before ++ text)
 Scans before text (Err fault.Oversize) = IsOversize (before ++ text)
 Scans before text (Err _) = ⊥
 
--- what a partial record makes of a text: its end, if that comes, or the same record with the text
+-- how far a text takes a partial record: to its end, or to the same record extended by the text
 abbrev pub TakesFrom : List ℕ → List ℕ → List ℕ → Result (Option (List ℕ × ℕ)) FeedFault → Type 0
 TakesFrom old text new (Ok None) = IsUnfinished new × (new ≡ old ++ text)
 TakesFrom old text new (Ok (Some (bytes, end))) = (new ≡ []) × (0 < end) × (end ≤ length text) × (bytes ≡ old ++ take end text) × IsRecord bytes

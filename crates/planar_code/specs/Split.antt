@@ -20,7 +20,7 @@ pub record IsDivided (body : List ℕ) (records : List (List ℕ)) (rest : List 
 abbrev pub BeginsWithZero : List ℕ → Type 0
 BeginsWithZero bytes = (more : List ℕ) × (bytes ≡ 0 ∷ more)
 
--- what a number of records and the rest after them end in: of these the first that fits
+-- how a number of records and the rest after them end: the first of these that fits
 abbrev pub EndsAs : ℕ → List ℕ → Ending → Type 0
 EndsAs count rest ending.Complete = rest ≡ []
 EndsAs count rest ending.Many = (rest ≢ []) × (count ≡ MAX_RECORDS)
@@ -30,7 +30,7 @@ EndsAs count rest ending.Oversize = (IsUnfinished rest → ⊥) × (BeginsWithZe
 EndsAs count rest ending.Header = ⊥
 EndsAs count rest ending.Memory = ⊥
 
--- a stream that begins with the whole header: its records, and what it ends in
+-- a stream that begins with the whole header: its records, and how it ends
 pub record IsSplitAfterHeader (stream : List ℕ) (records : List (List ℕ)) (end : Ending) : Type 0 where
   pub body : List ℕ
   pub rest : List ℕ

@@ -5,8 +5,8 @@ use Rattle.planar_code.specs.declared.TheConstants.{MAX_LIST}
 use Rattle.planar_code.specs.Stream.{IsEntry, IsList, ended, NoRecordFirst}
 use Rattle.planar_code.specs.Split.{BeginsWithZero}
 
--- the bytes begin a record: whole lists, and then some entries of the next. That many lists remain,
--- the partial one among them, and the partial one has that many entries
+-- the bytes begin a record: whole lists, and then some entries of the next. This many lists remain, including the
+-- partial one, and the partial one has this many entries
 pub record IsStarted (bytes : List ℕ) (remaining entries : ℕ) : Type 0 where
   pub lists : List (List ℕ)
   pub current : List ℕ
@@ -18,7 +18,7 @@ pub record IsStarted (bytes : List ℕ) (remaining entries : ℕ) : Type 0 where
   pub some : 0 < remaining
   pub few : length lists + remaining < 256
 
--- the bytes begin with a list of more than 254 entries in a record's place, however they go on
+-- in place of a record the bytes begin with one that has a list of more than 254 entries, however they go on
 pub record IsOversize (bytes : List ℕ) : Type 0 where
   pub some : bytes ≢ []
   pub nonzero : BeginsWithZero bytes → ⊥

@@ -4,15 +4,15 @@ use Rattle.planar_code.specs.declared.fault.FeedFault.{FeedFault}
 use Rattle.planar_code.specs.declared.fault.FeedFault.TheVariants as fault
 use Rattle.planar_code.specs.FramerState.{FramerState, Failed, Goes, HasNotFailed, LosesRecord}
 
--- a step takes some bytes of a text and gives a record or none; where it fails, the state that the
--- whole text leads to is the fault
+-- a step takes some bytes of a text and returns a record or none; if it fails, the state that the whole text leads to
+-- is the fault
 abbrev pub FramerSteps : FramerState → List ℕ → FramerState → Result (ℕ × Option (List ℕ)) FeedFault → Type 0
 FramerSteps old text new (Ok taken) = (0 < taken.0) × (taken.0 ≤ length text) × HasNotFailed new × Goes old (take taken.0 text) (option_to_list taken.1) new
 FramerSteps old text new (Err fault.Memory) = LosesRecord old text []
 FramerSteps old text new (Err f) = Goes old text [] (Failed f)
 
--- several steps have taken the piece up to a text that remains, and have put the added records after
--- those that the list had before
+-- several steps have taken the piece up to a text that remains, and have appended the added records to those that the
+-- list had before
 pub record HasRead (old : FramerState) (piece text : List ℕ) (before after : List (List ℕ)) (new : FramerState) : Type 0 where
   pub taken : List ℕ
   pub added : List (List ℕ)
@@ -21,7 +21,7 @@ pub record HasRead (old : FramerState) (piece text : List ℕ) (before after : L
   pub running : HasNotFailed new
   pub goes : Goes old taken added new
 
--- all of the piece was read, or a fault was met; the framer does not keep the fault yet
+-- all of the piece was read, or a fault occurred, which the framer does not keep yet
 abbrev pub ReadsUpTo : FramerState → List ℕ → List (List ℕ) → FramerState → Result Unit FeedFault → Type 0
 ReadsUpTo old piece added new (Ok _) = HasNotFailed new × Goes old piece added new
 ReadsUpTo old piece added new (Err fault.Memory) = LosesRecord old piece added

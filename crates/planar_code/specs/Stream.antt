@@ -12,11 +12,11 @@ pub record IsList (entries : List ℕ) : Type 0 where
   pub each : All IsEntry entries
   pub short : length entries ≤ MAX_LIST
 
--- a list as it is written: its entries, and one byte 0
+-- a list as it is written: its entries, followed by one byte 0
 abbrev pub ended : List ℕ → List ℕ
 ended entries = entries ++ 0 ∷ []
 
--- the bytes are one record: how many lists there are, 1 to 255, and then each list, ended
+-- the bytes are one record: the number of lists, 1 to 255, followed by each list, ended
 pub record IsRecord (bytes : List ℕ) : Type 0 where
   pub lists : List (List ℕ)
   pub spelt : bytes ≡ length lists ∷ flat_map ended lists
@@ -24,7 +24,7 @@ pub record IsRecord (bytes : List ℕ) : Type 0 where
   pub some : 0 < length lists
   pub few : length lists < 256
 
--- the entry before the first of the lists, if there is one
+-- the lists, with the entry put before the first of them, if there is one
 abbrev pub before_first : ℕ → List (List ℕ) → List (List ℕ)
 before_first x [] = []
 before_first x (entries ∷ lists) = (x ∷ entries) ∷ lists
@@ -46,11 +46,11 @@ pub record IsUnfinished (bytes : List ℕ) : Type 0 where
   pub more : missing ≢ []
   pub whole : IsRecord (bytes ++ missing)
 
--- no record stands first in the bytes
+-- no prefix of the bytes is a record
 abbrev pub NoRecordFirst : List ℕ → Type 0
 NoRecordFirst bytes = (first rest : List ℕ) → IsRecord first → bytes ≡ first ++ rest → ⊥
 
--- somewhere in the bytes stand 255 entries in a row
+-- the bytes hold 255 entries in a row somewhere
 pub record HasLongList (bytes : List ℕ) : Type 0 where
   pub front : List ℕ
   pub entries : List ℕ

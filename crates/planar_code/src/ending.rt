@@ -1,9 +1,9 @@
-//! How a stream of planar_code ends.
+//! The ways in which a stream of planar_code ends.
 
-/// How a stream ends. If any bytes follow the millionth record, it is `Many`.
+/// The way in which a stream ends. It is `Many` if any bytes follow the millionth record.
 #[derive(Clone, Copy, Debug, PartialEq, Eq, Hash)]
 pub enum Ending {
-    /// The bytes are the header and then whole records alone.
+    /// The bytes are the header followed by whole records and nothing else.
     Complete,
     /// The bytes end within a record.
     Truncated,
@@ -13,7 +13,7 @@ pub enum Ending {
     Large,
     /// A neighbour list has more than 254 entries.
     Oversize,
-    /// There was no memory for a record, whatever the bytes are.
+    /// Memory ran out for a record, whatever the bytes are.
     Memory,
     /// More bytes follow the millionth record.
     Many,

@@ -1,8 +1,8 @@
-//! Why a framer reads no further.
+//! The faults at which a framer stops reading.
 use crate::ending::Ending;
 use thiserror::Error;
 
-/// Why a framer reads no further.
+/// The reason why a framer stops reading.
 #[derive(Clone, Copy, Debug, PartialEq, Eq, Hash, Error)]
 pub enum FeedFault {
     /// A byte differs from the header.
@@ -14,10 +14,10 @@ pub enum FeedFault {
     /// A neighbour list has a 255th entry.
     #[error("a neighbour list has more than 254 entries")]
     Oversize,
-    /// There was no memory for a record.
+    /// Memory ran out for a record.
     #[error("out of memory")]
     Memory,
-    /// A byte stands after the last of 1,000,000 records.
+    /// A byte follows the last of 1,000,000 records.
     #[error("there are more than 1000000 records")]
     Many,
 }

@@ -15,21 +15,21 @@ use crate::{HEADER, MAX_RECORDS};
 use std::alloc::{AllocError, Global};
 use std::marker::Model;
 
-/// Which phase of the stream comes next.
+/// The part of the stream that is read next.
 #[derive(Clone, Copy, Debug)]
 enum Phase {
-    /// The header, of which so many bytes were read.
+    /// The header, of which this many bytes were read.
     Header { passed: usize },
     /// Records.
     Records,
-    /// None: the framer reads no further.
+    /// Nothing: the framer stopped at this fault.
     Failed(FeedFault),
 }
 
-/// Divides a stream that comes in pieces into records.
+/// An incremental parser that splits a planar_code stream, which arrives in pieces, into records.
 ///
-/// It keeps the state that the stream has led to and nothing else of the past: of the header how far
-/// it has come, then how many records there were and the bytes of the partial one, or its fault.
+/// It keeps only the state that the stream has led to: how much of the header was read; then the number of records so
+/// far and the bytes of the partial one; or the fault.
 #[derive(Debug, Drop)]
 pub struct Framer {
     phase: Phase,
@@ -49,7 +49,7 @@ impl Model for Framer {
     ghost invariant = { IsFramer };
 }
 
-/// Puts the record, if there is one, at the end of the list.
+/// Appends the record to the list, if there is one.
 fn append(out: &mut Vec<Record>, next: Option<Record>) -> Result<(), FeedFault>
     ensures ok { OnOk result (out.new.items ≡ out.old.items ++ option_to_list next) }
     ensures err { OnErr result (out.new.items ≡ out.old.items) }
@@ -65,11 +65,11 @@ fn append(out: &mut Vec<Record>, next: Option<Record>) -> Result<(), FeedFault>
 }
 
 impl Framer {
-    /// A framer at the beginning of a stream, with room for the longest record: 65,026 bytes.
+    /// A framer at the beginning of a stream, with a buffer for the longest record: 65,026 bytes.
     ///
     /// # Errors
     ///
-    /// `AllocError` where there is no memory for that.
+    /// `AllocError` if there is no memory for the buffer.
     pub fn new(alloc: Global) -> Result<Framer, AllocError>
         ensures early { IfOk result (λ framer. framer ≡ Early []) }
         ensures stands { IfOk result (λ framer. StandsAt [] [] framer) }
@@ -81,8 +81,8 @@ impl Framer {
         })
     }
 
-    /// Reads on to the end of the header's next byte, of one record, or of `text`: how many bytes
-    /// it took, and the record.
+    /// Reads one byte of the header, or to the end of one record or of `text`; returns the number of bytes read, and
+    /// the record if one ended.
     fn step(&mut self, alloc: Global, text: &[u8]) -> Result<(usize, Option<Record>), FeedFault>
         requires some { 0 < length text.now }
         requires running { HasNotFailed self.old }
@@ -131,23 +131,22 @@ impl Framer {
         Ok(())
     }
 
-    /// Reads the next piece of the stream, and puts each record that it ends at the end of `out`, in
-    /// order.
+    /// Reads the next piece of the stream and appends each record that it completes to `out`, in order.
     ///
-    /// The stream may be divided anywhere, also within the header or a record. The work is linear in its
-    /// bytes: a record that lies whole in a piece is copied once, and one that is divided is copied twice. Want
-    /// of memory is returned only where the piece ends a record, for its bytes or its place in `out`.
+    /// The stream may be divided anywhere, also within the header or a record. The time is linear in the bytes: a
+    /// record that lies whole in a piece is copied once, and one that is divided is copied twice. It runs out of memory
+    /// only if the piece ends a record, for the record's bytes or its place in `out`.
     ///
     /// # Errors
     ///
     /// - `Header` at the first byte that differs from the header;
-    /// - `Large` at byte 0 in a record's place;
+    /// - `Large` at byte 0 in place of a record;
     /// - `Oversize` at the 255th entry of a list;
     /// - `Many` at the first byte after record 1,000,000;
-    /// - `Memory` where a whole record finds no memory.
+    /// - `Memory` if there is no memory for a whole record.
     ///
-    /// The records before the fault stay in `out`. From then on the framer has failed: each later
-    /// feed adds nothing and returns the same fault.
+    /// The records before the fault stay in `out`. From then on the framer has failed: each later feed adds nothing and
+    /// returns the same fault.
     pub fn feed(
         &mut self,
         alloc: Global,
@@ -157,7 +156,7 @@ impl Framer {
         // The records that are added are those that the stream so far has beyond the earlier ones.
         ensures feeds { Feeds self.old piece.now out.old.items out.new.items self.new result }
 
-        // Ok exactly where more bytes may come, and else the fault of their ending.
+        // Ok exactly if more bytes may come, and otherwise the fault of their ending.
         ensures ok_where_more_may_come { (stream : List ℕ) (records : List (List ℕ))
             → StandsAt stream records self.old
             → result ≢ Err FeedFault.Memory
@@ -168,7 +167,7 @@ impl Framer {
             → fault ≢ FeedFault.Memory
             → IsSplit (stream ++ piece.now) (records ++ beyond out.old.items out.new.items) (ending_of fault) }
 
-        // For want of memory the records so far are a beginning, and a whole one is missing.
+        // If memory runs out, the records so far are a prefix, and a whole record is missing.
         ensures memory { (stream : List ℕ) (records : List (List ℕ))
             → StandsAt stream records self.old
             → result ≡ Err FeedFault.Memory
@@ -180,7 +179,7 @@ impl Framer {
             → self.old ≡ Failed fault
             → (result ≡ Err fault) × (self.new ≡ self.old) × (out.new.items ≡ out.old.items) }
 
-        // No stream gives more than 1,000,000 records.
+        // No stream has more than 1,000,000 records.
         ensures few { (stream : List ℕ) (records : List (List ℕ))
             → StandsAt stream records self.old
             → length records + length out.new.items ≤ MAX_RECORDS + length out.old.items }
@@ -197,9 +196,10 @@ impl Framer {
         }
     }
 
-    /// How the stream ends, where no more comes of it: after a fault as the fault says, before the
-    /// end of the header as `Header`, within a record as `Truncated`, and else as `Complete`. It takes
-    /// no memory.
+    /// How the stream ends if no more bytes come.
+    ///
+    /// After a fault it is the ending of that fault; before the end of the header it is `Header`, within a record
+    /// `Truncated`, and otherwise `Complete`. It allocates nothing.
     pub fn finish(self) -> Ending
         ensures split { (stream : List ℕ) (records : List (List ℕ))
             → StandsAt stream records self

@@ -1,4 +1,4 @@
-//! Laws of records and of how a stream splits into them, each as the contract of a function that does nothing.
+//! Theorems about records and how a stream splits into them, each as the contract of an empty function.
 ghost use Rattle.std.specs.Prelude.{codes, ◌≡◌, ℕ, ◌<◌, ◌≤◌, List, [], ◌++◌, length, All};
 ghost use Rattle.planar_code.specs.declared.TheConstants.{MAX_RECORDS};
 ghost use Rattle.planar_code.specs.declared.ending.Ending.{Ending};
@@ -15,18 +15,17 @@ pub fn header_text()
     ensures { HEADER ≡ codes ">>planar_code<<" }
 {}
 
-/// A record's lists are those that its bytes hold.
+/// A record's lists are those that its bytes encode.
 pub fn record_lists()
     ensures { (bytes : List ℕ) (r : IsRecord bytes) → lists_of bytes ≡ r.lists }
 {}
 
-/// No record is a beginning of another.
+/// No record is a proper prefix of another.
 pub fn no_prefix()
     ensures { (bytes more : List ℕ) → IsRecord bytes → IsRecord (bytes ++ more) → more ≡ [] }
 {}
 
-/// Of the faults of a record's parse at most one fits; what is one record has none but want of
-/// memory.
+/// At most one parse fault fits given bytes; bytes that are one record have none but `Memory`.
 pub fn one_fault()
     ensures { (bytes : List ℕ) (fault other : ParseFault)
         → IsParseFault bytes fault
@@ -34,7 +33,7 @@ pub fn one_fault()
         → fault ≡ other }
 {}
 
-/// A stream splits in one way at most.
+/// A stream splits in at most one way.
 pub fn one_split()
     ensures { (stream : List ℕ) (records others : List (List ℕ)) (end other : Ending)
         → IsSplit stream records end
@@ -56,7 +55,7 @@ pub fn few_records()
         → length records ≤ MAX_RECORDS }
 {}
 
-/// The records so far begin the records of the stream, however it goes on.
+/// The records so far are a prefix of the records of the stream, however it goes on.
 pub fn records_begin()
     ensures { (state : FramerState) (stream : List ℕ) (records : List (List ℕ))
         → StandsAt stream records state
@@ -65,7 +64,7 @@ pub fn records_begin()
         → (later : List (List ℕ)) × (all ≡ records ++ later) }
 {}
 
-/// Where a framer has not failed, more bytes of its stream may come.
+/// If a framer has not failed, more bytes of its stream may come.
 pub fn running_may_go_on()
     ensures { (state : FramerState) (stream : List ℕ) (records : List (List ℕ))
         → HasNotFailed state

@@ -1,4 +1,4 @@
-//! One record of planar_code from just its bytes.
+//! Parsing bytes that are exactly one record of planar_code.
 ghost use Rattle.std.specs.Prelude.{◌≡◌, ◌≢◌, IfOk, IfErr, IsOk, Err, ◌↔◌};
 ghost use Rattle.planar_code.specs.declared.parse.ParseFault.{ParseFault};
 ghost use Rattle.planar_code.specs.Stream.{IsRecord};
@@ -9,41 +9,41 @@ use crate::record::Record;
 use std::alloc::Global;
 use thiserror::Error;
 
-/// Why bytes give no record.
+/// The reason why bytes are not parsed as one record.
 #[derive(Clone, Copy, Debug, PartialEq, Eq, Hash, Error)]
 pub enum ParseFault {
-    /// The bytes are only a beginning of a record. So are no bytes at all.
+    /// The bytes are a proper prefix of a record, or there are none.
     #[error("the bytes end before the record does")]
     Unfinished,
-    /// The first byte is 0, which is no number of vertices. To a framer this is the fault `Large`.
+    /// The first byte is 0, which is not a valid number of vertices. A framer calls this fault `Large`.
     #[error("the record begins with byte 0")]
     Order,
     /// A neighbour list has a 255th entry.
     #[error("a neighbour list has more than 254 entries")]
     Oversize,
-    /// The bytes are a record and then more bytes.
+    /// The bytes are a record followed by more bytes.
     #[error("more bytes follow the record")]
     Long,
-    /// The bytes are a record, for which there was no memory.
+    /// The bytes are a record, but memory ran out for it.
     #[error("out of memory")]
     Memory,
 }
 
 impl Record {
-    /// The record that the bytes are. It takes time in proportion to them, and memory for a record
-    /// alone.
+    /// The record that `bytes` are, if they are exactly one. The time is linear in their number, and only the record
+    /// allocates.
     ///
     /// # Errors
     ///
-    /// - `Order` where the first byte is 0;
-    /// - `Oversize` where a neighbour list has a 255th entry;
-    /// - `Unfinished` where the bytes end within a record, or are none;
-    /// - `Long` where more bytes follow a record;
-    /// - `Memory` where the bytes are a record that finds no memory.
+    /// - `Order` if the first byte is 0;
+    /// - `Oversize` if a neighbour list has a 255th entry;
+    /// - `Unfinished` if the bytes end within a record, or there are none;
+    /// - `Long` if more bytes follow a record;
+    /// - `Memory` if the bytes are a record for which there is no memory.
     pub fn parse(alloc: Global, bytes: &[u8]) -> Result<Record, ParseFault>
         ensures record { IfOk result (λ r. r ≡ bytes.now) }
 
-        // But for want of memory it is Ok exactly where the bytes are one record.
+        // Unless memory runs out, it is Ok exactly if the bytes are one record.
         ensures ok_where_record { result ≢ Err ParseFault.Memory → (IsOk result ↔ IsRecord bytes.now) }
         ensures fault { IfErr result (IsParseFault bytes.now) }
     {

@@ -1,4 +1,4 @@
-//! The record that a stream has begun and not ended.
+//! The record that a stream has begun but not ended.
 ghost use Rattle.std.specs.Prelude.{◌≡◌, ℕ, ◌<◌, List, [], ◌++◌, length, IsTrue, ◌↔◌, IfOk, OnOk, OnErr};
 ghost use Rattle.planar_code.specs.Stream.{IsRecord};
 ghost use Rattle.planar_code.specs.Started.{IsStarted};
@@ -10,13 +10,13 @@ use crate::scan::{Scan, scan_lists};
 use std::alloc::{AllocError, Global};
 use std::marker::Model;
 
-/// How many bytes a record has at most: its first byte, and 255 lists of 254 entries and a 0.
+/// The maximum number of bytes of a record: its first byte, and 255 lists of 254 entries and a 0.
 pub(crate) const MAX_BYTES: usize = 65_026;
 
 /// The bytes of the partial record, with room for the longest record.
 ///
-/// Where there are some, `remaining` lists are not yet ended, the partial one among them, which has
-/// `entries` entries so far.
+/// If there are any, `remaining` lists are not yet ended, including the partial one, which has `entries` entries so
+/// far.
 #[derive(Debug, Drop)]
 pub struct PartialRecord {
     bytes: Vec<u8>,
@@ -68,7 +68,7 @@ impl PartialRecord {
         scan_lists(text, 1, order, 0)
     }
 
-    /// Takes in `text`, which leaves the record partial.
+    /// Appends `text`, after which the record is still partial.
     fn keep(&mut self, text: &[u8], remaining: u8, entries: u8)
         requires { IsStarted (self.old ++ text.now) remaining entries }
         ensures { self.new ≡ self.old ++ text.now }
@@ -78,7 +78,7 @@ impl PartialRecord {
         self.entries = entries;
     }
 
-    /// Hands out the record that `text` ends. One that lies whole in `text` is copied once.
+    /// The record that `text` ends. One that lies whole in `text` is copied once.
     fn complete(&mut self, alloc: Global, text: &[u8]) -> Result<Record, AllocError>
         requires { IsRecord (self.old ++ text.now) }
         ensures record { IfOk result (λ r. r ≡ self.old ++ text.now) }
@@ -93,10 +93,10 @@ impl PartialRecord {
         result
     }
 
-    /// Reads on to the record's end, or to the end of `text`: the record and how many bytes of
-    /// `text` end it, or nothing where it stays partial.
+    /// Reads to the end of the record or of `text`; returns the record and how many bytes of `text` it took, or `None`
+    /// if it stays partial.
     ///
-    /// Want of memory is returned only where `text` ends the record.
+    /// It runs out of memory only if `text` ends the record.
     pub fn read(&mut self, alloc: Global, text: &[u8]) -> Result<Option<(Record, usize)>, FeedFault>
         requires { 0 < length text.now }
         ensures { TakesFrom self.old text.now self.new result }

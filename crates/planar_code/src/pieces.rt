@@ -9,7 +9,7 @@ use crate::framer::Framer;
 use crate::record::Record;
 use std::alloc::{AllocError, Global};
 
-/// Hands on the want of memory alone: any other fault is in the ending.
+/// Passes on a lack of memory only: any other fault is part of the ending.
 fn check_memory(fed: Result<(), FeedFault>) -> Result<(), AllocError>
     ensures ok { OnOk result (fed ≢ Err FeedFault.Memory) }
     ensures err { OnErr result (fed ≡ Err FeedFault.Memory) }
@@ -20,12 +20,11 @@ fn check_memory(fed: Result<(), FeedFault>) -> Result<(), AllocError>
     }
 }
 
-/// The records and the ending of a stream that comes in pieces: those of all pieces together,
-/// wherever the stream is divided.
+/// The records and the ending of a stream that is given in pieces; they do not depend on where it is divided.
 ///
 /// # Errors
 ///
-/// `AllocError` where there is no memory for the framer or a record.
+/// `AllocError` if there is no memory for the framer or a record.
 pub fn frame(alloc: Global, pieces: &[Vec<u8>]) -> Result<(Vec<Record>, Ending), AllocError>
     ensures split { IfOk result (λ s. IsSplit (flat_map (λ piece. piece.items) pieces.now) s.0.items s.1) }
 {

@@ -1,4 +1,4 @@
-//! A parser of planar_code (plantri, Brinkmann and McKay) record by record, beside which tests hold the framer.
+//! A parser of planar_code (plantri, Brinkmann and McKay) record by record, against which tests compare the framer.
 
 ghost use Rattle.std.specs.Prelude.{◌≡◌, ◌≢◌, ℕ, ◌<◌, List, length, slice_index, IfOk};
 ghost use Rattle.planar_code.specs.Split.{IsSplit};
@@ -10,17 +10,17 @@ use crate::record::Record;
 use crate::{HEADER, MAX_LIST, MAX_RECORDS};
 use std::alloc::{AllocError, Global};
 
-/// Where a list or a record that some bytes begin with ends.
+/// Where the first list or record in some bytes ends.
 pub enum End {
-    /// After so many bytes.
+    /// After this many bytes.
     After(usize),
     /// Not yet: it has not ended.
     Truncated,
-    /// Nowhere: a list has more than 254 entries.
+    /// Nowhere, since a list has more than 254 entries.
     Oversize,
 }
 
-/// Where the list ends that the bytes begin with.
+/// Where the list at the beginning of the bytes ends.
 fn list_end(bytes: &[u8]) -> End
     ensures { (before : List ℕ) (remaining : ℕ) → IsStarted before remaining 0 → EndsList before remaining bytes.now result }
 {
@@ -35,7 +35,7 @@ fn list_end(bytes: &[u8]) -> End
     End::Truncated
 }
 
-/// Where the record ends that the bytes begin with.
+/// Where the record at the beginning of the bytes ends.
 pub fn record_end(bytes: &[u8]) -> End
     requires some { 0 < length bytes.now }
     requires nonzero { slice_index bytes.now 0 ≢ 0 }
@@ -53,7 +53,7 @@ pub fn record_end(bytes: &[u8]) -> End
     End::After(at)
 }
 
-/// Splits what follows the header.
+/// Splits the bytes after the header into records.
 fn split_body(alloc: Global, body: &[u8]) -> Result<(Vec<Record>, Ending), AllocError>
     ensures { IfOk result (λ s. SplitsBody body.now s.0.items s.1) }
 {
@@ -78,14 +78,13 @@ fn split_body(alloc: Global, body: &[u8]) -> Result<(Vec<Record>, Ending), Alloc
     Ok((records, Ending::Complete))
 }
 
-/// The records and the ending of a whole stream.
+/// The records and the ending of a whole stream, by a plain reference parser.
 ///
-/// It reads record by record, as the format is described, and shares no step with the framer. Tests hold the
-/// framer against it.
+/// It reads record by record, as the format is described, and shares no step with the framer; tests compare the two.
 ///
 /// # Errors
 ///
-/// `AllocError` where there is no memory for the records.
+/// `AllocError` if there is no memory for the records.
 pub fn split(alloc: Global, stream: &[u8]) -> Result<(Vec<Record>, Ending), AllocError>
     ensures split { IfOk result (λ s. IsSplit stream.now s.0.items s.1) }
 {

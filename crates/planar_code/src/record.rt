@@ -7,11 +7,11 @@ use smallvec::SmallVec;
 use std::alloc::{AllocError, Global};
 use std::marker::Model;
 
-/// How many bytes of a record stand in the value itself. Graphs of up to nine vertices of degree 4 have no more, and
-/// most of ten.
+/// The number of bytes of a record that fit in the value itself. Graphs of up to nine vertices of degree 4 have no
+/// more, and most of ten.
 const SHORT: usize = 48;
 
-/// One record of a stream: its bytes, which are one record and nothing more. A short one takes no memory.
+/// One record of a stream: its bytes, which are exactly one record. A record of at most 48 bytes allocates nothing.
 #[derive(Debug, Drop)]
 pub struct Record {
     bytes: SmallVec<u8, SHORT>,
@@ -36,19 +36,19 @@ impl Record {
         })
     }
 
-    /// The record's bytes: n, and then n neighbour lists, each ended by a 0.
+    /// The record's bytes: n, followed by n neighbour lists, each ended by a 0.
     pub fn bytes(&self) -> &[u8]
         ensures value { result.now ≡ self.now }
         ensures is_record { IsRecord self.now }
 
-        // The record is spelt by the lists that its bytes hold.
+        // The record is encoded by the lists that its bytes hold.
         ensures spelt { self.now ≡ length (lists_of self.now) ∷ flat_map ended (lists_of self.now) }
         ensures each { All IsList (lists_of self.now) }
     {
         self.bytes.as_slice()
     }
 
-    /// The first byte n, 1 to 255: how many vertices and neighbour lists there are.
+    /// The number of vertices, 1 to 255, which is the first byte and the number of neighbour lists.
     pub fn order(&self) -> u8
         ensures first { result ≡ slice_index self.now 0 }
         ensures some { 0 < result }

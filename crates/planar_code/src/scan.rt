@@ -1,4 +1,4 @@
-//! Reading on in a record of planar_code (plantri, Brinkmann and McKay), list by list.
+//! Reading further in a record of planar_code (plantri, Brinkmann and McKay), list by list.
 
 ghost use Rattle.std.specs.Prelude.{◌≡◌, ℕ, ◌<◌, ◌≤◌, List, ◌++◌, length, take};
 ghost use Rattle.planar_code.specs.declared.TheConstants.{MAX_LIST};
@@ -8,17 +8,18 @@ ghost use Rattle.planar_code.specs.Scan.{Scans};
 use crate::MAX_LIST;
 use crate::fault::FeedFault;
 
-/// How far the bytes that come next take a record.
+/// How far the next bytes take a record.
 pub enum Scan {
-    /// So many bytes end it.
+    /// The record ends after this many bytes.
     Whole(usize),
-    /// All of them leave it partial, with so many lists to come and so many entries in the partial list.
+    /// The record is still partial after all of them: this many lists remain, and the partial list has this many
+    /// entries.
     Open { remaining: u8, entries: u8 },
 }
 
-/// Reads on, from a place of `text`, in a record that was begun.
+/// How far `text`, from the place `from` on, takes a record that was begun.
 ///
-/// `remaining` lists are not yet ended, the partial one among them, which has `entries` entries so far.
+/// `remaining` lists are not yet ended, including the partial one, which has `entries` entries so far.
 pub fn scan_lists(
     text: &[u8],
     from: usize,

@@ -5,7 +5,7 @@ use Rattle.entries.specs.Answers.{Answers}
 use Rattle.entries.specs.declared.answer.Answer.{Answer}
 use Rattle.entries.specs.declared.entry.Entry.{Entry}
 
--- the record of these bytes at this place of this file, and what is answered to it
+-- the record with these bytes at this place of this file, and its answer
 abbrev pub entry_of : (file ordinal : ℕ) (bytes : List ℕ) (choice : Choice) (answer : Answer) → ∥ Answers choice bytes answer ∥₁ → Entry
 entry_of file ordinal bytes choice answer answers =
     record { file = file; ordinal = ordinal; rec = bytes; choice = choice; answer = answer; answers = answers }

@@ -13,7 +13,7 @@ use Rattle.drawing_laws.specs.Drawings.{IsDrawnIfLaid}
 abbrev pub IsDrawnBook : BookModel → Type 0
 IsDrawnBook book = All (λ entry. ∥ IsDrawnIfLaid entry.answer ∥₁) book.entries
 
--- so it is in each of these books
+-- this holds for each of these books
 abbrev pub AreDrawnBooks : List BookModel → Type 0
 AreDrawnBooks books = All IsDrawnBook books
 

@@ -1,4 +1,4 @@
--- The text of a run in each form, a line at a time.
+-- The text of a run in each format, line by line.
 use Rattle.std.specs.Prelude.{◌≡◌, ◌≢◌, ℕ, ◌+◌, List, [], ◌∷◌, ◌++◌, length, Option, IfSome}
 use Rattle.streams.specs.declared.frames.Mark.{Mark}
 use Rattle.entries.specs.declared.answer.Answer.{Answer}
@@ -14,17 +14,17 @@ abbrev pub line_in : Form → Entry → List ℕ
 line_in Report entry = entry_line (entry.ordinal + 1) entry
 line_in Json entry = entry_json (entry.file + 1) (entry.ordinal + 1) entry
 
--- what stands before the lines of the file with this number
+-- the text before the lines of the file with this number
 abbrev pub preamble_in : Form → ℕ → List ℕ
 preamble_in Report number = file_line number
 preamble_in Json number = []
 
--- the last line of the file with this number: its mark, and how many entries there are
+-- the last line of the file with this number: its mark, and the number of entries
 abbrev pub end_in : Form → ℕ → Mark → ℕ → List ℕ
 end_in Report number mark count = end_line mark count
 end_in Json number mark count = end_json number mark count
 
--- a line that is there is the entry's, and the entry has an answer
+-- if there is a line, it is the entry's, and the entry has an answer
 abbrev pub IsLineOf : Form → Entry → Option (List ℕ) → Type 0
 IsLineOf form entry line = IfSome line (λ text. (entry.answer ≢ Answer.NoMemory) × (text ≡ line_in form entry))
 
@@ -33,10 +33,10 @@ abbrev pub lines_in : Form → List Entry → List ℕ
 lines_in form [] = []
 lines_in form (entry ∷ entries) = line_in form entry ++ lines_in form entries
 
--- all lines of the file with this number, of which these are the entries and the mark
+-- all lines of the file with this number, these entries and this mark
 abbrev pub whole_in : Form → ℕ → List Entry → Mark → List ℕ
 whole_in form number entries mark = preamble_in form number ++ lines_in form entries ++ end_in form number mark (length entries)
 
--- the same of a book
+-- all lines of a book with this number
 abbrev pub book_in : Form → ℕ → BookModel → List ℕ
 book_in form number book = whole_in form number book.entries book.mark

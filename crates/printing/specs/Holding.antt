@@ -1,4 +1,4 @@
--- What lines hold of the notes of a run.
+-- How the lines of a run relate to its notes.
 use Rattle.std.specs.Prelude.{◌≡◌, ◌↔◌, ◌⊎◌, ℕ, ◌<◌, Bool, true, List, [], ◌∷◌, ◌++◌, Option, None, length}
 use Rattle.common.specs.declared.choice.Choice.{Choice}
 use Rattle.lanes.specs.Notes.{Note}
@@ -10,7 +10,8 @@ use Rattle.printing.specs.Came.{Came, IsToldByNotes, IsFlawlessSoFar}
 use Rattle.printing.specs.Orders.{IsInOrder}
 use Rattle.printing.specs.Written.{AreWritten, AreRemaining, IsPartialText}
 
--- What the notes tell of each file, which means this, is in order, and is written or waits. The current file, the first that has not ended, has no mark. And it is known whether all is flawless so far.
+-- What the notes say of each file, which means this, is in order, and is written or buffered. The current file, the
+-- first that has not ended, has no mark. And it is known whether all is flawless so far.
 pub record HoldsNotes (choice : Choice) (meaning : ℕ → Meaning) (form : Form) (start now : Option (List ℕ)) (buffer : List ℕ) (current : ℕ) (waiting : List Waiting) (flawless : Bool) (ns : List Note) : Type 0 where
   pub came : ℕ → Came
   pub told : (file : ℕ) → file < length waiting → IsToldByNotes file ns (came file)
@@ -19,14 +20,14 @@ pub record HoldsNotes (choice : Choice) (meaning : ℕ → Meaning) (form : Form
   pub unended : current < length waiting → (came current).mark ≡ None
   pub all_flawless : (flawless ≡ true) ↔ ((file : ℕ) → file < length waiting → IsFlawlessSoFar (came file))
 
--- What the notes tell of each of so many files, which means this, is in order, and a part of its text was added.
+-- What the notes say of each of this many files, which means this, is in order, and a part of its text was added.
 pub record ArePartialNotes (choice : Choice) (meaning : ℕ → Meaning) (form : Form) (files : ℕ) (start now : Option (List ℕ)) (ns : List Note) : Type 0 where
   pub came : ℕ → Came
   pub told : (file : ℕ) → file < files → IsToldByNotes file ns (came file)
   pub ordered : (file : ℕ) → file < files → IsInOrder choice (meaning file) file (came file)
   pub text : IsPartialText form start now files came
 
--- the form of the text, the choice of outer faces, and how many files the run has
+-- the format of the text, the choice of outer faces, and the number of files of the run
 abbrev pub form_of : Lines → Form
 form_of lines = lines.form
 
@@ -36,38 +37,38 @@ choice_of lines = lines.choice
 abbrev pub files_of : Lines → ℕ
 files_of lines = length lines.waiting.items
 
--- no text waits on its way to the sink
+-- no text is on its way to the sink
 abbrev pub IsFlushed : Lines → Type 0
 IsFlushed lines = lines.buffer ≡ []
 
--- what came of the files is written or waits, of a sink that had taken `start` and has now taken `now`
+-- what has arrived of the files is written or buffered, for a sink that had taken `start` and has now taken `now`
 abbrev pub LinesWrite : Option (List ℕ) → Option (List ℕ) → Lines → (ℕ → Came) → Type 0
 LinesWrite start now lines came = AreWritten lines.form start now lines.buffer lines.current lines.waiting.items came
 
--- the same before anything of the first file that has not ended was put on its way
+-- this holds before anything of the first file that has not ended was put on its way
 abbrev pub LinesRemain : Option (List ℕ) → Option (List ℕ) → Lines → (ℕ → Came) → Type 0
 LinesRemain start now lines came = AreRemaining lines.form start now lines.buffer lines.current lines.waiting.items came
 
--- what the notes tell of files that mean this is written or waits
+-- what the notes say of files that mean this is written or buffered
 abbrev pub LinesHold : (ℕ → Meaning) → Option (List ℕ) → Option (List ℕ) → Lines → List Note → Type 0
 LinesHold meaning start now lines ns = HoldsNotes lines.choice meaning lines.form start now lines.buffer lines.current lines.waiting.items lines.flawless ns
 
--- a part of the text of what the notes tell was added
+-- a part of the text of what the notes say was added
 abbrev pub ArePartialLines : (ℕ → Meaning) → Option (List ℕ) → Option (List ℕ) → Lines → List Note → Type 0
 ArePartialLines meaning start now lines ns = ArePartialNotes lines.choice meaning lines.form (length lines.waiting.items) start now ns
 
--- the same, with or without the note that came last
+-- a part of that text was added, with or without the note that came last
 abbrev pub ArePartialLinesAt : (ℕ → Meaning) → Option (List ℕ) → Option (List ℕ) → Lines → List Note → Note → Type 0
 ArePartialLinesAt meaning start now lines ns note =
     ArePartialLines meaning start now lines ns ⊎ ArePartialLines meaning start now lines (ns ++ note ∷ [])
 
--- the form, the choice and the number of files are those of before
+-- the format, the choice and the number of files are unchanged
 pub record AreLinesOf (before after : Lines) : Type 0 where
   pub form : after.form ≡ before.form
   pub choice : after.choice ≡ before.choice
   pub files : length after.waiting.items ≡ length before.waiting.items
 
--- the first file that has not ended, and whether all is flawless so far, are those of before, too
+-- the first file that has not ended, and whether all is flawless so far, are unchanged, too
 pub record StandAt (before after : Lines) : Type 0 where
   pub same : AreLinesOf before after
   pub current : after.current ≡ before.current

@@ -1,4 +1,4 @@
--- What may come of a file.
+-- What may arrive of a file.
 use Rattle.std.specs.Prelude.{◌≡◌, ℕ, ◌<◌, ◌≤◌, List, length, map, None, Some, All}
 use Rattle.planar_code.specs.declared.TheConstants.{MAX_RECORDS}
 use Rattle.streams.specs.declared.frames.Mark.{Mark}
@@ -16,8 +16,9 @@ use Rattle.printing.specs.Came.{Came}
 abbrev pub IsKnownAt : Meaning → ℕ → List ℕ → Type 0
 IsKnownAt meaning place bytes = ∥ IsPlacedAt meaning place bytes ∥₁
 
--- The entries are about records of this file under this choice, in order and from the first on, at most as many as a file may have, and
--- each at its place in what the file means. Where the file has ended, what it means allows its mark with so many records.
+-- The entries are about records of this file under this choice, in order and from the first on, at most as many as a
+-- file may have, and each at its place in what the file means. If the file has ended, what it means allows its mark
+-- with this many records.
 pub record IsInOrder (choice : Choice) (meaning : Meaning) (file : ℕ) (came : Came) : Type 0 where
   pub each : map about_of came.entries ≡ numbered choice file 0 (map (λ (entry : Entry). entry.rec) came.entries)
   pub records : All (λ (entry : Entry). IsSpelt entry.rec) came.entries

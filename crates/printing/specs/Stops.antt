@@ -1,4 +1,4 @@
--- A note of no file of the run tells nothing of them, nor does a stop.
+-- A note about no file of the run says nothing about its files, nor does a stop.
 use Rattle.std.proofs.Common.{◌≡◌, ℕ, Bool, cond, false, List, [], ◌∷◌, ◌++◌, Option, None, refl, sym, ap, ◌∙◌, append-nil}
 use Rattle.std.proofs.lemmas.List.Elements.{filter-append}
 use Rattle.common.specs.declared.choice.Choice.{Choice}

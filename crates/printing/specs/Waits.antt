@@ -1,27 +1,27 @@
--- What waits of a file, and how it changes.
+-- The buffered state of a file, and how it changes.
 use Rattle.std.specs.Prelude.{◌≡◌, ◌≢◌, ℕ, ◌+◌, List, [], ◌++◌, None, Some, length, slice_index_or}
 use Rattle.streams.specs.declared.frames.Mark.{Mark}
 use Rattle.printing.specs.declared.waiting.Waiting.{Waiting}
 
--- nothing waits
+-- nothing is buffered
 pub record IsNothing (waiting : Waiting) : Type 0 where
   pub lines : waiting.lines ≡ []
   pub count : waiting.count ≡ 0
   pub mark : waiting.mark ≡ None
 
--- one entry more is counted
+-- one more entry is counted
 pub record IsCountedOne (before after : Waiting) : Type 0 where
   pub lines : after.lines ≡ before.lines
   pub count : after.count ≡ before.count + 1
   pub mark : after.mark ≡ before.mark
 
--- one line more waits
+-- one more line is buffered
 pub record GetsLine (line : List ℕ) (before after : Waiting) : Type 0 where
   pub lines : after.lines ≡ before.lines ++ line
   pub count : after.count ≡ before.count
   pub mark : after.mark ≡ before.mark
 
--- there was no mark, and there is this one; and so many entries have come
+-- there was no mark, and now it is this one; and this many entries have arrived
 pub record GetsMark (many : ℕ) (given : Mark) (before after : Waiting) : Type 0 where
   pub lines : after.lines ≡ before.lines
   pub count : after.count ≡ before.count
@@ -29,7 +29,7 @@ pub record GetsMark (many : ℕ) (given : Mark) (before after : Waiting) : Type 
   pub counted : before.count ≡ many
   pub mark : after.mark ≡ Some given
 
--- there is no mark, and so many entries have come
+-- there is no mark, and this many entries have arrived
 pub record IsUnmarked (many : ℕ) (waiting : Waiting) : Type 0 where
   pub mark : waiting.mark ≡ None
   pub count : waiting.count ≡ many
@@ -39,7 +39,7 @@ pub record IsTaken (before after : Waiting) : Type 0 where
   pub count : after.count ≡ before.count
   pub mark : after.mark ≡ before.mark
 
--- only what waits of this file changes, and like this
+-- only the buffered state of this file changes, in this way
 pub record ChangesAt (file : ℕ) (change : Waiting → Waiting → Type 0) (before after : List Waiting) : Type 0 where
   pub count : length after ≡ length before
   pub here : (other : Waiting) → change (slice_index_or before file other) (slice_index_or after file other)

@@ -16,23 +16,24 @@ use Rattle.reports.specs.Forms.{text_in}
 use Rattle.reports.specs.FlawlessBooks.{IsFlawlessBook}
 use Rattle.printing.specs.FormLines.{preamble_in, lines_in}
 
--- the notes tell all of each of so many files
+-- the notes say all of each of this many files
 abbrev pub HaveFiles : Choice → (ℕ → Meaning) → ℕ → List Note → Type 0
 HaveFiles choice meaning files ns = (file : ℕ) → file < files → HasFile choice (meaning file) file ns
 
--- the text of the books of so many files was added after `start`, and the status is 0 exactly where each book is flawless
+-- the text of the books of this many files was added after `start`, and the status is 0 exactly if each book is
+-- flawless
 pub record IsAllWritten (choice : Choice) (meaning : ℕ → Meaning) (form : Form) (files : ℕ) (start now : Option (List ℕ)) (status : ℕ) : Type 0 where
   pub books : List BookModel
   pub of_files : AreAllBooks choice meaning files books
   pub text : Appends start now (text_in form books)
   pub flawless : (status ≡ 0) ↔ All IsFlawlessBook books
 
--- The entries are the first of a file that means this: those that its book may have where memory is wanted.
+-- The entries are the first of a file that means this: those that its book may have if memory runs out.
 abbrev pub AreFirst : Choice → Meaning → ℕ → List Entry → Type 0
 AreFirst choice meaning file entries = IsBook choice meaning file (record { entries = entries; mark = Mark.Ended Ending.Memory })
 
--- These are books of the first of so many files, of which any may end for want of memory. After `start` a beginning was added of their text, or of
--- it and the lines of the first entries of the next file, which has no last line.
+-- These are books of the first of this many files, of which any may end because memory ran out. After `start` a prefix
+-- was added of their text, or of it and the lines of the first entries of the next file, which has no last line.
 pub record IsBegun (choice : Choice) (meaning : ℕ → Meaning) (form : Form) (files : ℕ) (start now : Option (List ℕ)) : Type 0 where
   pub books : List BookModel
   pub of_files : AreBooks choice meaning 0 books

@@ -1,4 +1,4 @@
--- What has been written of what has come, and what waits.
+-- What has been written of what has arrived, and what is buffered.
 use Rattle.std.specs.Prelude.{◌≡◌, ℕ, zero, suc, ◌+◌, ◌<◌, ◌≤◌, ◌⊎◌, Bool, true, false, List, [], ◌++◌, length, Option, None, Some, slice_index_or}
 use Rattle.streams.specs.declared.frames.Mark.{Mark}
 use Rattle.streams.specs.Sink.{AppendsPrefix, IsInTransit}
@@ -9,21 +9,21 @@ use Rattle.printing.specs.declared.refusal.Refusal.TheVariants.{Write, Memory, A
 use Rattle.printing.specs.declared.waiting.Waiting.{Waiting}
 use Rattle.printing.specs.Came.{Came, HasMark}
 
--- the sink has failed exactly where that is why a message was refused
+-- the sink has failed exactly if the message was refused for that
 abbrev pub GivesUp : Bool → Refusal → Type 0
 GivesUp failed Write = failed ≡ true
 GivesUp failed Memory = failed ≡ false
 GivesUp failed Astray = failed ≡ false
 
--- whatever text was on its way, it is on its way with `more` at its end
+-- whatever text was on its way, it is now on its way followed by `more`
 abbrev pub GoesOn : Option (List ℕ) → List ℕ → Option (List ℕ) → List ℕ → List ℕ → Type 0
 GoesOn old waited new waits more = (start : Option (List ℕ)) (text : List ℕ) → IsInTransit start old waited text → IsInTransit start new waits (text ++ more)
 
--- whatever text was on its way, a beginning of it with `more` at its end was added
+-- whatever text was on its way, a prefix of it followed by `more` was added
 abbrev pub IsPartlyAdded : Option (List ℕ) → List ℕ → Option (List ℕ) → List ℕ → Type 0
 IsPartlyAdded old waited new more = (start : Option (List ℕ)) (text : List ℕ) → IsInTransit start old waited text → AppendsPrefix start new (text ++ more)
 
--- what stands before the lines of this file, counted from 0, and its lines so far
+-- the text before the lines of this file, counted from 0, and its lines so far
 abbrev pub begun : Form → ℕ → Came → List ℕ
 begun form file came = preamble_in form (file + 1) ++ lines_in form came.entries
 
@@ -41,7 +41,8 @@ abbrev pub ended_texts : Form → (ℕ → Came) → ℕ → List ℕ
 ended_texts form came zero = []
 ended_texts form came (suc file) = ended_texts form came file ++ ended form file (came file)
 
--- Of so many files the first have ended, and a beginning was added of their texts, or of these and what has come of the next file.
+-- Of this many files the first have ended, and a prefix was added of their texts, or of these and what has arrived of
+-- the next file.
 pub record IsPartialText (form : Form) (start now : Option (List ℕ)) (files : ℕ) (came : ℕ → Came) : Type 0 where
   pub current : ℕ
   pub within : current ≤ files
@@ -54,7 +55,8 @@ pub record IsCounted (waiting : Waiting) (came : Came) : Type 0 where
   pub count : waiting.count ≡ length came.entries
   pub mark : waiting.mark ≡ came.mark
 
--- The texts of the files before the current file are on their way, and then what has come of the current file. What has come of the files behind it waits.
+-- The texts of the files before the current file are on their way, followed by what has arrived of the current file.
+-- What has arrived of the files after it is buffered.
 pub record AreWritten (form : Form) (start now : Option (List ℕ)) (buffer : List ℕ) (current : ℕ) (waiting : List Waiting) (came : ℕ → Came) : Type 0 where
   pub within : current ≤ length waiting
   pub marked : (file : ℕ) → file < current → HasMark (came file)
@@ -64,7 +66,8 @@ pub record AreWritten (form : Form) (start now : Option (List ℕ)) (buffer : Li
   pub going : current < length waiting → IsInTransit start now buffer (ended_texts form came current ++ begun form current (came current))
   pub over : length waiting ≤ current → IsInTransit start now buffer (ended_texts form came current)
 
--- The same before anything of the current file was put on its way: what has come of it still waits.
+-- The texts of the files before the current file are on their way, and nothing of the current file: what has arrived of
+-- it is still buffered, as is what has arrived of the files after it.
 pub record AreRemaining (form : Form) (start now : Option (List ℕ)) (buffer : List ℕ) (current : ℕ) (waiting : List Waiting) (came : ℕ → Came) : Type 0 where
   pub within : current ≤ length waiting
   pub marked : (file : ℕ) → file < current → HasMark (came file)

@@ -10,18 +10,18 @@ use std::marker::Model;
 use std::mem;
 use streams::{Sink, TextBuffer};
 
-/// How many bytes a chunk has room for at least.
+/// The minimum capacity of a chunk, in bytes.
 const CHUNK: usize = 16_384;
 
-/// Text in chunks, which are never moved and mostly of one size: so it holds as much memory as `size` says, and
-/// what one text lets go of serves another.
+/// Text in chunks, which are never moved and mostly of one size. It holds exactly as much memory as `size` says, and
+/// memory that one text frees fits another.
 #[derive(Drop)]
 pub struct Chunks {
     /// The chunks before the last.
     full: Vec<Vec<u8>>,
     /// The last chunk.
     last: Vec<u8>,
-    /// How many bytes all chunks have room for.
+    /// The total capacity of all chunks, in bytes.
     size: usize,
 }
 
@@ -35,7 +35,7 @@ impl Model for Chunks {
 }
 
 impl Chunks {
-    /// No text. It takes no memory.
+    /// An empty text. It allocates nothing.
     pub(crate) fn new(alloc: Global) -> Chunks
         ensures { result ≡ [] }
     {
@@ -46,16 +46,16 @@ impl Chunks {
         }
     }
 
-    /// How many bytes of memory the text holds.
+    /// The memory that the text holds, in bytes.
     pub(crate) fn size(&self) -> usize {
         self.size
     }
 
-    /// Adds a text, which is not cut, and returns how many bytes of memory that took.
+    /// Appends a text, undivided, and returns how many bytes of memory that took.
     ///
     /// # Errors
     ///
-    /// `AllocError` where there is no memory for it. Then all stays as it was.
+    /// `AllocError` if there is no memory for it. Then nothing changes.
     pub(crate) fn push(&mut self, alloc: Global, text: &[u8]) -> Result<usize, AllocError>
         ensures added { OnOk result (self.new ≡ self.old ++ text.now) }
         ensures stays { OnErr result (self.new ≡ self.old) }
@@ -73,7 +73,7 @@ impl Chunks {
         Ok(room)
     }
 
-    /// Puts the text on its way.
+    /// Writes the text to the buffer and the sink.
     pub(crate) fn put<S: Sink>(&self, buffer: &mut TextBuffer, sink: &mut S) -> Result<(), Refusal>
         requires { S.failed sink.old ≡ false }
         ensures put { OnOk result (GoesOn (S.taken sink.old) buffer.old (S.taken sink.new) buffer.new self.now) }
@@ -86,7 +86,7 @@ impl Chunks {
     }
 }
 
-/// Puts the text of these chunks on its way.
+/// Writes the text of these chunks to the buffer and the sink.
 fn put_each<S: Sink>(
     chunks: &[Vec<u8>],
     buffer: &mut TextBuffer,

@@ -1,4 +1,4 @@
-//! Graphs without a drawing, of which there are none.
+//! Theorems that no graph is left without a drawing, and that the text would say so.
 
 ghost use Rattle.std.specs.Prelude.{ℕ, List, ◌++◌};
 ghost use Rattle.common.specs.declared.choice.Choice.{Choice};
@@ -13,19 +13,19 @@ ghost use Rattle.reports.specs.Report.{answer_text};
 ghost use Rattle.printing.specs.Telling.{TellsNoneUndrawn};
 ghost use Rattle.printing.specs.DrawnBooks.{AreDrawnBooks, IsUndrawn};
 
-/// In books that are right for their files each entry that has a shape has a drawing of it.
+/// In books that are right for their files, each entry that has a shape has a drawing of it.
 pub fn books_are_drawn()
     ensures { (choice : Choice) (meaning : ℕ → Meaning) (files : ℕ) (books : List BookModel)
         → AreAllBooks choice meaning files books → AreDrawnBooks books }
 {}
 
-/// The text of such books tells of no graph without a drawing.
+/// The text of such books reports no graph without a drawing.
 pub fn texts_tell_none_undrawn()
     ensures { (form : Form) (books : List BookModel) → AreDrawnBooks books → TellsNoneUndrawn (text_in form books) }
 {}
 
-/// It would tell: a text that says of a graph, in either form, what is said where a cause stands in place
-/// of a drawing, is none that tells of none, whatever stands before and behind.
+/// A text that contains, in either format, the answer of a graph without a drawing does report one, whatever precedes
+/// and follows it.
 pub fn undrawn_is_told()
     ensures report { (answer : Answer) (before behind : List ℕ) → IsUndrawn answer
         → TellsNoneUndrawn (before ++ answer_text answer ++ behind) → ⊥ }

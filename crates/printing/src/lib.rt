@@ -1,5 +1,5 @@
-//! The text of a run: records whose lines are printed, and the text that leaves as lines come, the files in their
-//! order.
+//! The text output of a run: records with their lines, and the order of the files, with output streamed as lines
+//! arrive.
 #![tactic(auto)]
 
 mod chunks;

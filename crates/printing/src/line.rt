@@ -1,14 +1,14 @@
-//! The text of a line on its way.
+//! A line of text between the stage that makes it and the sink.
 ghost use Rattle.std.specs.Prelude.{◌≡◌, IfOk};
 
 use smallvec::SmallVec;
 use std::alloc::{AllocError, Global};
 use std::marker::Model;
 
-/// As many bytes as a line holds without memory: few lines of a report have more.
+/// The number of bytes that a line holds without allocation: few lines of a report have more.
 const SHORT_TEXT: usize = 48;
 
-/// The text of one line. A short one stands in the value itself, and a longer one in memory.
+/// The text of one line. A short one is stored in the value itself, and a longer one on the heap.
 #[derive(Drop)]
 pub struct Line {
     text: SmallVec<u8, SHORT_TEXT>,
@@ -23,7 +23,7 @@ impl Model for Line {
 }
 
 impl Line {
-    /// A text that stands in memory.
+    /// A line with this text, which is on the heap.
     pub(crate) fn of(text: Vec<u8>) -> Line
         ensures { result ≡ text.items }
     {
@@ -39,7 +39,7 @@ impl Line {
         self.text.as_slice()
     }
 
-    /// A copy of a text. It takes memory only where the text is no short one.
+    /// A copy of a text. It allocates only if the text is not short.
     pub(crate) fn copied(alloc: Global, text: &[u8]) -> Result<Line, AllocError>
         ensures { IfOk result (λ line. line ≡ text.now) }
     {
@@ -48,7 +48,7 @@ impl Line {
         })
     }
 
-    /// The text in memory.
+    /// The text, on the heap.
     pub(crate) fn into_list(self) -> Result<Vec<u8>, AllocError>
         ensures { IfOk result (λ text. text.items ≡ self) }
     {

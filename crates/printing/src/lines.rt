@@ -1,4 +1,4 @@
-//! The lines of a run in each form. Files and places in a file count from 0 here, and from 1 in the text.
+//! The lines of a run in each format. Files and places in a file are counted from 0 here, and from 1 in the text.
 ghost use Rattle.std.specs.Prelude.{◌≡◌, ◌+◌, ◌^◌, ◌≤◌, IfOk, OnErr};
 ghost use Rattle.entries.specs.declared.answer.Answer.{Answer};
 ghost use Rattle.entries.specs.declared.entry.Entry.{Entry};
@@ -11,20 +11,20 @@ use reports::{Form, ReportLine};
 use std::alloc::{AllocError, Global};
 use streams::{Mark, mark_word};
 
-/// The line of an entry in this form, with the byte 0A at its end. It takes a few allocations.
+/// The output line of an entry in this format, with a newline (byte 0A) at its end. It takes a few allocations.
 ///
 /// # Errors
 ///
-/// `AllocError` where there is no memory for the line. In JSON also where the number of the entry's file,
-/// counted from 1, does not fit in 32 bits.
+/// `AllocError` if there is no memory for the line; in JSON also if the number of the entry's file, counted from 1,
+/// does not fit in 32 bits.
 pub fn entry_text(alloc: Global, form: Form, entry: &Entry) -> Result<Vec<u8>, AllocError>
     ensures { IfOk result (λ text. text.items ≡ line_in form entry.now) }
 {
     answer_line(alloc, form, entry.file, entry.ordinal, &entry.answer)?.into_list()
 }
 
-/// The same of the answer to the record at this place of this file, as a line on its way. That of a report takes no
-/// memory where it is short.
+/// The output line of the answer to the record at this place of this file, in this format. A short line of a report is
+/// not allocated.
 pub(crate) fn answer_line(
     alloc: Global,
     form: Form,
@@ -46,13 +46,14 @@ pub(crate) fn answer_line(
     }
 }
 
-/// The line in this form of the entry at this place of this file that has no answer for want of memory,
-/// with the byte 0A at its end. It takes a few allocations.
+/// The output line of an entry that has no answer because memory ran out, with a newline (byte 0A) at its end.
+///
+/// `file` and `ordinal` are the entry's file and its place there, from 0. It takes a few allocations.
 ///
 /// # Errors
 ///
-/// `AllocError` where there is no memory for the line. In JSON also where the number of the file, counted
-/// from 1, does not fit in 32 bits.
+/// `AllocError` if there is no memory for the line; in JSON also if the number of the file, counted from 1, does not
+/// fit in 32 bits.
 pub fn lacking_text(
     alloc: Global,
     form: Form,
@@ -72,12 +73,13 @@ pub fn lacking_text(
     }
 }
 
-/// What stands in this form before the lines of a file: in the report its first line, and in JSON nothing,
-/// which takes no memory.
+/// The text before the lines of a file in this format: the file's first line in the report, and nothing in JSON.
+///
+/// The empty text allocates nothing.
 ///
 /// # Errors
 ///
-/// `AllocError` where there is no memory for the line.
+/// `AllocError` if there is no memory for the line.
 pub fn preamble_text(alloc: Global, form: Form, file: u32) -> Result<Vec<u8>, AllocError>
     ensures { IfOk result (λ text. text.items ≡ preamble_in form (file + 1)) }
 {
@@ -87,13 +89,12 @@ pub fn preamble_text(alloc: Global, form: Form, file: u32) -> Result<Vec<u8>, Al
     }
 }
 
-/// The last line of a file in this form: its mark, and how many entries there are. It takes a few
-/// allocations.
+/// The last line of a file in this format: its mark, and the number of entries. It takes a few allocations.
 ///
 /// # Errors
 ///
-/// `AllocError` where there is no memory for the line. In JSON also where the number of the file, counted
-/// from 1, does not fit in 32 bits.
+/// `AllocError` if there is no memory for the line; in JSON also if the number of the file, counted from 1, does not
+/// fit in 32 bits.
 pub fn end_text(
     alloc: Global,
     form: Form,
@@ -114,7 +115,7 @@ pub fn end_text(
 ///
 /// # Errors
 ///
-/// `AllocError` where it does not fit. No file of a run has such a number.
+/// `AllocError` if it does not fit. No file of a run has such a number.
 fn number_of(file: u32) -> Result<u32, AllocError>
     ensures number { IfOk result (λ number. number ≡ file + 1) }
     ensures fits { OnErr result (2 ^ 32 ≤ file + 1) }

@@ -1,23 +1,24 @@
-//! Backpressure: which files pause while too much waits.
+//! Backpressure: which files pause while too much is buffered.
 
 use crate::run_lines::Lines;
 use lanes::Pauses;
 
-/// The part of what may wait from which on the next file that has not ended alone goes on beside the current file.
-/// So two lanes are at work for most of a run, where a whole bound for all would let one run alone.
+/// The fraction (1 / `QUARTER`) of the limit from which on only the next file that has not ended goes on beside the
+/// current file. With it two lanes work for most of a run; a single limit for all files would leave one lane working
+/// alone.
 const QUARTER: usize = 4;
 
-/// How much may wait of files that are not current yet, and where it is written that their reading pauses.
+/// The limit on buffered text of files that are not current yet, and the pauses of their reading.
 #[derive(Drop)]
 pub struct Pace<'p> {
     pub pauses: &'p Pauses,
-    /// How many bytes of memory what waits may hold until the reading of all files behind the current file pauses.
+    /// The number of bytes of buffered text from which on the reading of all files after the current file pauses.
     pub most: usize,
 }
 
 impl Pace<'_> {
-    /// Lets the files behind the current file pause where as much waits of them as may, those behind the next one
-    /// where a part of it waits, and else none.
+    /// Pauses the files after the current file if the limit is reached, those after the next one if a fraction of it
+    /// is, and otherwise none.
     pub(crate) fn keep(&self, lines: &Lines) {
         if lines.waits() >= self.most {
             self.pauses.pause_behind(lines.current());

@@ -1,4 +1,4 @@
-//! Records whose line is printed.
+//! Records with their output lines.
 ghost use Rattle.std.specs.Prelude.{◌≡◌};
 ghost use Rattle.std.proofs.Props.{props};
 ghost use Rattle.entries.specs.Answers.{Answers};
@@ -21,23 +21,23 @@ use std::alloc::{AllocError, Global};
 use std::marker::PhantomData;
 use std::snapshot::Snapshot;
 
-/// A record of a file, and the line of what is answered to it. Its type keeps that the record has its place in what
-/// the file means.
+/// A record of a file, and the output line of its answer. The type guarantees that the record has its place in what the
+/// file means.
 #[derive(Drop)]
 pub struct Printed<J: Meant> {
-    /// The file, from 0.
+    /// The index of the file, from 0.
     pub file: u32,
-    /// The record's place in its file, from 0.
+    /// The index of the record in its file, from 0.
     pub ordinal: u32,
-    /// How the outer face of its plane is chosen.
+    /// The rule by which the outer face of its plane is chosen.
     pub choice: Choice,
-    /// The form of the line.
+    /// The output format of the line.
     pub form: Form,
-    /// The line, or none where memory ran out for an answer or for its line.
+    /// The line, or `None` if memory ran out for an answer or for its line.
     pub line: Option<Line>,
-    /// The record. Only proofs see it.
+    /// The record. It exists only in proofs.
     pub rec: Snapshot<Record>,
-    /// What is answered to it. Only proofs see it.
+    /// The answer to the record. It exists only in proofs.
     pub answer: Snapshot<Answer>,
     pub meant: PhantomData<J>,
     pub ghost answers: { ∥ Answers choice rec.value answer.value ∥₁ },
@@ -58,8 +58,8 @@ impl<J: Meant + Send + Sync> Numbered for Printed<J> {
     }
 }
 
-/// The line in this form of the record at this place of this file, which has this answer. There is none where there is no answer for want
-/// of memory, or no memory for the line.
+/// The output line of this answer to the record at this place of this file; `None` if memory ran out for the answer or
+/// for the line.
 pub fn answered_line(
     alloc: Global,
     form: Form,

@@ -1,4 +1,4 @@
-//! The lines of a run on their way to a sink: a reorder buffer, since lines of several files come mixed.
+//! The lines of a run on their way to a sink: a reorder buffer, since lines of several files arrive mixed.
 ghost use Rattle.std.specs.Prelude.{◌≡◌, ◌+◌, ◌<◌, ◌≤◌, ◌≢◌, ◌↔◌, ◌∷◌, ◌++◌, ℕ, List, [], Option, None, Some, Err, true, false, IfOk, OnOk, IfErr, IsTrue, IsSome, slice_index_or, length, OnErr, ◌⊎◌};
 ghost use Rattle.streams.specs.declared.frames.Mark.{Mark};
 ghost use Rattle.common.specs.declared.choice.Choice.{Choice};
@@ -26,31 +26,33 @@ use reports::Form;
 use std::alloc::{AllocError, Global};
 use streams::{Mark, Sink, SourceEnd, TextBuffer, WriteFault};
 
-/// The lines of a run on their way to a sink, file after file. A line of the first file that has not ended
-/// is copied once, into a fixed buffer, and takes no memory; the lines of each later file wait until it is the first.
+/// A reorder buffer for the lines of a run, which go to a sink file after file.
+///
+/// A line of the first file that has not ended is copied once, into a fixed buffer, and is not allocated; the lines of
+/// each later file are buffered until it is the first.
 #[derive(Drop)]
 pub struct Lines {
     form: Form,
-    /// How the outer faces are chosen.
+    /// The rule by which the outer faces are chosen.
     choice: Choice,
     buffer: TextBuffer,
     /// The first file that has not ended.
     current: u32,
-    /// What has come of each file.
+    /// What has arrived of each file.
     waiting: Vec<Waiting>,
-    /// How many bytes of memory what waits holds.
+    /// The number of bytes of memory that buffered lines hold.
     held: usize,
-    /// Whether no entry so far lacks an answer or its line, and each file that has ended is complete.
+    /// Whether each entry so far has an answer and its line, and each file that has ended is complete.
     flawless: bool,
 }
 
 impl Lines {
-    /// The lines of so many files in this form, of which nothing has come. Their entries are answered under
-    /// this choice of the outer face.
+    /// An empty reorder buffer for `files` files in this format, whose entries are answered under this choice of the
+    /// outer face.
     ///
     /// # Errors
     ///
-    /// `AllocError` where there is no memory to keep so many files, or for the first line.
+    /// `AllocError` if there is no memory to keep this many files, or for the first line.
     pub fn new(alloc: Global, form: Form, choice: Choice, files: u32) -> Result<Lines, AllocError>
         ensures held { IfOk result (λ lines. (meaning : ℕ → Meaning) (start : Option (List ℕ))
             → LinesHold meaning start start lines []) }
@@ -79,7 +81,7 @@ impl Lines {
         self.current
     }
 
-    /// The first file behind the current file that has not ended.
+    /// The first file after the current file that has not ended.
     pub(crate) fn next(&self) -> u32 {
         for file in self.current.saturating_add(1)..u32::MAX {
             let place = file as usize;
@@ -90,7 +92,7 @@ impl Lines {
         u32::MAX
     }
 
-    /// How many bytes of memory what waits of the files behind the current file holds.
+    /// The number of bytes of memory that the buffered lines of files after the current file hold.
     pub(crate) fn waits(&self) -> usize {
         self.held
     }
@@ -99,8 +101,8 @@ impl Lines {
     ///
     /// # Errors
     ///
-    /// `Write` exactly where the sink has then failed; `Memory` where there was no memory for a line that has to
-    /// wait or that tells of a lack of memory; `Astray` where no lane gives such a message.
+    /// `Write` exactly if the sink has then failed; `Memory` if there was no memory for a line that has to be buffered
+    /// or that reports a lack of memory; `Astray` if no lane gives such a message.
     pub(crate) fn line<S: Sink, J: Meant>(
         &mut self,
         alloc: Global,
@@ -135,12 +137,12 @@ impl Lines {
         }
     }
 
-    /// Takes in that a file has ended.
+    /// Takes in the end of a file.
     ///
     /// # Errors
     ///
-    /// `Write` exactly where the sink has then failed; `Memory` where there was no memory for a line; `Astray`
-    /// where no lane gives such a message.
+    /// `Write` exactly if the sink has then failed; `Memory` if there was no memory for a line; `Astray` if no lane
+    /// gives such a message.
     pub(crate) fn end<S: Sink, J: Meant>(
         &mut self,
         alloc: Global,
@@ -168,18 +170,18 @@ impl Lines {
         self.advance(alloc, sink)
     }
 
-    /// Whether all text that is on its way is in the sink.
+    /// Whether all text on its way has reached the sink.
     pub(crate) fn is_flushed(&self) -> bool
         ensures { IsTrue result ↔ IsFlushed self.now }
     {
         self.buffer.is_empty()
     }
 
-    /// Puts what waits in the buffer into the sink.
+    /// Writes the buffered text to the sink.
     ///
     /// # Errors
     ///
-    /// `Write` exactly where the sink has then failed. There is no other.
+    /// `Write` exactly if the sink has then failed. There is no other error.
     pub(crate) fn flush<S: Sink>(&mut self, sink: &mut S) -> Result<(), Refusal>
         requires { S.failed sink.old ≡ false }
         ensures held { OnOk result ((meaning : ℕ → Meaning) (start : Option (List ℕ)) (ns : List Note)
@@ -197,12 +199,12 @@ impl Lines {
         }
     }
 
-    /// Puts what waits in the buffer into the sink, and returns the status of the run: 0 where each file ended
-    /// complete and no entry lacks an answer or its line, and else 3.
+    /// Writes the buffered text to the sink, and returns the exit status of the run: 0 if each file ended complete and
+    /// each entry has an answer and its line, and otherwise 3.
     ///
     /// # Errors
     ///
-    /// `Write` exactly where the sink has then failed. There is no other.
+    /// `Write` exactly if the sink has then failed. There is no other error.
     pub(crate) fn finish<S: Sink>(mut self, sink: &mut S) -> Result<u8, WriteFault>
         requires { S.failed sink.old ≡ false }
         ensures written { IfOk result (λ status. (start : Option (List ℕ)) (choice : Choice) (known meaning : ℕ → Meaning)
@@ -239,7 +241,7 @@ impl Lines {
         here.mark.is_none() && here.count == ordinal && ordinal < MAX_RECORDS
     }
 
-    /// Adds a line of one more entry: that of the current file straight on its way, another to what waits.
+    /// Adds the line of one more entry: that of the current file goes straight on its way, any other is buffered.
     fn add<S: Sink>(
         &mut self,
         alloc: Global,
@@ -269,7 +271,7 @@ impl Lines {
         Ok(())
     }
 
-    /// Adds the line of one more entry that has none.
+    /// Adds the line of one more entry that has no answer or no line.
     fn add_lacking<S: Sink>(
         &mut self,
         alloc: Global,
@@ -302,7 +304,7 @@ impl Lines {
         }
     }
 
-    /// Ends the current file as long as it has its mark, and moves on.
+    /// Ends the current file and moves on, as long as the current file has its mark.
     fn advance<S: Sink>(&mut self, alloc: Global, sink: &mut S) -> Result<(), Refusal>
         requires { S.failed sink.old ≡ false }
         ensures written { OnOk result ((start : Option (List ℕ)) (came : ℕ → Came)
@@ -322,7 +324,7 @@ impl Lines {
         Ok(())
     }
 
-    /// The mark of the current file, where it has one.
+    /// The mark of the current file, if it has one.
     fn current_mark(&self) -> Option<Mark>
         ensures below { IsSome result → self.now.current < length self.now.waiting.items }
         ensures same { (other : Waiting) → self.now.current < length self.now.waiting.items
@@ -365,7 +367,7 @@ impl Lines {
         }
     }
 
-    /// Puts what has come of the current file on its way.
+    /// Puts what has arrived of the current file on its way.
     fn begin<S: Sink>(&mut self, alloc: Global, sink: &mut S) -> Result<(), Refusal>
         requires stands { S.failed sink.old ≡ false }
         requires below { self.old.current < length self.old.waiting.items }
@@ -384,7 +386,7 @@ impl Lines {
     }
 }
 
-/// Whether all is whole with one mark more, where it was so before or not.
+/// Whether a run is still flawless after one more mark, given whether it was before.
 fn is_flawless_with(flawless: bool, mark: Mark) -> bool
     ensures { IsTrue result ↔ (IsTrue flawless × (mark ≡ Mark.Ended Ending.Complete)) }
 {

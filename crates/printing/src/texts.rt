@@ -1,4 +1,4 @@
-//! The text of a run and the sink that it goes to.
+//! The text of a run and the sink that receives it.
 ghost use Rattle.std.specs.Prelude.{◌≡◌, ◌≢◌, ◌↔◌, ℕ, List, [], Err, true, false, IfOk, OnErr, refl};
 ghost use Rattle.std.proofs.Common.{◌∙◌, ap, subst};
 ghost use Rattle.common.specs.declared.choice.Choice.{Choice};
@@ -19,23 +19,24 @@ use std::alloc::Global;
 use std::snapshot::Snapshot;
 use streams::{Mark, Sink, WriteFault};
 
-/// The text of a run that goes to a sink. It takes in the messages of the lanes: a line of the first file that
-/// has not ended goes to the sink through a fixed buffer, and what comes of later files waits in memory, until so
-/// much waits that their reading pauses.
+/// A consumer of the lanes' messages that streams the text of a run to a sink.
+///
+/// A line of the first file that has not ended goes to the sink through a fixed buffer. Text of later files is buffered
+/// in memory, until so much is buffered that their reading pauses.
 #[derive(Drop)]
 pub struct Texts<'s, S, W: Drop> {
     pub sink: &'s mut S,
-    /// The sink as it was given. Only proofs see it.
+    /// The sink as it was at the beginning. It exists only in proofs.
     pub start: Snapshot<S>,
     pub alloc: Global,
-    /// What is on its way and what waits: `Lines`.
+    /// The text on its way and the buffered lines: `Lines`.
     pub lines: W,
-    /// How much may wait until the reading of later files pauses.
+    /// The limit on buffered text above which the reading of later files pauses.
     pub pace: Pace<'s>,
 }
 
 impl<'s, S: Sink> Texts<'s, S, Lines> {
-    /// The text of these lines, which goes to this sink at this pace. Nothing is written yet.
+    /// A text that writes these lines to this sink at this pace. Nothing is written yet.
     pub fn new(alloc: Global, sink: &'s mut S, lines: Lines, pace: Pace<'s>) -> Texts<'s, S, Lines>
         ensures same { result.sink.ghost_name ≡ sink.entry.ghost_name }
         ensures now { result.sink.now ≡ sink.old }
@@ -54,8 +55,8 @@ impl<'s, S: Sink> Texts<'s, S, Lines> {
 }
 
 impl<S> Texts<'_, S, Lines> {
-    /// Lets later files pause or go on by what waits; where a message was refused, they go on, since no more
-    /// is taken in.
+    /// Pauses later files or lets them go on, depending on the buffered text; if a message was refused, they go on,
+    /// since no more is taken in.
     fn keep_pace(&self, goes_on: bool) {
         if goes_on {
             self.pace.keep(&self.lines);
@@ -66,12 +67,13 @@ impl<S> Texts<'_, S, Lines> {
 }
 
 impl<S: Sink> Texts<'_, S, Lines> {
-    /// Puts what remains into the sink, and returns the status of the run: 0 where each file ended complete
-    /// and no entry lacks an answer or its line, and else 3.
+    /// Writes the remaining text to the sink, and returns the exit status of the run.
+    ///
+    /// It is 0 if each file ended complete and each entry has an answer and its line, and otherwise 3.
     ///
     /// # Errors
     ///
-    /// `Write` exactly where the sink has then failed. There is no other.
+    /// `Write` exactly if the sink has then failed. There is no other error.
     pub fn finish(self) -> Result<u8, WriteFault>
         requires { S.failed self.sink.now ≡ false }
         ensures written { IfOk result (λ status. (choice : Choice) (known meaning : ℕ → Meaning) (ns : List Note)

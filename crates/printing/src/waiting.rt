@@ -1,4 +1,4 @@
-//! What waits of files that are not current yet.
+//! Buffered lines of files that are not current yet.
 ghost use Rattle.std.specs.Prelude.{◌≡◌, ◌<◌, IfOk, IfErr, OnOk, All, length, IsTrue, slice_index_or};
 ghost use Rattle.printing.specs.Waits.{ChangesAt, IsNothing, IsCountedOne, GetsLine, GetsMark, IsTaken, IsUnmarked};
 
@@ -8,18 +8,18 @@ use std::alloc::{AllocError, Global};
 use std::mem;
 use streams::Mark;
 
-/// What is kept of a file that has not been written to its end.
+/// The state of a file that has not been written completely.
 #[derive(Drop)]
 pub struct Waiting {
-    /// The lines of its entries, as long as it is not current.
+    /// The lines of its entries, while it is not current.
     pub lines: Chunks,
-    /// How many entries have come of it.
+    /// The number of its entries that have arrived.
     pub count: u32,
     /// Its mark, once it has ended.
     pub mark: Option<Mark>,
 }
 
-/// For each of so many files, that nothing has come of it.
+/// The state of each of `files` files, of which nothing has arrived.
 pub(crate) fn none_come(alloc: Global, files: u32) -> Result<Vec<Waiting>, AllocError>
     ensures count { IfOk result (λ waiting. length waiting.items ≡ files) }
     ensures empty { IfOk result (λ waiting. All IsNothing waiting.items) }
@@ -35,7 +35,7 @@ pub(crate) fn none_come(alloc: Global, files: u32) -> Result<Vec<Waiting>, Alloc
     Ok(waiting)
 }
 
-/// Counts one more entry of a file. `Astray` where there are too many to count.
+/// Counts one more entry of a file. `Astray` if there are too many to count.
 pub(crate) fn count_one(waiting: &mut Vec<Waiting>, file: u32) -> Result<(), Refusal>
     requires { file < length waiting.old.items }
     ensures count { length waiting.new.items ≡ length waiting.old.items }
@@ -52,7 +52,7 @@ pub(crate) fn count_one(waiting: &mut Vec<Waiting>, file: u32) -> Result<(), Ref
     }
 }
 
-/// Keeps a line of a file, and returns how many bytes of memory that took. `Memory` where there is no memory for it.
+/// Buffers a line of a file, and returns how many bytes of memory that took. `Memory` if there is no memory for it.
 pub(crate) fn keep_line(
     alloc: Global,
     waiting: &mut Vec<Waiting>,
@@ -71,7 +71,7 @@ pub(crate) fn keep_line(
     }
 }
 
-/// Keeps the mark of a file that has none yet and of which so many entries have come, and says whether it is kept.
+/// Keeps the mark of a file, and returns true, if it has none yet and `count` of its entries have arrived.
 pub(crate) fn keep_mark(waiting: &mut Vec<Waiting>, file: u32, count: u32, mark: Mark) -> bool
     requires { file < length waiting.old.items }
     ensures count { length waiting.new.items ≡ length waiting.old.items }
@@ -86,7 +86,7 @@ pub(crate) fn keep_mark(waiting: &mut Vec<Waiting>, file: u32, count: u32, mark:
     true
 }
 
-/// Takes the lines of a file out, so that none of them wait.
+/// Takes out the buffered lines of a file.
 pub(crate) fn take_lines(alloc: Global, waiting: &mut Vec<Waiting>, file: u32) -> Chunks
     requires { file < length waiting.old.items }
     ensures count { length waiting.new.items ≡ length waiting.old.items }

@@ -9,7 +9,7 @@ use reports::{Form, push_line};
 use std::alloc::Global;
 use streams::{Sink, SourceEnd, TextBuffer};
 
-/// Puts a text on its way.
+/// Puts a text on its way to the sink.
 pub(crate) fn put<S: Sink>(
     buffer: &mut TextBuffer,
     sink: &mut S,
@@ -27,7 +27,7 @@ pub(crate) fn put<S: Sink>(
     }
 }
 
-/// Puts what stands before the lines of a file on its way.
+/// Puts the text before the lines of a file on its way to the sink.
 pub(crate) fn put_preamble<S: Sink>(
     alloc: Global,
     buffer: &mut TextBuffer,
@@ -47,7 +47,7 @@ pub(crate) fn put_preamble<S: Sink>(
     }
 }
 
-/// Puts the last line of a file on its way.
+/// Puts the last line of a file on its way to the sink.
 pub(crate) fn put_end<S: Sink>(
     alloc: Global,
     buffer: &mut TextBuffer,

@@ -22,7 +22,7 @@ const WAITING: [&str; 2] = ["", " --waiting 1"];
 
 const PROGRESS: [&str; 2] = ["", " --progress"];
 
-/// The end of what is said of 1, 21 and 256 files, in the report and in JSON lines.
+/// The end of the output for 1, 21 and 256 files, in the report and in JSON lines.
 const ENDS: [(u32, &str, &str); 3] = [
     (
         1,
@@ -105,7 +105,7 @@ fn frames_of(alloc: Global, name: &str) -> Result<String, AllocError> {
     Ok(line)
 }
 
-/// A file has a triangle where its name has an even number of bytes, and else an edge. What is read of it is that.
+/// A file has a triangle if its name has an even number of bytes, and otherwise an edge; that is what is read of it.
 fn check_name<R: Files + AllocGlobal + Threads + Wait + Sync + Abort>(rt: &R, length: u32)
 where
     R::File: Send,

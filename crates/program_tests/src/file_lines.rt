@@ -1,5 +1,5 @@
-//! The lines on standard error that say what is wrong with a file, each compared whole. What files look like comes from
-//! the descriptions of their formats, and reasons from the system.
+//! The lines on standard error that say what is wrong with a file, each compared whole. Hints at formats come from the
+//! descriptions of the formats, and reasons from the system.
 
 use crate::shared::{EDGE, HEADER, TRIANGLE, make_file, run, same};
 use std::fs;
@@ -8,10 +8,10 @@ use std::rt::Files;
 use std::sync::Wait;
 use std::thread::Threads;
 
-/// A command line, and all that it says on standard error.
+/// A command line, and all that it writes to standard error.
 type Line<'a> = (&'a str, &'a str);
 
-/// Runs command lines with this status, and looks at what they say on standard error.
+/// Runs command lines with this status, and checks what they write to standard error.
 fn check_lines<R: Files + AllocGlobal + Threads + Wait + Sync + Abort>(
     rt: &R,
     lines: &[Line],
@@ -74,7 +74,7 @@ fn names_files_that_cannot_be_read(rt: HostRuntime) {
     check_lines(&rt, &SEVERAL, 3);
 }
 
-/// Parts of a file, and what is said of it.
+/// Parts of a file, and the hint for it.
 type Kind<'a> = (&'a [&'a [u8]], &'a str);
 
 const TWO_BYTES: &str = "planarbend: kind: two-byte form: at most 255 vertices here\n";
@@ -144,14 +144,14 @@ const PATH: &[u8] = &[
     10, 2, 0, 1, 3, 0, 2, 4, 0, 3, 5, 0, 4, 6, 0, 5, 7, 0, 6, 8, 0, 7, 9, 0, 8, 10, 0, 9, 0,
 ];
 
-/// Files of which nothing is said: they are cut, but are planar_code as far as they go.
+/// Files without a hint: they are cut, but are planar_code as far as they go.
 const CUT: [&[&[u8]]; 3] = [
     &[HEADER, EDGE, &[2, 2, 0]],
     &[HEADER, PATH, &[10, 2]],
     &[HEADER, &[10, 2, 0, 1, 3, 0, 2]],
 ];
 
-/// Valid files, of which nothing is said.
+/// Valid files, for which no line is written.
 const VALID: [&[&[u8]]; 4] = [
     &[HEADER],
     &[HEADER, EDGE],
@@ -159,7 +159,7 @@ const VALID: [&[&[u8]]; 4] = [
     &[HEADER, PATH, TRIANGLE, PATH],
 ];
 
-/// What is said of a file with these parts, with this status.
+/// Checks the hint for a file with these parts, and the status.
 fn check_kind<R: Files + AllocGlobal + Threads + Wait + Sync + Abort>(
     rt: &R,
     parts: &[&[u8]],

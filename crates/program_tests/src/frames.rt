@@ -89,7 +89,7 @@ fn marks_what_cannot_be_read(rt: HostRuntime) {
     check_rows(&rt, &CANNOT_BE_READ);
 }
 
-/// Command lines that are refused, and a text in what is said of each.
+/// Command lines that are refused, and a part of the message for each.
 const REFUSED: [(&str, &str); 4] = [
     ("", "Usage: planarbend <COMMAND>\n"),
     ("bend", "error: unrecognized subcommand 'bend'\n"),
@@ -101,7 +101,7 @@ const ONE: &str = "Example:\n  planarbend frames examples/two.pc\n";
 
 const ALL: &str = "Examples:\n  planarbend layout examples/two.pc\n";
 
-/// Ways to ask for help, and a text in it.
+/// Ways to ask for help, and a part of its text.
 const HELP: [(&str, &str); 4] = [
     ("frames --help", ONE),
     ("help frames", ONE),

@@ -12,7 +12,7 @@ use std::rt::Files;
 use std::sync::Wait;
 use std::thread::Threads;
 
-/// What is said of an edge and a triangle in two files.
+/// The report of an edge and a triangle in two files.
 const TWICE: &str = "file 1\n\
     graph 1 ok n=2 m=1 f=1 bends=0 drawn=yes\n\
     graph 2 ok n=3 m=3 f=2 bends=1 drawn=yes\n\
@@ -25,7 +25,7 @@ const TWICE: &str = "file 1\n\
 /// `layout` under either choice of the outer face, which changes nothing in most reports.
 const BY_CHOICE: [&str; 2] = ["layout --outer first body", "layout --outer best body"];
 
-/// Runs `layout` on a file of this body behind the header, and looks at the report.
+/// Runs `layout` on a file of the header and this body, and checks the report.
 fn check_body<R: Files + AllocGlobal + Threads + Wait + Sync + Abort>(
     rt: &R,
     body: &[u8],
@@ -42,7 +42,7 @@ where
     }
 }
 
-/// Runs `layout` on a file of one record, and looks at what the record's line says after the number.
+/// Runs `layout` on a file of one record, and checks the rest of the record's line after the number.
 fn check_record<R: Files + AllocGlobal + Threads + Wait + Sync + Abort>(
     rt: &R,
     record: &[u8],
@@ -92,7 +92,7 @@ const RECORDS: [(&[u8], &str); 12] = [
     (&[4, 2, 0, 1, 0, 4, 0, 3, 0], "refused disconnected"),
 ];
 
-/// Bodies of files with their reports and status: a graph behind a refused one, and files that go on behind their records
+/// Bodies of files with their reports and status: a graph after a refused one, and files that go on after their records
 /// as no file may.
 const BODIES: [(&[u8], &str, u8); 3] = [
     (
@@ -129,7 +129,7 @@ const CAPPED_CUBE: &[u8] = &[
     4, 5, 9, 7, 0, 5, 6, 7, 8, 0,
 ];
 
-/// The same with a tenth vertex on the edge from 1 to 5.
+/// The capped cube with a tenth vertex on the edge from 1 to 5.
 const LONGER_CUBE: &[u8] = &[
     10, 10, 4, 2, 0, 3, 6, 1, 0, 4, 7, 2, 0, 1, 8, 3, 0, 10, 6, 9, 8, 0, 2, 7, 9, 5, 0, 3, 8, 9, 6,
     0, 4, 5, 9, 7, 0, 5, 6, 7, 8, 0, 1, 5, 0,
@@ -213,12 +213,12 @@ const TORUS: &str = "{\"file\":1,\"graph\":1,\"rule\":\"genus\",\"status\":\"ref
 
 const EMPTY: &str = "{\"end\":\"header\",\"file\":1,\"graphs\":0}\n";
 
-/// What is said of a file that ends in its header, or behind it.
+/// The report of a file that ends in its header, or after it.
 const NO_HEADER: &str = "file 1\nend header graphs=0\n";
 
 const NO_RECORD: &str = "file 1\nend complete graphs=0\n";
 
-/// The record of a graph that is not plane.
+/// The record of a graph that is not planar as embedded.
 const ON_A_TORUS: &[u8] = &[4, 3, 4, 2, 0, 1, 4, 3, 0, 2, 4, 1, 0, 1, 2, 3, 0];
 
 /// Files and their parts.
@@ -236,12 +236,12 @@ const FILES: [(&str, &[&[u8]]); 9] = [
 
 const REPORTS: [Row; 24] = [
     ("layout two.pc two.pc", TWICE, 0),
-    // Graphs that need fewer bends with another outer face than the widest one.
+    // Graphs that need fewer bends with an outer face other than the widest one.
     ("layout cubes.pc", FIRST, 0),
     ("layout --outer first cubes.pc", FIRST, 0),
     ("layout --outer best cubes.pc", BEST, 0),
     ("layout cubes.pc --lanes=2 --outer=best", BEST, 0),
-    // Of two files, one of which is missing, the other one is laid out, or has its end if it is the header alone.
+    // Of two files, one of which is missing, the other is laid out, or has its end if it is only the header.
     ("layout --lanes 1 two.pc missing.pc", MISSING_LAST, 3),
     ("layout --lanes 2 two.pc missing.pc", MISSING_LAST, 3),
     ("layout --lanes 1 missing.pc two.pc", MISSING_FIRST, 3),
@@ -334,7 +334,7 @@ fn draws_a_path_as_asked(rt: HostRuntime) {
     }
 }
 
-/// Command lines that are refused, and a text in what is said of each.
+/// Command lines that are refused, and a part of the message for each.
 const REFUSED: [(&str, &str); 16] = [
     ("layout", "were not provided:\n  <FILE>...\n"),
     ("layout --lanes x a", "planarbend: lanes must be 1 to 8\n"),
@@ -368,7 +368,7 @@ const REFUSED: [(&str, &str); 16] = [
 
 const BAD_WAITING: &str = "planarbend: waiting must be 1 to 65536\n";
 
-/// A command line of so many files.
+/// A command line with this many files.
 fn line_of(alloc: Global, files: u32) -> Result<String, AllocError> {
     let mut line = String::from_str(alloc, "layout")?;
     for _ in 0..files {
@@ -387,7 +387,7 @@ fn refuses_other_command_lines(rt: HostRuntime) {
     check_said(&rt, &[("layout --help", pipe)], 0);
 }
 
-/// What is said of an edge.
+/// The report of an edge.
 pub const REPORT: &str = "file 1\n\
     graph 1 ok n=2 m=1 f=1 bends=0 drawn=yes\n\
     end complete graphs=1\n";
@@ -405,7 +405,7 @@ const ONE_EDGE: Case = Case {
     may_begin: false,
 };
 
-/// An output that refuses each write, as a file does that was opened to be read: the run ends by status 1.
+/// An output that refuses each write, as a file does that was opened for reading: the run ends with status 1.
 #[test]
 fn ends_where_the_output_refuses(rt: HostRuntime) {
     let words = words_for(&rt, &ONE_EDGE).expect(&rt, "a file");
@@ -429,7 +429,7 @@ fn names_want_of_memory(rt: HostRuntime) {
     check_wants(&rt, &ONE_EDGE);
 }
 
-/// The JSON lines of a file of one vertex, which take memory of their own.
+/// The JSON lines of a file of one vertex, which are allocated.
 const ONE_VERTEX: Case = Case {
     line: "layout --json json_case.pc",
     file: "json_case.pc",

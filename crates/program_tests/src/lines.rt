@@ -1,4 +1,4 @@
-//! What command lines ask for, word by word.
+//! The requests of command lines, argument by argument.
 
 use crate::layouts::{REPORT, UNREAD};
 use crate::shared::{
@@ -16,7 +16,7 @@ fn prints_the_version(rt: HostRuntime) {
     check_said(&rt, &[("--help", "--version")], 0);
 }
 
-/// An output with too little room takes a beginning of the version.
+/// An output with too little room takes a prefix of the version.
 #[test]
 fn names_a_failed_write_of_the_version(rt: HostRuntime) {
     let words = words_of(rt.alloc(), "--version").expect(&rt, "memory");
@@ -25,7 +25,7 @@ fn names_a_failed_write_of_the_version(rt: HostRuntime) {
     }
 }
 
-/// What is said of a triangle and an edge in two files.
+/// The report of a triangle and an edge in two files.
 const TWO: &str = "file 1\n\
     graph 1 ok n=3 m=3 f=2 bends=1 drawn=yes\n\
     end complete graphs=1\n\
@@ -33,7 +33,7 @@ const TWO: &str = "file 1\n\
     graph 1 ok n=2 m=1 f=1 bends=0 drawn=yes\n\
     end complete graphs=1\n";
 
-/// Files keep their order among options, wherever these stand, and the words of options are files elsewhere.
+/// Files keep their order among options, wherever these are, and the values of options are files elsewhere.
 const AMONG_OPTIONS: [Row; 7] = [
     ("layout best edge.pc", TWO, 0),
     ("layout --outer=first best --lanes 2 edge.pc", TWO, 0),
@@ -67,7 +67,7 @@ fn takes_options_out_of_the_files(rt: HostRuntime) {
     check_said(&rt, &REFUSED, 2);
 }
 
-/// Behind `--` all words are files, and `help` is one behind `layout`.
+/// After `--` all arguments are files, and `help` is one after `layout`.
 const BEHIND_DASHES: [Row; 10] = [
     ("layout -- --json", UNREAD, 3),
     ("layout -- --help", UNREAD, 3),

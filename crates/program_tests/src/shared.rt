@@ -19,12 +19,13 @@ pub const EDGE: &[u8] = &[2, 2, 0, 1, 0];
 
 pub const TRIANGLE: &[u8] = &[3, 2, 3, 0, 3, 1, 0, 1, 2, 0];
 
-/// Sees that two values are the same. (An `assert_eq!` in each place would make the tests' proofs several times as long.)
+/// Checks that two values are the same. (An `assert_eq!` in each place would make the tests' proofs several times as
+/// long.)
 pub fn same<T: PartialEq + Debug + Drop>(rt: &impl Abort, got: T, want: T) {
     assert_eq!(rt; got, want);
 }
 
-/// What a run wrote into two writers, and its status.
+/// The output of a run to its two writers, and its exit status.
 #[derive(Drop)]
 pub struct Ran<W> {
     pub status: u8,
@@ -48,7 +49,7 @@ impl Console for NoConsole {
     fn show(&self, _text: &[u8]) {}
 }
 
-/// Runs the command with these words, on this standard input, with this console and these writers.
+/// Runs the command with these arguments, on this standard input, with this console and these writers.
 pub fn run_into<R: Files + AllocGlobal + Threads + Wait + Sync, C: Console + Sync, W: Write>(
     rt: &R,
     words: &[String],
@@ -75,7 +76,7 @@ where
     }
 }
 
-/// The words of a command line, which blanks part.
+/// The arguments of a command line, which blanks separate.
 pub fn words_of(alloc: Global, line: &str) -> Result<Vec<String>, AllocError> {
     let mut list = Vec::new(alloc);
     for word in line.split_whitespace() {
@@ -89,7 +90,7 @@ pub fn no_input(alloc: Global) -> MemOpener {
     MemOpener::new(Vec::new(alloc), 1)
 }
 
-/// Runs the command with these words, on this standard input and with this console.
+/// Runs the command with these arguments, on this standard input and with this console.
 pub fn run_words<R: Files + AllocGlobal + Threads + Wait + Sync, C: Console + Sync>(
     rt: &R,
     words: &[String],
@@ -119,7 +120,7 @@ where
     run_words(rt, words.as_slice(), input, console)
 }
 
-/// Runs a command line.
+/// Runs a command line without standard input and without a console.
 pub fn run<R: Files + AllocGlobal + Threads + Wait + Sync + Abort>(
     rt: &R,
     line: &str,
@@ -131,7 +132,7 @@ where
     run_on(rt, line, &no_input(rt.alloc()), &NoConsole)
 }
 
-/// Runs the command with these words, and writes the report and the line of a fault into so much room.
+/// Runs the command with these arguments, with room for only `out` and `err` bytes in its writers.
 pub fn run_narrow<R: Files + AllocGlobal + Threads + Wait + Sync>(
     rt: &R,
     words: &[String],
@@ -147,7 +148,7 @@ where
     run_into(rt, words, &input, &NoConsole, out, err)
 }
 
-/// What a run wrote is the report, with this status. With status 0 it says nothing else.
+/// Checks that a run wrote this report, with this status. With status 0 it wrote nothing else.
 pub fn expect_report(rt: &impl Abort, ran: &Ran<Vec<u8>>, report: &[u8], status: u8) {
     same(rt, ran.out.as_slice(), report);
     same(rt, ran.status, status);
@@ -157,7 +158,7 @@ pub fn expect_report(rt: &impl Abort, ran: &Ran<Vec<u8>>, report: &[u8], status:
 /// A command line, its report and its status.
 pub type Row<'a> = (&'a str, &'a str, u8);
 
-/// Runs the command line of each row, and looks at the report and the status.
+/// Runs the command line of each row, and checks the report and the status.
 pub fn check_rows<R: Files + AllocGlobal + Threads + Wait + Sync + Abort>(rt: &R, rows: &[Row])
 where
     R::File: Send,
@@ -168,8 +169,8 @@ where
     }
 }
 
-/// Runs command lines with this status, and looks for a text in what is said of each: in the report where it is 0, and
-/// else in the other writer.
+/// Runs command lines with this status, and checks that the output of each contains a text: in the report if the status
+/// is 0, and otherwise in the other writer.
 pub fn check_said<R: Files + AllocGlobal + Threads + Wait + Sync + Abort>(
     rt: &R,
     rows: &[(&str, &str)],
@@ -184,7 +185,7 @@ where
     }
 }
 
-/// A run has this status, and this part stands in what it said.
+/// Checks that a run has this status, and that its output contains this part.
 fn expect_said(rt: &impl Abort, ran: &Ran<Vec<u8>>, part: &str, status: u8) {
     let (said, other) = if status == 0 {
         (ran.out.as_slice(), ran.err.len())
@@ -195,12 +196,12 @@ fn expect_said(rt: &impl Abort, ran: &Ran<Vec<u8>>, part: &str, status: u8) {
     same(rt, (ran.status, other), (status, 0));
 }
 
-/// Whether `part` stands somewhere in `text`.
+/// Whether `text` contains `part`.
 pub fn holds(text: &[u8], part: &[u8]) -> bool {
     text.windows(part.len().max(1)).any(|window| window == part)
 }
 
-/// With room for this beginning of what is to be written, it is written, and the fault is returned.
+/// Checks that with room for this prefix of the output only, the prefix is written and the fault is returned.
 pub fn check_failed_write<R: Files + AllocGlobal + Threads + Wait + Sync + Abort>(
     rt: &R,
     words: &[String],
@@ -214,7 +215,7 @@ where
     expect_texts(rt, &ran, 1, begins, b"planarbend: cannot write output\n");
 }
 
-/// A run wrote these texts into two narrow writers, with this status.
+/// Checks that a run wrote these texts into two narrow writers, with this status.
 pub fn expect_texts(rt: &impl Abort, ran: &Ran<Narrow>, status: u8, out: &[u8], err: &[u8]) {
     same(rt, ran.status, status);
     same(rt, ran.out.text(), out);
@@ -227,19 +228,20 @@ pub struct Case {
     pub file: &'static str,
     pub parts: &'static [&'static [u8]],
     pub report: &'static str,
-    /// What is written where memory is wanting for the file or its graph.
+    /// The possible outputs if memory runs out for the file or its graph.
     pub wants: &'static [&'static [u8]],
-    /// Whether some of the report may be written before memory is wanting for the run.
+    /// Whether some of the report may be written before memory runs out for the run.
     pub may_begin: bool,
 }
 
-/// Makes the file of a case: the words of its command line.
+/// Makes the file of a case; returns the arguments of its command line.
 pub fn words_for<R: Files + AllocGlobal>(rt: &R, case: &Case) -> io::Result<Vec<String>> {
     write_parts(rt, case.file, case.parts)?;
     Ok(words_of(rt.alloc(), case.line)?)
 }
 
-/// Runs the command line of a case. With each allocation refused in turn, it ends in an answer that names it.
+/// Runs the command line of a case with each allocation refused in turn, and checks that the answer names the lack of
+/// memory.
 pub fn check_wants<R: Files + AllocGlobal + Threads + Wait + Sync + Abort>(rt: &R, case: &Case)
 where
     R::File: Send,
@@ -253,7 +255,7 @@ where
     same(rt, allowed, true);
 }
 
-/// Whether a run gave the whole report of a case, or said what found no memory.
+/// Whether a run wrote the whole report of a case, or said what ran out of memory.
 fn is_allowed(case: &Case, status: u8, out: &[u8], err: &[u8]) -> bool {
     match status {
         0 => out == case.report.as_bytes() && err.is_empty(),
@@ -266,20 +268,20 @@ fn is_allowed(case: &Case, status: u8, out: &[u8], err: &[u8]) -> bool {
     }
 }
 
-/// Whether the line says that the run itself found no memory. Where a thread is started or an end
-/// is given up for it, the line may name that instead.
+/// Whether the line says that the run itself ran out of memory. If a thread is started or an end is dropped at that
+/// point, the line may name that instead.
 fn names_no_run(line: &[u8]) -> bool {
     line == b"planarbend: out of memory\n".as_slice()
         || line == b"planarbend: cannot start a thread\n".as_slice()
         || line == b"planarbend: internal error: a worker thread disconnected\n".as_slice()
 }
 
-/// Writes a file of these parts.
+/// Writes a file with these parts.
 pub fn write_parts<R: Files + AllocGlobal>(rt: &R, name: &str, parts: &[&[u8]]) -> io::Result<()> {
     fs::write(rt, name, parts.concat(rt.alloc())?.as_slice())
 }
 
-/// Makes a file of these parts.
+/// Makes a file with these parts.
 pub fn make_file<R: Files + AllocGlobal + Abort>(rt: &R, name: &str, parts: &[&[u8]]) {
     write_parts(rt, name, parts).expect(rt, "a file");
 }
@@ -312,7 +314,7 @@ impl Write for Narrow {
 }
 
 impl Narrow {
-    /// A writer with so much room, but no more than for 128 bytes.
+    /// A writer with this much room, but for no more than 128 bytes.
     pub fn new(room: usize) -> Narrow {
         Narrow {
             taken: [0; 128],

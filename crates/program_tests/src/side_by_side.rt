@@ -1,4 +1,4 @@
-//! Runs of `layout` in several lanes, which are to open their files side by side.
+//! Runs of `layout` in several lanes, which must open their files in parallel.
 
 use crate::shared::{EDGE, HEADER, NoConsole, make_file, no_input, run_words, same, words_of};
 use std::alloc::{Allocator, Global};
@@ -10,10 +10,10 @@ use std::sync::atomic::{AtomicBool, AtomicU32, Ordering};
 use std::thread::Threads;
 use std::{io, thread};
 
-/// How often each turn of a wait yields: on a shared machine a thread may be away for a million yields.
+/// The number of yields of each turn of a wait: on a shared machine a thread may be away for a million yields.
 const YIELDS: u32 = 16;
 
-/// A runtime on which the open of a file waits until so many are asked for.
+/// A runtime on which the open of a file waits until a given number are asked for.
 #[derive(Drop)]
 struct Crowd<'r, R> {
     rt: &'r R,
@@ -23,7 +23,7 @@ struct Crowd<'r, R> {
 }
 
 impl<R> Crowd<'_, R> {
-    /// Waits for the others, and notes where a million turns were too few.
+    /// Waits for the others, and notes if a million turns were too few.
     fn wait(&self) {
         self.asked.fetch_add(1, Ordering::SeqCst);
         for _ in 0..1_000_000 {
@@ -97,7 +97,7 @@ impl<R: Files> Files for Crowd<'_, R> {
     }
 }
 
-/// Runs a command line where the open of each file waits until so many are asked for.
+/// Runs a command line where the open of each file waits until `wanted` are asked for.
 fn check_lanes<R: Files + AllocGlobal + Threads + Wait + Sync + Abort>(
     rt: &R,
     line: &str,
@@ -120,7 +120,7 @@ where
     same(rt, (status, ran_out), (0, false));
 }
 
-/// Command lines, and how many lanes they ask for.
+/// Command lines, and the number of lanes that they ask for.
 const LANES: [(&str, u32); 5] = [
     (
         "layout --lanes 1 lane lane lane lane lane lane lane lane",
@@ -144,8 +144,8 @@ const LANES: [(&str, u32); 5] = [
     ),
 ];
 
-/// As many lanes as `--lanes` says open files at once: with eight files, the open of each waits for those
-/// of the others in so many lanes.
+/// As many lanes as `--lanes` says open files at once: with eight files, the open of each waits for those of the others
+/// in that many lanes.
 #[test]
 fn works_in_as_many_lanes_as_are_asked_for(rt: HostRuntime) {
     make_file(&rt, "lane", &[HEADER, EDGE]);

@@ -15,15 +15,14 @@ use std::sync::Wait;
 use std::sync::atomic::{AtomicU64, Ordering};
 use std::thread::Threads;
 
-/// A standard input of these parts, of which a read gives at most 7 bytes.
+/// A standard input with these parts, of which a read returns at most 7 bytes.
 fn input_of(alloc: Global, parts: &[&[u8]]) -> Result<MemOpener, AllocError> {
     let mut files = Vec::new(alloc);
     files.push(parts.concat(alloc)?)?;
     Ok(MemOpener::new(files, 7))
 }
 
-/// Runs the command line of each row on a standard input of these parts, and looks at the report and the
-/// status.
+/// Runs the command line of each row on a standard input with these parts, and checks the report and the status.
 fn check_on<R: Files + AllocGlobal + Threads + Wait + Sync + Abort>(
     rt: &R,
     parts: &[&[u8]],
@@ -124,8 +123,8 @@ fn reads_standard_input_once(rt: HostRuntime) {
     check_said(&rt, &READ_TWICE, 2);
 }
 
-/// A console whose clock goes on by so many milliseconds at each look, and which compares what it is to show with
-/// what is wanted.
+/// A console whose clock advances by a fixed number of milliseconds at each look, and which compares what it is to show
+/// with what is expected.
 #[derive(Drop)]
 struct Ticking<'a> {
     terminal: bool,
@@ -148,7 +147,7 @@ impl<'a> Ticking<'a> {
         }
     }
 
-    /// How many texts were shown, and how many of them were not wanted.
+    /// The number of texts shown, and how many of them were not expected.
     fn counts(&self) -> (u64, u64) {
         (
             self.shown.load(Ordering::SeqCst),
@@ -177,8 +176,8 @@ impl Console for Ticking<'_> {
     }
 }
 
-/// Runs a command line on a standard input of five graphs, while 100 milliseconds pass between two looks
-/// at the clock. All texts that are wanted are shown, and no others.
+/// Runs a command line on a standard input of five graphs, while 100 milliseconds pass between two looks at the clock.
+/// All expected texts are shown, and no others.
 fn check_told<R: Files + AllocGlobal + Threads + Wait + Sync + Abort>(
     rt: &R,
     line: &str,
@@ -196,7 +195,7 @@ where
     same(rt, console.counts(), (wanted.len() as u64, 0));
 }
 
-/// A run's text ends as that of five graphs.
+/// Checks that the text of a run ends as that of five graphs.
 fn expect_five(rt: &impl Abort, ran: &Ran<Vec<u8>>) {
     let ends = b"\nend complete graphs=5\n";
     same(rt, ran.out.as_slice().ends_with(ends), true);
@@ -213,7 +212,7 @@ const APART: [&str; 2] = [
     "file 1 of 1: 5 graphs, 8/s\n",
 ];
 
-/// A command line, whether there is a terminal, and what is written.
+/// A command line, whether there is a terminal, and the expected texts.
 const TOLD: [(&str, bool, &[&str]); 5] = [
     ("layout -", true, &[]),
     ("layout - --progress", true, &OVER),
@@ -231,7 +230,7 @@ fn tells_how_far_it_is(rt: HostRuntime) {
     check_said(&rt, &[("frames --progress a", refused)], 2);
 }
 
-/// How many lines are written of so many graphs, between which so many milliseconds pass.
+/// The number of lines written for this many graphs, between which this many milliseconds pass.
 fn lines_of(graphs: u32, step: u64) -> u64 {
     let console = Ticking::new(false, step, &[]);
     let meter = Meter::new(&console, Progress::Everywhere, 1);
@@ -255,7 +254,8 @@ fn tells_at_most_four_lines_a_second(rt: HostRuntime) {
     }
 }
 
-/// How many texts are shown of a run of so many graphs in which no time passes, and how many of them are not this.
+/// The number of texts shown for a run of this many graphs in which no time passes, and how many of them differ from
+/// this one.
 fn last_line_of(graphs: u32, wanted: &str) -> (u64, u64) {
     let texts = [wanted];
     let console = Ticking::new(false, 0, &texts);

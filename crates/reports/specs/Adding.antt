@@ -1,4 +1,4 @@
--- The tokens of a value and the text of a member, and what is put behind what was written.
+-- The tokens of a value and the text of a member, and what is appended to the text written so far.
 use Rattle.std.specs.Prelude.{◌≡◌, ℕ, List, ◌∷◌, ◌++◌}
 use Rattle.json.specs.Print.{quoted}
 use Rattle.json.specs.Token.{Token}
@@ -10,7 +10,7 @@ use Rattle.serde_json.specs.Written.{compact_text, outline}
 abbrev pub tokens_of : Data → List Token
 tokens_of d = json_tokens (outline d)
 
--- these tokens stand behind those before, and the buffer began as before
+-- these tokens are appended to those before, and the buffer begins as before
 abbrev pub Adds : Written → Written → List Token → Type 0
 Adds old new ts = (new.before ≡ old.before) × (new.tokens ≡ old.tokens ++ ts)
 

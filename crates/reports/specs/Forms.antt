@@ -1,4 +1,4 @@
--- The forms in which a batch is written.
+-- The output formats of a batch.
 use Rattle.std.specs.Prelude.{ℕ, List}
 use Rattle.entries.specs.Books.{BookModel}
 use Rattle.reports.specs.Report.{report_text}
@@ -6,7 +6,7 @@ use Rattle.reports.specs.Json.{json_text}
 use Rattle.reports.specs.declared.form.Form.{Form}
 use Rattle.reports.specs.declared.form.Form.TheVariants.{Report, Json}
 
--- the text of these books
+-- the text of these books in a format
 abbrev pub text_in : Form → List BookModel → List ℕ
 text_in Report books = report_text books
 text_in Json books = json_text books

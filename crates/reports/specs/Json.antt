@@ -11,7 +11,7 @@ use Rattle.reports.specs.Report.{numbered_texts}
 abbrev pub entry_json : ℕ → ℕ → Entry → List ℕ
 entry_json file graph entry = line_of (answer_data file graph entry.answer)
 
--- the line of a file's mark, and of how many entries there are
+-- the line of a file's mark and its number of entries
 abbrev pub end_json : ℕ → Mark → ℕ → List ℕ
 end_json file mark count = line_of (end_data file (marks.word_of mark) count)
 

@@ -28,7 +28,7 @@ natural n = number (unsigned n)
 abbrev pub integer : ℤ → Data
 integer z = number (of_integer z)
 
--- the array of what stands for each thing of a list
+-- the array of the values of the elements of a list
 abbrev pub array_of : {A : Type 0} → (A → Data) → List A → Data
 array_of value xs = array (items_of (map value xs))
 
@@ -64,7 +64,7 @@ point_data point = array_of natural (point.x ∷ point.y ∷ [])
 abbrev pub corners_data : PointsModel → ℕ → Data
 corners_data points e = array_of point_data (corners_at points e)
 
--- the points of the edges and vertices of a plane with so many edges, or null where there is no drawing
+-- the points of the edges and vertices of a plane with this many edges, or null if there is no drawing
 abbrev pub points_data : ℕ → Result PointsModel Cause → Data
 points_data edges (Ok points) = object_of (
     (codes "corners", array_of (corners_data points) (range_with_len 0 edges))
@@ -72,7 +72,7 @@ points_data edges (Ok points) = object_of (
     ∷ [])
 points_data edges (Err cause) = null
 
--- whether there is a drawing, or why there is none
+-- whether there is a drawing, or the word of the cause
 abbrev pub drawn_data : Result PointsModel Cause → Data
 drawn_data (Ok points) = string (codes "yes")
 drawn_data (Err cause) = string (causes.word_of cause)
@@ -111,7 +111,7 @@ answer_data file graph NoMemory = object_of (
     ∷ (codes "status", string (codes "memory"))
     ∷ [])
 
--- how the file with this number ends: the word of its mark, and how many graphs it has
+-- the end of the file with this number: the word of its mark, and its number of graphs
 abbrev pub end_data : ℕ → List ℕ → ℕ → Data
 end_data file word graphs = object_of (
     (codes "end", string word)
@@ -121,6 +121,6 @@ end_data file word graphs = object_of (
 
 -- ---- lines
 
--- the text of a value without spaces, and the byte that ends a line
+-- the text of a value without spaces, followed by the byte that ends a line
 abbrev pub line_of : Data → List ℕ
 line_of value = compact_text value ++ codes "\n"

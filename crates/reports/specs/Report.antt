@@ -14,33 +14,33 @@ use Rattle.entries.specs.declared.entry.Entry.{Entry}
 use Rattle.entries.specs.CauseWords as causes
 use Rattle.entries.specs.Books.{BookModel}
 
--- the texts of several things, one after another, the first of which has this number
+-- the texts of several things, one after another, of which the first has this number
 abbrev pub numbered_texts : {A : Type 0} → (ℕ → A → List ℕ) → ℕ → List A → List ℕ
 numbered_texts text number [] = []
 numbered_texts text number (x ∷ xs) = text number x ++ numbered_texts text (number + 1) xs
 
--- how many vertices, edges and faces a plane has, and how many bends its shape has
+-- the numbers of vertices, edges and faces of a plane, and of the bends of its shape
 abbrev pub sizes_text : PlaneModel → ShapeModel → List ℕ
 sizes_text plane shape =
     codes " n=" ++ decimal (vertices plane) ++ codes " m=" ++ decimal (darts plane / 2) ++ codes " f=" ++ decimal plane.faces
     ++ codes " bends=" ++ decimal (bends_of (length shape.strings) (turns_at shape))
 
--- that there is no drawing, and the word of its cause
+-- the text that there is no drawing, with the word of the cause
 abbrev pub cause_text : Cause → List ℕ
 cause_text cause = codes " drawn=no cause=" ++ causes.word_of cause
 
--- whether there is a drawing, and the cause where there is none
+-- whether there is a drawing, and the cause if there is none
 abbrev pub drawn_text : Result PointsModel Cause → List ℕ
 drawn_text (Ok points) = codes " drawn=yes"
 drawn_text (Err cause) = cause_text cause
 
--- what an answer is, with the sizes of a shape and the word of a rule
+-- the text of an answer, with the sizes of a shape or the word of a rule
 abbrev pub answer_text : Answer → List ℕ
 answer_text (Laid plane shape prices drawing) = codes " ok" ++ sizes_text plane shape ++ drawn_text drawing
 answer_text (Refused rule) = codes " refused " ++ rules.word_of rule
 answer_text NoMemory = codes " memory"
 
--- the line of the graph with this number, of which this is the answer
+-- the line of the graph with this number and this answer
 abbrev pub graph_line : ℕ → Answer → List ℕ
 graph_line number answer = codes "graph " ++ decimal number ++ answer_text answer ++ codes "\n"
 
@@ -52,7 +52,7 @@ entry_line number entry = graph_line number entry.answer
 abbrev pub file_line : ℕ → List ℕ
 file_line number = codes "file " ++ decimal number ++ codes "\n"
 
--- the last line of a file: its mark, and how many entries there are
+-- the last line of a file: its mark, and the number of entries
 abbrev pub end_line : Mark → ℕ → List ℕ
 end_line mark count = codes "end " ++ marks.word_of mark ++ codes " graphs=" ++ decimal count ++ codes "\n"
 

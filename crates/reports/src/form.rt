@@ -1,4 +1,4 @@
-//! The forms in which a batch is written.
+//! The output formats of a batch.
 ghost use Rattle.std.specs.Prelude.{◌≡◌, false};
 ghost use Rattle.reports.specs.Writing.{WritesOrLacks};
 
@@ -8,7 +8,7 @@ use entries::Batch;
 use std::alloc::Global;
 use streams::{Sink, WriteFault};
 
-/// A form in which answers are written.
+/// The output format of answers: the report or JSON lines.
 #[derive(Clone, Copy, Debug, PartialEq, Eq)]
 pub enum Form {
     /// The report: a line for each file, graph and mark.
@@ -20,12 +20,12 @@ pub enum Form {
 impl Form {
     ghost use Rattle.reports.specs.Forms.{text_in};
 
-    /// Writes a batch in this form. Only JSON takes memory.
+    /// Writes a batch in this format. Only JSON allocates.
     ///
     /// # Errors
     ///
-    /// `Write` exactly where the sink has then failed, and in JSON `Memory` where there was no memory for a line.
-    /// The sink has then taken a beginning of the text.
+    /// `Write` exactly if the sink has then failed, and in JSON `Memory` if there was no memory for a line. The sink
+    /// has then taken a prefix of the text.
     pub fn write<S: Sink>(self, alloc: Global, batch: &Batch, out: &mut S) -> Result<(), WriteFault>
         requires { S.failed out.old ≡ false }
         ensures { WritesOrLacks (S.taken out.old) (S.taken out.new) (S.failed out.new) (text_in self batch.now) result }

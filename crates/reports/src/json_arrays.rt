@@ -1,4 +1,4 @@
-//! The arrays of a line: angles, turns, prices and points.
+//! The arrays of a JSON line: angles, turns, prices and points.
 ghost use Rattle.std.specs.Prelude.{◌≡◌, ◌++◌, OnOk};
 ghost use Rattle.std.specs.List.{range_with_len};
 ghost use Rattle.serde_json.specs.Written.{comma_if, compact_text};
@@ -12,7 +12,7 @@ use faces::Plane;
 use ortho_rep::{Point, Points, Prices, Shape};
 use std::alloc::AllocError;
 
-/// Puts the angles by dart.
+/// Appends the angles, by dart.
 pub(crate) fn put_angles(out: &mut Vec<u8>, plane: &Plane, shape: &Shape) -> Result<(), AllocError>
     requires { HasDarts plane.now shape.now }
     ensures { OnOk result (out.new.items ≡ out.old.items ++ compact_text (array_of natural shape.now.angles)) }
@@ -24,7 +24,7 @@ pub(crate) fn put_angles(out: &mut Vec<u8>, plane: &Plane, shape: &Shape) -> Res
     bytes(out, b"]")
 }
 
-/// Puts the turns by dart.
+/// Appends the turns, by dart.
 pub(crate) fn put_turns(out: &mut Vec<u8>, shape: &Shape) -> Result<(), AllocError>
     ensures { OnOk result (out.new.items ≡ out.old.items ++ compact_text (array_of turns_data shape.now.strings)) }
 {
@@ -35,7 +35,7 @@ pub(crate) fn put_turns(out: &mut Vec<u8>, shape: &Shape) -> Result<(), AllocErr
     bytes(out, b"]")
 }
 
-/// Puts the prices of the vertices, in order.
+/// Appends the prices of the vertices, in order.
 pub(crate) fn put_vertex_prices(
     out: &mut Vec<u8>,
     plane: &Plane,
@@ -51,7 +51,7 @@ pub(crate) fn put_vertex_prices(
     bytes(out, b"]")
 }
 
-/// Puts the prices of the faces, in order.
+/// Appends the prices of the faces, in order.
 pub(crate) fn put_face_prices(
     out: &mut Vec<u8>,
     plane: &Plane,
@@ -67,7 +67,7 @@ pub(crate) fn put_face_prices(
     bytes(out, b"]")
 }
 
-/// Puts the corners of so many edges, in order. An edge without a list has none.
+/// Appends the corners of the first `edges` edges, in order. An edge without a list has none.
 pub(crate) fn put_corners(out: &mut Vec<u8>, points: &Points, edges: u16) -> Result<(), AllocError>
     ensures { OnOk result (out.new.items
         ≡ out.old.items ++ compact_text (array_of (corners_data points.now) (range_with_len 0 edges))) }
@@ -79,7 +79,7 @@ pub(crate) fn put_corners(out: &mut Vec<u8>, points: &Points, edges: u16) -> Res
     bytes(out, b"]")
 }
 
-/// Puts the corners of one edge, behind a comma where something stands before.
+/// Appends the corners of one edge, after a comma if `later`.
 fn put_edge(out: &mut Vec<u8>, later: bool, points: &Points, edge: u16) -> Result<(), AllocError>
     ensures { OnOk result (out.new.items ≡ out.old.items ++ (comma_if later ++ compact_text (corners_data points.now edge))) }
 {
@@ -91,7 +91,7 @@ fn put_edge(out: &mut Vec<u8>, later: bool, points: &Points, edge: u16) -> Resul
     put_points(out, corners)
 }
 
-/// The corners of an edge, and none of one without a list.
+/// The corners of an edge; empty for an edge without a list.
 fn corners_of(points: &Points, edge: u16) -> &[Point]
     ensures { result.now ≡ corners_at points.now edge }
 {
@@ -102,7 +102,7 @@ fn corners_of(points: &Points, edge: u16) -> &[Point]
     }
 }
 
-/// Puts these points, in order.
+/// Appends these points, in order.
 pub(crate) fn put_points(out: &mut Vec<u8>, points: &[Point]) -> Result<(), AllocError>
     ensures { OnOk result (out.new.items ≡ out.old.items ++ compact_text (array_of point_data points.now)) }
 {

@@ -10,17 +10,17 @@ use entries::{Batch, Book, Entry};
 use std::alloc::Global;
 use streams::{LINE, Mark, Sink, TextBuffer, WriteFault, mark_word};
 
-/// Writes for each file a line for each entry and one for its mark, each the text of a JSON object without
-/// spaces. Files and entries are numbered from 1. The lines are buffered, so that short ones make few
-/// writes.
+/// Writes a batch as JSON lines: for each file a line for each entry and one for its mark.
 ///
-/// A line is made whole before it is written. It takes a few allocations, which are given back before the
-/// next line.
+/// Each line is the text of a JSON object without spaces. Files and entries are numbered from 1. The lines are
+/// buffered, so that short ones need few writes.
+///
+/// A line is completed before it is written. It takes a few allocations, which are freed before the next line.
 ///
 /// # Errors
 ///
-/// `Write` exactly where the sink has then failed, and `Memory` where there was no memory for a line. The sink
-/// has then taken a beginning of the text.
+/// `Write` exactly if the sink has then failed, and `Memory` if there was no memory for a line. The sink has then taken
+/// a prefix of the text.
 pub fn write_json<S: Sink>(alloc: Global, batch: &Batch, sink: &mut S) -> Result<(), WriteFault>
     requires { S.failed sink.old ≡ false }
     ensures { WritesOrLacks (S.taken sink.old) (S.taken sink.new) (S.failed sink.new) (json_text batch.now) result }
@@ -105,11 +105,11 @@ fn write_end<S: Sink>(
     }
 }
 
-/// Adds a line of any length, a piece at a time. It takes no memory.
+/// Writes a line of any length through the buffer, a piece at a time. It allocates nothing.
 ///
 /// # Errors
 ///
-/// `Write` exactly where the sink has then failed; it has then taken a beginning of the text. There is no other.
+/// `Write` exactly if the sink has then failed; it has then taken a prefix of the text. There is no other error.
 pub fn push_line<S: Sink>(
     lines: &mut TextBuffer,
     sink: &mut S,

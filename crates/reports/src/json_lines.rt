@@ -1,4 +1,4 @@
-//! Lines of JSON.
+//! The lines of JSON output.
 ghost use Rattle.std.specs.Prelude.{◌≡◌, [], IfOk};
 ghost use Rattle.serde_json.specs.Data.{Data};
 ghost use Rattle.ortho_rep.specs.Representation.{HasDarts};
@@ -18,21 +18,22 @@ use json::Writer;
 use ortho_rep::{Prices, Shape};
 use std::alloc::{AllocError, Global};
 
-/// As many bytes as a short line has room for at first.
+/// The initial capacity of a short line, in bytes.
 const SHORT_ROOM: usize = 96;
 
-/// As many bytes as the line of a laid graph has room for at first, beside those for each dart.
+/// The initial capacity of the line of a laid-out graph, in bytes, besides that for each dart.
 const LAID_ROOM: usize = 256;
 
-/// As many bytes as there is room for at first for each dart: an angle, turns, prices and points.
+/// The initial capacity for each dart, in bytes: an angle, turns, prices and points.
 const DART_ROOM: usize = 16;
 
-/// The line of an entry, which is the graph of this number in the file of this number, with the byte 0A
-/// at its end. It takes a few allocations.
+/// The JSON line of an entry, with a newline (byte 0A) at its end; `file` and `graph` are the numbers to print.
+///
+/// It takes a few allocations.
 ///
 /// # Errors
 ///
-/// `AllocError` where there is no memory for the line.
+/// `AllocError` if there is no memory for the line.
 pub fn entry_line(
     alloc: Global,
     file: u32,
@@ -44,11 +45,13 @@ pub fn entry_line(
     answer_line(alloc, file, graph, &entry.answer)
 }
 
-/// The same of an answer to some record.
+/// The JSON line of an answer to some record, with a newline at its end; `file` and `graph` are the numbers to print.
+///
+/// It takes a few allocations.
 ///
 /// # Errors
 ///
-/// `AllocError` where there is no memory for the line.
+/// `AllocError` if there is no memory for the line.
 pub fn answer_line(
     alloc: Global,
     file: u32,
@@ -80,12 +83,13 @@ pub fn answer_line(
     }
 }
 
-/// The line of a graph that has no answer for want of memory, with the byte 0A at its end. It takes a few
-/// allocations.
+/// The JSON line of a graph that has no answer because memory ran out, with a newline (byte 0A) at its end.
+///
+/// `file` and `graph` are the numbers to print. It takes a few allocations.
 ///
 /// # Errors
 ///
-/// `AllocError` where there is no memory for the line.
+/// `AllocError` if there is no memory for the line.
 pub fn lacking_line(alloc: Global, file: u32, graph: u64) -> Result<Vec<u8>, AllocError>
     ensures { IfOk result (λ line. line.items ≡ line_of (answer_data file graph NoMemory)) }
 {
@@ -97,7 +101,7 @@ pub fn lacking_line(alloc: Global, file: u32, graph: u64) -> Result<Vec<u8>, All
     ended(out)
 }
 
-/// The line of a graph whose record breaks this rule.
+/// The JSON line of a graph whose record breaks this rule.
 fn refused_line(alloc: Global, file: u32, graph: u64, rule: Rule) -> Result<Vec<u8>, AllocError>
     ensures { IfOk result (λ line. line.items ≡ line_of (answer_data file graph (Refused rule))) }
 {
@@ -110,22 +114,24 @@ fn refused_line(alloc: Global, file: u32, graph: u64, rule: Rule) -> Result<Vec<
     ended(out)
 }
 
-/// What a line tells of a graph that breaks no rule.
+/// The data of the JSON line of a graph that breaks no rule.
 #[derive(Clone, Copy)]
 pub struct LaidGraph<'a> {
     pub plane: &'a Plane,
-    /// A shape of the plane.
+    /// An orthogonal representation of the plane.
     pub shape: &'a Shape,
     pub prices: &'a Prices,
-    /// A drawing, or the cause in its place.
+    /// A drawing, or the cause why there is none.
     pub drawing: &'a Result<Drawing, Cause>,
 }
 
-/// The line of a graph that breaks no rule, with the byte 0A at its end. It takes a few allocations.
+/// The JSON line of a graph that breaks no rule, with a newline (byte 0A) at its end.
+///
+/// `file` and `graph` are the numbers to print. It takes a few allocations.
 ///
 /// # Errors
 ///
-/// `AllocError` where there is no memory for the line.
+/// `AllocError` if there is no memory for the line.
 pub fn laid_line(
     alloc: Global,
     file: u32,
@@ -155,12 +161,14 @@ pub fn laid_line(
     Ok(out)
 }
 
-/// The line of the end of the file of this number: the word of its mark, and how many graphs it has,
-/// with the byte 0A at its end. It takes a few allocations.
+/// The JSON line of the end of a file, with a newline (byte 0A) at its end: the word of its mark and its number of
+/// graphs.
+///
+/// `file` is the number to print. It takes a few allocations.
 ///
 /// # Errors
 ///
-/// `AllocError` where there is no memory for the line.
+/// `AllocError` if there is no memory for the line.
 pub fn end_line(alloc: Global, file: u32, word: &str, graphs: u64) -> Result<Vec<u8>, AllocError>
     ensures { IfOk result (λ line. line.items ≡ line_of (end_data file word.now graphs)) }
 {
@@ -173,7 +181,7 @@ pub fn end_line(alloc: Global, file: u32, word: &str, graphs: u64) -> Result<Vec
     ended(out)
 }
 
-/// What was written from nothing, with the byte that ends a line.
+/// The text of a finished writer, followed by the byte that ends a line.
 fn ended(out: Writer) -> Result<Vec<u8>, AllocError>
     requires { out.before ≡ [] }
     ensures { (d : Data) → out.tokens ≡ tokens_of d → IfOk result (λ line. line.items ≡ line_of d) }

@@ -19,7 +19,7 @@ use faces::Plane;
 use ortho_rep::{Points, Prices, Shape};
 use std::alloc::AllocError;
 
-/// Puts the beginning of the object, and the members that tell of the shape, as far as the number of faces.
+/// Appends the beginning of the object, and the members about the shape, up to the number of faces.
 pub(crate) fn put_shape(
     out: &mut Vec<u8>,
     plane: &Plane,
@@ -40,7 +40,7 @@ pub(crate) fn put_shape(
     natural_at(out, b",\"f\":", u64::from(plane.face_count()))
 }
 
-/// Puts a number behind a key that is written so.
+/// Appends a number after a key, which is given as written.
 fn natural_at(out: &mut Vec<u8>, key: &[u8], number: u64) -> Result<(), AllocError>
     ensures { OnOk result (out.new.items ≡ out.old.items ++ (key.now ++ decimal number)) }
 {
@@ -48,7 +48,7 @@ fn natural_at(out: &mut Vec<u8>, key: &[u8], number: u64) -> Result<(), AllocErr
     natural(out, false, number)
 }
 
-/// Puts whether there is a drawing, or the word of the cause.
+/// Appends whether there is a drawing, or the word of the cause.
 fn put_drawn(out: &mut Vec<u8>, drawing: &Result<Drawing, Cause>) -> Result<(), AllocError>
     ensures { OnOk result (out.new.items ≡ out.old.items ++ 44 ∷ member_text (codes "drawn") (drawn_data drawing.now)) }
 {
@@ -62,7 +62,7 @@ fn put_drawn(out: &mut Vec<u8>, drawing: &Result<Drawing, Cause>) -> Result<(), 
     }
 }
 
-/// Puts which graph of which file it is.
+/// Appends the number of the graph and that of its file.
 pub(crate) fn put_place(out: &mut Vec<u8>, file: u32, graph: u64) -> Result<(), AllocError>
     ensures { OnOk result (out.new.items ≡ out.old.items
         ++ 44 ∷ (member_text (codes "file") (natural file) ++ 44 ∷ member_text (codes "graph") (natural graph))) }
@@ -71,7 +71,7 @@ pub(crate) fn put_place(out: &mut Vec<u8>, file: u32, graph: u64) -> Result<(), 
     natural_at(out, b",\"graph\":", graph)
 }
 
-/// Puts how many edges and vertices there are.
+/// Appends the numbers of edges and vertices.
 pub(crate) fn put_sizes(out: &mut Vec<u8>, plane: &Plane) -> Result<(), AllocError>
     ensures { OnOk result (out.new.items ≡ out.old.items
         ++ 44 ∷ (member_text (codes "m") (natural (darts plane.now / 2)) ++ 44 ∷ member_text (codes "n") (natural (vertices plane.now)))) }
@@ -80,7 +80,7 @@ pub(crate) fn put_sizes(out: &mut Vec<u8>, plane: &Plane) -> Result<(), AllocErr
     natural_at(out, b",\"n\":", u64::from(plane.graph().vertices()))
 }
 
-/// Puts the member of the points of so many edges and of the vertices, or of null where there is no drawing.
+/// Appends the member with the points of `edges` edges and of the vertices; null if there is no drawing.
 pub(crate) fn put_drawing(
     out: &mut Vec<u8>,
     edges: u16,
@@ -94,7 +94,7 @@ pub(crate) fn put_drawing(
     }
 }
 
-/// Puts the member of the points of so many edges and of the vertices.
+/// Appends the member with the points of `edges` edges and of the vertices.
 fn put_drawn_points(out: &mut Vec<u8>, edges: u16, points: &Points) -> Result<(), AllocError>
     ensures { OnOk result (out.new.items ≡ out.old.items ++ 44 ∷ member_text (codes "points") (points_data edges (Drawn points.now))) }
 {
@@ -105,7 +105,7 @@ fn put_drawn_points(out: &mut Vec<u8>, edges: u16, points: &Points) -> Result<()
     bytes(out, b"}")
 }
 
-/// Puts the member of the prices of the faces and of the vertices.
+/// Appends the member with the prices of the faces and of the vertices.
 pub(crate) fn put_prices(
     out: &mut Vec<u8>,
     plane: &Plane,
@@ -121,7 +121,7 @@ pub(crate) fn put_prices(
     bytes(out, b"}")
 }
 
-/// Puts that all is well and the turns, and ends the object.
+/// Appends the result "ok" and the turns, and ends the object.
 pub(crate) fn put_end(out: &mut Vec<u8>, shape: &Shape) -> Result<(), AllocError>
     ensures { OnOk result (out.new.items ≡ out.old.items
         ++ 44 ∷ (member_text (codes "status") (string (codes "ok"))

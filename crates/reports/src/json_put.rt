@@ -1,4 +1,4 @@
-//! Parts of a value, put behind what was written.
+//! Parts of a JSON value, appended to a writer.
 ghost use Rattle.std.specs.Prelude.{◌∷◌, ◌++◌, [], OnOk, codes};
 ghost use Rattle.json.specs.Token.{begin_object, end_object, key};
 ghost use Rattle.serde_json.specs.Data.{string};
@@ -8,42 +8,42 @@ ghost use Rattle.reports.specs.Adding.{Adds, tokens_of};
 use json::Writer;
 use std::alloc::AllocError;
 
-/// Puts the beginning of an object.
+/// Appends the beginning of an object.
 pub(crate) fn begin_object(out: &mut Writer) -> Result<(), AllocError>
     ensures { OnOk result (Adds out.old out.new (begin_object ∷ [])) }
 {
     out.begin_object()
 }
 
-/// Puts the end of an object.
+/// Appends the end of an object.
 pub(crate) fn end_object(out: &mut Writer) -> Result<(), AllocError>
     ensures { OnOk result (Adds out.old out.new (end_object ∷ [])) }
 {
     out.end_object()
 }
 
-/// Puts the key of a member.
+/// Appends the key of a member.
 pub(crate) fn key(out: &mut Writer, name: &str) -> Result<(), AllocError>
     ensures { OnOk result (Adds out.old out.new (key name.now ∷ [])) }
 {
     out.key(name)
 }
 
-/// Puts a number that is not below 0.
+/// Appends a nonnegative number.
 pub(crate) fn natural(out: &mut Writer, number: u64) -> Result<(), AllocError>
     ensures { OnOk result (Adds out.old out.new (tokens_of (natural number))) }
 {
     out.u64(number)
 }
 
-/// Puts a text.
+/// Appends a string.
 pub(crate) fn text(out: &mut Writer, text: &str) -> Result<(), AllocError>
     ensures { OnOk result (Adds out.old out.new (tokens_of (string text.now))) }
 {
     out.string(text)
 }
 
-/// Puts a member whose value is a number that is not below 0.
+/// Appends a member whose value is a nonnegative number.
 pub(crate) fn natural_at(out: &mut Writer, name: &str, number: u64) -> Result<(), AllocError>
     ensures { OnOk result (Adds out.old out.new (key name.now ∷ tokens_of (natural number))) }
 {
@@ -51,7 +51,7 @@ pub(crate) fn natural_at(out: &mut Writer, name: &str, number: u64) -> Result<()
     natural(out, number)
 }
 
-/// Puts a member whose value is a text.
+/// Appends a member whose value is a string.
 pub(crate) fn text_at(out: &mut Writer, name: &str, value: &str) -> Result<(), AllocError>
     ensures { OnOk result (Adds out.old out.new (key name.now ∷ tokens_of (string value.now))) }
 {
@@ -59,7 +59,7 @@ pub(crate) fn text_at(out: &mut Writer, name: &str, value: &str) -> Result<(), A
     text(out, value)
 }
 
-/// Puts which graph of which file it is.
+/// Appends the number of the graph and that of its file.
 pub(crate) fn place(out: &mut Writer, file: u32, graph: u64) -> Result<(), AllocError>
     ensures { OnOk result (Adds out.old out.new (key (codes "file")
         ∷ (tokens_of (natural file) ++ key (codes "graph") ∷ tokens_of (natural graph)))) }

@@ -1,4 +1,4 @@
-//! Parts of the text of a line, put behind what was written.
+//! Parts of the text of a JSON line, appended to the bytes written so far.
 ghost use Rattle.std.specs.Prelude.{◌≡◌, ◌<◌, ◌++◌, ◌∷◌, [], OnOk, decimal, map};
 ghost use Rattle.serde_json.specs.Written.{comma_if, compact_text};
 ghost use Rattle.reports.specs.LineData.{integer, point_data, turns_data, letter_of};
@@ -7,14 +7,14 @@ use itoa::Buffer;
 use ortho_rep::{Point, Turn};
 use std::alloc::AllocError;
 
-/// Puts these bytes.
+/// Appends these bytes.
 pub(crate) fn bytes(out: &mut Vec<u8>, bytes: &[u8]) -> Result<(), AllocError>
     ensures { OnOk result (out.new.items ≡ out.old.items ++ bytes.now) }
 {
     out.extend_from_slice(bytes)
 }
 
-/// Puts a comma, where something stands before.
+/// Appends a comma if `later`, that is, if an element was written before.
 pub(crate) fn comma(out: &mut Vec<u8>, later: bool) -> Result<(), AllocError>
     ensures { OnOk result (out.new.items ≡ out.old.items ++ comma_if later) }
 {
@@ -24,7 +24,7 @@ pub(crate) fn comma(out: &mut Vec<u8>, later: bool) -> Result<(), AllocError>
     Ok(())
 }
 
-/// Puts a number that is not below 0, behind a comma where something stands before.
+/// Appends a nonnegative number, after a comma if `later`.
 #[inline]
 pub(crate) fn natural(out: &mut Vec<u8>, later: bool, number: u64) -> Result<(), AllocError>
     ensures { OnOk result (out.new.items ≡ out.old.items ++ (comma_if later ++ decimal number)) }
@@ -35,7 +35,7 @@ pub(crate) fn natural(out: &mut Vec<u8>, later: bool, number: u64) -> Result<(),
     digits(out, later, number)
 }
 
-/// The same of a number of any length.
+/// Appends a nonnegative number of any length, after a comma if `later`.
 fn digits(out: &mut Vec<u8>, later: bool, number: u64) -> Result<(), AllocError>
     ensures { OnOk result (out.new.items ≡ out.old.items ++ (comma_if later ++ decimal number)) }
 {
@@ -44,7 +44,7 @@ fn digits(out: &mut Vec<u8>, later: bool, number: u64) -> Result<(), AllocError>
     out.extend_from_slice(buffer.format(number).as_bytes())
 }
 
-/// The same of a number of one digit.
+/// Appends a nonnegative number of one digit, after a comma if `later`.
 #[inline]
 #[tactic(auto, using(std::proofs::lemmas::Fmt::decimal_digit))]
 fn digit(out: &mut Vec<u8>, later: bool, number: u8) -> Result<(), AllocError>
@@ -59,7 +59,7 @@ fn digit(out: &mut Vec<u8>, later: bool, number: u8) -> Result<(), AllocError>
     }
 }
 
-/// Puts a number, behind a comma where something stands before.
+/// Appends an integer, after a comma if `later`.
 pub(crate) fn integer(out: &mut Vec<u8>, later: bool, number: i32) -> Result<(), AllocError>
     ensures { OnOk result (out.new.items ≡ out.old.items ++ (comma_if later ++ compact_text (integer number))) }
 {
@@ -69,7 +69,7 @@ pub(crate) fn integer(out: &mut Vec<u8>, later: bool, number: i32) -> Result<(),
     minus(out, later, number.unsigned_abs())
 }
 
-/// Puts a number of this size that is below 0, behind a comma where something stands before.
+/// Appends a negative number of this size, after a comma if `later`.
 fn minus(out: &mut Vec<u8>, later: bool, size: u32) -> Result<(), AllocError>
     ensures { OnOk result (out.new.items ≡ out.old.items ++ (comma_if later ++ 45 ∷ decimal size)) }
 {
@@ -81,7 +81,7 @@ fn minus(out: &mut Vec<u8>, later: bool, size: u32) -> Result<(), AllocError>
     natural(out, false, u64::from(size))
 }
 
-/// The same of a number of one digit, behind a comma.
+/// Appends a negative number of one digit, after a comma.
 #[tactic(auto, using(std::proofs::lemmas::Fmt::decimal_digit))]
 fn minus_digit(out: &mut Vec<u8>, size: u8) -> Result<(), AllocError>
     requires { size < 10 }
@@ -90,7 +90,7 @@ fn minus_digit(out: &mut Vec<u8>, size: u8) -> Result<(), AllocError>
     out.extend_from_slice(&[b',', b'-', b'0' + size])
 }
 
-/// Puts a point, behind a comma where something stands before.
+/// Appends a point, after a comma if `later`.
 pub(crate) fn point(out: &mut Vec<u8>, later: bool, point: Point) -> Result<(), AllocError>
     ensures { OnOk result (out.new.items ≡ out.old.items ++ (comma_if later ++ compact_text (point_data point))) }
 {
@@ -104,7 +104,7 @@ pub(crate) fn point(out: &mut Vec<u8>, later: bool, point: Point) -> Result<(), 
     bytes(out, b"]")
 }
 
-/// Puts a point whose coordinates have one digit each, behind a comma.
+/// Appends a point whose coordinates have one digit each, after a comma.
 #[tactic(auto, using(std::proofs::lemmas::Fmt::decimal_digit))]
 fn small_point(out: &mut Vec<u8>, x: u8, y: u8) -> Result<(), AllocError>
     requires x { x < 10 }
@@ -114,7 +114,7 @@ fn small_point(out: &mut Vec<u8>, x: u8, y: u8) -> Result<(), AllocError>
     out.extend_from_slice(&[b',', b'[', b'0' + x, b',', b'0' + y, b']'])
 }
 
-/// Puts the turns of a dart, behind a comma where something stands before.
+/// Appends the turns of a dart, after a comma if `later`.
 pub(crate) fn turns(out: &mut Vec<u8>, later: bool, turns: &[Turn]) -> Result<(), AllocError>
     ensures { OnOk result (out.new.items ≡ out.old.items ++ (comma_if later ++ compact_text (turns_data turns.now))) }
 {
@@ -127,7 +127,7 @@ pub(crate) fn turns(out: &mut Vec<u8>, later: bool, turns: &[Turn]) -> Result<()
     bytes(out, b"\"")
 }
 
-/// Puts a letter for each turn.
+/// Appends a letter for each turn.
 fn letters(out: &mut Vec<u8>, turns: &[Turn]) -> Result<(), AllocError>
     ensures { OnOk result (out.new.items ≡ out.old.items ++ map letter_of turns.now) }
 {

@@ -1,5 +1,5 @@
-//! The text of a batch of books, as a report or as JSON lines (an object for each entry of a file and one for its
-//! end), and the exit status that goes with it.
+//! The text output for a batch of books, as a report or as JSON lines (an object for each entry of a file and one for
+//! its end), and its exit status.
 #![tactic(auto)]
 
 mod form;

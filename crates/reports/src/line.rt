@@ -1,14 +1,14 @@
-//! A line of a report on its way.
+//! A line of a report while it is built.
 ghost use Rattle.std.specs.Prelude.{◌≡◌, ◌+◌, ◌≤◌, ◌++◌, [], length, decimal};
 ghost use Rattle.reports.specs.declared.line.TheConstants.{LONGEST};
 
 use itoa::Buffer;
 use std::marker::Model;
 
-/// As many bytes as a line of a report has at most.
+/// The maximum length of a line of a report, in bytes.
 pub const LONGEST: usize = 384;
 
-/// The text of one line of a report. It stands in the value itself, and takes no memory.
+/// The text of one line of a report. It is stored in the value itself, without allocation.
 #[derive(Drop)]
 pub struct ReportLine {
     bytes: [u8; LONGEST],
@@ -27,7 +27,7 @@ impl Model for ReportLine {
 }
 
 impl ReportLine {
-    /// No text yet.
+    /// An empty line.
     pub fn new() -> ReportLine
         ensures { result ≡ [] }
     {
@@ -45,7 +45,7 @@ impl ReportLine {
         &self.bytes[..self.len]
     }
 
-    /// Adds a text, for which there is room.
+    /// Appends a text, for which there must be room.
     pub(crate) fn push(&mut self, text: &[u8])
         requires { length self.old + length text.now ≤ LONGEST }
         ensures { self.new ≡ self.old ++ text.now }
@@ -55,7 +55,7 @@ impl ReportLine {
         self.len = end;
     }
 
-    /// Adds a number in decimal, for which there is room.
+    /// Appends a number in decimal, for which there must be room.
     pub(crate) fn push_number(&mut self, number: u64)
         requires { length self.old + 40 ≤ LONGEST }
         ensures text { self.new ≡ self.old ++ decimal number }

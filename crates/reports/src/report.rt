@@ -7,12 +7,13 @@ use crate::line::ReportLine;
 use entries::{Batch, Book, Entry};
 use streams::{Sink, TextBuffer, WriteFault};
 
-/// Writes for each file a line with its number, a line for each entry and a line for its mark. It takes
-/// no memory: lines wait in a fixed buffer.
+/// Writes the report of a batch: for each file a line with its number, a line for each entry and a line for its mark.
+///
+/// It allocates nothing: lines are collected in a fixed buffer.
 ///
 /// # Errors
 ///
-/// `Write` exactly where the sink has then failed; it has then taken a beginning of the report. There is no other.
+/// `Write` exactly if the sink has then failed; it has then taken a prefix of the report. There is no other error.
 pub fn write_report<S: Sink>(batch: &Batch, sink: &mut S) -> Result<(), WriteFault>
     requires { S.failed sink.old ≡ false }
     ensures { Writes (S.taken sink.old) (S.taken sink.new) (S.failed sink.new) (report_text batch.now) result }

@@ -1,4 +1,4 @@
-//! The status of a whole report.
+//! The exit status of a whole report.
 ghost use Rattle.std.specs.Prelude.{◌≡◌, ◌≢◌, ◌↔◌, All, IsTrue};
 ghost use Rattle.reports.specs.FlawlessBooks.{IsFlawlessBook};
 
@@ -6,7 +6,7 @@ use entries::{Answer, Batch, Book, Entry};
 use planar_code::Ending;
 use streams::Mark;
 
-/// The status of a report of records: 0 where the file ended complete, and else 3.
+/// The exit status of a report of records: 0 if the file ended complete, and otherwise 3.
 pub fn status_of(mark: Mark) -> u8
     ensures complete { (result ≡ 0) ↔ (mark ≡ Mark.Ended Ending.Complete) }
     ensures other { mark ≢ Mark.Ended Ending.Complete → result ≡ 3 }
@@ -14,8 +14,10 @@ pub fn status_of(mark: Mark) -> u8
     if is_complete(mark) { 0 } else { 3 }
 }
 
-/// The status of a report of answers: 0 where each file ended complete and no record lacks an answer
-/// for want of memory, and else 3.
+/// The exit status of a report of answers: 0 if each file ended complete and each record has an answer, and otherwise
+/// 3.
+///
+/// A record has no answer if memory ran out for it.
 pub fn status_of_batch(batch: &Batch) -> u8
     ensures flawless { (result ≡ 0) ↔ All IsFlawlessBook batch.now }
     ensures other { result ≢ 0 → result ≡ 3 }
@@ -42,7 +44,7 @@ fn is_complete(mark: Mark) -> bool
     matches!(mark, Mark::Ended(Ending::Complete))
 }
 
-/// Whether memory sufficed for an answer.
+/// Whether an entry has an answer, that is, memory did not run out for it.
 fn is_answered(entry: &Entry) -> bool
     ensures { IsTrue result ↔ (entry.now.answer ≢ Answer.NoMemory) }
 {

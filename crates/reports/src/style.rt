@@ -1,9 +1,9 @@
-//! How the text of a run is made.
+//! The style of the output of a run.
 
 use crate::form::Form;
 use common::DrawingKind;
 
-/// The form of a run's text, and which drawings its lines are of. Only JSON lines have points.
+/// The output format of a run, and the kind of its drawings. Only JSON lines show coordinates.
 #[derive(Clone, Copy, Debug, PartialEq, Eq)]
 pub struct Style {
     pub form: Form,

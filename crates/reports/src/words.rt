@@ -1,4 +1,4 @@
-//! What the lines of a report say.
+//! The content of the lines of a report.
 ghost use Rattle.std.specs.Prelude.{◌≡◌, ◌+◌, ◌≤◌, ◌++◌, length};
 ghost use Rattle.reports.specs.Report.{file_line, end_line, graph_line, answer_text, sizes_text, drawn_text, cause_text};
 ghost use Rattle.reports.specs.declared.line.TheConstants.{LONGEST};
@@ -11,13 +11,13 @@ use faces::Plane;
 use ortho_rep::Shape;
 use streams::{Mark, mark_word};
 
-/// As many bytes as an answer adds at most.
+/// The maximum number of bytes that an answer adds.
 const ANSWER: usize = 300;
 
-/// As many bytes as the sizes of a graph add at most.
+/// The maximum number of bytes that the sizes of a graph add.
 const SIZES: usize = 200;
 
-/// As many bytes as the end of a graph's line adds at most: whether there is a drawing, or why there is none.
+/// The maximum number of bytes that the end of a graph's line adds: whether there is a drawing, or why there is none.
 const DRAWN: usize = 40;
 
 impl ReportLine {
@@ -32,7 +32,7 @@ impl ReportLine {
         line
     }
 
-    /// The line of the graph with this number, of which this is the answer.
+    /// The line of the graph with this number and this answer.
     pub fn of_graph(number: u64, answer: &Answer) -> ReportLine
         ensures { result ≡ graph_line number answer.now }
     {
@@ -44,7 +44,7 @@ impl ReportLine {
         line
     }
 
-    /// The last line of a file: its mark, and how many entries there are.
+    /// The last line of a file: its mark, and the number of entries.
     pub fn of_end(mark: Mark, count: u64) -> ReportLine
         ensures { result ≡ end_line mark count }
     {
@@ -57,7 +57,7 @@ impl ReportLine {
         line
     }
 
-    /// Adds what an answer is.
+    /// Appends the answer.
     fn push_answer(&mut self, answer: &Answer)
         requires { length self.old + ANSWER ≤ LONGEST }
         ensures text { self.new ≡ self.old ++ answer_text answer.now }
@@ -82,7 +82,7 @@ impl ReportLine {
         }
     }
 
-    /// Adds how many vertices, edges, faces and bends there are.
+    /// Appends the numbers of vertices, edges, faces and bends.
     fn push_sizes(&mut self, plane: &Plane, shape: &Shape)
         requires { length self.old + SIZES ≤ LONGEST }
         ensures text { self.new ≡ self.old ++ sizes_text plane.now shape.now }
@@ -98,7 +98,7 @@ impl ReportLine {
         self.push_number(u64::from(shape.bends()));
     }
 
-    /// Adds whether there is a drawing.
+    /// Appends whether there is a drawing.
     fn push_drawn(&mut self, drawing: &Result<Drawing, Cause>)
         requires { length self.old + DRAWN ≤ LONGEST }
         ensures text { self.new ≡ self.old ++ drawn_text drawing.now }
@@ -110,7 +110,7 @@ impl ReportLine {
         }
     }
 
-    /// Adds the end of the line of a graph that has no drawing.
+    /// Appends the end of the line of a graph that has no drawing, with the word of its cause.
     pub fn push_cause(&mut self, cause: Cause)
         requires { length self.old + DRAWN ≤ LONGEST }
         ensures text { self.new ≡ self.old ++ cause_text cause }

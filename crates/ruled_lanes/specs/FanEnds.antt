@@ -1,4 +1,4 @@
--- What the ends of a fan know.
+-- The knowledge of the ends of a fan.
 use Rattle.std.specs.Prelude.{◌≡◌, ◌≤◌, ℕ, List, [], ◌++◌, Some, slice_get, All}
 use Rattle.crossbeam_channel.specs.Claims.{view}
 use Rattle.crossbeam_channel.specs.Ends.{sends_on, receives_on, ruled_capacity}
@@ -16,11 +16,11 @@ module _ {T : Type 0} where
   abbrev pub given_at : LaneGiver T → List T
   given_at g = given_in (view g.pass)
 
-  -- all that was taken, first to last, each item with the number of its lane
+  -- all items that were taken, first to last, each with the number of its lane
   abbrev pub gathered : Gatherer T → List (ℕ × T)
   gathered f = (view f.pass).taken
 
-  -- how many items the fan holds at most
+  -- the maximum number of items that the fan holds
   abbrev pub capacity_of_fan : Gatherer T → ℕ
   capacity_of_fan f = ruled_capacity (receives_on f.receiver)
 
@@ -28,7 +28,7 @@ module _ {T : Type 0} where
   abbrev pub AreGiversOf : Gatherer T → List (LaneGiver T) → Type 0
   AreGiversOf f givers = All (λ g. receives_on f.receiver ≡ sends_on g.sender) givers
 
-  -- each giver stands at the number of its lane
+  -- each giver is listed at the number of its lane
   abbrev pub StandInOrder : List (LaneGiver T) → Type 0
   StandInOrder givers = (k : ℕ) (g : LaneGiver T) → slice_get givers k ≡ Some g → lane_of g ≡ k
 
@@ -40,8 +40,8 @@ module _ {T : Type 0} where
   abbrev pub TakesFromSameFan : Gatherer T → Gatherer T → Type 0
   TakesFromSameFan before after = receives_on after.receiver ≡ receives_on before.receiver
 
-  -- of each giver's lane, what was taken, followed by what the fan held, is what was given; and nothing
-  -- was taken or held of a lane that the fan does not have
+  -- for each giver's lane, what was taken, followed by what the fan held, is what was given; and nothing was taken or
+  -- held of a lane that the fan does not have
   abbrev pub SettlesFan : List (ℕ × T) → List (LaneGiver T) → Type 0
   SettlesFan taken givers = (held : List (ℕ × T))
       × All (λ g. of_lane (lane_of g) taken ++ of_lane (lane_of g) held ≡ given_at g) givers

@@ -1,6 +1,6 @@
--- What a refused call hands back.
+-- The item that a refused call returns.
 use Rattle.ruled_lanes.specs.declared.errors.Closed.{Closed}
 
--- the item of a give
+-- the item in the error of a refused give
 abbrev pub handed_back : {T : Type 0} → Closed T → T
 handed_back closed = closed.0

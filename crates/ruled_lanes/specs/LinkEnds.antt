@@ -1,4 +1,4 @@
--- What the ends of a link know.
+-- The knowledge of the ends of a link.
 use Rattle.std.specs.Prelude.{◌≡◌, ℕ, List, ◌++◌}
 use Rattle.crossbeam_channel.specs.Claims.{view}
 use Rattle.crossbeam_channel.specs.Ends.{sends_on, receives_on, ruled_capacity}
@@ -6,15 +6,15 @@ use Rattle.ruled_lanes.specs.declared.link_ends.Giver.{Giver}
 use Rattle.ruled_lanes.specs.declared.link_ends.Taker.{Taker}
 
 module _ {T : Type 0} where
-  -- all that was given by this end, first to last
+  -- all items given by this end, first to last
   abbrev pub given : Giver T → List T
   given g = (view g.pass).given
 
-  -- all that was taken by this end, first to last
+  -- all items taken by this end, first to last
   abbrev pub taken : Taker T → List T
   taken t = (view t.pass).taken
 
-  -- how many items the link holds at most
+  -- the maximum number of items that the link holds
   abbrev pub capacity_of : Giver T → ℕ
   capacity_of g = ruled_capacity (sends_on g.sender)
 

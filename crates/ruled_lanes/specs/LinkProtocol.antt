@@ -1,5 +1,5 @@
--- What was given to a link is what was taken and then what it holds. One pass at most may give, and it
--- has the list of what was given. The same for takes.
+-- The items given to a link are those taken, followed by those that it holds. At most one pass may give, and it has the
+-- list of the items given. At most one pass may take, and it has the list of the items taken.
 use Rattle.std.specs.Prelude.{◌≡◌, ℕ, Bool, true, List, ◌++◌}
 use mathlib.Core.Option.{some}
 use lib.ListN.{get_elem?}
@@ -9,7 +9,7 @@ module _ {T : Type 0} where
   abbrev pub log : Bool → Bool → List T → List T → Log T
   log gives takes given taken = record { gives = gives; takes = takes; given = given; taken = taken }
 
-  -- what the pass of this number knows, where the pass `giver` may give and the pass `taker` may take
+  -- what the pass with this number knows, if the pass `giver` may give and the pass `taker` may take
   abbrev pub Knows : ℕ → ℕ → List T → List T → ℕ → Log T → Type 0
   Knows giver taker given taken pass v =
       (v.gives ≡ true → (pass ≡ giver) × (v.given ≡ given)) × (v.takes ≡ true → (pass ≡ taker) × (v.taken ≡ taken))

@@ -1,4 +1,4 @@
-//! Exponential backoff (Anderson 1990) before a thread sleeps until it is woken: to wake it takes longer.
+//! Exponential backoff (Anderson 1990) before a thread sleeps until it is woken, since waking it takes longer.
 ghost use Rattle.std.specs.Prelude.{◌<◌};
 ghost use Rattle.ruled_lanes.specs.declared.backoff.TheConstants.{TRIES};
 
@@ -7,25 +7,24 @@ use std::sync::Wait;
 use std::sync::atomic::AtomicU64;
 use std::time::Duration;
 
-/// How often a call tries, while it finds its channel full or empty, before its thread sleeps until it is
-/// woken.
+/// The number of attempts of a call, while its channel is full or empty, before its thread sleeps until it is woken.
 pub(crate) const TRIES: u32 = 13;
 
-/// After each of the first so many tries the thread spins, and after each later one it naps.
+/// The number of first attempts after which the thread spins; after each later one it naps.
 const SPINS: u32 = 8;
 
-/// How many spin-loop hints follow each of the first tries. Each takes 10 to 40 ns.
+/// The number of spin-loop hints after each of the first attempts. Each takes 10 to 40 ns.
 const HINTS: u32 = 2;
 
-/// How long the first nap takes, in microseconds. Each takes twice as long as the one before, so the five
-/// take 30 to 480.
+/// The length of the first nap, in microseconds. Each nap is twice as long as the one before, so the five take 30 to
+/// 480.
 const NAP: u64 = 30;
 
-/// How many microseconds the naps after all tries take.
+/// The total length of the naps after all attempts, in microseconds.
 pub(crate) const ALL_NAPS: u64 = (NAP << (TRIES - SPINS)) - NAP;
 
-/// Lets a moment pass after the try of this number, from 0: spins after each of the first tries, and after
-/// each later one, the last one too, takes a nap. It takes no memory.
+/// Pauses briefly after the attempt with this number, from 0: spins after each of the first attempts, and naps after
+/// each later one, including the last. It allocates nothing.
 pub(crate) fn back_off<R: Wait>(rt: &R, tried: u32)
     requires tried { tried < TRIES }
 {
@@ -38,7 +37,7 @@ pub(crate) fn back_off<R: Wait>(rt: &R, tried: u32)
     }
 }
 
-/// How many microseconds the naps before the try of this number take.
+/// The total length of the naps before the attempt with this number, in microseconds.
 pub(crate) fn napped_before(tried: u32) -> u64
     requires tried { tried < TRIES }
 {
@@ -49,8 +48,8 @@ pub(crate) fn napped_before(tried: u32) -> u64
     }
 }
 
-/// A nap of this many microseconds, from which the thread wakes by itself, so that the other end need not wake it.
-/// It takes no memory.
+/// Sleeps for this many microseconds; the thread wakes by itself, so that the other end need not wake it. It allocates
+/// nothing.
 pub(crate) fn nap<R: Wait>(rt: &R, micros: u64) {
     AtomicU64::new(0).park_timeout(rt, 0, Duration::from_micros(micros));
 }

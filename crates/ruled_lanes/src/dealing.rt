@@ -1,4 +1,4 @@
-//! Tickets and their seats: self-scheduling by fetch-and-add (Gottlieb, Lubachevsky and Rudolph 1983).
+//! Tickets and seats: self-scheduling by fetch-and-add (Gottlieb, Lubachevsky and Rudolph 1983).
 ghost use Rattle.std.specs.Prelude.{◌≡◌, ◌≤◌, [], cond};
 ghost use Rattle.ruled_lanes.specs.declared.limits.TheConstants.{LANES, MAX_TICKETS};
 
@@ -10,7 +10,7 @@ use std::alloc::Global;
 
 type Word = Table<(), Draws, (u64, u64), Dealt, Global>;
 
-/// Deals the numbers below a limit to seats, each number once, by one shared word.
+/// A shared atomic counter that deals the numbers below a limit to seats, each number once.
 #[derive(Drop)]
 pub struct Tickets {
     table: Word,
@@ -20,7 +20,8 @@ pub struct Tickets {
     ghost within: { (limit ≤ MAX_TICKETS) × (1 ≤ table.shared.key.1) × (table.shared.key.1 ≤ LANES) },
 }
 
-/// Draws from its tickets. It cannot be copied, so it knows all that was ever drawn there.
+/// A handle by which one thread draws numbers from its tickets. It cannot be copied, so it knows every number drawn by
+/// it.
 #[derive(Drop)]
 pub struct Seat {
     pass: Pass<(), Draws>,
@@ -51,7 +52,7 @@ impl Tickets {
     ghost use Rattle.ruled_lanes.specs.TicketProtocol.{draws, HasOnceBelow};
     ghost use Rattle.ruled_lanes.specs.TicketSeats.{limit_of, lanes_of, drawn, has_ended, all_drawn, word_value, MustBeWord, SitsAt, IsSeatOf, IsUnused, IsPool};
 
-    // Divides a pass that stands for all seats into one for each.
+    // Splits a pass that represents all seats into one for each.
     fn divide(
         alloc: Global,
         table: &Word,
@@ -76,7 +77,7 @@ impl Tickets {
         Ok(seats)
     }
 
-    // One pass that stands for all these seats.
+    // The pass that represents all these seats.
     fn pool(table: &Word, mut seats: Vec<Seat>) -> Pass<(), Draws>
         requires words { 0 < table.now.shared.table_id.words }
         requires some { 1 ≤ vec_len seats }
@@ -94,8 +95,10 @@ impl Tickets {
         pass
     }
 
-    /// Tickets with the numbers below `limit`, and a seat for each of so many lanes, which has drawn
-    /// nothing and has not ended. Until one does, the shared word is 0. `Memory` where there is no memory for them.
+    /// New tickets with the numbers below `limit`, and a seat for each of `lanes` lanes.
+    ///
+    /// The seats have drawn nothing and have not ended. Until one draws, the shared word is 0. `Memory` if memory runs
+    /// out for them.
     pub fn new(alloc: Global, limit: u32, lanes: u32) -> Result<(Tickets, Vec<Seat>), Memory>
         requires limit { limit ≤ MAX_TICKETS }
         requires lanes { (1 ≤ lanes) × (lanes ≤ LANES) }
@@ -117,9 +120,10 @@ impl Tickets {
         Ok((tickets, seats))
     }
 
-    /// The next number that no seat has drawn, in one step on the shared word, or none where all below
-    /// the limit are drawn. A seat that got none once has ended, and takes no further step. It
-    /// takes no memory and waits for nothing.
+    /// The next number that no seat has drawn, or `None` if all below the limit are drawn.
+    ///
+    /// It is one step on the shared word. A seat that got `None` once has ended, and takes no further step. It
+    /// allocates nothing and never waits.
     pub fn draw(&self, seat: &mut Seat) -> Option<u32>
         requires seat { IsSeatOf self.now seat.old }
         ensures seat { IsSeatOf self.now seat.new }
@@ -140,9 +144,10 @@ impl Tickets {
         None
     }
 
-    /// The word at the end: the sum of how many numbers were drawn and how many seats have ended. The
-    /// numbers drawn are those below it and the limit, each once. It takes no memory and waits for
-    /// nothing.
+    /// The final value of the shared word: how many numbers were drawn plus how many seats have ended.
+    ///
+    /// The numbers drawn are those below both that value and the limit, each once. It allocates nothing and never
+    /// waits.
     pub fn close(self, seats: Vec<Seat>) -> u32
         requires seats { (vec_len seats ≡ lanes_of self) × All (IsSeatOf self) seats.items }
         ensures each_once { HasOnceBelow (min result (limit_of self)) (all_drawn seats.items) }

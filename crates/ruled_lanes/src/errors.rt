@@ -1,9 +1,11 @@
-//! Why a call on a link, a fan or tickets was refused.
+//! The reasons why a call on a link, a fan or tickets is refused.
 use std::fmt;
 use thiserror::Error;
 
-/// The other end is gone. A refused give hands its item back in it, a refused take the empty value. Only the ends
-/// of links and fans make one, so who has one was refused.
+/// The error that the other end of a channel is gone.
+///
+/// A refused give returns its item in it, a refused take the empty value. Only the ends of links and fans make one, so
+/// whoever has one was refused.
 #[derive(Clone, PartialEq, Eq, Drop, Error)]
 #[error("the other end of the channel is gone")]
 pub struct Closed<T>(pub(crate) T);
@@ -12,7 +14,7 @@ impl<T> Closed<T> {
     ghost use Rattle.std.specs.Prelude.{◌≡◌};
     ghost use Rattle.ruled_lanes.specs.HandedBack.{handed_back};
 
-    /// What it hands back.
+    /// The item that the refused call returns.
     pub fn into_inner(self) -> T
         ensures { result ≡ handed_back self }
     {
@@ -26,7 +28,7 @@ impl<T> fmt::Debug for Closed<T> {
     }
 }
 
-/// There is no memory for a link, a fan or tickets.
+/// The error that memory ran out for a link, a fan or tickets.
 #[derive(Clone, Copy, Debug, PartialEq, Eq, Error)]
 #[error("out of memory")]
 pub struct Memory;

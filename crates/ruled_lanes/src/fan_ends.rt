@@ -1,4 +1,4 @@
-//! The ends of a fan, a bounded queue with a producer for each lane and one consumer.
+//! The ends of a fan, a bounded multi-producer single-consumer channel with one producer for each lane.
 ghost use Rattle.std.specs.Prelude.{◌≡◌, ◌<◌};
 ghost use Rattle.crossbeam_channel.specs.Claims.{view, IsSeatAt};
 ghost use Rattle.crossbeam_channel.specs.Ends.{sends_on, receives_on};
@@ -11,17 +11,20 @@ use crate::fan_protocol::{EachLane, FanLog, Fanned, Gives, NewLane, Takes};
 use crossbeam_channel::{Pass, RuledReceiver, RuledSender, TryRecvError, TrySendError};
 use std::sync::Wait;
 
-/// How many microseconds a take is counted as where it waits for nothing.
+/// The time charged for a take that does not wait, in microseconds.
 const CALL: u64 = 10;
 
-/// Which part of what was waited the next nap takes: so an item is taken at most that much later than it was given.
+/// The next nap takes 1 / `PART` of the time waited so far, so an item is taken at most that much later than it was
+/// given.
 const PART: u64 = 8;
 
-/// How many microseconds a nap takes at most.
+/// The length of the longest nap, in microseconds.
 const LONGEST_NAP: u64 = 100_000;
 
-/// The end of a fan that gives at one lane, whose number travels with each item. It cannot be copied,
-/// so it knows all that was ever given at its lane.
+/// A sending end of a fan, a bounded channel with a producer for each lane and one consumer.
+///
+/// It gives at one lane, whose number travels with each item. It cannot be copied, so it knows all that was ever given
+/// at its lane.
 #[derive(Drop)]
 pub struct LaneGiver<T: Drop> {
     sender: RuledSender<(u32, T), FanLog<T>, Fanned>,
@@ -32,8 +35,9 @@ pub struct LaneGiver<T: Drop> {
     ghost known: { lane < LANES },
 }
 
-/// The end of a fan that takes the items of all lanes. It cannot be copied, so it knows all that was
-/// ever taken there.
+/// The receiving end of a fan, a bounded channel with a producer for each lane and one consumer.
+///
+/// It takes the items of all lanes. It cannot be copied, so it knows all that was ever taken.
 #[derive(Drop)]
 pub struct Gatherer<T: Drop> {
     receiver: RuledReceiver<(u32, T), FanLog<T>, Fanned>,
@@ -48,7 +52,7 @@ impl<T: Drop> LaneGiver<T> {
     ghost use Rattle.ruled_lanes.specs.FanEnds.{lane_of, given_at, GivesToSameLane};
     ghost use Rattle.ruled_lanes.specs.HandedBack.{handed_back};
 
-    // The end of a channel that sends, with the pass of one lane.
+    // The sending end of a channel, with the pass of one lane.
     pub(crate) fn of(
         sender: RuledSender<(u32, T), FanLog<T>, Fanned>,
         pass: Pass<(u32, T), FanLog<T>>,
@@ -62,7 +66,7 @@ impl<T: Drop> LaneGiver<T> {
         LaneGiver { sender, pass, lane }
     }
 
-    /// The number of its lane, which is below `LANES`.
+    /// The number of its lane, below `LANES`.
     pub fn lane(&self) -> u32
         ensures lane { result ≡ lane_of self.now }
         ensures in_range { result < LANES }
@@ -70,7 +74,7 @@ impl<T: Drop> LaneGiver<T> {
         self.lane
     }
 
-    // Adds an item of its lane where the fan has room for it, else hands it back.
+    // Appends an item of its lane if the fan has room for it; otherwise returns it.
     fn try_give<R: Wait>(&mut self, rt: &R, item: T) -> Result<(), TrySendError<(u32, T)>>
         ensures lane { GivesToSameLane self.old self.new }
         ensures ok { OnOk result (given_at self.new ≡ given_at self.old ++ item ∷ []) }
@@ -81,7 +85,7 @@ impl<T: Drop> LaneGiver<T> {
             .try_send_as::<Gives, R>(rt, &mut self.pass, (self.lane, item))
     }
 
-    // Adds an item of its lane. While the fan is full, its thread sleeps until it is woken.
+    // Appends an item of its lane. While the fan is full, its thread sleeps until it is woken.
     fn wait_and_give<R: Wait>(&mut self, rt: &R, item: T) -> Result<(), Closed<T>>
         ensures lane { GivesToSameLane self.old self.new }
         ensures ok { OnOk result (given_at self.new ≡ given_at self.old ++ item ∷ []) }
@@ -97,13 +101,14 @@ impl<T: Drop> LaneGiver<T> {
         }
     }
 
-    /// Adds an item of its lane at the end of the fan, in one step, and waits while the fan is full: at
-    /// first it tries again for about a millisecond, then its thread sleeps until it is woken. It takes no
-    /// memory.
+    /// Sends an item at its lane, and waits while the fan is full.
+    ///
+    /// The item is appended in one step. The call tries again for about a millisecond, then its thread sleeps until it
+    /// is woken. It allocates nothing.
     ///
     /// # Errors
-    /// `Closed` hands the item back, and then what was given stays as it was. No clause says when it comes:
-    /// it does where the gatherer is gone.
+    /// `Closed` returns the item, and then the items given are unchanged. No clause says when it occurs: it does if the
+    /// gatherer is gone.
     pub fn give<R: Wait>(&mut self, rt: &R, item: T) -> Result<(), Closed<T>>
         ensures lane { GivesToSameLane self.old self.new }
         ensures ok { OnOk result (given_at self.new ≡ given_at self.old ++ item ∷ []) }
@@ -128,7 +133,7 @@ impl<T: Drop> Gatherer<T> {
     ghost use Rattle.ruled_lanes.specs.FanProtocol.{Accounts};
     ghost use Rattle.ruled_lanes.specs.FanEnds.{gathered, AreGiversOf, TakesFromSameFan, SettlesFan};
 
-    // The end of a channel that receives, with the pass that may.
+    // The receiving end of a channel, with the pass that may take.
     pub(crate) fn of(
         receiver: RuledReceiver<(u32, T), FanLog<T>, Fanned>,
         pass: Pass<(u32, T), FanLog<T>>,
@@ -140,7 +145,7 @@ impl<T: Drop> Gatherer<T> {
         Gatherer { receiver, pass }
     }
 
-    // The first item in the channel, where there is one.
+    // The first item in the channel, if there is one.
     fn try_receive<R: Wait>(&mut self, rt: &R) -> Result<(u32, T), TryRecvError>
         ensures fan { TakesFromSameFan self.old self.new }
         ensures lane { IfOk result (λ item. item.0 < LANES) }
@@ -150,7 +155,7 @@ impl<T: Drop> Gatherer<T> {
         self.receiver.try_recv_as::<Takes, R>(rt, &mut self.pass)
     }
 
-    // The first item in the channel. While there is none, its thread sleeps until it is woken.
+    // The first item in the channel. While the channel is empty, its thread sleeps until it is woken.
     fn wait_and_receive<R: Wait>(&mut self, rt: &R) -> Result<(u32, T), Closed<()>>
         ensures fan { TakesFromSameFan self.old self.new }
         ensures lane { IfOk result (λ item. item.0 < LANES) }
@@ -163,13 +168,14 @@ impl<T: Drop> Gatherer<T> {
         }
     }
 
-    /// The first item in the fan, with the number of its lane, taken in one step. It waits while
-    /// the fan is empty: at first it tries again for about a millisecond, then its thread sleeps until it
-    /// is woken. It takes no memory.
+    /// The next item of the fan and the number of its lane; waits while the fan is empty.
+    ///
+    /// The item is taken in one step. The call tries again for about a millisecond, then its thread sleeps until it is
+    /// woken. It allocates nothing.
     ///
     /// # Errors
-    /// After `Closed` what was taken stays as it was. No clause says when it comes: it does where all givers
-    /// are gone and all that they gave was taken.
+    /// After `Closed` the items taken are unchanged. No clause says when it occurs: it does if all givers are gone and
+    /// all that they gave was taken.
     pub fn take<R: Wait>(&mut self, rt: &R) -> Result<(u32, T), Closed<()>>
         ensures fan { TakesFromSameFan self.old self.new }
         ensures lane { IfOk result (λ item. item.0 < LANES) }
@@ -186,10 +192,11 @@ impl<T: Drop> Gatherer<T> {
         self.wait_and_receive(rt)
     }
 
-    /// The first item in the fan, with the number of its lane, taken in one step, or none where nothing came as long
-    /// as `patience` lasts, in microseconds. It waits while the fan is empty: at first it tries again for about a
-    /// millisecond, as `take` does, then after naps, each an eighth of what it has waited and at most a tenth of a
-    /// second. What it slept is taken off `patience`, and for the call itself ten microseconds. It takes no memory.
+    /// The next item of the fan and the number of its lane, or `None` if none arrives within `patience` microseconds.
+    ///
+    /// The item is taken in one step. While the fan is empty, the call tries again for about a millisecond, as `take`
+    /// does, then after naps, each an eighth of the time that it has waited and at most a tenth of a second. The time
+    /// slept is subtracted from `patience`, and ten microseconds for the call itself. It allocates nothing.
     ///
     /// # Errors
     /// `Closed` as in `take`.
@@ -221,7 +228,7 @@ impl<T: Drop> Gatherer<T> {
         self.nap_and_receive(rt, patience)
     }
 
-    // The first item in the fan, or none where nothing came as long as `patience` lasts: it tries again after naps.
+    // The first item in the fan, or `None` if none arrives within `patience` microseconds: it tries again after naps.
     fn nap_and_receive<R: Wait>(
         &mut self,
         rt: &R,
@@ -250,7 +257,7 @@ impl<T: Drop> Gatherer<T> {
         Ok(None)
     }
 
-    // What the rule tells the pass that takes, of what the fan then holds.
+    // Adds to the pass that takes what the rule implies of the items that the fan then holds.
     #[tactic(auto, using(crate::proofs::Fans::totals))]
     fn learn(
         sender: &RuledSender<(u32, T), FanLog<T>, Fanned>,
@@ -263,10 +270,11 @@ impl<T: Drop> Gatherer<T> {
         sender.learn_as::<EachLane>(pass);
     }
 
-    /// Takes in the gatherer and givers of one fan: of each of their lanes, what was taken, followed by
-    /// what the fan held, is what was given. No other number than those of the fan's lanes stood on an
-    /// item. The items that the fan held are dropped. It takes no memory, and though it is handed
-    /// `rt`, it waits for nothing.
+    /// Consumes all ends of a fan; proves that on each lane the items taken, then the items still held, are the items
+    /// given.
+    ///
+    /// No item carries a number other than those of the fan's lanes. The items that the fan held are dropped. It
+    /// allocates nothing, and though it is passed `rt`, it never waits.
     pub fn settle<R: Wait>(self, _rt: &R, mut givers: Vec<LaneGiver<T>>)
         requires some { 1 ≤ vec_len givers }
         requires fan { AreGiversOf self givers.items }

@@ -1,12 +1,12 @@
-//! The rule of a fan, over what it holds and what its passes know.
+//! The rule of a fan, over the items that it holds and the knowledge of its passes.
 ghost use Rattle.std.specs.Prelude.{◌≡◌, ◌<◌, [], ◌∷◌, ◌++◌, ⊤};
 ghost use Rattle.ruled_lanes.specs.FanProtocol.{fan_log, giver, given_in, Accounts};
 
 use crossbeam_channel::protocol::{Join, Lesson, Outcome, Protocol, Split};
 use std::collections::LinkedList;
 
-// Whether a pass may take, what it has taken and how many lanes it has made, and the lanes at which it
-// may give, each with what it has given there. No value of it is made.
+// The state of a pass: whether it may take, what it has taken, how many lanes it has made, and the lanes at which it
+// may give, each with the items given there. No value of it is made.
 pub struct FanLog<T> {
     pub takes: bool,
     pub made: u32,
@@ -14,6 +14,7 @@ pub struct FanLog<T> {
     pub lanes: LinkedList<(u32, LinkedList<T>)>,
 }
 
+// The protocol of a fan.
 pub struct Fanned;
 
 impl<T> Protocol<(u32, T), FanLog<T>> for Fanned {
@@ -25,7 +26,7 @@ impl<T> Protocol<(u32, T), FanLog<T>> for Fanned {
     ghost first = { gatherer 0 [] };
 }
 
-// The pass that takes makes the next lane, whose pass gives there alone.
+// The step by which the pass that takes makes the next lane; only that lane's pass gives there.
 pub struct NewLane;
 
 impl<T> Split<FanLog<T>> for NewLane {
@@ -46,7 +47,7 @@ impl<T> Join<FanLog<T>> for NewLane {
     ghost spent = { nobody };
 }
 
-// The step of a give: the item joins what was given at the lane whose number it bears.
+// The step of a give: the item is appended to those given at the lane whose number it carries.
 pub struct Gives;
 
 impl<T> Outcome<(u32, T), FanLog<T>> for Gives {
@@ -57,7 +58,7 @@ impl<T> Lesson<(u32, T), FanLog<T>> for Gives {
     ghost fact = { λ v items. ⊤ };
 }
 
-// The step of a take: the item, of one of the lanes that were made, joins what was taken.
+// The step of a take: the item, of one of the lanes that were made, is appended to those taken.
 pub struct Takes;
 
 impl<T> Outcome<(u32, T), FanLog<T>> for Takes {
@@ -68,8 +69,8 @@ impl<T> Lesson<(u32, T), FanLog<T>> for Takes {
     ghost fact = { λ v items. ⊤ };
 }
 
-// Who takes learns of each lane that it has what was taken and what the fan holds, and that no other
-// lane than those that were made has anything.
+// The lesson of the pass that takes: for each lane it learns that the items given are those taken and those that the
+// fan holds, and that no lane other than those made has any.
 pub struct EachLane;
 
 impl<T> Lesson<(u32, T), FanLog<T>> for EachLane {

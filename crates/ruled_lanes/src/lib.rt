@@ -1,7 +1,7 @@
-//! Bounded channels whose callers can prove that nothing is lost. A link has one giver and one taker, and
-//! settling it tells that what was taken, followed by what the link still held, is what was given,
-//! in order. A fan has a giver for each lane and one gatherer, and settling it tells the same of each
-//! lane by itself. Tickets deal numbers to the seats of several lanes, each number once.
+//! Bounded channels whose callers can prove that nothing is lost. A link has one giver and one taker; settling it
+//! proves that the items taken, followed by those still held, are the items given, in order. A fan has a giver for each
+//! lane and one gatherer; settling it proves this for each lane separately. Tickets deal numbers to the seats of
+//! several lanes, each number once.
 #![tactic(auto)]
 
 mod backoff;

@@ -1,10 +1,10 @@
-//! The limits of channels and tickets. The clauses of their calls cite them.
+//! The limits of channels and tickets, which the clauses of their calls cite.
 
-/// How many lanes a fan has.
+/// The number of lanes of a fan.
 pub const LANES: u32 = 8;
 
-/// How many items a link or a fan holds at most.
+/// The maximum number of items that a link or a fan holds.
 pub const MAX_CAPACITY: u32 = 64;
 
-/// How many numbers tickets deal at most.
+/// The maximum number of numbers that tickets deal.
 pub const MAX_TICKETS: u32 = 256;

@@ -1,4 +1,4 @@
-//! The two ends of a link, a bounded queue with one producer and one consumer.
+//! The two ends of a link, a bounded single-producer single-consumer channel.
 ghost use Rattle.std.specs.Prelude.{◌≡◌, true, false, []};
 ghost use Rattle.crossbeam_channel.specs.Claims.{view, IsSeatAt};
 ghost use Rattle.crossbeam_channel.specs.Ends.{sends_on, receives_on};
@@ -10,7 +10,9 @@ use crate::link_protocol::{Gives, Linked, Log, Roles, Takes, Total};
 use crossbeam_channel::{Pass, RuledReceiver, RuledSender, TryRecvError, TrySendError};
 use std::sync::Wait;
 
-/// The end of a link that gives. It cannot be copied, so it knows all that was ever given there.
+/// The sending end of a link, a bounded single-producer single-consumer channel.
+///
+/// It cannot be copied, so it knows all that was ever given.
 #[derive(Drop)]
 pub struct Giver<T: Drop> {
     sender: RuledSender<T, Log<T>, Linked>,
@@ -19,7 +21,9 @@ pub struct Giver<T: Drop> {
     ghost role: { view pass ≡ log true false (view pass).given [] },
 }
 
-/// The end of a link that takes. It cannot be copied, so it knows all that was ever taken there.
+/// The receiving end of a link, a bounded single-producer single-consumer channel.
+///
+/// It cannot be copied, so it knows all that was ever taken.
 #[derive(Drop)]
 pub struct Taker<T: Drop> {
     receiver: RuledReceiver<T, Log<T>, Linked>,
@@ -34,7 +38,7 @@ impl<T: Drop> Giver<T> {
     ghost use Rattle.ruled_lanes.specs.HandedBack.{handed_back};
     ghost use Rattle.ruled_lanes.specs.LinkEnds.{given, GivesToSame};
 
-    // The end of a channel that sends, with the pass that may.
+    // The sending end of a channel, with the pass that may give.
     pub(crate) fn of(sender: RuledSender<T, Log<T>, Linked>, pass: Pass<T, Log<T>>) -> Giver<T>
         requires seated { IsSeatAt (sends_on sender) pass }
         requires role { view pass ≡ log true false (view pass).given [] }
@@ -43,7 +47,7 @@ impl<T: Drop> Giver<T> {
         Giver { sender, pass }
     }
 
-    // Adds an item where the link has room for it, else hands it back.
+    // Appends an item if the link has room for it; otherwise returns it.
     fn try_give<R: Wait>(&mut self, rt: &R, item: T) -> Result<(), TrySendError<T>>
         ensures link { GivesToSame self.old self.new }
         ensures ok { OnOk result (given self.new ≡ given self.old ++ item ∷ []) }
@@ -54,7 +58,7 @@ impl<T: Drop> Giver<T> {
             .try_send_as::<Gives, R>(rt, &mut self.pass, item)
     }
 
-    // Adds an item. While the link is full, its thread sleeps until it is woken.
+    // Appends an item. While the link is full, its thread sleeps until it is woken.
     fn wait_and_give<R: Wait>(&mut self, rt: &R, item: T) -> Result<(), Closed<T>>
         ensures link { GivesToSame self.old self.new }
         ensures ok { OnOk result (given self.new ≡ given self.old ++ item ∷ []) }
@@ -67,12 +71,14 @@ impl<T: Drop> Giver<T> {
         }
     }
 
-    /// Adds an item at the end of the link, in one step, and waits while the link is full: at first it
-    /// tries again for about a millisecond, then its thread sleeps until it is woken. It takes no memory.
+    /// Sends an item on the link, and waits while the link is full.
+    ///
+    /// The item is appended in one step. The call tries again for about a millisecond, then its thread sleeps until it
+    /// is woken. It allocates nothing.
     ///
     /// # Errors
-    /// `Closed` hands the item back, and then what was given stays as it was. No clause says when it comes:
-    /// it does where the taker is gone.
+    /// `Closed` returns the item, and then the items given are unchanged. No clause says when it occurs: it does if the
+    /// taker is gone.
     pub fn give<R: Wait>(&mut self, rt: &R, item: T) -> Result<(), Closed<T>>
         ensures link { GivesToSame self.old self.new }
         ensures ok { OnOk result (given self.new ≡ given self.old ++ item ∷ []) }
@@ -96,7 +102,7 @@ impl<T: Drop> Taker<T> {
     ghost use Rattle.std.specs.Prelude.{◌∷◌, ◌++◌, IfOk, IfSome, IfNone, OnErr};
     ghost use Rattle.ruled_lanes.specs.LinkEnds.{given, taken, AreEnds, TakesFromSame, Settles};
 
-    // The end of a channel that receives, with the pass that may.
+    // The receiving end of a channel, with the pass that may take.
     pub(crate) fn of(receiver: RuledReceiver<T, Log<T>, Linked>, pass: Pass<T, Log<T>>) -> Taker<T>
         requires seated { IsSeatAt (receives_on receiver) pass }
         requires role { view pass ≡ log false true [] (view pass).taken }
@@ -105,7 +111,7 @@ impl<T: Drop> Taker<T> {
         Taker { receiver, pass }
     }
 
-    // The first item in the channel, where there is one.
+    // The first item in the channel, if there is one.
     fn try_receive<R: Wait>(&mut self, rt: &R) -> Result<T, TryRecvError>
         ensures link { TakesFromSame self.old self.new }
         ensures ok { IfOk result (λ item. taken self.new ≡ taken self.old ++ item ∷ []) }
@@ -114,7 +120,7 @@ impl<T: Drop> Taker<T> {
         self.receiver.try_recv_as::<Takes, R>(rt, &mut self.pass)
     }
 
-    // The first item in the channel. While there is none, its thread sleeps until it is woken.
+    // The first item in the channel. While the channel is empty, its thread sleeps until it is woken.
     fn wait_and_receive<R: Wait>(&mut self, rt: &R) -> Result<T, Closed<()>>
         ensures link { TakesFromSame self.old self.new }
         ensures ok { IfOk result (λ item. taken self.new ≡ taken self.old ++ item ∷ []) }
@@ -126,12 +132,14 @@ impl<T: Drop> Taker<T> {
         }
     }
 
-    /// The first item in the link, taken in one step. It waits while the link is empty: at first
-    /// it tries again for about a millisecond, then its thread sleeps until it is woken. It takes no memory.
+    /// The next item of the link; waits while the link is empty.
+    ///
+    /// The item is taken in one step. The call tries again for about a millisecond, then its thread sleeps until it is
+    /// woken. It allocates nothing.
     ///
     /// # Errors
-    /// After `Closed` what was taken stays as it was. No clause says when it comes: it does where the giver
-    /// is gone and all that it gave was taken.
+    /// After `Closed` the items taken are unchanged. No clause says when it occurs: it does if the giver is gone and
+    /// all that it gave was taken.
     pub fn take<R: Wait>(&mut self, rt: &R) -> Result<T, Closed<()>>
         ensures link { TakesFromSame self.old self.new }
         ensures ok { IfOk result (λ item. taken self.new ≡ taken self.old ++ item ∷ []) }
@@ -147,9 +155,9 @@ impl<T: Drop> Taker<T> {
         self.wait_and_receive(rt)
     }
 
-    /// Takes in both ends of one link: what was taken, followed by what the link held, is what was
-    /// given. The items that it held are dropped. It takes no memory, and though it is handed `rt`,
-    /// it waits for nothing.
+    /// Consumes both ends of a link; proves that the items taken, then the items still held, are the items given.
+    ///
+    /// The items that it held are dropped. It allocates nothing, and though it is passed `rt`, it never waits.
     pub fn settle<R: Wait>(self, _rt: &R, giver: Giver<T>)
         requires ends { AreEnds giver self }
         ensures settled { Settles (taken self) (given giver) }

@@ -1,11 +1,12 @@
-//! The rule of a link, over what it holds and what its two passes know.
+//! The rule of a link, over the items that it holds and the knowledge of its two passes.
 ghost use Rattle.std.specs.Prelude.{◌≡◌, [], ◌∷◌, ◌++◌, ⊤};
 ghost use Rattle.ruled_lanes.specs.LinkProtocol.{log};
 
 use crossbeam_channel::protocol::{Join, Lesson, Outcome, Protocol, Split};
 use std::collections::LinkedList;
 
-// What a pass may do (give, take), what it has given and what it has taken. No value of it is made.
+// The state of a pass: what it may do (give, take), what it has given and what it has taken. No value of it is made at
+// run time.
 pub struct Log<T> {
     pub gives: bool,
     pub takes: bool,
@@ -13,6 +14,7 @@ pub struct Log<T> {
     pub taken: LinkedList<T>,
 }
 
+// The protocol of a link.
 pub struct Linked;
 
 impl<T> Protocol<T, Log<T>> for Linked {
@@ -24,7 +26,7 @@ impl<T> Protocol<T, Log<T>> for Linked {
     ghost first = { log true true [] [] };
 }
 
-// The two roles of a link, each in a pass of its own.
+// The split of a pass into the two roles of a link, each in a pass of its own.
 pub struct Roles;
 
 impl<T> Split<Log<T>> for Roles {
@@ -45,7 +47,7 @@ impl<T> Join<Log<T>> for Roles {
     ghost spent = { log false false [] [] };
 }
 
-// The step of a give: the item joins what was given.
+// The step of a give: the item is appended to those given.
 pub struct Gives;
 
 impl<T> Outcome<T, Log<T>> for Gives {
@@ -56,7 +58,7 @@ impl<T> Lesson<T, Log<T>> for Gives {
     ghost fact = { λ v items. ⊤ };
 }
 
-// The step of a take: the item joins what was taken.
+// The step of a take: the item is appended to those taken.
 pub struct Takes;
 
 impl<T> Outcome<T, Log<T>> for Takes {
@@ -67,7 +69,7 @@ impl<T> Lesson<T, Log<T>> for Takes {
     ghost fact = { λ v items. ⊤ };
 }
 
-// Who has both roles learns that what was taken, followed by what the link holds, is what was given.
+// The lesson of a pass with both roles: the items taken, followed by those that the link holds, are the items given.
 pub struct Total;
 
 impl<T> Lesson<T, Log<T>> for Total {

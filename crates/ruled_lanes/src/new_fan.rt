@@ -1,4 +1,4 @@
-//! Making a fan, a bounded queue with a producer for each lane and one consumer.
+//! Creating a fan, a bounded channel with a producer for each lane and one consumer.
 ghost use Rattle.std.specs.Prelude.{◌≡◌, ◌≤◌, [], All, IfOk, vec_len};
 ghost use Rattle.ruled_lanes.specs.FanEnds.{given_at, gathered, capacity_of_fan, AreGiversOf, StandInOrder};
 
@@ -9,9 +9,10 @@ use crate::limits::{LANES, MAX_CAPACITY};
 use crossbeam_channel::bounded_with;
 use std::alloc::Global;
 
-/// The ends of a new fan that holds at most `capacity` items: a giver for each of its `LANES` lanes, in
-/// the order of their numbers, and the one gatherer. Nothing was given or taken. `Memory` where there
-/// is no memory for them.
+/// The ends of a new fan that holds at most `capacity` items: a giver for each of its `LANES` lanes, in order, and the
+/// one gatherer.
+///
+/// Nothing was given or taken. `Memory` if there is no memory for them.
 pub fn fan_in<T: Send + Drop>(
     alloc: Global,
     capacity: u32,

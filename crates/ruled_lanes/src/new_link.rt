@@ -1,4 +1,4 @@
-//! Making a link, a bounded queue with one producer and one consumer.
+//! Creating a link, a bounded single-producer single-consumer channel.
 ghost use Rattle.std.specs.Prelude.{◌≡◌, ◌≤◌, [], IfOk};
 ghost use Rattle.ruled_lanes.specs.LinkEnds.{given, taken, capacity_of, AreEnds};
 
@@ -9,8 +9,9 @@ use crate::link_protocol::{Linked, Log, Roles};
 use crossbeam_channel::bounded_with;
 use std::alloc::Global;
 
-/// The two ends of a new link that holds at most `capacity` items, of which nothing was given or
-/// taken. `Memory` where there is no memory for them.
+/// The two ends of a new link that holds at most `capacity` items.
+///
+/// Nothing was given or taken. `Memory` if there is no memory for them.
 pub fn link<T: Send + Drop>(alloc: Global, capacity: u32) -> Result<(Giver<T>, Taker<T>), Memory>
     requires capacity { (1 ≤ capacity) × (capacity ≤ MAX_CAPACITY) }
     ensures room { IfOk result (λ r. capacity_of r.0 ≡ capacity) }

@@ -1,8 +1,8 @@
-//! The rule of tickets, over their one word and what the seats know.
+//! The rule of tickets, over their one shared word and the knowledge of the seats.
 use atomic_table::{Join, Play, Split, TableRule};
 use std::collections::LinkedList;
 
-// The limit, how many seats a pass stands for, how many of them have ended, and the numbers that they
+// The state of a pass: the limit, how many seats it represents, how many of them have ended, and the numbers that they
 // drew. No value of it is made.
 pub struct Draws {
     pub limit: u64,
@@ -11,6 +11,7 @@ pub struct Draws {
     pub drawn: LinkedList<u32>,
 }
 
+// The rule of the shared word of tickets.
 pub struct Dealt;
 
 // The key is the limit and the number of seats.
@@ -23,7 +24,7 @@ impl TableRule<(), Draws, (u64, u64)> for Dealt {
     ghost first = { λ key. draws key.0 key.1 0 [] };
 }
 
-// A seat is taken off a pass that stands for several, of which none has drawn yet.
+// The split of one seat off a pass that represents several, of which none has drawn yet.
 pub struct Shares;
 
 impl Split<Draws> for Shares {
@@ -35,7 +36,7 @@ impl Split<Draws> for Shares {
     ghost right = { λ v. draws v.limit 1 0 [] };
 }
 
-// A pass stands for another's seats too.
+// A pass takes over the seats of another.
 impl Join<Draws> for Shares {
     ghost use Rattle.std.specs.Prelude.{◌+◌, ◌++◌, []};
     ghost use Rattle.ruled_lanes.specs.TicketProtocol.{draws};

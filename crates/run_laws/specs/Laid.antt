@@ -1,4 +1,4 @@
--- What a laid answer is, in terms of lists, numbers and points.
+-- The meaning of a laid answer, in terms of lists, numbers and points.
 use Rattle.std.specs.Prelude.{◌≡◌, ◌≢◌, ℕ, ◌+◌, ◌*◌, ◌/◌, ◌<◌, ◌≤◌, ◌==◌, ◌⊎◌, if◌then◌else◌, ℤ, pos, negsuc, ◌+ℤ◌, ◌-ℤ◌, ◌≤ℤ◌, List, ◌++◌, length, map, reverse, slice_index, slice_index_or, All, AllPairs, Result, IfOk, IfErr}
 use Rattle.std.specs.List.{flat_map}
 use Rattle.common.specs.Sums.{sum_below, total_below}
@@ -33,18 +33,19 @@ use Rattle.entries.specs.Drawn.{ShowsCause}
 abbrev pub angle_sum : PlaneModel → (ℕ → ℕ) → ℕ → ℕ
 angle_sum plane angle v = sum_below (darts plane) (λ d. if head plane d == v then angle d else 0)
 
--- the quarter turns to the left in a walk round face f, less those to the right: along its darts, and 2 less the angle at their heads
+-- the quarter turns to the left in a walk round face f, less those to the right: along its darts, and 2 less the angle
+-- at their heads
 abbrev pub net_turning : PlaneModel → (ℕ → ℕ) → (ℕ → List Turn) → ℕ → ℤ
 net_turning plane angle turns f =
     total_below (darts plane) (λ d. if face_at plane d == f then pos 2 -ℤ pos (angle d) +ℤ pos (lefts (turns d)) -ℤ pos (rights (turns d)) else pos 0)
 
--- angles and strings of turns, by dart, that are an orthogonal representation of the plane with its outer face
+-- angles and strings of turns, by dart, that form an orthogonal representation of the plane with its outer face
 pub record Represents (plane : PlaneModel) (angle : ℕ → ℕ) (turns : ℕ → List Turn) : Type 0 where
   -- each angle is one to four right angles
   pub angles : (d : ℕ) → d < darts plane → (1 ≤ angle d) × (angle d ≤ 4)
   -- the turns of the way back are those of the way there, last first, with left and right exchanged
   pub strings : (d : ℕ) → d < darts plane → turns (reverse_dart plane d) ≡ map opposite (reverse (turns d))
-  -- the angles at each vertex are four right angles together
+  -- the angles at each vertex sum to four right angles
   pub around : (v : ℕ) → 1 ≤ v → v ≤ vertices plane → angle_sum plane angle v ≡ 4
   -- the walk round each inner face turns once to the left, that round the outer face once to the right
   pub inner : (f : ℕ) → f < plane.faces → f ≢ plane.outer → net_turning plane angle turns f ≡ pos 4
@@ -56,7 +57,7 @@ bends plane turns = sum_below (darts plane) (λ d. length (turns d)) / 2
 
 -- ---- the outer face
 
--- how many darts face f has
+-- the number of darts of face f
 abbrev pub size : PlaneModel → ℕ → ℕ
 size plane f = sum_below (darts plane) (λ d. if face_at plane d == f then 1 else 0)
 
@@ -66,7 +67,8 @@ pub record IsFirstGreatest (plane : PlaneModel) : Type 0 where
   pub first : (d : ℕ) → d < darts plane → size plane (face_at plane d) ≡ size plane plane.outer
       → (e : ℕ) × (e ≤ d) × (face_at plane e ≡ plane.outer)
 
--- with no other outer face a representation has fewer bends than the shape, and with no face of a lesser number as few
+-- with no other outer face does a representation have fewer bends than the shape, and with no face of a lesser number
+-- as few
 pub record IsFirstBest (plane : PlaneModel) (shape : ShapeModel) : Type 0 where
   pub fewest : (f : ℕ) → f < plane.faces → (angle : ℕ → ℕ) (turns : ℕ → List Turn) → Represents (with_outer plane f) angle turns
       → bends plane (turns_at shape) ≤ bends plane turns
@@ -80,19 +82,19 @@ HasOuter Best plane shape = IsFirstBest plane shape
 
 -- ---- prices
 
--- the prices prove that no representation has fewer bends: one for each vertex and each face, of which those of each dart's head,
--- its face and the face across fit its angle and its turns
+-- the prices prove that no representation has fewer bends: one for each vertex and each face, of which those of each
+-- dart's head, its face and the face across fit its angle and its turns
 pub record ProveLeast (plane : PlaneModel) (shape : ShapeModel) (prices : PricesModel) : Type 0 where
   pub vertices : length prices.vertices ≡ vertices plane
   pub faces : length prices.faces ≡ plane.faces
-  -- where the angle could be greater, the face is no dearer than the vertex
+  -- if the angle could be greater, the face costs no more than the vertex
   pub greater : (d : ℕ) → d < darts plane → angle_at shape d < 4 → face_price prices (face_at plane d) ≤ℤ vertex_price prices (head plane d)
-  -- where it could be less, the vertex is no dearer than the face
+  -- if the angle could be less, the vertex costs no more than the face
   pub less : (d : ℕ) → d < darts plane → 1 < angle_at shape d → vertex_price prices (head plane d) ≤ℤ face_price prices (face_at plane d)
-  -- the face across is dearer by at most 1, the cost of a bend
+  -- the face across costs at most 1 more, the cost of a bend
   pub across : (d : ℕ) → d < darts plane
       → pos 0 ≤ℤ (pos 1 +ℤ face_price prices (face_at plane d) -ℤ face_price prices (face_at plane (reverse_dart plane d)))
-  -- and where the dart turns left, by just that
+  -- if the dart turns left, it costs exactly 1 more
   pub bent : (d : ℕ) → d < darts plane → 0 < lefts (turns_at shape d)
       → (pos 1 +ℤ face_price prices (face_at plane d) -ℤ face_price prices (face_at plane (reverse_dart plane d))) ≡ pos 0
 
@@ -113,7 +115,7 @@ pub record AreDrawn (plane : PlaneModel) (shape : ShapeModel) (points : PointsMo
   -- all points are on the grid
   pub vertices : All FitsGrid points.vertices
   pub corners : All (All FitsGrid) points.corners
-  -- two points that follow one another on the path of an edge differ in one coordinate
+  -- two consecutive points of the path of an edge differ in one coordinate
   pub axes : All (λ path. (k : ℕ) → k + 1 < length path → DifferInOne (point_of path k) (point_of path (k + 1))) (paths plane points)
   -- each edge has a corner for each turn of its string, and turns there as the string says
   pub counted : All (λ d. length (path_along plane points d) ≡ length (turns_at shape d) + 2) (lesser_darts plane)
@@ -122,7 +124,7 @@ pub record AreDrawn (plane : PlaneModel) (shape : ShapeModel) (points : PointsMo
   -- at the head of each dart the way back along it lies as far to the left of the next dart as its angle says
   pub heads : (d : ℕ) → d < darts plane
       → leaving plane points (reverse_dart plane d) ≡ left_quarters (angle_at shape d) (leaving plane points (next plane d))
-  -- no point stands twice among those of the vertices and those that the paths pass between their ends
+  -- no point occurs twice among those of the vertices and those that the paths pass between their ends
   pub apart : AllPairs (λ a b. a ≢ b) (points.vertices ++ flat_map interior (paths plane points))
 
 -- some boxes that dissect the shape show why it is not drawn
@@ -133,7 +135,7 @@ pub record IsCauseShown (plane : PlaneModel) (shape : ShapeModel) (cause : Cause
 
 -- ---- the whole answer
 
--- what an answer says that is laid for a record of these bytes under this choice of the outer face
+-- the guarantee of an answer that is laid for a record of these bytes under this choice of the outer face
 pub record IsLaidPlainly (choice : Choice) (bytes : List ℕ) (plane : PlaneModel) (shape : ShapeModel) (prices : PricesModel) (drawing : Result PointsModel Cause) : Type 0 where
   -- the plane has the record's lists, and they break no rule
   pub lists : plane.lists ≡ lists_of bytes
@@ -148,8 +150,8 @@ pub record IsLaidPlainly (choice : Choice) (bytes : List ℕ) (plane : PlaneMode
   pub representation : Represents plane (angle_at shape) (turns_at shape)
   -- no representation has fewer bends, however long its strings are
   pub fewest : (angle : ℕ → ℕ) (turns : ℕ → List Turn) → Represents plane angle turns → bends plane (turns_at shape) ≤ bends plane turns
-  -- the prices prove so
+  -- the prices prove that
   pub proof : ProveLeast plane shape prices
-  -- points, where given, draw the shape; a cause in their place is shown
+  -- points, if given, draw the shape; a cause in their place is shown
   pub drawn : IfOk drawing (AreDrawn plane shape)
   pub shown : IfErr drawing (IsCauseShown plane shape)

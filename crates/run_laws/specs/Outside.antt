@@ -28,7 +28,8 @@ pub record AreRectangleCorners (x y : ℕ → ℕ) (c : RectangleCorners) : Type
 abbrev pub Between : (ℕ → ℕ) → ℕ → ℕ → ℕ → Type 0
 Between x u v t = (x u < x v) × (x v < x t)
 
--- the foot, a vertex on a side of the rectangle between two corners, lies straight to the south, east, north or west of the vertex v
+-- the foot, a vertex on a side of the rectangle between two corners, is straight to the south, east, north or west of
+-- the vertex v
 abbrev pub LiesBeside : (ℕ → ℕ) → (ℕ → ℕ) → RectangleCorners → ℕ → ℕ → Type 0
 LiesBeside x y c foot v =
     (Between x c.south_west foot c.south_east × (y foot ≡ y c.south_west) × (x foot ≡ x v) × (y foot < y v))
@@ -43,11 +44,12 @@ IsOnOuterFace p w a =
     (s : ℕ → Bool) → ((c : ℕ) → c < w.darts → s c ≡ true → s (w.next c) ≡ true) → s a ≡ true
     → (d : ℕ) → d < darts p → face_at p d ≡ p.outer → s d ≡ true
 
--- the map of the shape stands in the boxes, some corners are those of a rectangle, and a right turn of its outer face looks at a side of that
+-- the map of the shape is contained in the boxes, some corners are those of a rectangle, and a right turn of its outer
+-- face looks at a side of that
 pub record LooksOut (p : PlaneModel) (shape : ShapeModel) (b : BoxesModel) : Type 0 where
   pub enclosed_map : DartMap
   pub of_shape : IsMapOfShape p shape enclosed_map
-  -- each of its darts arrives in the boxes where and as it did, and each part of an edge is a part of it there
+  -- each of its darts ends at the same vertex in the boxes, and each part of an edge is a part of it there
   pub heads : (a : ℕ) → a < enclosed_map.darts → (dart_map b).head a ≡ enclosed_map.head a
   pub directions : (a : ℕ) → a < enclosed_map.darts → (dart_map b).direction a ≡ enclosed_map.direction a
   pub parts : (d a : ℕ) → d < darts p → IsPart enclosed_map d a → IsPart (dart_map b) d a
@@ -56,7 +58,8 @@ pub record LooksOut (p : PlaneModel) (shape : ShapeModel) (b : BoxesModel) : Typ
   pub inside : right < enclosed_map.darts
   pub turns : 2 < enclosed_map.angle right
   pub on_outer : IsOnOuterFace p enclosed_map right
-  -- in whatever coordinates, the corners are those of a rectangle, and the foot, on a side of it, lies straight across from that turn
+  -- in any coordinates, the corners are those of a rectangle, and the foot, on a side of it, is straight across from
+  -- that turn
   pub corners : RectangleCorners
   pub foot : ℕ
   pub rectangle : (x y : ℕ → ℕ) → IsMonotone (dart_map b) x y → AreRectangleCorners x y corners

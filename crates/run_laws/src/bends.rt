@@ -1,4 +1,4 @@
-//! How many bends a laid answer has at most, and how many vertices the boxes of a least shape.
+//! Upper bounds on the bends of a laid answer, and on the vertices of the boxes of a least shape.
 
 ghost use Rattle.std.specs.Prelude.{◌≤◌, ◌*◌, ℕ, List, Result};
 ghost use Rattle.common.specs.declared.choice.Choice.{Choice};
@@ -13,8 +13,9 @@ ghost use Rattle.dissect.specs.Boxes.{BoxesModel};
 ghost use Rattle.entries.specs.declared.cause.Cause.{Cause};
 ghost use Rattle.entries.specs.Answers.{IsLaid};
 
-/// The shape of a laid answer has at most one bend for each edge and four for each inner face; so at most five for each
-/// edge, and never more than 1,534.
+/// The shape of a laid answer has at most one bend for each edge and four for each inner face.
+///
+/// This is at most five for each edge, and never more than 1,534.
 pub fn laid_bends()
     ensures inner { (choice : Choice) (bytes : List ℕ) (plane : PlaneModel) (shape : ShapeModel) (prices : PricesModel) (drawing : Result PointsModel Cause)
         → IsLaid choice bytes plane shape prices drawing → bends plane shape ≤ bend_bound plane }
@@ -24,7 +25,7 @@ pub fn laid_bends()
         → IsLaid choice bytes plane shape prices drawing → bends plane shape ≤ 1534 }
 {}
 
-/// The boxes that a least shape is cut into have at most 3,838 vertices.
+/// The boxes that a shape with the fewest bends is cut into have at most 3,838 vertices.
 pub fn boxes_are_few()
     ensures { (p : PlaneModel) (shape : ShapeModel) (b : BoxesModel) → IsPlane p → IsLeast p shape → IsBoxed p shape b → b.vertices ≤ 3838 }
 {}

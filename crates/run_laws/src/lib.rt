@@ -1,5 +1,5 @@
-//! Laws of answers, reports and whole runs, each as the contract of a function that does nothing: what a laid answer
-//! says in plain terms, that faces, coordinates and reports leave no choice open, and how large things may be.
+//! Theorems about answers, reports and whole runs, each as the contract of an empty function: the meaning of a laid
+//! answer in plain terms, the uniqueness of faces, coordinates and reports, and upper bounds on sizes.
 #![tactic(auto)]
 
 mod bends;

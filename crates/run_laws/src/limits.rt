@@ -1,4 +1,4 @@
-//! The limits, by their numbers.
+//! The limits of the program, by their numbers.
 
 ghost use Rattle.std.specs.Prelude.{◌≡◌, ◌≤◌, ℕ, List, length, All};
 ghost use Rattle.planar_code.specs.Stream.{IsRecord, lists_of};
@@ -30,7 +30,7 @@ const _: () = prove!(MAX_TURNS == 1_000_000);
 
 const _: () = prove!(MAX_COORDINATE == 65_535);
 
-// The files of a batch and their tickets, the lanes, and the items that wait in a channel.
+// The files of a batch and their tickets, the lanes, and the items that a channel holds.
 const _: () = prove!(MAX_FILES == 256);
 
 const _: () = prove!(MAX_TICKETS == 256);
@@ -39,7 +39,7 @@ const _: () = prove!(LANES == 8);
 
 const _: () = prove!(MAX_CAPACITY == 64);
 
-/// A network has at most 1,024 nodes and 4,096 arcs, and no node supplies or wants more than 2,048 units.
+/// A network has at most 1,024 nodes and 4,096 arcs, and no node supplies or demands more than 2,048 units.
 pub fn network_limits()
     ensures nodes { MAX_NODES ≡ 1024 }
     ensures arcs { MAX_ARCS ≡ 4096 }

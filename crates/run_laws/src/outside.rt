@@ -1,4 +1,4 @@
-//! What stands round the map of a shape.
+//! The surroundings of the map of a shape.
 
 ghost use Rattle.faces.specs.Planes.{PlaneModel};
 ghost use Rattle.ortho_rep.specs.Shapes.{ShapeModel};
@@ -6,8 +6,10 @@ ghost use Rattle.dissect.specs.Boxes.{BoxesModel};
 ghost use Rattle.dissect.specs.Boxed.{IsBoxed};
 ghost use Rattle.run_laws.specs.Outside.{LooksOut};
 
-/// The whole map stands in the boxes. Whatever numbers their vertices get that grow along the darts, four of them are the
-/// corners of a rectangle, and straight across from a right turn of the plane's outer face lies a vertex on a side of it.
+/// The map of a shape is contained in its boxes, inside a rectangle that a right turn of the outer face looks out at.
+///
+/// Whatever numbers that grow along the darts their vertices get, four of them are the corners of a rectangle, and
+/// straight across from a right turn of the plane's outer face there is a vertex on a side of it.
 pub fn outer_face_looks_out()
     ensures { (p : PlaneModel) (shape : ShapeModel) (b : BoxesModel) → IsBoxed p shape b → LooksOut p shape b }
 {}

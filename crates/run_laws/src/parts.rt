@@ -1,4 +1,4 @@
-//! How the edges of a plane run in the boxes that dissect a shape of it.
+//! The course of a plane's edges in the boxes that dissect a shape of it.
 
 ghost use Rattle.std.specs.Prelude.{◌≡◌, ◌≢◌, ◌-◌, ◌<◌, ◌⊎◌, ℕ};
 ghost use Rattle.faces.specs.Planes.{PlaneModel, IsPlane, darts, vertices, tail};
@@ -7,8 +7,9 @@ ghost use Rattle.dissect.specs.Boxes.{BoxesModel, dart_map};
 ghost use Rattle.dissect.specs.Boxed.{IsBoxed};
 ghost use Rattle.drawing_laws.specs.Parts.{IsPart, IsOneEdge};
 
-/// Why the paths of a plane's darts lie apart: no part is of two edges, whichever way it is walked, and an edge passes no
-/// vertex twice, nor the one that it sets out from.
+/// No part of the boxes belongs to two edges, and no edge passes a vertex twice or returns to its start.
+///
+/// This holds whichever way a part is walked. It is why the paths of a plane's darts are disjoint.
 pub fn edges_share_no_part()
     ensures part { (p : PlaneModel) (shape : ShapeModel) (b : BoxesModel) → IsPlane p → IsBoxed p shape b
         → (d e a : ℕ) → d < darts p → e < darts p → IsPart (dart_map b) d a
@@ -19,8 +20,10 @@ pub fn edges_share_no_part()
         → (d a : ℕ) → d < darts p → IsPart (dart_map b) d a → (dart_map b).head a ≢ tail p d - 1 }
 {}
 
-/// Why darts stand in chains: edges neither cross nor touch. An edge comes to a vertex of the plane at its end alone, and where parts
-/// of two edges come to one vertex, that is the end of both.
+/// Edges neither cross nor touch except at their ends.
+///
+/// An edge reaches a vertex of the plane only at its end, and if parts of two edges reach one vertex, that is the end
+/// of both. It is why darts form chains.
 pub fn edges_meet_at_ends()
     ensures vertex { (p : PlaneModel) (shape : ShapeModel) (b : BoxesModel) → IsPlane p → IsBoxed p shape b
         → (d a : ℕ) → d < darts p → IsPart (dart_map b) d a → (dart_map b).head a < vertices p → a ≡ d }

@@ -1,4 +1,4 @@
-//! Whole runs, and texts that `write_batch` has written, in the words of reports.
+//! Whole runs, and texts that `write_batch` has written, in terms of reports.
 
 ghost use Rattle.std.specs.Prelude.{◌≡◌, ℕ, List, ◌++◌, Some};
 ghost use Rattle.common.specs.declared.choice.Choice.{Choice};
@@ -10,7 +10,8 @@ ghost use Rattle.printing.specs.Whole.{IsAllWritten};
 ghost use Rattle.collector.specs.Headline.{IsWholeRun};
 ghost use Rattle.run_laws.specs.Reports.{IsReport};
 
-/// Two whole runs of the same bytes under the same choice have one text in a report, whichever numbers their files have.
+/// Two whole runs of the same bytes under the same choice have the same text in a report, whichever numbers their files
+/// have.
 pub fn same_whole_runs()
     ensures { (choice : Choice) (file other_file : ℕ) (bytes : List ℕ) (book other : BookModel)
         → IsWholeRun choice file bytes book
@@ -19,7 +20,7 @@ pub fn same_whole_runs()
         → book_text number book ≡ book_text number other }
 {}
 
-/// What `write_batch` adds to a sink whose text is known, in the form of a report, is the report of right books.
+/// The report that `write_batch` adds to a sink whose text is known is the report of right books.
 pub fn written_is_report()
     ensures { (choice : Choice) (meaning : ℕ → Meaning) (files status : ℕ) (start now : List ℕ)
         → IsAllWritten choice meaning Form.Report files (Some start) (Some now) status

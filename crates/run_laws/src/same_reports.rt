@@ -1,4 +1,4 @@
-//! Reports of the same bytes under the same choice are the same.
+//! Reports of the same bytes under the same choice are equal.
 
 ghost use Rattle.std.specs.Prelude.{◌≡◌, ℕ, List};
 ghost use Rattle.common.specs.declared.choice.Choice.{Choice};
@@ -7,8 +7,10 @@ ghost use Rattle.entries.specs.Books.{BookModel, IsBook};
 ghost use Rattle.reports.specs.Report.{book_text};
 ghost use Rattle.run_laws.specs.Reports.{IsReport, AreKnownAlike, AreAllKnownAlike, HasNoMemoryWord};
 
-/// Two books that are right for files with the same known bytes, under the same choice, have one text in a report, where the
-/// word "memory" stands in neither; whichever numbers the files have.
+/// Two right books of files with the same known bytes, under the same choice, have the same text in a report without
+/// "memory".
+///
+/// This holds whichever numbers the files have, if the word "memory" occurs in neither text.
 pub fn one_book_text()
     ensures { (choice : Choice) (meaning other_meaning : Meaning) (file other_file : ℕ) (book other : BookModel)
         → IsBook choice meaning file book
@@ -20,8 +22,10 @@ pub fn one_book_text()
         → book_text number book ≡ book_text number other }
 {}
 
-/// So two reports of files with the same known bytes are one text, in which that word does not stand: whether `run_plain` or
-/// `run_batch` made the books or `write_batch` wrote the text, and whatever lanes, capacity and schedule.
+/// Two reports of files with the same known bytes, under the same choice, are equal if "memory" occurs in neither.
+///
+/// This holds whether `run_plain` or `run_batch` made the books or `write_batch` wrote the text, and for any lanes,
+/// capacity and schedule.
 pub fn one_report()
     ensures { (choice : Choice) (meaning other_meaning : ℕ → Meaning) (files : ℕ) (text other : List ℕ)
         → IsReport choice meaning files text

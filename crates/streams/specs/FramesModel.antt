@@ -1,4 +1,4 @@
--- What a run found in one source.
+-- The records and the mark of one source.
 use Rattle.std.specs.Prelude.{ℕ, List}
 use Rattle.streams.specs.declared.frames.Mark.{Mark}
 

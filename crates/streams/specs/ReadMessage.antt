@@ -1,4 +1,4 @@
--- What the messages of a reader tell.
+-- The content of the messages of a reader.
 use Rattle.std.specs.Prelude.{◌≡◌, ℕ, Bool, List, [], ◌∷◌, ◌++◌, Option, None, Some, IfSome, ⊤}
 use Rattle.ruled_lanes.specs.declared.link_ends.Giver.{Giver}
 use Rattle.ruled_lanes.specs.LinkEnds.{given, GivesToSame}
@@ -25,7 +25,7 @@ IsTold records mark messages = (front : List ReadMessage) × (messages ≡ front
 abbrev pub TellsOf : Option (List ℕ) → Bool → List ReadMessage → Type 0
 TellsOf known fails messages = (records : List (List ℕ)) × (mark : Mark) × IsTold records mark messages × IsFoundIn known fails records mark
 
--- the giver that a reader gives back gave all messages to the link that it had
+-- the giver that a reader returns gave all messages to the link that it had
 abbrev pub GivesBack : Option (List ℕ) → Bool → Giver ReadMessage → Option (Giver ReadMessage) → Type 0
 GivesBack known fails giver result = IfSome result (λ after. GivesToSame giver after × TellsOf known fails (given after))
 
@@ -35,7 +35,7 @@ GoOn [] = ⊤
 GoOn (Stop ∷ messages) = ⊥
 GoOn (_ ∷ messages) = GoOn messages
 
--- the records of all messages, in order
+-- the records in all messages, in order
 abbrev pub records_in : List ReadMessage → List (List ℕ)
 records_in [] = []
 records_in (Records batch ∷ messages) = batch.items ++ records_in messages

@@ -21,8 +21,8 @@ pub record IsFoundIn (known : Option (List ℕ)) (known_fails : Bool) (records :
   pub gave : IsKnownOf known known_fails bytes fails
   pub marked : IsMarked bytes fails records found
 
--- bytes that were read of the source in so many rounds led to these records and to this state; the others are to come. Each round read
--- a byte at least
+-- the bytes that were read of the source in this many rounds led to these records and to this state; the others are to
+-- come. Each round read at least one byte
 pub record IsBeingRead (known : Option (List ℕ)) (known_fails : Bool) (rounds : ℕ) (to_come : Option (List ℕ)) (fails : Bool) (records : List (List ℕ)) (state : FramerState) : Type 0 where
   pub read : List ℕ
   pub took : Consumes known to_come read
@@ -37,14 +37,15 @@ pub record IsReadToItsEnd (known : Option (List ℕ)) (known_fails : Bool) (reco
   pub gave : IsKnownOf known known_fails read false
   pub stands : StandsAt read records state
 
--- what one more read led to
+-- the outcome of one more read
 abbrev pub LeadsTo : Option (List ℕ) → Bool → ℕ → Option (List ℕ) → Bool → List (List ℕ) → FramerState → PieceOutcome → Type 0
 LeadsTo known known_fails rounds to_come fails records state More = IsBeingRead known known_fails (rounds + 1) to_come fails records state
 LeadsTo known known_fails rounds to_come fails records state Ended = IsReadToItsEnd known known_fails records state
 LeadsTo known known_fails rounds to_come fails records state Failed = IsFoundIn known known_fails records mark.Io
 LeadsTo known known_fails rounds to_come fails records state (Faulted fault) = IsFoundIn known known_fails records (mark.Ended (ending_of fault))
 
--- Whatever was read of the source before, and whatever records were taken out of the list by then.
+-- The outcome of one more read, whatever was read of the source before, and whatever records were taken out of the list
+-- by then.
 abbrev pub ReadsOn : Option (List ℕ) → Bool → List (List ℕ) → FramerState → Option (List ℕ) → Bool → List (List ℕ) → FramerState → PieceOutcome → Type 0
 ReadsOn to_come fails records state now now_fails now_records now_state step =
     (known : Option (List ℕ)) (known_fails : Bool) (rounds : ℕ) (earlier : List (List ℕ))

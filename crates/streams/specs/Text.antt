@@ -1,11 +1,11 @@
--- The text of what a run found.
+-- The text output for what a run found.
 use Rattle.std.specs.Prelude.{ℕ, ◌+◌, List, [], ◌∷◌, ◌++◌, length, slice_index, codes, decimal}
 use Rattle.planar_code.specs.declared.ending.Ending.TheVariants as ending
 use Rattle.streams.specs.declared.frames.Mark.{Mark}
 use Rattle.streams.specs.declared.frames.Mark.TheVariants.{Ended, Io}
 use Rattle.streams.specs.FramesModel.{FramesModel}
 
--- one record: its number, its first byte, and how many bytes it has
+-- the line of one record: its number, its first byte, and the number of its bytes
 abbrev pub record_line : ℕ → List ℕ → List ℕ
 record_line number bytes =
     codes "record " ++ decimal number ++ codes " n=" ++ decimal (slice_index bytes 0) ++ codes " bytes=" ++ decimal (length bytes) ++ codes "\n"
@@ -26,7 +26,7 @@ word_of (Ended ending.Many) = codes "many"
 word_of (Ended ending.Memory) = codes "memory"
 word_of Io = codes "io"
 
--- the last line: the mark, and how many records there are
+-- the last line: the mark, and the number of records
 abbrev pub frames_end_line : Mark → ℕ → List ℕ
 frames_end_line mark count = codes "end " ++ word_of mark ++ codes " records=" ++ decimal count ++ codes "\n"
 

@@ -1,8 +1,8 @@
-//! Why a run gives no result, and why a text is not written whole.
+//! The reasons why a run has no result, and why text is not written completely.
 
 use thiserror::Error;
 
-/// Why a run gives no result. The text of each is what the program prints of it behind its own name.
+/// The reason why a run has no result. Its message is what the program prints after its own name.
 #[derive(Clone, Copy, Debug, PartialEq, Eq, Error)]
 pub enum BatchFault {
     /// More than 256 files were named.
@@ -11,11 +11,10 @@ pub enum BatchFault {
     /// The number of lanes is not 1 to 8.
     #[error("lanes must be 1 to 8")]
     BadLanes,
-    /// There was no memory for the run itself. Where there is none for a record of a file, that file's mark says so.
+    /// Memory ran out for the run itself. If it runs out for a record of a file, that file's mark says so.
     #[error("out of memory")]
     Memory,
-    /// An end of a link or of a fan was gone before the last message, or a text was handed a message that no
-    /// lane gives.
+    /// An end of a link or of a fan was gone before the last message, or text received a message that no lane gives.
     #[error("a lane was lost")]
     LaneLost,
     /// A thread could not be started.
@@ -23,13 +22,13 @@ pub enum BatchFault {
     Thread,
 }
 
-/// Why a text was not written whole. What was written is then a beginning of it.
+/// The reason why text was not written completely. What was written is then a prefix of it.
 #[derive(Clone, Copy, Debug, PartialEq, Eq, Error)]
 pub enum WriteFault {
     /// The sink has failed.
     #[error("write failed")]
     Write,
-    /// There was no memory to make the text.
+    /// Memory ran out while the text was made.
     #[error("out of memory")]
     Memory,
 }

@@ -1,4 +1,4 @@
-//! The text of what was found.
+//! The text output for the records and the mark of a source.
 ghost use Rattle.std.specs.Prelude.{◌≡◌, ◌+◌, ◌<◌, ◌≤◌, ◌^◌, false, length, ◌++◌};
 ghost use Rattle.streams.specs.Sink.{Writes, StaysInTransit};
 ghost use Rattle.streams.specs.Text.{frames_text, record_line, frames_end_line, word_of};
@@ -10,12 +10,12 @@ use super::output::Sink;
 use super::text_buffer::TextBuffer;
 use planar_code::{Ending, Record};
 
-/// Writes a line for each record and one for the mark. It takes no memory: lines wait in a
+/// Writes a line for each record and one for the mark of the source. It allocates nothing: lines are collected in a
 /// fixed buffer.
 ///
 /// # Errors
 ///
-/// `Write` exactly where the sink has then failed; a beginning of the text was then added. There is no other.
+/// `Write` exactly if the sink has then failed; a prefix of the text was then added. There is no other error.
 pub fn write_frames<S: Sink>(frames: &Frames, sink: &mut S) -> Result<(), WriteFault>
     requires { S.failed sink.old ≡ false }
     ensures { Writes (S.taken sink.old) (S.taken sink.new) (S.failed sink.new) (frames_text frames.now) result }
@@ -45,7 +45,7 @@ fn write_record<S: Sink>(
     Ok(())
 }
 
-/// Adds the line of one record.
+/// Appends the line of one record to the buffer.
 fn push_record(lines: &mut TextBuffer, number: u64, rec: &Record)
     requires { length lines.old + LINE ≤ ROOM }
     ensures { lines.new ≡ lines.old ++ record_line number rec.now }
@@ -75,7 +75,7 @@ fn write_end<S: Sink>(
     Ok(())
 }
 
-/// Adds the line of a mark.
+/// Appends the line of a mark to the buffer.
 fn push_end(lines: &mut TextBuffer, mark: Mark, count: u64)
     requires { length lines.old + LINE ≤ ROOM }
     ensures { lines.new ≡ lines.old ++ frames_end_line mark count }
@@ -87,7 +87,7 @@ fn push_end(lines: &mut TextBuffer, mark: Mark, count: u64)
     lines.push(b"\n");
 }
 
-/// The word that texts have for a mark.
+/// The word that text output has for a mark.
 pub fn mark_word(mark: Mark) -> &'static str
     ensures word { result.now ≡ word_of mark }
     ensures short { length result.now ≤ 9 }

@@ -1,15 +1,15 @@
-//! The records that were read from one source, and how it ended.
+//! The records that were read from one source, and how the source ended.
 
 use planar_code::{Ending, Record};
 use std::marker::Model;
 
-/// How a source ended.
+/// The way in which a source ended.
 #[derive(Clone, Copy, Debug, PartialEq, Eq)]
 pub enum Mark {
-    /// How its bytes end, up to the first fault in them; or there was no memory to divide it into records, or to
-    /// open it.
+    /// The ending of its bytes, up to the first fault in them; or memory ran out while they were divided into records
+    /// or the file was opened.
     Ended(Ending),
-    /// A read failed where more bytes could have come, or the file could not be opened.
+    /// A read failed at a place where more bytes could have come, or the file could not be opened.
     Io,
 }
 

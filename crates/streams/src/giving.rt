@@ -1,4 +1,4 @@
-//! What the thread that reads a source does.
+//! The thread that reads a source.
 ghost use Rattle.std.specs.Prelude.{◌≡◌, ◌<◌, [], List, ℕ, ◌++◌, ⊤, vec_len};
 ghost use Rattle.std.proofs.Common.{◌∙◌, refl, sym, subst, append-nil, append_assoc};
 ghost use Rattle.ruled_lanes.specs.LinkEnds.{given, GivesToSame};
@@ -14,7 +14,7 @@ use std::alloc::Global;
 use std::mem;
 use std::sync::Wait;
 
-/// Gives the records of a source, those of a piece in one message.
+/// Sends the records of a source, those of one piece in one message.
 #[derive(Drop)]
 struct PieceGiver<'r, R> {
     rt: &'r R,
@@ -56,8 +56,10 @@ impl<R: Wait> Receiver for PieceGiver<'_, R> {
     ghost stays_on = { λ x y z p q. q ∙ p };
 }
 
-/// Reads a source to its end, to its failure, or to the first fault in its bytes, and gives what it
-/// found: its records in order, one mark and one stop. None where the link's other end was gone.
+/// Reads a source and sends its records in order, then one mark and one stop; returns the sending end.
+///
+/// It reads to the end of the source, to its failure, or to the first fault in its bytes. `None` if the link's other
+/// end was gone.
 pub fn give_all<R: Wait, T: Tap>(
     rt: &R,
     alloc: Global,

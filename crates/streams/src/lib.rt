@@ -1,4 +1,4 @@
-//! Reads sources of planar code into records and writes what was found.
+//! Reads sources of planar_code into records, and writes the records found as text.
 #![tactic(auto)]
 
 mod faults;

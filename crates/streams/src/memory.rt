@@ -1,12 +1,12 @@
-//! A source in memory.
+//! A source of bytes in memory.
 ghost use Rattle.std.specs.Prelude.{◌≡◌, ◌<◌, ◌≤◌, ℕ, List, drop, length, take, Some, false, vec_len, IfOk, OnOk, OnErr};
 ghost use Rattle.std.specs.Io.KnownBytes.{Consumes};
 ghost use Rattle.streams.specs.Tap.{IsAtItsEnd, IsAtItsFailure};
 
 use super::input::{Tap, TapFault};
 
-/// A source of bytes in memory, of which a read gives at most a chosen number. Its bytes are known,
-/// and then ends.
+/// A source of bytes in memory whose reads return at most a chosen number of bytes. Its bytes are known, and it ends
+/// after them.
 #[derive(Drop)]
 pub struct MemTap {
     bytes: Vec<u8>,
@@ -19,7 +19,7 @@ pub struct MemTap {
 impl MemTap {
     ghost use Rattle.streams.specs.Memory.{most_of};
 
-    /// A source of these bytes; a read gives at most `most` of them.
+    /// A source of these bytes; a read returns at most `most` of them.
     pub fn new(bytes: Vec<u8>, most: usize) -> MemTap
         requires { 0 < most }
         ensures tells { ⟦<MemTap as Tap>⟧.to_come result ≡ Some bytes.items }
@@ -37,7 +37,7 @@ impl Tap for MemTap {
 
     ghost fails = { λ _. false };
 
-    // What every tap keeps, and that no read gives more bytes than was chosen.
+    // The contract of every tap, and that no read returns more bytes than chosen.
     fn read(&mut self, buf: &mut [u8]) -> Result<usize, TapFault>
         ensures bound { IfOk result (λ n. n ≤ length buf.new) }
         ensures given { IfOk result (λ n. Consumes (⟦<MemTap as Tap>⟧.to_come self.old)

@@ -1,16 +1,16 @@
-//! Where text goes.
+//! Sinks for text.
 ghost use Rattle.std.specs.Prelude.{◌≡◌, ◌<◌, ◌≤◌, ℕ, Bool, true, false, Option, List, length, take, IfOk, OnOk, OnErr};
 ghost use Rattle.std.specs.Io.KnownBytes.{Appends, Keeps};
 
 use std::io::Write;
 
-/// A write that failed. It has no parts.
+/// The error that a write failed. It carries no data.
 #[derive(Clone, Copy, Debug, PartialEq, Eq)]
 pub struct SinkFault;
 
-/// A place that takes text, a piece at a time and not always a whole piece.
+/// A byte sink that takes text piece by piece, and not always a whole piece at once.
 ///
-/// For proofs a sink has the bytes that it took, where they are known, and whether it has failed.
+/// In proofs a sink has the bytes that it took, if they are known, and whether it has failed.
 pub trait Sink {
     ghost taken: { Self → Option (List ℕ) };
 
@@ -20,7 +20,7 @@ pub trait Sink {
     ///
     /// # Errors
     ///
-    /// `SinkFault` where it takes no more.
+    /// `SinkFault` if it takes no more.
     fn put(&mut self, piece: &[u8]) -> Result<usize, SinkFault>
         ensures bound { IfOk result (λ n. n ≤ length piece.now) }
         ensures moves { IfOk result (λ n. 0 < length piece.now → 0 < n) }
@@ -31,8 +31,7 @@ pub trait Sink {
         ensures fails { OnErr result (failed self.new ≡ true) };
 }
 
-/// A sink over a writer of std. A write that fails, or that takes nothing of a nonempty piece, is
-/// its fault.
+/// A sink over a writer of std. It fails if a write fails or takes nothing of a nonempty piece.
 #[derive(Drop)]
 pub struct IoSink<W> {
     writer: W,
@@ -40,7 +39,7 @@ pub struct IoSink<W> {
 }
 
 impl<W: Write> IoSink<W> {
-    /// A sink over this writer. It has taken what the writer contains, and has not failed.
+    /// A sink over this writer. The bytes taken are those that the writer already contains, and it has not failed.
     pub fn new(writer: W) -> IoSink<W>
         ensures taken { ⟦<IoSink<W> as Sink>⟧.taken result ≡ W.contents writer }
         ensures intact { ⟦<IoSink<W> as Sink>⟧.failed result ≡ false }
@@ -51,7 +50,7 @@ impl<W: Write> IoSink<W> {
         }
     }
 
-    /// The writer, with all that the sink took.
+    /// Returns the writer, with all that the sink took.
     pub fn into_writer(self) -> W
         ensures { W.contents result ≡ ⟦<IoSink<W> as Sink>⟧.taken self }
     {

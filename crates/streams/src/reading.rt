@@ -1,4 +1,4 @@
-//! How a source is read into records and a mark.
+//! Reading a source into records and a mark.
 ghost use Rattle.std.specs.Prelude.{◌≡◌, ◌+◌, ◌<◌, ◌≤◌, ℕ, List, length, vec_len, IfOk};
 ghost use Rattle.planar_code.specs.declared.TheConstants.{MAX_RECORDS};
 ghost use Rattle.planar_code.specs.FramerState.{StandsAt};
@@ -12,10 +12,10 @@ use super::receiver::Receiver;
 use planar_code::{Ending, FeedFault, Framer, Record};
 use std::alloc::{AllocError, Global};
 
-/// How many bytes are asked of a source at once.
+/// The number of bytes requested from a source at once.
 pub const PIECE: usize = 65_536;
 
-/// What one read of a source led to.
+/// The outcome of one read of a source.
 #[derive(Clone, Copy, Debug)]
 pub enum PieceOutcome {
     /// There may be more bytes.
@@ -24,15 +24,15 @@ pub enum PieceOutcome {
     Ended,
     /// The source failed.
     Failed,
-    /// The framer reads no further.
+    /// The framer stopped at this fault.
     Faulted(FeedFault),
 }
 
-/// A buffer of `PIECE` bytes, into which a source is read.
+/// A new buffer of `PIECE` bytes, into which a source is read.
 ///
 /// # Errors
 ///
-/// `AllocError` where there is no memory for it.
+/// `AllocError` if there is no memory for it.
 pub fn piece_buffer(alloc: Global) -> Result<Vec<u8>, AllocError>
     ensures { IfOk result (λ v. vec_len v ≡ PIECE) }
 {
@@ -45,8 +45,7 @@ fn zeros(alloc: Global, count: usize) -> Result<Vec<u8>, AllocError>
     vec![in alloc; 0; count]
 }
 
-/// Reads one piece of the source, and puts the records that it completes at the end of the list, in
-/// order. It says what the piece led to.
+/// Reads one piece of the source, appends the records that it completes to `records`, and returns the outcome.
 pub fn read_piece<T: Tap>(
     source: &mut T,
     framer: &mut Framer,
@@ -58,7 +57,7 @@ pub fn read_piece<T: Tap>(
     ensures reads { ReadsOn (T.to_come source.old) (T.fails source.old) records.old.items framer.old
         (T.to_come source.new) (T.fails source.new) records.new.items framer.new result }
 
-    // No stream gives more than 1,000,000 records.
+    // No source has more than 1,000,000 records.
     ensures few { (stream : List ℕ) (earlier : List (List ℕ))
         → StandsAt stream earlier framer.old
         → length earlier + length records.new.items ≤ MAX_RECORDS + length records.old.items }
@@ -73,22 +72,23 @@ pub fn read_piece<T: Tap>(
     }
 }
 
-/// How a source ended, and how many records were read of it.
+/// The mark of a source that was read, and the number of its records.
 #[derive(Clone, Copy, Debug, PartialEq, Eq)]
 pub struct SourceEnd {
-    /// How many records were received, at most 1,000,000.
+    /// The number of records received, at most 1,000,000.
     pub count: u32,
     /// How the source ended.
     pub mark: Mark,
 }
 
-/// Reads a source to its end, to its failure or to the first fault in its bytes, and has its records
-/// received, in order. It gives back how many there were and the mark of the source: `Memory` where the framer
-/// found no memory.
+/// Reads a source and passes its records, in order, to `receiver`; returns their number and the mark of the source.
+///
+/// It reads to the end of the source, to its failure or to the first fault in its bytes. The mark is `Memory` if the
+/// framer ran out of memory.
 ///
 /// # Errors
 ///
-/// What the receiver answers where it does not receive records. It has then received those before.
+/// The receiver's refusal, if it refuses records. It has then received the records before them.
 pub fn read_source<T: Tap, V: Receiver>(
     mut source: T,
     alloc: Global,
@@ -113,8 +113,8 @@ pub fn read_source<T: Tap, V: Receiver>(
     };
     let mut records = Vec::new(alloc);
     let mut ordinal = 0;
-    // Counted, so that the call is proved to end. The last round is never reached: a framer that still reads has
-    // had no more bytes than the header and a million records.
+    // Counted, so that the call is proved to end. The last round is never reached: a framer that still reads has had no
+    // more bytes than the header and a million records.
     for _ in 0..u64::MAX {
         let step = read_piece(&mut source, &mut framer, alloc, buffer, &mut records);
         let next = ordinal + records.len() as u32;

@@ -1,30 +1,30 @@
-//! What becomes of the records of a source as it is read.
+//! What is done with the records of a source as it is read.
 ghost use Rattle.std.specs.Prelude.{◌≡◌, ◌+◌, ◌≤◌, ℕ, List, [], ◌++◌, length, OnOk};
 ghost use Rattle.planar_code.specs.declared.TheConstants.{MAX_RECORDS};
 
 use planar_code::Record;
 use std::alloc::Global;
 
-/// Receives the records of a source as they are read.
+/// A receiver of the records of a source as they are read.
 ///
-/// For proofs it has which records, numbered from a first one on, were received from one value to a
-/// later one; which ones it may be handed; and what stays the same of it.
+/// In proofs it has which records, numbered from a first one on, were received from one value to a later one; which
+/// ones it may be passed; and which part of it stays the same.
 pub trait Receiver {
-    /// Why records were not received.
+    /// The reason why records were refused.
     type Refusal: Drop;
 
     ghost received: { ℕ → List (List ℕ) → Self → Self → Type 0 };
 
     ghost stays: { Self → Self → Type 0 };
 
-    // Which records it may be handed, of which the first has this place in the source.
+    // Which records it may be passed, of which the first has this place in the source.
     ghost accepts: { Self → ℕ → List (List ℕ) → Type 0 };
 
-    /// Takes all records out of the list, in order. The first of them has this place in the source.
+    /// Takes all records out of the list, in order. The first of them has the place `first` in the source.
     ///
     /// # Errors
     ///
-    /// A reason of its own. The source is then read no further.
+    /// A reason of the implementation. The source is then read no further.
     fn receive(
         &mut self,
         alloc: Global,
@@ -43,11 +43,11 @@ pub trait Receiver {
     ghost received_on: { (records others : List (List ℕ)) (x y z : Self)
         → received 0 records x y → received (length records) others y z → received 0 (records ++ others) x z };
 
-    // What it may be handed once, it may be handed later.
+    // What it may be passed once, it may be passed later.
     ghost accepts_on: { (x y : Self) (first : ℕ) (records : List (List ℕ))
         → stays x y → accepts x first records → accepts y first records };
 
-    // What stays, stays over any calls.
+    // What stays the same stays so over any number of calls.
     ghost stays_itself: { (x : Self) → stays x x };
 
     ghost stays_on: { (x y z : Self) → stays x y → stays y z → stays x z };

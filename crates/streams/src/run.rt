@@ -1,4 +1,4 @@
-//! Runs over sources.
+//! Reading one source on a thread of its own.
 ghost use Rattle.std.specs.Prelude.{◌≡◌, ◌≢◌, ◌≤◌, ℕ, Bool, List, [], Some, IfOk, IfErr, vec_len};
 ghost use Rattle.ruled_lanes.specs.declared.limits.TheConstants.{MAX_CAPACITY};
 ghost use Rattle.ruled_lanes.specs.LinkEnds.{given, taken, AreEnds, TakesFromSame};
@@ -22,7 +22,7 @@ use std::sync::Wait;
 use std::thread;
 use std::thread::{Promise, Threads};
 
-/// What the thread of a reader promises of the giver that it gives back.
+/// What the thread of a reader promises of the giver that it returns.
 #[derive(Drop)]
 struct ReadingPromise<T: Tap> {
     source: Snapshot<T>,
@@ -34,7 +34,7 @@ impl<T: Tap> Promise<Option<Giver<ReadMessage>>> for ReadingPromise<T> {
         GivesBack (T.to_come p.source.value) (T.fails p.source.value) p.giver.value result };
 }
 
-/// The records and the mark that were gathered from a link, and the end that took them.
+/// The records and the mark that were gathered from a link, and the receiving end.
 #[derive(Drop)]
 struct GatheredRecords {
     taker: Taker<ReadMessage>,
@@ -42,13 +42,13 @@ struct GatheredRecords {
     mark: Option<Mark>,
 }
 
-/// The records of one source and its mark. A thread of its own reads the source, and at most
-/// `capacity` messages of it wait to be gathered. After the first fault in the bytes, the source is
-/// read no more.
+/// The records of one source and its mark, read by a thread of its own.
 ///
-/// `Memory` is want of memory elsewhere than in the framer; there it is the source's own mark.
-/// `LaneLost`: an end of the link was gone before the last message. `Thread`: no thread could be
-/// started.
+/// At most `capacity` of its messages wait to be gathered. After the first fault in the bytes, the source is read no
+/// more.
+///
+/// `Memory`: out of memory anywhere but in the framer, which makes it the mark of the source. `LaneLost`: an end of the
+/// link was gone before the last message. `Thread`: no thread could be started.
 pub fn run_frames<R: Threads + Wait + Sync, T: Tap + Send>(
     rt: &R,
     alloc: Global,
@@ -108,8 +108,7 @@ pub fn run_frames<R: Threads + Wait + Sync, T: Tap + Send>(
     )
 }
 
-/// Takes messages until the stop. Where it fails, it lets its end go, so that the giver does not
-/// wait for it.
+/// Takes messages until the stop. If it fails, it drops the receiving end, so that the giver does not wait for it.
 fn gather<R: Wait>(
     rt: &R,
     alloc: Global,
@@ -141,7 +140,8 @@ fn gather<R: Wait>(
     })
 }
 
-/// Settles the link by both of its ends. So what was gathered is all that was told, and it has a mark.
+/// Settles the link by both of its ends. This proves that the records gathered are all that were sent, and that there
+/// is a mark.
 fn settle<R: Wait>(rt: &R, gathered: GatheredRecords, giver: Giver<ReadMessage>) -> Frames
     requires ends { AreEnds giver gathered.taker }
     requires all { GathersAll gathered.records.items gathered.mark (taken gathered.taker) }

@@ -1,4 +1,4 @@
-//! A buffer of fixed size before a sink, so that many short lines make few writes.
+//! A buffer of fixed size before a sink, so that many short lines need few writes.
 ghost use Rattle.std.specs.Prelude.{◌≡◌, ◌↔◌, ◌+◌, ◌^◌, ◌<◌, ◌≤◌, ℕ, List, [], ◌++◌, Option, false, length, take, decimal, IsTrue, OnOk};
 ghost use Rattle.streams.specs.Sink.{Writes, StaysInTransit};
 ghost use Rattle.streams.specs.declared.text_buffer.TheConstants.{LINE, ROOM};
@@ -8,13 +8,13 @@ use super::output::Sink;
 use itoa::Buffer;
 use std::marker::Model;
 
-/// How many bytes the buffer holds.
+/// The number of bytes that the buffer holds.
 pub const ROOM: usize = 16_384;
 
-/// How many bytes are free at least after `make_room`. A line that may be longer is added in pieces.
+/// The number of bytes that are free at least after `make_room`. A line that may be longer is added in pieces.
 pub const LINE: usize = 512;
 
-/// Text that waits for the sink.
+/// A fixed-size buffer of text that is still to be written to a sink.
 #[derive(Drop)]
 pub struct TextBuffer {
     bytes: [u8; ROOM],
@@ -30,7 +30,7 @@ impl Model for TextBuffer {
 }
 
 impl TextBuffer {
-    /// No text yet.
+    /// An empty buffer.
     pub fn new() -> TextBuffer
         ensures { result ≡ [] }
     {
@@ -40,14 +40,14 @@ impl TextBuffer {
         }
     }
 
-    /// Whether no text waits.
+    /// Whether the buffer is empty.
     pub fn is_empty(&self) -> bool
         ensures { IsTrue result ↔ (self.now ≡ []) }
     {
         self.len == 0
     }
 
-    /// Adds a text, for which there is room.
+    /// Appends `text`, for which there must be room.
     pub fn push(&mut self, text: &[u8])
         requires { length self.old + length text.now ≤ ROOM }
         ensures { self.new ≡ self.old ++ text.now }
@@ -57,7 +57,7 @@ impl TextBuffer {
         self.len = end;
     }
 
-    /// Adds a number in decimal, for which there is room.
+    /// Appends a number in decimal, for which there must be room.
     pub fn push_number(&mut self, number: u64)
         requires { length self.old + 40 ≤ ROOM }
         ensures text { self.new ≡ self.old ++ decimal number }
@@ -67,11 +67,12 @@ impl TextBuffer {
         self.push(buffer.format(number).as_bytes());
     }
 
-    /// Makes sure that `LINE` bytes are free: where fewer are, puts all that waits into the sink.
+    /// Makes sure that `LINE` bytes are free: if fewer are, writes the whole buffer to the sink.
     ///
     /// # Errors
     ///
-    /// `Write` exactly where the sink has then failed; a beginning of what waited was then added. There is no other.
+    /// `Write` exactly if the sink has then failed; a prefix of the buffered text was then added. There is no other
+    /// error.
     pub fn make_room<S: Sink>(&mut self, sink: &mut S) -> Result<(), WriteFault>
         requires { S.failed sink.old ≡ false }
         ensures writes { StaysInTransit (S.taken sink.old) self.old (S.taken sink.new) self.new
@@ -84,11 +85,12 @@ impl TextBuffer {
         self.flush(sink)
     }
 
-    /// Puts all that waits into the sink.
+    /// Writes the whole buffer to the sink.
     ///
     /// # Errors
     ///
-    /// `Write` exactly where the sink has then failed; a beginning of what waited was then added. There is no other.
+    /// `Write` exactly if the sink has then failed; a prefix of the buffered text was then added. There is no other
+    /// error.
     pub fn flush<S: Sink>(&mut self, sink: &mut S) -> Result<(), WriteFault>
         requires { S.failed sink.old ≡ false }
         ensures writes { Writes (S.taken sink.old) (S.taken sink.new) (S.failed sink.new) self.old result }
@@ -100,11 +102,11 @@ impl TextBuffer {
     }
 }
 
-/// Puts a whole text into the sink, by several writes where the sink takes only a part at once.
+/// Writes all of `text` to the sink, by several writes if the sink takes only part at once.
 ///
 /// # Errors
 ///
-/// `Write` exactly where the sink has then failed; a beginning of the text was then added. There is no other.
+/// `Write` exactly if the sink has then failed; a prefix of the text was then added. There is no other error.
 pub fn put_all<S: Sink>(sink: &mut S, text: &[u8]) -> Result<(), WriteFault>
     requires { S.failed sink.old ≡ false }
     ensures { Writes (S.taken sink.old) (S.taken sink.new) (S.failed sink.new) text.now result }
