@@ -200,6 +200,7 @@ pub(crate) struct Numbers {
 }
 
 impl Numbers {
+    /// The next random number below `bound`.
     pub fn below(&mut self, bound: u32) -> u32
         requires { 0 < bound }
         ensures { result < bound }

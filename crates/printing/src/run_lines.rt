@@ -47,8 +47,9 @@ pub struct Lines {
 }
 
 impl Lines {
-    /// An empty reorder buffer for `files` files in this format, whose entries are answered under this choice of the
-    /// outer face.
+    /// An empty reorder buffer for the lines of `files` files.
+    ///
+    /// The lines are in this format, and their entries are answered under this choice of the outer face.
     ///
     /// # Errors
     ///

@@ -172,6 +172,7 @@ fn reports_a_cycle_of_most_vertices(rt: HostRuntime) {
     check_record(&rt, body.as_slice(), "ok n=255 m=255 f=2 bends=0 drawn=yes");
 }
 
+/// The report of a file that could not be read.
 pub const UNREAD: &str = "file 1\nend io graphs=0\n";
 
 #[test]
@@ -205,6 +206,7 @@ const APART: &str = "file 1\n\
     file 3\n\
     end complete graphs=0\n";
 
+/// The JSON lines of a file of one vertex.
 pub const EDGELESS: &str = "{\"file\":1,\"graph\":1,\"rule\":\"edgeless\",\"status\":\"refused\"}\n\
     {\"end\":\"complete\",\"file\":1,\"graphs\":1}\n";
 

@@ -5,8 +5,9 @@ ghost use Rattle.ruled_lanes.specs.LinkProtocol.{log};
 use crossbeam_channel::protocol::{Join, Lesson, Outcome, Protocol, Split};
 use std::collections::LinkedList;
 
-// The state of a pass: what it may do (give, take), what it has given and what it has taken. No value of it is made at
-// run time.
+// The knowledge of a pass of a link: what it may do (give, take), what it has given and what it has taken.
+//
+// No value of it is made.
 pub struct Log<T> {
     pub gives: bool,
     pub takes: bool,

@@ -2,8 +2,10 @@
 use atomic_table::{Join, Play, Split, TableRule};
 use std::collections::LinkedList;
 
-// The state of a pass: the limit, how many seats it represents, how many of them have ended, and the numbers that they
-// drew. No value of it is made.
+// The knowledge of a pass of tickets.
+//
+// It is the limit, how many seats the pass represents, how many of them have ended, and the numbers that they drew. No
+// value of it is made.
 pub struct Draws {
     pub limit: u64,
     pub shares: u64,

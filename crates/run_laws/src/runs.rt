@@ -10,8 +10,9 @@ ghost use Rattle.printing.specs.Whole.{IsAllWritten};
 ghost use Rattle.collector.specs.Headline.{IsWholeRun};
 ghost use Rattle.run_laws.specs.Reports.{IsReport};
 
-/// Two whole runs of the same bytes under the same choice have the same text in a report, whichever numbers their files
-/// have.
+/// Two whole runs of the same bytes under the same choice have the same text in a report.
+///
+/// This holds whichever numbers their files have.
 pub fn same_whole_runs()
     ensures { (choice : Choice) (file other_file : ℕ) (bytes : List ℕ) (book other : BookModel)
         → IsWholeRun choice file bytes book
