@@ -308,7 +308,7 @@ const PATH: &[u8] = &[
     10, 2, 0, 1, 3, 0, 2, 4, 0, 3, 5, 0, 4, 6, 0, 5, 7, 0, 6, 8, 0, 7, 9, 0, 8, 10, 0, 9, 0,
 ];
 
-/// How the JSON line of that path begins where no vertex turns.
+/// The beginning of the JSON line of that path, if no vertex turns.
 const STRAIGHT: &[u8] =
     b"{\"angles\":[2,4,2,2,2,2,2,2,2,2,2,2,2,2,2,2,4,2],\"bends\":0,\"drawn\":\"yes\",\"f\":1,\"file\":1,";
 
@@ -327,7 +327,7 @@ const PATHS: [(&str, bool); 4] = [
     ("layout --json path.pc --drawing quick", false),
 ];
 
-/// A path is drawn in one line where that is short, and the quick drawing winds it up.
+/// A path is drawn in one line if that is short, and the quick drawing winds it up.
 #[test]
 fn draws_a_path_as_asked(rt: HostRuntime) {
     make_file(&rt, "path.pc", &[HEADER, PATH]);

@@ -123,7 +123,7 @@ where
     run_words(rt, words.as_slice(), input, console)
 }
 
-/// Runs a command line without standard input and without a console.
+/// Runs a command line, with a standard input that cannot be read and a console that shows nothing.
 pub fn run<R: Files + AllocGlobal + Threads + Wait + Sync + Abort>(
     rt: &R,
     line: &str,
