@@ -17,7 +17,7 @@ pub enum Scan {
     Open { remaining: u8, entries: u8 },
 }
 
-/// Reads on in a record that was begun, from index `from` of `text`; returns where it ends, or that it is partial.
+/// Reads `text` from index `from` on as the rest of a record; returns where the record ends, or that it is partial.
 ///
 /// `remaining` lists are not yet ended, including the partial one, which has `entries` entries so far.
 pub fn scan_lists(

@@ -24,7 +24,7 @@ pub fn texts_tell_none_undrawn()
     ensures { (form : Form) (books : List BookModel) → AreDrawnBooks books → TellsNoneUndrawn (text_in form books) }
 {}
 
-/// A text that contains the answer of a graph without a drawing, in either format, does report one.
+/// A text that contains the answer of an undrawn graph, in either format, is one that reports an undrawn graph.
 ///
 /// This holds whatever precedes and follows the answer.
 pub fn undrawn_is_told()

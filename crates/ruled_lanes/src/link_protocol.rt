@@ -27,7 +27,7 @@ impl<T> Protocol<T, Log<T>> for Linked {
     ghost first = { log true true [] [] };
 }
 
-// The split of a pass into the two roles of a link, each in a pass of its own.
+// The split of a pass of a link into one that gives and one that takes.
 pub struct Roles;
 
 impl<T> Split<Log<T>> for Roles {

@@ -21,7 +21,7 @@ pub fn same_whole_runs()
         → book_text number book ≡ book_text number other }
 {}
 
-/// The report that `write_batch` adds to a sink whose text is known is the report of right books.
+/// If the text of a sink is known, the report that `write_batch` adds to it is the report of right books.
 pub fn written_is_report()
     ensures { (choice : Choice) (meaning : ℕ → Meaning) (files status : ℕ) (start now : List ℕ)
         → IsAllWritten choice meaning Form.Report files (Some start) (Some now) status
