@@ -22,6 +22,6 @@ pub enum Answer {
     },
     /// The first rule that the record breaks.
     Refused(Rule),
-    /// Out of memory, which says nothing about the record.
+    /// Memory ran out.
     NoMemory,
 }
