@@ -5,7 +5,7 @@ ghost use Rattle.ruled_lanes.specs.LinkProtocol.{log};
 use crossbeam_channel::protocol::{Join, Lesson, Outcome, Protocol, Split};
 use std::collections::LinkedList;
 
-// The knowledge of a pass of a link: what it may do (give, take), what it has given and what it has taken.
+// What a pass of a link knows: whether it may give or take, and what it has given and taken.
 //
 // No value of it is made.
 pub struct Log<T> {
@@ -70,7 +70,7 @@ impl<T> Lesson<T, Log<T>> for Takes {
     ghost fact = { λ v items. ⊤ };
 }
 
-// The lesson of a pass with both roles: the items taken, followed by those that the link holds, are the items given.
+// A `Lesson`: a pass with both roles learns that the items taken, then those still held, are the items given.
 pub struct Total;
 
 impl<T> Lesson<T, Log<T>> for Total {

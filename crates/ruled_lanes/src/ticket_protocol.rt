@@ -2,10 +2,9 @@
 use atomic_table::{Join, Play, Split, TableRule};
 use std::collections::LinkedList;
 
-// The knowledge of a pass of tickets.
+// What a pass of tickets knows: the limit, and of the seats that it represents how many there are and have ended.
 //
-// It is the limit, how many seats the pass represents, how many of them have ended, and the numbers that they drew. No
-// value of it is made.
+// It also knows the numbers that these seats drew. No value of it is made.
 pub struct Draws {
     pub limit: u64,
     pub shares: u64,
