@@ -52,7 +52,8 @@ pub(crate) fn cost_of(network: &Network, solved: &Solved) -> u64
     total
 }
 
-/// Each of three arcs carries one unit, no potential of the three nodes is above 0, and the counts of work are these.
+/// Each of three arcs carries one unit, no potential of the three nodes is above 0, and the solver took 2 searches and
+/// 6 looks.
 fn expect_free_way(rt: &impl Abort, network: &Network, solved: &Solved)
     requires { Solves network.now solved.now }
 {
@@ -200,6 +201,7 @@ pub(crate) struct Numbers {
 }
 
 impl Numbers {
+    /// The next random number below `bound`.
     pub fn below(&mut self, bound: u32) -> u32
         requires { 0 < bound }
         ensures { result < bound }

@@ -6,10 +6,9 @@ ghost use Rattle.entries.specs.Books.{BookModel};
 ghost use Rattle.entries.specs.AllBooks.{AreAllBooks};
 ghost use Rattle.collector.specs.Headline.{IsWholeRun, HasMemory};
 
-/// In the books of a run, a file that opens and is read without error has one right entry for each record, if memory
-/// suffices.
+/// If memory suffices, a file that is read without error has one right entry for each record.
 ///
-/// The books are those that `run_plain` or `run_batch` returns. The book of each file that opens and gives all its
+/// This holds for the books that `run_plain` or `run_batch` returns. The book of each file that opens and gives all its
 /// bytes, and in which memory did not run out, has one entry for each record of these bytes, each once and in order,
 /// and their ending as its mark. Each entry names the first rule that its record breaks, or gives an orthogonal
 /// representation of its embedding and chosen outer face with the fewest bends, and coordinates that draw it without

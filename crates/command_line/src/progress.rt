@@ -22,7 +22,7 @@ pub enum Progress {
 }
 
 impl Progress {
-    /// The setting requested by giving the option this many times.
+    /// The progress setting for an option that is given this many times.
     pub fn of_count(count: u8) -> Progress {
         match count {
             0 => Progress::Nowhere,

@@ -78,7 +78,7 @@ impl<'c, W: io::Write, R: Clock + Wait, E: io::Write + IsTerminal + Copy> Shared
     R,
     E,
 > {
-    /// A writer with its console, whose terminal it shares if both are terminals.
+    /// A writer that shares the terminal of this console, if both are terminals.
     pub fn new(
         writer: W,
         is_terminal: bool,

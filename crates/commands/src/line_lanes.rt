@@ -30,8 +30,9 @@ pub struct LineLanes<'w, J: Meant, G> {
 }
 
 impl<'w, J: Meant, G> LineLanes<'w, J, G> {
-    /// Lanes that make lines in this style. The report shows no coordinates, so it uses quick drawings, whatever kind
-    /// is asked for.
+    /// Lanes that make output lines in this style.
+    ///
+    /// The report shows no coordinates, so its lines are of quick drawings, whatever kind is asked for.
     pub fn new(style: Style, watch: &'w G) -> LineLanes<'w, J, G>
         ensures form { result.form ≡ style.form }
         ensures report { style.form ≡ Form.Report → result.drawing_kind ≡ Quick }

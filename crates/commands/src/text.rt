@@ -34,13 +34,12 @@ pub enum TextFault {
     Write,
 }
 
-/// Answers all records of the first `files` files on `lanes` lanes and streams the text to a sink; returns the exit
-/// status.
+/// Answers all records of the first `files` files on `lanes` lanes, and streams the text to `sink`.
 ///
 /// Each record is answered under this choice of the outer face. The text is that of the files' books in the format of
 /// this style, as `Form::write` writes books, and is written while the files are read. JSON lines have drawings of the
-/// style's kind; the report shows no coordinates, and uses quick ones. The status is that of the whole text: 0 if each
-/// file ended complete and memory ran out for no record's answer or line, and otherwise 3.
+/// style's kind; the report shows no coordinates, and its lines are of quick ones. It returns the exit status of the
+/// whole text: 0 if each file ended complete and memory ran out for no record's answer or line, and otherwise 3.
 ///
 /// Files go over lanes as in `run_batch`. They are written in their order: the lines of the first file that has not
 /// ended go to the sink as they arrive, and those of later files are buffered. The layout of a record is freed once its

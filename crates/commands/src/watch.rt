@@ -10,7 +10,7 @@ pub trait Watch: Sync {
     fn end(&self, file: u32, mark: Mark);
 }
 
-/// A gate as a watch that ignores how files end.
+/// A gate that is also a watch, and ignores how files end.
 #[derive(Clone, Copy)]
 pub struct Unwatched<'g, G> {
     pub gate: &'g G,
@@ -26,7 +26,7 @@ impl<G: Gate> Watch for Unwatched<'_, G> {
     fn end(&self, _file: u32, _mark: Mark) {}
 }
 
-/// A watch that counts files and graphs, and notes how files end.
+/// A gate and watch that counts files and graphs, and notes how files end.
 #[derive(Clone, Copy)]
 pub struct Observer<'m, C> {
     pub meter: &'m Meter<'m, C>,

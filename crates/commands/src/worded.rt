@@ -15,7 +15,7 @@ use std::alloc::Global;
 use std::marker::PhantomData;
 use std::snapshot::Snapshot;
 
-/// The purpose of answers that become output lines in a format.
+/// The `Purpose` of lanes that make output lines in a format.
 ///
 /// The type guarantees that records have their places in what their files mean; nothing is carried of them once their
 /// graphs are read.
@@ -26,7 +26,7 @@ pub struct Worded<J: Meant> {
 }
 
 impl<J: Meant> Worded<J> {
-    /// The purpose for lines in this format.
+    /// The `Purpose` of lanes that make output lines in this format.
     pub(crate) fn new(form: Form) -> Worded<J>
         ensures { result.form ≡ form }
     {

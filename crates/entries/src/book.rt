@@ -45,8 +45,9 @@ impl Book {
     }
 }
 
-/// The books of a run, one for each file, at most `MAX_FILES`. In contracts it is the list of them. No accessor
-/// allocates.
+/// The books of a run, one for each file, at most `MAX_FILES`.
+///
+/// In contracts it is the list of them. No accessor allocates.
 #[derive(Drop)]
 pub struct Batch {
     books: Vec<Book>,

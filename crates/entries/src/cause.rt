@@ -1,8 +1,8 @@
-//! The causes why a shape is not drawn.
+//! The reasons why a shape is not drawn.
 
 ghost use Rattle.std.specs.Prelude.{◌≡◌};
 
-/// The cause why the shape of a record's plane has no drawing.
+/// The reason why the shape of a record's plane has no drawing.
 #[derive(Clone, Copy, Debug, PartialEq, Eq)]
 pub enum Cause {
     /// Its boxes have no coordinates that are all at most 65,535.
@@ -20,7 +20,7 @@ pub enum Cause {
 impl Cause {
     ghost use Rattle.entries.specs.CauseWords.{word_of};
 
-    /// The word that reports have for the cause.
+    /// The word for the cause in reports.
     pub fn word(self) -> &'static str
         ensures { result.now ≡ word_of self }
     {

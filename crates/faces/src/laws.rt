@@ -8,7 +8,7 @@ ghost use Rattle.embedding.specs.Rules.{KeepsBefore};
 ghost use Rattle.faces.specs.Faces.{IsFace, IsClosedUnder, steps};
 ghost use Rattle.faces.specs.Planes.{HasEnds, IsPlane, PlaneModel, darts, degree, face_at, reverse_dart};
 
-/// The faces are a partition: the darts of each number are a face, and each face has one of the numbers.
+/// The faces are a partition of the darts: the darts of each number are a face, and each face has one of the numbers.
 pub fn faces_are_numbered()
     ensures { (n f : ℕ) (next face : ℕ → ℕ) → HasFaces n next face f
         → ((k : ℕ) → k < f → IsFace n next (λ d. face d == k))
@@ -16,7 +16,7 @@ pub fn faces_are_numbered()
         → (k : ℕ) × (k < f) × ((d : ℕ) → d < n → (s d ≡ true) ↔ (face d ≡ k))) }
 {}
 
-/// Darts are numbered by their faces in one way, and there is one number of faces.
+/// The numbering of the darts by their faces is unique, and so is the number of faces.
 pub fn numbering_is_unique()
     ensures { (n f g : ℕ) (next face other : ℕ → ℕ)
         → HasFaces n next face f → HasFaces n next other g
@@ -36,23 +36,25 @@ pub fn degrees_sum()
     ensures { (p : PlaneModel) → IsPlane p → sum_below p.faces (degree p) ≡ darts p }
 {}
 
-/// Any two darts of a connected graph are connected: a set of darts that is closed under "next" and under
-/// "reverse" and holds one dart holds them all.
+/// Any two darts of a connected graph are connected by "next" and "reverse".
+///
+/// A set of darts that is closed under "next" and under "reverse" and holds one dart holds them all.
 pub fn darts_are_connected()
     ensures { (g : List (List ℕ)) → KeepsBefore g 8 → (s : ℕ → Bool)
         → IsClosedUnder (dart_count g) (next_of g) s → IsClosedUnder (dart_count g) (reverse_of g) s
         → (d e : ℕ) → d < dart_count g → e < dart_count g → s d ≡ true → s e ≡ true }
 {}
 
-/// Any two faces of a plane are connected in the dual graph: a set of faces that holds with the face of each
-/// dart the face across it holds them all, if it holds one.
+/// Any two faces of a plane are connected in the dual graph.
+///
+/// A set of faces that holds with the face of each dart the face across it holds them all, if it holds one.
 pub fn faces_are_connected()
     ensures { (p : PlaneModel) → IsPlane p → (t : ℕ → Bool)
         → ((d : ℕ) → d < darts p → t (face_at p d) ≡ true → t (face_at p (reverse_dart p d)) ≡ true)
         → (k j : ℕ) → k < p.faces → j < p.faces → t k ≡ true → t j ≡ true }
 {}
 
-/// The darts of a plane have their ends, their reverses, the darts that follow them and their faces within it.
+/// The ends, the reverses, the next darts and the faces of a plane's darts are all within the plane.
 pub fn planes_have_ends()
     ensures { (p : PlaneModel) → IsPlane p → HasEnds p }
 {}

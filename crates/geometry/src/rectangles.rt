@@ -28,10 +28,10 @@ const TABLE_ROWS: usize = 8;
 // was measured to be faster from some 350 on.
 const ALL_ROWS: usize = 128;
 
-/// Whether no two of the rectangles have a point in common. It may reorder `rectangles`, and reuses `table` as its
-/// table.
+/// Whether no two of the rectangles have a point in common.
 ///
-/// Takes O(n log n) time for n rectangles, however many points they contain.
+/// It may reorder `rectangles`, and reuses the buffer of `table`. Takes O(n log n) time for n rectangles, however many
+/// points they contain.
 ///
 /// # Errors
 ///

@@ -81,10 +81,9 @@ impl<R: Threads + Wait + Sync, O: Opener, G: Gate, L> Shared<'_, R, O, G, L> {
         Ok(seats)
     }
 
-    /// Passes all messages of the lanes, up to the stop of each, to the consumer, and joins the lanes' threads. Returns
-    /// the seats.
+    /// Passes all messages of the lanes to the consumer, and joins the lanes' threads; returns the seats.
     ///
-    /// Then the consumer holds all of each file that one seat drew.
+    /// The messages of a lane end with its stop. Then the consumer holds all of each file that one seat drew.
     pub fn finish_lanes<E: Numbered, M: Drop + Send, C: Consumer<E, M>>(
         &self,
         gatherer: Gatherer<Message<E, M>>,

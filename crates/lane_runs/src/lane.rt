@@ -31,8 +31,7 @@ pub struct Lane<E: Numbered, M: Drop + Send> {
 }
 
 impl<'s, R: Threads + Wait + Sync, O: Opener, G: Gate, L: LaneKind + 's> Shared<'s, R, O, G, L> {
-    /// Runs a lane, with its last stage on this thread and the others on a thread each; returns its seat and its end of
-    /// the fan.
+    /// Runs a lane, its last stage on this thread and the others on a thread each; returns its seat and its giver.
     ///
     /// The result of the last stage for each record, and the end of each file, go to the giver, and after them one
     /// stop, whatever happened in the lane; the result of that last give is returned with the giver.

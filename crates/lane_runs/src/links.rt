@@ -56,8 +56,9 @@ pub fn new_links<L: LaneKind>(alloc: Global, capacity: u32) -> Result<Links<L>, 
     })
 }
 
-/// Settles the links of a lane by the ends that its stages returned. This proves that the messages of the last stage
-/// say all that those of the first one do.
+/// Settles the links of a lane: proves that the messages of the last stage say all that those of the first do.
+///
+/// It takes the ends that the stages returned.
 pub fn settle_lane<L: LaneKind, R: Wait>(
     rt: &R,
     read: Giver<Message<L::Framed, L::End>>,

@@ -12,8 +12,9 @@ use lanes::{Gate, Message, Numbered, Opener, read_file};
 use ruled_lanes::{Giver, Seat};
 use std::sync::Wait;
 
-/// A first stage that does not run yet: its lane number, the seat by which it draws files, a buffer for a piece of a
-/// file, and the end at which it gives.
+/// A first stage that does not run yet: its lane number, its seat, its buffer and its giver.
+///
+/// By the seat it draws files, of each of which a piece at a time is read into the buffer.
 #[derive(Drop)]
 pub struct Reading<A: Numbered, M: Drop + Send> {
     pub lane: u32,
@@ -23,9 +24,9 @@ pub struct Reading<A: Numbered, M: Drop + Send> {
 }
 
 impl<R: Wait, O: Opener, G: Gate, L: LaneKind> Shared<'_, R, O, G, L> {
-    /// Draws files until none is left, and gives the records of each, one end for each, and one stop after the last;
-    /// returns its giver and its seat.
+    /// Reads the files that its seat draws, and gives their messages and a stop; returns its giver and its seat.
     ///
+    /// It draws until none is left. For each file it gives its records and one end, and after the last file one stop.
     /// `None` if the other end of its link was gone.
     pub fn read_stage(
         &self,

@@ -15,7 +15,7 @@ use std::sync::Wait;
 #[derive(Clone, Copy, Debug)]
 pub struct Gone;
 
-/// Passes the gate and gives a message for each record.
+/// A `Keep` that passes the gate and gives a message for each record.
 #[derive(Drop)]
 pub struct RecordGiver<'s, R, G, L: LaneKind> {
     pub rt: &'s R,

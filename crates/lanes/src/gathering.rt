@@ -74,8 +74,7 @@ fn next_message<E: Numbered, M: Drop, C: Consumer<E, M>, R: Wait>(
     }
 }
 
-/// Passes the messages of a fan to the consumer until each of the first `lanes` lanes has stopped; returns the
-/// gatherer.
+/// Passes the messages of a fan to the consumer until its first `lanes` lanes have stopped; returns the gatherer.
 ///
 /// The messages are passed on as they arrive, from whichever lane. If they arrive slowly, what is buffered in the
 /// consumer is flushed at most about a quarter of a second later.

@@ -10,7 +10,7 @@ use ruled_lanes::{Giver, Taker};
 use std::alloc::Global;
 use std::sync::Wait;
 
-/// The lane number of a stage, and the scratch that all its records reuse.
+/// The parameters of a running stage: its lane's number, and the scratch that all its records reuse.
 #[derive(Drop)]
 pub struct StageWork<A: Staged> {
     pub lane: u32,

@@ -73,10 +73,7 @@ pub fn find_shortest(
     write_certified(scratch, segments, wires, coordinates)
 }
 
-/// Writes coordinates of least total length into `coordinates`; false also if the segments already have such
-/// coordinates.
-///
-/// As [`find_shortest`] otherwise.
+/// Exactly as [`find_shortest`], but also false if the segments' own coordinates are already shortest.
 pub fn find_shorter(
     scratch: &mut Scratch,
     segments: &[Segment],

@@ -211,7 +211,7 @@ impl Pulling {
         true
     }
 
-    /// How far all segments reached can move up together; the greatest coordinate if none is in their way.
+    /// How far all segments reached can move up together; `u32::MAX` if none is in their way.
     fn least_slack(&self) -> u32 {
         let mut least = u32::MAX;
         for segment in self.reached.as_slice() {
@@ -220,7 +220,7 @@ impl Pulling {
         least
     }
 
-    /// How far this segment can move up towards segments that are not reached.
+    /// How far this segment can move up towards segments that are not reached; `u32::MAX` if none is in its way.
     fn slack_of(&self, segment: u16) -> u32 {
         let (from, to) = self.sight_lists.span(segment);
         let mut least = u32::MAX;

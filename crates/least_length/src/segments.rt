@@ -14,8 +14,9 @@ pub struct Segment {
     pub high: u16,
 }
 
-/// A wire along the axis, given by the segments at its ends. `level`, on which it runs, only guides the search; the
-/// result does not depend on it.
+/// A wire along the axis, given by the segments at its ends.
+///
+/// `level`, on which it runs, only guides the search; the result does not depend on it.
 #[derive(Clone, Copy, Debug, PartialEq, Eq)]
 pub struct Wire {
     pub from: u16,

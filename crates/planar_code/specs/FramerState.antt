@@ -7,14 +7,14 @@ use Rattle.planar_code.specs.declared.fault.FeedFault.TheVariants as fault
 use Rattle.planar_code.specs.Stream.{IsUnfinished}
 use Rattle.planar_code.specs.Split.{IsDivided, IsSplit, ending_of}
 
--- all that a framer keeps of its stream: a beginning of the header; after the header how many records
--- there were and the bytes of the partial record; or its fault
+-- all that a framer keeps of its stream: a prefix of the header; after the header the number of records so far and the
+-- bytes of the partial one; or its fault
 pub data FramerState : Type 0 where
   Early : List ℕ → FramerState
   After : ℕ → List ℕ → FramerState
   Failed : FeedFault → FramerState
 
--- so far the stream is a beginning of the header, not the whole of it
+-- so far the stream is a prefix of the header, not the whole of it
 pub record StandsEarly (stream : List ℕ) (records : List (List ℕ)) (front : List ℕ) : Type 0 where
   pub none : records ≡ []
   pub same : stream ≡ front
@@ -48,7 +48,7 @@ Goes old piece added new = (stream : List ℕ) (records : List (List ℕ)) → S
 abbrev pub HasNotFailed : FramerState → Type 0
 HasNotFailed state = (f : FeedFault) → state ≢ Failed f
 
--- a beginning of the piece has the added records and one more, for which there was no memory
+-- a prefix of the piece has the added records and one more, for which there was no memory
 pub record LosesRecord (old : FramerState) (piece : List ℕ) (added : List (List ℕ)) : Type 0 where
   pub front : List ℕ
   pub back : List ℕ

@@ -48,7 +48,7 @@ pub record IsHeaderless (stream : List ℕ) (records : List (List ℕ)) (end : E
 abbrev pub IsSplit : List ℕ → List (List ℕ) → Ending → Type 0
 IsSplit stream records end = IsHeaderless stream records end ⊎ IsSplitAfterHeader stream records end
 
--- more bytes may come: the bytes are a beginning of the header, or end complete or truncated
+-- more bytes may come: the bytes are a prefix of the header, or end complete or truncated
 abbrev pub MayGoOn : List ℕ → Type 0
 MayGoOn bytes =
     ((more : List ℕ) × (bytes ++ more ≡ HEADER))

@@ -1,4 +1,4 @@
--- A record that was begun, and how far it has come.
+-- A record that was begun, and how much of it was read.
 use Rattle.std.specs.Prelude.{◌≡◌, ◌≢◌, ◌⊎◌, ℕ, ◌+◌, ◌<◌, ◌≤◌, List, [], ◌∷◌, ◌++◌, length, All}
 use Rattle.std.specs.List.{flat_map}
 use Rattle.planar_code.specs.declared.TheConstants.{MAX_LIST}
@@ -24,6 +24,6 @@ pub record IsOversize (bytes : List ℕ) : Type 0 where
   pub nonzero : BeginsWithZero bytes → ⊥
   pub never : (more : List ℕ) → NoRecordFirst (bytes ++ more)
 
--- no byte of a record has come, or it is begun
+-- no byte of a record was read, or it is begun
 abbrev pub HasBegun : List ℕ → ℕ → ℕ → Type 0
 HasBegun bytes remaining entries = (bytes ≡ []) ⊎ IsStarted bytes remaining entries

@@ -33,7 +33,7 @@ pub fn one_fault()
         → fault ≡ other }
 {}
 
-/// A stream splits in at most one way.
+/// A stream splits into records and an ending in at most one way.
 pub fn one_split()
     ensures { (stream : List ℕ) (records others : List (List ℕ)) (end other : Ending)
         → IsSplit stream records end
@@ -41,7 +41,7 @@ pub fn one_split()
         → (records ≡ others) × (end ≡ other) }
 {}
 
-/// Every stream of bytes splits.
+/// Every stream of bytes splits into records and an ending.
 pub fn some_split()
     ensures { (stream : List ℕ)
         → All (λ byte. byte < 256) stream
@@ -72,7 +72,7 @@ pub fn running_may_go_on()
         → MayGoOn stream }
 {}
 
-/// A stream of bytes that ends oversize has 255 bytes other than 0 in a row.
+/// A stream that ends `Oversize` contains 255 nonzero bytes in a row.
 pub fn oversize_is_long()
     ensures { (stream : List ℕ) (records : List (List ℕ))
         → All (λ byte. byte < 256) stream

@@ -30,8 +30,9 @@ pub enum ParseFault {
 }
 
 impl Record {
-    /// The record that `bytes` are, if they are exactly one. The time is linear in their number, and only the record
-    /// allocates.
+    /// Parses `bytes` as exactly one record.
+    ///
+    /// The time is linear in their number, and only the record allocates.
     ///
     /// # Errors
     ///

@@ -37,6 +37,11 @@ impl Model for PartialRecord {
 }
 
 impl PartialRecord {
+    /// An empty partial record, with a buffer for the longest record.
+    ///
+    /// # Errors
+    ///
+    /// `AllocError` if there is no memory for the buffer.
     pub fn new(alloc: Global) -> Result<PartialRecord, AllocError>
         ensures { IfOk result (λ r. r ≡ []) }
     {
@@ -47,6 +52,7 @@ impl PartialRecord {
         })
     }
 
+    /// Whether no byte of a record has been read yet.
     pub fn is_empty(&self) -> bool
         ensures { IsTrue result ↔ (self.now ≡ []) }
     {
@@ -93,10 +99,9 @@ impl PartialRecord {
         result
     }
 
-    /// Reads to the end of the record or of `text`; returns the record and how many bytes of `text` it took, or `None`
-    /// if it stays partial.
+    /// Continues the record with `text`; if it ends there, returns it and how many bytes of `text` it took.
     ///
-    /// It runs out of memory only if `text` ends the record.
+    /// `None` if the record is still partial after all of `text`. It runs out of memory only if `text` ends the record.
     pub fn read(&mut self, alloc: Global, text: &[u8]) -> Result<Option<(Record, usize)>, FeedFault>
         requires { 0 < length text.now }
         ensures { TakesFrom self.old text.now self.new result }

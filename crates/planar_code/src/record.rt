@@ -48,7 +48,7 @@ impl Record {
         self.bytes.as_slice()
     }
 
-    /// The number of vertices, 1 to 255, which is the first byte and the number of neighbour lists.
+    /// The number of vertices and neighbour lists, 1 to 255: the first byte.
     pub fn order(&self) -> u8
         ensures first { result ≡ slice_index self.now 0 }
         ensures some { 0 < result }

@@ -8,7 +8,7 @@ ghost use Rattle.planar_code.specs.Scan.{Scans};
 use crate::MAX_LIST;
 use crate::fault::FeedFault;
 
-/// How far the next bytes take a record.
+/// The result of reading further bytes of a record: where it ends, or that it is still partial.
 pub enum Scan {
     /// The record ends after this many bytes.
     Whole(usize),
@@ -17,7 +17,7 @@ pub enum Scan {
     Open { remaining: u8, entries: u8 },
 }
 
-/// How far `text`, from the place `from` on, takes a record that was begun.
+/// Reads `text` from index `from` on as the rest of a record; returns where the record ends, or that it is partial.
 ///
 /// `remaining` lists are not yet ended, including the partial one, which has `entries` entries so far.
 pub fn scan_lists(

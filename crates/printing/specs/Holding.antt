@@ -37,7 +37,7 @@ choice_of lines = lines.choice
 abbrev pub files_of : Lines → ℕ
 files_of lines = length lines.waiting.items
 
--- no text is on its way to the sink
+-- no text is in transit to the sink
 abbrev pub IsFlushed : Lines → Type 0
 IsFlushed lines = lines.buffer ≡ []
 
@@ -45,7 +45,7 @@ IsFlushed lines = lines.buffer ≡ []
 abbrev pub LinesWrite : Option (List ℕ) → Option (List ℕ) → Lines → (ℕ → Came) → Type 0
 LinesWrite start now lines came = AreWritten lines.form start now lines.buffer lines.current lines.waiting.items came
 
--- this holds before anything of the first file that has not ended was put on its way
+-- this holds before anything of the first file that has not ended was written
 abbrev pub LinesRemain : Option (List ℕ) → Option (List ℕ) → Lines → (ℕ → Came) → Type 0
 LinesRemain start now lines came = AreRemaining lines.form start now lines.buffer lines.current lines.waiting.items came
 

@@ -15,11 +15,11 @@ GivesUp failed Write = failed ≡ true
 GivesUp failed Memory = failed ≡ false
 GivesUp failed Astray = failed ≡ false
 
--- whatever text was on its way, it is now on its way followed by `more`
+-- whatever text was in transit, it is now in transit followed by `more`
 abbrev pub GoesOn : Option (List ℕ) → List ℕ → Option (List ℕ) → List ℕ → List ℕ → Type 0
 GoesOn old waited new waits more = (start : Option (List ℕ)) (text : List ℕ) → IsInTransit start old waited text → IsInTransit start new waits (text ++ more)
 
--- whatever text was on its way, a prefix of it followed by `more` was added
+-- whatever text was in transit, a prefix of it followed by `more` was added
 abbrev pub IsPartlyAdded : Option (List ℕ) → List ℕ → Option (List ℕ) → List ℕ → Type 0
 IsPartlyAdded old waited new more = (start : Option (List ℕ)) (text : List ℕ) → IsInTransit start old waited text → AppendsPrefix start new (text ++ more)
 
@@ -55,8 +55,8 @@ pub record IsCounted (waiting : Waiting) (came : Came) : Type 0 where
   pub count : waiting.count ≡ length came.entries
   pub mark : waiting.mark ≡ came.mark
 
--- The texts of the files before the current file are on their way, followed by what has arrived of the current file.
--- What has arrived of the files after it is buffered.
+-- The texts of the files before the current file are in transit, followed by what has arrived of the current file. What
+-- has arrived of the files after it is buffered.
 pub record AreWritten (form : Form) (start now : Option (List ℕ)) (buffer : List ℕ) (current : ℕ) (waiting : List Waiting) (came : ℕ → Came) : Type 0 where
   pub within : current ≤ length waiting
   pub marked : (file : ℕ) → file < current → HasMark (came file)
@@ -66,7 +66,7 @@ pub record AreWritten (form : Form) (start now : Option (List ℕ)) (buffer : Li
   pub going : current < length waiting → IsInTransit start now buffer (ended_texts form came current ++ begun form current (came current))
   pub over : length waiting ≤ current → IsInTransit start now buffer (ended_texts form came current)
 
--- The texts of the files before the current file are on their way, and nothing of the current file: what has arrived of
+-- The texts of the files before the current file are in transit, and nothing of the current file: what has arrived of
 -- it is still buffered, as is what has arrived of the files after it.
 pub record AreRemaining (form : Form) (start now : Option (List ℕ)) (buffer : List ℕ) (current : ℕ) (waiting : List Waiting) (came : ℕ → Came) : Type 0 where
   pub within : current ≤ length waiting

@@ -13,8 +13,9 @@ use streams::{Sink, TextBuffer};
 /// The minimum capacity of a chunk, in bytes.
 const CHUNK: usize = 16_384;
 
-/// Text in chunks, which are never moved and mostly of one size. It holds exactly as much memory as `size` says, and
-/// memory that one text frees fits another.
+/// Text in chunks, which are never moved and mostly of one size.
+///
+/// It holds exactly as much memory as `size` says, and memory that one text frees fits another.
 #[derive(Drop)]
 pub struct Chunks {
     /// The chunks before the last.

@@ -19,13 +19,14 @@ pub fn books_are_drawn()
         → AreAllBooks choice meaning files books → AreDrawnBooks books }
 {}
 
-/// The text of such books reports no graph without a drawing.
+/// The text of books in which each shape has a drawing reports no graph without a drawing.
 pub fn texts_tell_none_undrawn()
     ensures { (form : Form) (books : List BookModel) → AreDrawnBooks books → TellsNoneUndrawn (text_in form books) }
 {}
 
-/// A text that contains, in either format, the answer of a graph without a drawing does report one, whatever precedes
-/// and follows it.
+/// A text that contains the answer of an undrawn graph, in either format, is one that reports an undrawn graph.
+///
+/// This holds whatever precedes and follows the answer.
 pub fn undrawn_is_told()
     ensures report { (answer : Answer) (before behind : List ℕ) → IsUndrawn answer
         → TellsNoneUndrawn (before ++ answer_text answer ++ behind) → ⊥ }

@@ -16,8 +16,9 @@ impl Meant for Brand {
     ghost meaning = { λ _. Silent };
 }
 
-/// The end of a file, together with the guarantee that a file that `J` gives this meaning has this many records and
-/// this mark.
+/// The end of a file, with the guarantee that it fits what `J` means by the file.
+///
+/// A file of which `J` means this by its number has this many records and this mark.
 #[derive(Drop)]
 pub struct KnownEnd<J: Meant> {
     /// The index of the file, from 0.
@@ -30,7 +31,7 @@ pub struct KnownEnd<J: Meant> {
     pub ghost is_end: { ∥ IsEndAt (J.meaning file) count mark ∥₁ } by { Prim.hlevel props },
 }
 
-/// The end of a file, checked against what `J` means by its number.
+/// Makes a `KnownEnd` of the end of a file, which must fit what `J` means by its number.
 pub fn known_end<J: Meant>(file: u32, end: SourceEnd) -> KnownEnd<J>
     requires { IsEndAt (J.meaning file) end.count end.mark }
 {

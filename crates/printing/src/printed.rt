@@ -21,8 +21,9 @@ use std::alloc::{AllocError, Global};
 use std::marker::PhantomData;
 use std::snapshot::Snapshot;
 
-/// A record of a file, and the output line of its answer. The type guarantees that the record has its place in what the
-/// file means.
+/// A record of a file, and the output line of its answer.
+///
+/// The type guarantees that the record has its place in what the file means.
 #[derive(Drop)]
 pub struct Printed<J: Meant> {
     /// The index of the file, from 0.
@@ -58,8 +59,9 @@ impl<J: Meant + Send + Sync> Numbered for Printed<J> {
     }
 }
 
-/// The output line of this answer to the record at this place of this file; `None` if memory ran out for the answer or
-/// for the line.
+/// The output line of this answer to a record; `None` if memory ran out for the answer or for the line.
+///
+/// The record has this place in this file, and the line is in this format.
 pub fn answered_line(
     alloc: Global,
     form: Form,

@@ -47,8 +47,9 @@ pub struct Lines {
 }
 
 impl Lines {
-    /// An empty reorder buffer for `files` files in this format, whose entries are answered under this choice of the
-    /// outer face.
+    /// An empty reorder buffer for the lines of `files` files.
+    ///
+    /// The lines are in this format, and their entries are answered under this choice of the outer face.
     ///
     /// # Errors
     ///
@@ -170,7 +171,7 @@ impl Lines {
         self.advance(alloc, sink)
     }
 
-    /// Whether all text on its way has reached the sink.
+    /// Whether the buffer is empty, that is, all text in transit has reached the sink.
     pub(crate) fn is_flushed(&self) -> bool
         ensures { IsTrue result ↔ IsFlushed self.now }
     {
@@ -220,7 +221,7 @@ impl Lines {
         Ok(if self.flawless { 0 } else { 3 })
     }
 
-    /// Whether a file is one of the run and its last line is not on its way yet.
+    /// Whether a file is one of the run and its last line is not written yet.
     fn is_to_come(&self, file: u32) -> bool
         ensures { IsTrue result ↔ ((self.now.current ≤ file) × (file < length self.now.waiting.items)) }
     {
@@ -241,7 +242,7 @@ impl Lines {
         here.mark.is_none() && here.count == ordinal && ordinal < MAX_RECORDS
     }
 
-    /// Adds the line of one more entry: that of the current file goes straight on its way, any other is buffered.
+    /// Adds the line of one more entry: that of the current file is written at once, any other is buffered.
     fn add<S: Sink>(
         &mut self,
         alloc: Global,
@@ -367,7 +368,7 @@ impl Lines {
         }
     }
 
-    /// Puts what has arrived of the current file on its way.
+    /// Writes what has arrived of the current file.
     fn begin<S: Sink>(&mut self, alloc: Global, sink: &mut S) -> Result<(), Refusal>
         requires stands { S.failed sink.old ≡ false }
         requires below { self.old.current < length self.old.waiting.items }

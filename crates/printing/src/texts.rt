@@ -29,7 +29,7 @@ pub struct Texts<'s, S, W: Drop> {
     /// The sink as it was at the beginning. It exists only in proofs.
     pub start: Snapshot<S>,
     pub alloc: Global,
-    /// The text on its way and the buffered lines: `Lines`.
+    /// The text in transit and the buffered lines: `Lines`.
     pub lines: W,
     /// The limit on buffered text above which the reading of later files pauses.
     pub pace: Pace<'s>,

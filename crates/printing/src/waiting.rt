@@ -8,7 +8,7 @@ use std::alloc::{AllocError, Global};
 use std::mem;
 use streams::Mark;
 
-/// The state of a file that has not been written completely.
+/// The buffered lines and the state of a file that has not been written completely.
 #[derive(Drop)]
 pub struct Waiting {
     /// The lines of its entries, while it is not current.

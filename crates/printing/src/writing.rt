@@ -1,4 +1,4 @@
-//! Text on its way to a sink.
+//! Writing text to a sink through a buffer.
 ghost use Rattle.std.specs.Prelude.{◌≡◌, ◌+◌, false, OnOk, OnErr, IfErr};
 ghost use Rattle.printing.specs.FormLines.{preamble_in, end_in};
 ghost use Rattle.printing.specs.Written.{GoesOn, IsPartlyAdded, GivesUp};
@@ -9,7 +9,7 @@ use reports::{Form, push_line};
 use std::alloc::Global;
 use streams::{Sink, SourceEnd, TextBuffer};
 
-/// Puts a text on its way to the sink.
+/// Writes a text to the sink through the buffer.
 pub(crate) fn put<S: Sink>(
     buffer: &mut TextBuffer,
     sink: &mut S,
@@ -27,7 +27,7 @@ pub(crate) fn put<S: Sink>(
     }
 }
 
-/// Puts the text before the lines of a file on its way to the sink.
+/// Writes the text before the lines of a file to the sink through the buffer.
 pub(crate) fn put_preamble<S: Sink>(
     alloc: Global,
     buffer: &mut TextBuffer,
@@ -47,7 +47,7 @@ pub(crate) fn put_preamble<S: Sink>(
     }
 }
 
-/// Puts the last line of a file on its way to the sink.
+/// Writes the last line of a file to the sink through the buffer.
 pub(crate) fn put_end<S: Sink>(
     alloc: Global,
     buffer: &mut TextBuffer,

@@ -172,6 +172,7 @@ fn reports_a_cycle_of_most_vertices(rt: HostRuntime) {
     check_record(&rt, body.as_slice(), "ok n=255 m=255 f=2 bends=0 drawn=yes");
 }
 
+/// The report of a file that could not be read.
 pub const UNREAD: &str = "file 1\nend io graphs=0\n";
 
 #[test]
@@ -205,6 +206,7 @@ const APART: &str = "file 1\n\
     file 3\n\
     end complete graphs=0\n";
 
+/// The JSON lines of a file of one vertex.
 pub const EDGELESS: &str = "{\"file\":1,\"graph\":1,\"rule\":\"edgeless\",\"status\":\"refused\"}\n\
     {\"end\":\"complete\",\"file\":1,\"graphs\":1}\n";
 
@@ -306,7 +308,7 @@ const PATH: &[u8] = &[
     10, 2, 0, 1, 3, 0, 2, 4, 0, 3, 5, 0, 4, 6, 0, 5, 7, 0, 6, 8, 0, 7, 9, 0, 8, 10, 0, 9, 0,
 ];
 
-/// How the JSON line of that path begins where no vertex turns.
+/// The beginning of the JSON line of that path, if no vertex turns.
 const STRAIGHT: &[u8] =
     b"{\"angles\":[2,4,2,2,2,2,2,2,2,2,2,2,2,2,2,2,4,2],\"bends\":0,\"drawn\":\"yes\",\"f\":1,\"file\":1,";
 
@@ -325,7 +327,7 @@ const PATHS: [(&str, bool); 4] = [
     ("layout --json path.pc --drawing quick", false),
 ];
 
-/// A path is drawn in one line where that is short, and the quick drawing winds it up.
+/// A path is drawn in one line if that is short, and the quick drawing winds it up.
 #[test]
 fn draws_a_path_as_asked(rt: HostRuntime) {
     make_file(&rt, "path.pc", &[HEADER, PATH]);

@@ -13,10 +13,13 @@ use std::thread::Threads;
 use std::{fs, io};
 use streams::IoSink;
 
+/// The 15 bytes with which a file begins.
 pub const HEADER: &[u8] = b">>planar_code<<";
 
+/// The record of a single edge.
 pub const EDGE: &[u8] = &[2, 2, 0, 1, 0];
 
+/// The record of a triangle.
 pub const TRIANGLE: &[u8] = &[3, 2, 3, 0, 3, 1, 0, 1, 2, 0];
 
 /// Checks that two values are the same. (An `assert_eq!` in each place would make the tests' proofs several times as
@@ -120,7 +123,7 @@ where
     run_words(rt, words.as_slice(), input, console)
 }
 
-/// Runs a command line without standard input and without a console.
+/// Runs a command line, with a standard input that cannot be read and a console that shows nothing.
 pub fn run<R: Files + AllocGlobal + Threads + Wait + Sync + Abort>(
     rt: &R,
     line: &str,
@@ -169,8 +172,9 @@ where
     }
 }
 
-/// Runs command lines with this status, and checks that the output of each contains a text: in the report if the status
-/// is 0, and otherwise in the other writer.
+/// Runs command lines with this status, and checks that the output of each contains a text.
+///
+/// The output is the report if the status is 0, and otherwise that of the other writer.
 pub fn check_said<R: Files + AllocGlobal + Threads + Wait + Sync + Abort>(
     rt: &R,
     rows: &[(&str, &str)],
@@ -240,8 +244,9 @@ pub fn words_for<R: Files + AllocGlobal>(rt: &R, case: &Case) -> io::Result<Vec<
     Ok(words_of(rt.alloc(), case.line)?)
 }
 
-/// Runs the command line of a case with each allocation refused in turn, and checks that the answer names the lack of
-/// memory.
+/// Runs the command line of a case with each allocation refused in turn.
+///
+/// It checks that the run gives the whole report, or an answer that names the lack of memory.
 pub fn check_wants<R: Files + AllocGlobal + Threads + Wait + Sync + Abort>(rt: &R, case: &Case)
 where
     R::File: Send,
@@ -323,6 +328,7 @@ impl Narrow {
         }
     }
 
+    /// The bytes written so far.
     pub fn text(&self) -> &[u8] {
         &self.taken[..self.len]
     }

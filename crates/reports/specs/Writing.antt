@@ -12,7 +12,7 @@ WritesOrLacks old new failed text (Ok _) = (failed ≡ false) × Appends old new
 WritesOrLacks old new failed text (Err Write) = (failed ≡ true) × AppendsPrefix old new text
 WritesOrLacks old new failed text (Err Memory) = (failed ≡ false) × AppendsPrefix old new text
 
--- Whatever text was on its way, it is now on its way followed by `more`. After an error a prefix of it was added, and
+-- Whatever text was in transit, it is now in transit followed by `more`. After an error a prefix of it was added, and
 -- the sink has failed exactly if the error is `Write`.
 abbrev pub StaysOrLacks : {A : Type 0} → Option (List ℕ) → List ℕ → Option (List ℕ) → List ℕ → Bool → List ℕ → Result A WriteFault → Type 0
 StaysOrLacks old waited new waits failed more (Ok _) =

@@ -161,8 +161,7 @@ pub fn laid_line(
     Ok(out)
 }
 
-/// The JSON line of the end of a file, with a newline (byte 0A) at its end: the word of its mark and its number of
-/// graphs.
+/// The JSON line of the end of a file, with a newline (byte 0A): the word of its mark and its number of graphs.
 ///
 /// `file` is the number to print. It takes a few allocations.
 ///

@@ -14,8 +14,7 @@ pub fn status_of(mark: Mark) -> u8
     if is_complete(mark) { 0 } else { 3 }
 }
 
-/// The exit status of a report of answers: 0 if each file ended complete and each record has an answer, and otherwise
-/// 3.
+/// The exit status of a report of answers: 0 if each file ended complete with all answers, and otherwise 3.
 ///
 /// A record has no answer if memory ran out for it.
 pub fn status_of_batch(batch: &Batch) -> u8

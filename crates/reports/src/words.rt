@@ -21,7 +21,7 @@ const SIZES: usize = 200;
 const DRAWN: usize = 40;
 
 impl ReportLine {
-    /// The first line of the file with this number.
+    /// The first line of a file in a report, with the number of the file.
     pub fn of_file(number: u64) -> ReportLine
         ensures { result ≡ file_line number }
     {
@@ -44,7 +44,7 @@ impl ReportLine {
         line
     }
 
-    /// The last line of a file: its mark, and the number of entries.
+    /// The last line of a file in a report: its mark, and the number of entries.
     pub fn of_end(mark: Mark, count: u64) -> ReportLine
         ensures { result ≡ end_line mark count }
     {

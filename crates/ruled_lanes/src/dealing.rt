@@ -20,8 +20,9 @@ pub struct Tickets {
     ghost within: { (limit ≤ MAX_TICKETS) × (1 ≤ table.shared.key.1) × (table.shared.key.1 ≤ LANES) },
 }
 
-/// A handle by which one thread draws numbers from its tickets. It cannot be copied, so it knows every number drawn by
-/// it.
+/// A handle by which one thread draws numbers from its tickets.
+///
+/// It cannot be copied, so it knows every number drawn by it.
 #[derive(Drop)]
 pub struct Seat {
     pass: Pass<(), Draws>,

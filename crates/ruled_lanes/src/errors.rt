@@ -14,7 +14,7 @@ impl<T> Closed<T> {
     ghost use Rattle.std.specs.Prelude.{◌≡◌};
     ghost use Rattle.ruled_lanes.specs.HandedBack.{handed_back};
 
-    /// The item that the refused call returns.
+    /// Returns the item of the refused call.
     pub fn into_inner(self) -> T
         ensures { result ≡ handed_back self }
     {

@@ -270,8 +270,7 @@ impl<T: Drop> Gatherer<T> {
         sender.learn_as::<EachLane>(pass);
     }
 
-    /// Consumes all ends of a fan; proves that on each lane the items taken, then the items still held, are the items
-    /// given.
+    /// Consumes all ends of a fan; proves that each lane's items taken, then those still held, are the items given.
     ///
     /// No item carries a number other than those of the fan's lanes. The items that the fan held are dropped. It
     /// allocates nothing, and though it is passed `rt`, it never waits.

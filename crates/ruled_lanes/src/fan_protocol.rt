@@ -5,8 +5,9 @@ ghost use Rattle.ruled_lanes.specs.FanProtocol.{fan_log, giver, given_in, Accoun
 use crossbeam_channel::protocol::{Join, Lesson, Outcome, Protocol, Split};
 use std::collections::LinkedList;
 
-// The state of a pass: whether it may take, what it has taken, how many lanes it has made, and the lanes at which it
-// may give, each with the items given there. No value of it is made.
+// What a pass of a fan knows: whether it may take, what was taken, and what it gave at each of its lanes.
+//
+// If it may take, it also knows how many lanes it has made. No value of it is made.
 pub struct FanLog<T> {
     pub takes: bool,
     pub made: u32,
@@ -69,8 +70,9 @@ impl<T> Lesson<(u32, T), FanLog<T>> for Takes {
     ghost fact = { λ v items. ⊤ };
 }
 
-// The lesson of the pass that takes: for each lane it learns that the items given are those taken and those that the
-// fan holds, and that no lane other than those made has any.
+// A `Lesson`: the pass that takes learns that each lane's given items are those taken and those still held.
+//
+// It also learns that no lane other than those made has any items.
 pub struct EachLane;
 
 impl<T> Lesson<(u32, T), FanLog<T>> for EachLane {

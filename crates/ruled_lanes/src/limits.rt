@@ -6,5 +6,5 @@ pub const LANES: u32 = 8;
 /// The maximum number of items that a link or a fan holds.
 pub const MAX_CAPACITY: u32 = 64;
 
-/// The maximum number of numbers that tickets deal.
+/// The maximum limit of tickets: they deal at most this many numbers.
 pub const MAX_TICKETS: u32 = 256;

@@ -5,8 +5,9 @@ ghost use Rattle.ruled_lanes.specs.LinkProtocol.{log};
 use crossbeam_channel::protocol::{Join, Lesson, Outcome, Protocol, Split};
 use std::collections::LinkedList;
 
-// The state of a pass: what it may do (give, take), what it has given and what it has taken. No value of it is made at
-// run time.
+// What a pass of a link knows: whether it may give or take, and what it has given and taken.
+//
+// No value of it is made.
 pub struct Log<T> {
     pub gives: bool,
     pub takes: bool,
@@ -26,7 +27,7 @@ impl<T> Protocol<T, Log<T>> for Linked {
     ghost first = { log true true [] [] };
 }
 
-// The split of a pass into the two roles of a link, each in a pass of its own.
+// The split of a pass of a link into one that gives and one that takes.
 pub struct Roles;
 
 impl<T> Split<Log<T>> for Roles {
@@ -69,7 +70,7 @@ impl<T> Lesson<T, Log<T>> for Takes {
     ghost fact = { λ v items. ⊤ };
 }
 
-// The lesson of a pass with both roles: the items taken, followed by those that the link holds, are the items given.
+// A `Lesson`: a pass with both roles learns that the items taken, then those still held, are the items given.
 pub struct Total;
 
 impl<T> Lesson<T, Log<T>> for Total {

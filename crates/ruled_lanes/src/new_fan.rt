@@ -9,10 +9,9 @@ use crate::limits::{LANES, MAX_CAPACITY};
 use crossbeam_channel::bounded_with;
 use std::alloc::Global;
 
-/// The ends of a new fan that holds at most `capacity` items: a giver for each of its `LANES` lanes, in order, and the
-/// one gatherer.
+/// The ends of a new fan for at most `capacity` items: a giver for each lane, in order, and the one gatherer.
 ///
-/// Nothing was given or taken. `Memory` if there is no memory for them.
+/// It has `LANES` lanes. Nothing was given or taken. `Memory` if there is no memory for them.
 pub fn fan_in<T: Send + Drop>(
     alloc: Global,
     capacity: u32,

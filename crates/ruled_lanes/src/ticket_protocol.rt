@@ -2,8 +2,9 @@
 use atomic_table::{Join, Play, Split, TableRule};
 use std::collections::LinkedList;
 
-// The state of a pass: the limit, how many seats it represents, how many of them have ended, and the numbers that they
-// drew. No value of it is made.
+// What a pass of tickets knows: the limit, and of the seats that it represents how many there are and have ended.
+//
+// It also knows the numbers that these seats drew. No value of it is made.
 pub struct Draws {
     pub limit: u64,
     pub shares: u64,

@@ -10,12 +10,11 @@ ghost use Rattle.entries.specs.declared.cause.Cause.{Cause};
 ghost use Rattle.entries.specs.Answers.{IsLaid};
 ghost use Rattle.run_laws.specs.Laid.{IsLaidPlainly};
 
-/// A laid answer has a right plane, an orthogonal representation of fewest bends, a proof of it, and right coordinates,
-/// if given.
+/// The plane, the shape, the prices and the coordinates of a laid answer are right for its record.
 ///
-/// In detail: the neighbour lists of its record, which break no rule, their faces and the chosen outer face; an
-/// orthogonal representation with no more bends than any other, with strings of any length; prices that prove so; and
-/// points, if given, that lie on the grid, follow the axes, turn as the shape says and meet nowhere.
+/// The plane has the neighbour lists of the record, which break no rule, their faces and the chosen outer face. The
+/// shape is an orthogonal representation with no more bends than any other, with strings of any length, and the prices
+/// prove so. The points, if given, lie on the grid, follow the axes, turn as the shape says and meet nowhere.
 pub fn laid_means()
     ensures { (choice : Choice) (bytes : List ℕ) (plane : PlaneModel) (shape : ShapeModel) (prices : PricesModel) (drawing : Result PointsModel Cause)
         → IsLaid choice bytes plane shape prices drawing

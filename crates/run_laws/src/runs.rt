@@ -10,8 +10,9 @@ ghost use Rattle.printing.specs.Whole.{IsAllWritten};
 ghost use Rattle.collector.specs.Headline.{IsWholeRun};
 ghost use Rattle.run_laws.specs.Reports.{IsReport};
 
-/// Two whole runs of the same bytes under the same choice have the same text in a report, whichever numbers their files
-/// have.
+/// Two whole runs of the same bytes under the same choice have the same text in a report.
+///
+/// This holds whichever numbers their files have.
 pub fn same_whole_runs()
     ensures { (choice : Choice) (file other_file : ℕ) (bytes : List ℕ) (book other : BookModel)
         → IsWholeRun choice file bytes book
@@ -20,7 +21,7 @@ pub fn same_whole_runs()
         → book_text number book ≡ book_text number other }
 {}
 
-/// The report that `write_batch` adds to a sink whose text is known is the report of right books.
+/// If the text of a sink is known, the report that `write_batch` adds to it is the report of right books.
 pub fn written_is_report()
     ensures { (choice : Choice) (meaning : ℕ → Meaning) (files status : ℕ) (start now : List ℕ)
         → IsAllWritten choice meaning Form.Report files (Some start) (Some now) status

@@ -7,10 +7,10 @@ ghost use Rattle.entries.specs.Books.{BookModel, IsBook};
 ghost use Rattle.reports.specs.Report.{book_text};
 ghost use Rattle.run_laws.specs.Reports.{IsReport, AreKnownAlike, AreAllKnownAlike, HasNoMemoryWord};
 
-/// Two right books of files with the same known bytes, under the same choice, have the same text in a report without
-/// "memory".
+/// Two right books of files with the same known bytes have the same text in a report, unless memory ran out.
 ///
-/// This holds whichever numbers the files have, if the word "memory" occurs in neither text.
+/// The books are under the same choice, and the word "memory" occurs in neither text. This holds whichever numbers the
+/// files have.
 pub fn one_book_text()
     ensures { (choice : Choice) (meaning other_meaning : Meaning) (file other_file : ℕ) (book other : BookModel)
         → IsBook choice meaning file book
@@ -22,10 +22,10 @@ pub fn one_book_text()
         → book_text number book ≡ book_text number other }
 {}
 
-/// Two reports of files with the same known bytes, under the same choice, are equal if "memory" occurs in neither.
+/// Two reports of files with the same known bytes are equal, unless memory ran out.
 ///
-/// This holds whether `run_plain` or `run_batch` made the books or `write_batch` wrote the text, and for any lanes,
-/// capacity and schedule.
+/// The reports are under the same choice, and the word "memory" occurs in neither. This holds whether `run_plain` or
+/// `run_batch` made the books or `write_batch` wrote the text, and for any lanes, capacity and schedule.
 pub fn one_report()
     ensures { (choice : Choice) (meaning other_meaning : ℕ → Meaning) (files : ℕ) (text other : List ℕ)
         → IsReport choice meaning files text

@@ -15,13 +15,13 @@ Writes old new failed text (Ok _) = (failed ≡ false) × Appends old new text
 Writes old new failed text (Err Write) = (failed ≡ true) × AppendsPrefix old new text
 Writes old new failed text (Err Memory) = ⊥
 
--- From `start` on, a prefix of the text was added to the sink, and the rest of it is buffered.
+-- From `start` on, a prefix of the text was added to the sink, and the rest of it is buffered: the text is in transit.
 pub record IsInTransit (start now : Option (List ℕ)) (waiting text : List ℕ) : Type 0 where
   pub sent : List ℕ
   pub split : text ≡ sent ++ waiting
   pub added : Appends start now sent
 
--- Whatever text was on its way, it is now on its way followed by `more`. `Write`: a prefix of it was added, and the
+-- Whatever text was in transit, it is now in transit followed by `more`. `Write`: a prefix of it was added, and the
 -- sink has failed.
 abbrev pub StaysInTransit : {A : Type 0} → Option (List ℕ) → List ℕ → Option (List ℕ) → List ℕ → Bool → List ℕ → Result A WriteFault → Type 0
 StaysInTransit old waited new waits failed more (Ok _) =

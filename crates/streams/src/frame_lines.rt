@@ -10,8 +10,9 @@ use super::output::Sink;
 use super::text_buffer::TextBuffer;
 use planar_code::{Ending, Record};
 
-/// Writes a line for each record and one for the mark of the source. It allocates nothing: lines are collected in a
-/// fixed buffer.
+/// Writes a line for each record and one for the mark of the source.
+///
+/// It allocates nothing: lines are collected in a fixed buffer.
 ///
 /// # Errors
 ///
@@ -87,7 +88,7 @@ fn push_end(lines: &mut TextBuffer, mark: Mark, count: u64)
     lines.push(b"\n");
 }
 
-/// The word that text output has for a mark.
+/// The word for a mark in text output.
 pub fn mark_word(mark: Mark) -> &'static str
     ensures word { result.now ≡ word_of mark }
     ensures short { length result.now ≤ 9 }

@@ -5,8 +5,9 @@ ghost use Rattle.streams.specs.Tap.{IsAtItsEnd, IsAtItsFailure};
 
 use super::input::{Tap, TapFault};
 
-/// A source of bytes in memory whose reads return at most a chosen number of bytes. Its bytes are known, and it ends
-/// after them.
+/// A source of bytes in memory whose reads return at most a chosen number of bytes.
+///
+/// Its bytes are known, and it ends after them.
 #[derive(Drop)]
 pub struct MemTap {
     bytes: Vec<u8>,
