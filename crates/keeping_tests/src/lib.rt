@@ -1,0 +1,7 @@
+//! Tests of least shapes that keep edges straight.
+#![tactic(auto)]
+
+#[cfg(test)]
+mod keeping;
+#[cfg(test)]
+mod planes;
