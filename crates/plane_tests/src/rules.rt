@@ -79,8 +79,16 @@ fn vertex_at(columns: u8, column: u8, row: u8) -> u8 {
 /// The places before and after a place, round a circle of this many.
 fn around(place: u8, count: u8) -> (u8, u8) {
     let last = count.wrapping_sub(1);
-    let before = if place == 0 { last } else { place.wrapping_sub(1) };
-    let after = if place == last { 0 } else { place.wrapping_add(1) };
+    let before = if place == 0 {
+        last
+    } else {
+        place.wrapping_sub(1)
+    };
+    let after = if place == last {
+        0
+    } else {
+        place.wrapping_add(1)
+    };
     (before, after)
 }
 
