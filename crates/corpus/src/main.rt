@@ -2,6 +2,10 @@
 //! named is read in pieces of several sizes, and what is found is compared with what the plain
 //! splitter finds in the whole file.
 //!
+//! Each file behind the word `short` is laid out with short drawings, twice in one run over lanes; the lines are tested, and
+//! what they show must be within bounds. Of a file behind `growing` the graphs of its first edges are laid out, of one edge,
+//! two and so on up to all.
+//!
 //! All words after `batches` are files; those behind the word `best` are laid out with the best outer face.
 //! The report of each is printed, and compared with that of runs over lanes, as is the report of all files at
 //! once; the JSON lines of each are read back and tested. Both texts of all files at once, as they are made over lanes,
@@ -9,26 +13,48 @@
 #![tactic(auto)]
 
 mod batches;
+mod figures;
 mod files;
+mod growing;
 mod pieces;
 mod readback;
 mod run_texts;
 mod runs;
 mod shapes;
+mod short;
 
 use anyhow::Result;
 use batches::compare_choices;
+use growing::compare_growing;
 use pieces::compare;
+use short::compare_short;
 use std::env;
+use std::rt::Files;
+use std::sync::Wait;
+use std::thread::Threads;
 
 fn main(rt: HostRuntime) -> Result<()> {
     let words = env::args(&rt)?.skip(1).collect::<Vec<String>>(rt.alloc())?;
+    let mut task = "pieces";
     for (place, word) in words.iter().enumerate() {
         match word.as_str() {
-            "pieces" => {}
+            "pieces" | "short" | "growing" => task = word.as_str(),
             "batches" => return compare_choices(&rt, &words[place + 1..]),
-            name => compare(&rt, name)?,
+            name => try_file(&rt, task, name)?,
         }
     }
     Ok(())
+}
+
+/// Tries a file as the word before it says.
+fn try_file<R: Files + Print + AllocGlobal + Threads + Wait + Sync>(
+    rt: &R,
+    task: &str,
+    name: &str,
+) -> Result<()> {
+    match task {
+        "short" => compare_short(rt, name),
+        "growing" => compare_growing(rt, name),
+        _ => compare(rt, name),
+    }
 }

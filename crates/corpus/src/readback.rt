@@ -2,10 +2,11 @@
 //! record's plane, prices that prove it least, and points that draw it.
 ghost use Rattle.ortho_rep.specs.Representation.{IsShape};
 
+use crate::figures::{Figures, figures_of};
 use crate::shapes::test_shape;
 use anyhow::{Context, Result, ensure};
 use collector::{Answer, Batch, Entry, IoSink, write_json};
-use drawing_check::check;
+use drawing_check::{Drawing, check};
 use faces::Plane;
 use ortho_rep::{Point, Points, Prices, Shape, Turn};
 use serde_json::Value;
@@ -14,16 +15,24 @@ use std::alloc::Global;
 /// Writes a batch as JSON lines, and tests the line of each graph that breaks no rule.
 pub fn test_lines(alloc: Global, batch: &Batch) -> Result<()> {
     let text = json_of(alloc, batch)?;
-    let mut lines = text.as_slice().split(|byte| *byte == b'\n');
+    test_text(alloc, batch, text.as_slice())?;
+    Ok(())
+}
+
+/// Tests the line of each graph that breaks no rule in a text of JSON lines, with the planes of a batch, and returns what
+/// these lines show in all.
+pub fn test_text(alloc: Global, batch: &Batch, text: &[u8]) -> Result<Figures> {
+    let mut figures = Figures::none();
+    let mut lines = text.split(|byte| *byte == b'\n');
     for file in 0..batch.files() {
         for entry in batch.book(file).entries() {
             let line = lines.next().context("a graph without a line")?;
-            test_entry(alloc, entry, line)?;
+            figures = figures.with(test_entry(alloc, entry, line)?);
         }
         let _ = lines.next().context("a file without its last line")?;
     }
     ensure!(lines.next() == Some(&[]), "a line too many");
-    Ok(())
+    Ok(figures)
 }
 
 /// The JSON lines of a batch.
@@ -34,24 +43,25 @@ fn json_of(alloc: Global, batch: &Batch) -> Result<Vec<u8>> {
 }
 
 /// Tests what a line says of a graph that breaks no rule.
-fn test_entry(alloc: Global, entry: &Entry, line: &[u8]) -> Result<()> {
-    if let Answer::Laid { plane, .. } = &entry.answer {
-        test_value(alloc, plane, &Value::from_slice(alloc, line)?)?;
+fn test_entry(alloc: Global, entry: &Entry, line: &[u8]) -> Result<Figures> {
+    match &entry.answer {
+        Answer::Laid { plane, .. } => { test_value(alloc, plane, &Value::from_slice(alloc, line)?) }
+        _ => Ok(Figures::none()),
     }
-    Ok(())
 }
 
 /// Tests what a line's value says of a plane.
-fn test_value(alloc: Global, plane: &Plane, value: &Value) -> Result<()> {
+fn test_value(alloc: Global, plane: &Plane, value: &Value) -> Result<Figures> {
     let shape = shape_of(alloc, value).context("a line without a shape")?;
     let prices = prices_of(alloc, value).context("a line without prices")?;
     test_shape(plane, &shape, &prices)?;
     let points = points_of(alloc, value).context("a line without points")?;
-    test_points(alloc, plane, &shape, points)
+    let drawing = test_points(alloc, plane, &shape, points)?;
+    Ok(figures_of(plane, &shape, drawing.points()))
 }
 
 /// Tests that points draw a shape.
-fn test_points(alloc: Global, plane: &Plane, shape: &Shape, points: Points) -> Result<()>
+fn test_points(alloc: Global, plane: &Plane, shape: &Shape, points: Points) -> Result<Drawing>
     requires { IsShape plane.now shape.now }
 {
     let whole = points.vertex_count() == usize::from(plane.graph().vertices())
@@ -60,8 +70,9 @@ fn test_points(alloc: Global, plane: &Plane, shape: &Shape, points: Points) -> R
         whole,
         "not a point for each vertex and corners for each edge"
     );
-    ensure!(check(alloc, plane, shape, points).is_ok(), "no drawing");
-    Ok(())
+    check(alloc, plane, shape, points)
+        .ok()
+        .context("no drawing")
 }
 
 /// The shape that a line gives, if any; likewise below.

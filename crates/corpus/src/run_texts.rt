@@ -29,7 +29,10 @@ pub fn compare_texts<R: Files + AllocGlobal + Threads + Wait + Sync>(
     let batch = run_plain(rt.alloc(), &opener, count, choice)?;
     for form in [Form::Report, Form::Json] {
         let due = text_of(rt.alloc(), &batch, form)?;
-        let text = text_over(rt, &opener, count, choice, form)?;
+        // Drawings of books are the quick ones.
+        let drawing_kind = DrawingKind::Quick;
+        let style = Style { form, drawing_kind };
+        let text = text_over(rt, &opener, count, LANES, choice, style)?;
         ensure!(text == due, "another text over lanes");
     }
     Ok(())
@@ -42,19 +45,19 @@ fn text_of(alloc: Global, batch: &Batch, form: Form) -> Result<Vec<u8>> {
     Ok(sink.into_writer())
 }
 
-/// The text in this form of a run over lanes, whose drawings are the quick ones, as those of books are.
-fn text_over<R: AllocGlobal + Threads + Wait + Sync>(
+/// The text in this style of a run over so many files and lanes.
+pub fn text_over<R: AllocGlobal + Threads + Wait + Sync>(
     rt: &R,
     opener: &MemOpener,
     files: u32,
+    lanes: u32,
     choice: Choice,
-    form: Form,
+    style: Style,
 ) -> Result<Vec<u8>> {
-    let (alloc, drawing_kind) = (rt.alloc(), DrawingKind::Quick);
+    let alloc = rt.alloc();
     let mut sink = IoSink::new(Vec::new(alloc));
-    let style = Style { form, drawing_kind };
     let ended = write_batch(
-        rt, alloc, opener, files, LANES, CAPACITY, WAITING, choice, style, &OpenGate, &mut sink,
+        rt, alloc, opener, files, lanes, CAPACITY, WAITING, choice, style, &OpenGate, &mut sink,
     );
     ensure!(ended.is_ok(), "no text over lanes");
     Ok(sink.into_writer())
