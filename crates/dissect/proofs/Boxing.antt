@@ -18,12 +18,14 @@ use Rattle.dissect.specs.Surrounds.{IsEnclosed}
 use Rattle.dissect.specs.Bends.{AreDirections, CountsBends, KeepsDarts, KeepsFaces}
 use Rattle.dissect.specs.Steps.{angle_of}
 use Rattle.dissect.specs.Chains.{AreChains}
+use Rattle.dissect.specs.Labels.{IsLabelling, IsLabelled, KeepsLabelsInside}
 use Rattle.dissect.proofs.SurroundedPaths.{enclosed_paths, enclosed_connected}
 use Rattle.dissect.proofs.Chains.{HasChains, enclosed_chains}
 use Rattle.dissect.proofs.Apart.{AreEdges, paths_back, paths_once, paths_apart}
 use Rattle.dissect.specs.Boxes.{AreBoxes, HasEdge, parts_of}
 use Rattle.dissect.specs.Boxed.{IsBoxed, IsEnclosedMap, ArePathsApart}
 use Rattle.dissect.proofs.Keeping.{Keeps, enclosed_keeps}
+use Rattle.dissect.proofs.Labelling.{part_itself, enclosed_keeps_labels}
 use Rattle.dissect.proofs.Rectangles.{rectangle, bridge}
 use Rattle.dissect.proofs.Through.{through}
 
@@ -38,6 +40,8 @@ pub record IsMade (p : PlaneModel) (shape : ShapeModel) (w : DartMap) (outside :
   pub paths : HasPaths w (darts p) (reverse_dart p) (λ d. map angle_of (turns_at shape d))
   pub chains : AreChains (vertices p) w
   pub connected : IsConnected w
+  pub label : ℕ → ℕ
+  pub labelling : IsLabelling (darts p) (face_at p) w label
   pub outside_in : outside < darts p
   pub outer : face_at p outside ≡ p.outer
   pub enclosed : IsEnclosed w outside (dart_map_of t)
@@ -103,6 +107,25 @@ paths_lie_apart p shape w outside t made =
       apart = paths_apart (vertices p) (dart_map_of t) (darts p) (reverse_dart p) q are;
     }
 
+-- which face of the plane each dart lies in
+made_labelled : (p : PlaneModel) (shape : ShapeModel) (w : DartMap) (outside : ℕ) (t : DartTable) → IsMade p shape w outside t →
+    IsLabelled p (dart_map_of t) w.darts
+made_labelled p shape w outside t made =
+    let quarters : ℕ → List ℕ = λ d. map angle_of (turns_at shape d) in
+    let more : w.darts ≤ t.darts = (enclosed_keeps w outside (dart_map_of t) made.enclosed).more in
+    let inside : KeepsLabelsInside (darts p) (face_at p) w made.label outside (dart_map_of t) =
+    enclosed_keeps_labels (darts p) (reverse_dart p) quarters (face_at p) w made.label outside (dart_map_of t) made.faces.face_number made.sound.tied
+    made.sound.meeting.quarter (omega (arith, made.small, more)) made.small made.faces.turns.face_numbers (omega (arith, made.outside_in, made.kept.few))
+    made.enclosed made.paths made.labelling in
+    let outer : made.label outside ≡ p.outer =
+    made.labelling.parts outside outside made.outside_in
+    (part_itself w outside (reverse_dart p outside) (quarters outside) (made.paths.paths outside made.outside_in)) ∙ made.outer in
+    record {
+      label = inside.keeps.now;
+      labelling = inside.keeps.labelling;
+      outer = λ k l. inside.ring k l ∙ outer;
+    }
+
 pub map_stands : (p : PlaneModel) (shape : ShapeModel) (w : DartMap) (outside : ℕ) (t : DartTable) (old : ℕ) (edges : List ℕ)
     (paths : List (List ℕ)) → IsMade p shape w outside t → IsEnclosedMap p shape (parts_of t old edges paths)
 map_stands p shape w outside t old edges paths made =
@@ -128,6 +151,7 @@ map_stands p shape w outside t old edges paths made =
       turns_right = omega (arith, e.bridge.right, e.surround.angle_old e.right e.right_in);
       outer = e.same_face made.faces.face_number made.faces.turns.face_numbers ∙ made.faces.faces outside made.outside_in ∙ made.outer;
       bridge = bridge w outside (dart_map_of t) made.sound.tied made.sound.meeting.quarter e;
+      labelled = made_labelled p shape w outside t made;
     }
 
 -- each edge has its path

@@ -253,7 +253,7 @@ cut_chains v w d e way new has cut =
 
 pub cut_up_chains : (v : ℕ) (w new : DartMap) → HasChains v w → IsCutUp w new → HasChains v new
 cut_up_chains v w new has same = has
-cut_up_chains v w new has (further mid last d e way cut_up cut) = cut_chains v mid d e way last (cut_up_chains v w mid has cut_up) cut
+cut_up_chains v w new has (further mid last d e way cut_up cut _) = cut_chains v mid d e way last (cut_up_chains v w mid has cut_up) cut
 
 -- a rectangle beside the map keeps the chains
 pub surround_chains : (v : ℕ) (w new : DartMap) → HasChains v w → IsSurrounded w new → HasChains v new

@@ -92,12 +92,12 @@ cut_quarters w d e way new quarters cut a l =
 
 pub cut_up_quarters : (w new : DartMap) → AreQuarters w → IsCutUp w new → AreQuarters new
 cut_up_quarters w new quarters same = quarters
-cut_up_quarters w new quarters (further mid last d e way cut_up cut) =
+cut_up_quarters w new quarters (further mid last d e way cut_up cut _) =
     cut_quarters mid d e way last (cut_up_quarters w mid quarters cut_up) cut
 
 pub cut_up_paths : (w new : DartMap) (n : ℕ) (reverse_dart : ℕ → ℕ) (quarters : ℕ → List ℕ) → IsTied w → AreQuarters w → IsCutUp w new →
     HasPaths w n reverse_dart quarters → HasPaths new n reverse_dart quarters
 cut_up_paths w new n reverse_dart quarters tied four same has = has
-cut_up_paths w new n reverse_dart quarters tied four (further mid last d e way cut_up cut) has =
+cut_up_paths w new n reverse_dart quarters tied four (further mid last d e way cut_up cut _) has =
     cut_paths mid d e way last n reverse_dart quarters (cut_up_tied w mid tied cut_up) (cut_up_quarters w mid four cut_up e cut.e_in) cut
     (cut_up_paths w mid n reverse_dart quarters tied four cut_up has)

@@ -33,7 +33,7 @@ cut_up_keeps w _ same = record {
   head = λ a a_in. refl;
   direction = λ a a_in. refl;
 }
-cut_up_keeps w new (further mid _ d e way cut_up cut) = keeps_on w mid new (cut_up_keeps w mid cut_up) (cut_keeps mid d e way new cut)
+cut_up_keeps w new (further mid _ d e way cut_up cut _) = keeps_on w mid new (cut_up_keeps w mid cut_up) (cut_keeps mid d e way new cut)
 
 pub surround_keeps : (w new : DartMap) → IsSurrounded w new → Keeps w new
 surround_keeps w new surround = record {

@@ -59,6 +59,8 @@ pub mod Chaining
 pub mod DartsInFront
 pub mod PathsOfEdges
 pub mod Keeping
+pub mod Labels
+pub mod Labelling
 pub mod Rectangles
 pub mod Through
 pub mod Boxing

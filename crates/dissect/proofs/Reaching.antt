@@ -70,11 +70,11 @@ cut_reaches w d e way new tied cut reaches =
 
 pub cut_up_sound : (w last : DartMap) → IsSound w → IsCutUp w last → IsSound last
 cut_up_sound w last sound same = sound
-cut_up_sound w last sound (further mid new d e way more cut) = cut_sound mid d e way new (cut_up_sound w mid sound more) cut
+cut_up_sound w last sound (further mid new d e way more cut _) = cut_sound mid d e way new (cut_up_sound w mid sound more) cut
 
 pub cut_up_reaches : (w last : DartMap) → IsSound w → IsCutUp w last → ReachesCorners w → ReachesCorners last
 cut_up_reaches w last sound same reaches = reaches
-cut_up_reaches w last sound (further mid new d e way more cut) reaches =
+cut_up_reaches w last sound (further mid new d e way more cut _) reaches =
     cut_reaches mid d e way new (cut_up_sound w mid sound more).tied cut (cut_up_reaches w mid sound more reaches)
 
 -- each cut adds a vertex and takes one from what goes beyond straight
@@ -83,5 +83,5 @@ cut_vertices w d e way new cut = omega (arith, cut_reflex_turns w d e way new cu
 
 pub cut_up_vertices : (w last : DartMap) → IsCutUp w last → last.vertices + reflex_turns last ≡ w.vertices + reflex_turns w
 cut_up_vertices w last same = refl
-cut_up_vertices w last (further mid new d e way more cut) =
+cut_up_vertices w last (further mid new d e way more cut _) =
     cut_vertices mid d e way new cut ∙ cut_up_vertices w mid more

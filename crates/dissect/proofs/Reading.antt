@@ -17,7 +17,7 @@ use Rattle.dissect.proofs.Rotating.{rising_turned}
 
 pub cut_up_on : (a b c : DartMap) → IsCutUp a b → IsCutUp b c → IsCutUp a c
 cut_up_on a b c first same = first
-cut_up_on a b c first (further mid new d e way more cut) = further mid new d e way (cut_up_on a b mid first more) cut
+cut_up_on a b c first (further mid new d e way more cut one) = further mid new d e way (cut_up_on a b mid first more) cut one
 
 -- cutting goes on where it stopped
 pub scan_on : (w0 w new : DartMap) (face : List ℕ) (st rest st' rest' : List ℕ) → IsFaceCutting w0 face w st rest →

@@ -4,11 +4,12 @@ use Rattle.std.proofs.lemmas.Bool.{cases_eq}
 use Rattle.common.specs.Sums.{sum_below}
 use Rattle.common.proofs.Sums.{sum_below-more, sum_below-changed, sum_below-member}
 use Rattle.dissect.specs.Turning.{total, Rising, Hopeful}
-use Rattle.dissect.specs.DartMaps.{DartMap, IsTied, IsSubdivided, IsChord, HasChordAngles, IsSound, IsCut, further, reflex_turns}
+use Rattle.dissect.specs.DartMaps.{DartMap, IsTied, IsSubdivided, IsChord, HasChordAngles, IsSound, IsCut, AreOfOneFace, further, reflex_turns}
 use Rattle.dissect.specs.Faces.{IsCorner, StretchesIn, Stretches, Trail, last_of, Ring, In, Distinct, Below, concatenated, AreWaiting}
 use Rattle.dissect.specs.FaceCutting.{down, IsFaceCutting, CanCut, HasRoom}
 use Rattle.dissect.proofs.Splitting.{split_tied, split_meeting, split_straight}
 use Rattle.dissect.proofs.Chords.{chord_tied, chord_meeting, chord_straight}
+use Rattle.dissect.proofs.Stretching.{stretch_level}
 use Rattle.dissect.proofs.Rings.{trail_rest}
 use Rattle.dissect.proofs.LeftTurns.{hopeful_reads, hopeful_cut_straight, hopeful_cut_turning}
 use Rattle.dissect.proofs.Listing.{in_right, in_below, below_left, below_right, distinct_left, distinct_right, distinct_apart}
@@ -183,6 +184,13 @@ scan_bites w0 face w d c1 c way st rest o rs new face_cutting wait left_first le
       behind = refl;
     }
 
+-- the cut goes across one face
+bite_one_face : (w : DartMap) (d c1 c way : ℕ) (new : DartMap) → IsBite w d c1 c (w.next c) way new → AreOfOneFace w d (w.next c)
+bite_one_face w d c1 c way new bite g round =
+    round c bite.c_in
+    ∙ stretch_level w g bite.tied round bite.to_second.places c1 c bite.c1_in bite.to_second.stretch
+    ∙ stretch_level w g bite.tied round bite.to_first.places d c1 bite.cut.d_in bite.to_first.stretch
+
 -- the same three corners can be cut
 pub scan_can : (w0 : DartMap) (face : List ℕ) (w : DartMap) (d c1 c : ℕ) (st rest : List ℕ) (o : ℕ) (rs : List (List ℕ)) →
     IsFaceCutting w0 face w (c ∷ c1 ∷ d ∷ st) rest → AreWaiting w0 o (face ∷ rs) → w.angle c1 ≡ 1 → w.angle c ≡ 1 → 2 < w.angle d →
@@ -263,7 +271,7 @@ scan_cut_straight w0 face w d c1 c way st rest o rs new face_cutting wait left_f
     hopeful_cut_straight (total (map w.angle rest)) (length rest) (w.angle d) (map w.angle st) three hopeful in
     record {
       sound = cut_sound w d (w.next c) way new face_cutting.sound cut;
-      cut_up = further w new d (w.next c) way face_cutting.cut_up cut;
+      cut_up = further w new d (w.next c) way face_cutting.cut_up cut (bite_one_face w d c1 c way new bite);
       waiting = λ o2 rs2 wait2.
           let bite2 = scan_bites w0 face w d c1 c way st rest o2 rs2 new face_cutting wait2 left_first left cut in
           subst (λ (zs : List ℕ). AreWaiting new o2 (zs ∷ rs2)) (sym (down_append st ((w.darts + 2) ∷ rest)))
@@ -292,7 +300,7 @@ scan_cut_turning w0 face w d c1 c way st rest o rs new face_cutting wait left_fi
     hopeful_cut_turning (total (map w.angle rest)) (length rest) (w.angle d) (new.angle d) (map w.angle st) four three hopeful in
     record {
       sound = cut_sound w d (w.next c) way new face_cutting.sound cut;
-      cut_up = further w new d (w.next c) way face_cutting.cut_up cut;
+      cut_up = further w new d (w.next c) way face_cutting.cut_up cut (bite_one_face w d c1 c way new bite);
       waiting = λ o2 rs2 wait2.
           let bite2 = scan_bites w0 face w d c1 c way st rest o2 rs2 new face_cutting wait2 left_first left cut in
           subst (λ (zs : List ℕ). AreWaiting new o2 (zs ∷ rs2)) (sym (down_append st (d ∷ (w.darts + 2) ∷ rest)))

@@ -67,6 +67,6 @@ cut_chain w d e way new end reverse_dart held turns tied quarter cut old =
 pub cut_up_chain : (w new : DartMap) (end reverse_dart held : ℕ) (turns : List ℕ) → IsTied w → AreQuarters w → IsCutUp w new →
     HasChain w end reverse_dart held turns → HasChain new end reverse_dart held turns
 cut_up_chain w new end reverse_dart held turns tied four same old = old
-cut_up_chain w new end reverse_dart held turns tied four (further mid last d e way cut_up cut) old =
+cut_up_chain w new end reverse_dart held turns tied four (further mid last d e way cut_up cut _) old =
     cut_chain mid d e way last end reverse_dart held turns (cut_up_tied w mid tied cut_up) (cut_up_quarters w mid four cut_up e cut.e_in) cut
     (cut_up_chain w mid end reverse_dart held turns tied four cut_up old)

@@ -142,11 +142,11 @@ cut_extended w d e way new tied cut =
 
 pub cut_up_tied : (w new : DartMap) → IsTied w → IsCutUp w new → IsTied new
 cut_up_tied w new tied same = tied
-cut_up_tied w new tied (further mid last d e way cut_up cut) =
+cut_up_tied w new tied (further mid last d e way cut_up cut _) =
     cut_tied mid d e way last (cut_up_tied w mid tied cut_up) cut
 
 pub cut_up_extended : (w new : DartMap) → IsTied w → IsCutUp w new → IsExtended w new
 cut_up_extended w new tied same = extended_same w
-cut_up_extended w new tied (further mid last d e way cut_up cut) =
+cut_up_extended w new tied (further mid last d e way cut_up cut _) =
     extended_on w mid last (cut_up_extended w mid tied cut_up)
     (cut_extended mid d e way last (cut_up_tied w mid tied cut_up) cut)

@@ -23,6 +23,12 @@ pub stretch_inside : (w : DartMap) → IsTied w → (k a c : ℕ) → a < w.dart
 stretch_inside w tied zero a c l r = omega (arith, tied.next_in a l, r.0)
 stretch_inside w tied (suc k) a c l r = stretch_inside w tied k (w.next a) c (tied.next_in a l) r.1
 
+-- what does not change round any face is at the next corner what it was
+pub stretch_level : (w : DartMap) (g : ℕ → ℕ) → IsTied w → ((a : ℕ) → a < w.darts → g (w.next a) ≡ g a) → (k a c : ℕ) → a < w.darts →
+    StretchesIn w k a c → g c ≡ g a
+stretch_level w g tied round zero a c l r = ap g (sym r.0) ∙ round a l
+stretch_level w g tied round (suc k) a c l r = stretch_level w g tied round k (w.next a) c (tied.next_in a l) r.1 ∙ round a l
+
 -- the next corner is one
 pub stretch_one : (w : DartMap) (j k a b c : ℕ) → StretchesIn w j a b → StretchesIn w k a c → b ≡ c
 stretch_one w zero zero a b c r s = sym r.0 ∙ s.0

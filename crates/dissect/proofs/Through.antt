@@ -132,7 +132,7 @@ cut_through w d e way new end held tied quarter cut old =
 cut_up_through : (w new : DartMap) (end : ℕ) (held : List ℕ) → IsTied w → AreQuarters w → IsCutUp w new → GoesThrough w end held →
     GoesThrough new end held
 cut_up_through w new end held tied four same old = old
-cut_up_through w new end held tied four (further mid last d e way cut_up cut) old =
+cut_up_through w new end held tied four (further mid last d e way cut_up cut _) old =
     cut_through mid d e way last end held (cut_up_tied w mid tied cut_up) (cut_up_quarters w mid four cut_up e cut.e_in) cut
     (cut_up_through w mid end held tied four cut_up old)
 

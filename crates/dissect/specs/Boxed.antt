@@ -12,6 +12,7 @@ use Rattle.dissect.specs.Steps.{angle_of}
 use Rattle.dissect.specs.Chains.{AreChains}
 use Rattle.dissect.specs.Boxes.{BoxesModel, AreBoxes, dart_map}
 use Rattle.dissect.specs.Rectangle.{HasRectangle, IsBridgedAt}
+use Rattle.dissect.specs.Labels.{IsLabelled}
 
 -- the map of the shape, with straight edges, before anything is put round it: it has the plane's vertices and darts, a
 -- vertex at each bend, and the plane's faces
@@ -45,6 +46,9 @@ pub record IsEnclosedMap (p : PlaneModel) (shape : ShapeModel) (b : BoxesModel) 
   pub turns_right : 2 < enclosed_map.angle right
   pub outer : of_shape.faces.face_number right ≡ p.outer
   pub bridge : IsBridgedAt enclosed_map right (dart_map b)
+  -- each dart lies in one face of the plane, parts of its darts in theirs, and nothing but these parts divides two faces; the
+  -- rectangle lies in the outer one
+  pub labelled : IsLabelled p (dart_map b) enclosed_map.darts
 
 -- the paths of the plane's darts lie apart
 pub record ArePathsApart (p : PlaneModel) (w : DartMap) : Type 0 where

@@ -152,10 +152,14 @@ pub record IsCut (w : DartMap) (d e way : ℕ) (new : DartMap) : Type 0 where
   pub fits : HasChordAngles middle d w.darts way
   pub chord : IsChord middle d w.darts way new
 
--- cuts, one after another
+-- the darts d and e are of one face: what does not change round any face is the same at both
+abbrev pub AreOfOneFace : DartMap → ℕ → ℕ → Type 0
+AreOfOneFace w d e = (g : ℕ → ℕ) → ((a : ℕ) → a < w.darts → g (w.next a) ≡ g a) → g e ≡ g d
+
+-- cuts, one after another, each across one face
 pub data IsCutUp (w : DartMap) : DartMap → Type 0 where
   same : IsCutUp w w
-  further : (mid new : DartMap) (d e way : ℕ) → IsCutUp w mid → IsCut mid d e way new → IsCutUp w new
+  further : (mid new : DartMap) (d e way : ℕ) → IsCutUp w mid → IsCut mid d e way new → AreOfOneFace mid d e → IsCutUp w new
 
 -- the right turns of a map: how far its angles go beyond straight
 abbrev pub reflex_turns : DartMap → ℕ

@@ -7,6 +7,7 @@ pub mod Tables
 pub mod FaceCutting
 pub mod FaceNumbers
 pub mod Paths
+pub mod Labels
 pub mod Surrounds
 pub mod Chains
 pub mod Walks

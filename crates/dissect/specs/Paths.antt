@@ -1,7 +1,7 @@
 -- The darts that an edge of the plane is made of, in walking order, and the turns between them.
 use Rattle.std.specs.Prelude.{◌≡◌, ℕ, ◌+◌, ◌-◌, ◌%◌, ◌<◌, ◌≤◌, ◌==◌, ◌⊎◌, Bool, true, List, [], ◌∷◌, if◌then◌else◌}
 use Rattle.dissect.specs.DartMaps.{DartMap, no_dart}
-use Rattle.dissect.specs.Faces.{last_of, Below}
+use Rattle.dissect.specs.Faces.{last_of, Below, In}
 
 -- each dart of the list has its predecessor before it, the first one a, and sets out where that arrives
 abbrev pub Follows : DartMap → ℕ → List ℕ → Type 0
@@ -15,6 +15,13 @@ pub record IsPath (w : DartMap) (end first : ℕ) (rest : List ℕ) : Type 0 whe
   pub start : w.before first ≡ no_dart
   pub follows : Follows w first rest
   pub ends : last_of first rest ≡ end
+
+-- the dart a is a part of the edge that ends with the dart d: it stands on the path that does
+pub record IsPart (w : DartMap) (d a : ℕ) : Type 0 where
+  pub first : ℕ
+  pub rest : List ℕ
+  pub path : IsPath w d first rest
+  pub on : In a (first ∷ rest)
 
 -- the quarters to the left by which the walk turns from the dart a to the dart b: b sets out opposite to its reverse
 abbrev pub turn_to : DartMap → ℕ → ℕ → ℕ

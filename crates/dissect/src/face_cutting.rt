@@ -10,6 +10,8 @@ ghost use Rattle.std.specs.Prelude.{◌≡◌, ◌≢◌, ℕ, ◌+◌, ◌-◌,
 ghost use Rattle.dissect.specs.DartMaps.{IsSound, IsCut, IsCutUp};
 ghost use Rattle.dissect.specs.Tables.{dart_map_of, room};
 ghost use Rattle.dissect.specs.Faces.{AreWaiting, slices_of};
+ghost use Rattle.dissect.specs.Labels.{IsLabelling, KeepsLabels};
+ghost use Rattle.dissect.specs.Paths.{HasPaths};
 ghost use Rattle.dissect.specs.Turning.{AreCornerAngles, HasNoHook, IsPeak};
 ghost use Rattle.dissect.specs.FaceCutting.{CanCut, HasRoom, IsHookOn, IsReading, down, tops};
 
@@ -148,6 +150,9 @@ pub fn cut_faces(table: &mut DartTable, corners: &mut [u32], counts: &[u32])
     ensures sound { IsSound (dart_map_of table.new) }
     ensures cut_up { IsCutUp (dart_map_of table.old) (dart_map_of table.new) }
     ensures done { (o : ℕ) → AreWaiting (dart_map_of table.old) o (slices_of corners.old counts.now) → AreWaiting (dart_map_of table.new) o [] }
+    ensures labelled { (n : ℕ) (reverse_dart : ℕ → ℕ) (quarters : ℕ → List ℕ) (face label : ℕ → ℕ)
+        → HasPaths (dart_map_of table.old) n reverse_dart quarters → IsLabelling n face (dart_map_of table.old) label
+        → KeepsLabels n face (dart_map_of table.old) label (dart_map_of table.new) }
     ensures space { HasRoom (dart_map_of table.new) (room table.new) }
     ensures room { room table.new ≡ room table.old }
 {

@@ -4,8 +4,8 @@
 //! representation subdivides an edge by a new vertex: along the string of the lesser dart of each edge, in
 //! walking order, so that this dart and its reverse stay the last parts of the two walks along it.
 
-ghost use Rattle.std.specs.Prelude.{◌≡◌, ◌+◌, ◌*◌, ◌<◌, ◌≤◌, IfOk, length, map, slice_index};
-ghost use Rattle.faces.specs.Planes.{darts, reverse_dart, vertices};
+ghost use Rattle.std.specs.Prelude.{◌≡◌, ◌+◌, ◌*◌, ◌<◌, ◌≤◌, ℕ, IfOk, length, map, slice_index};
+ghost use Rattle.faces.specs.Planes.{darts, face_at, reverse_dart, vertices};
 ghost use Rattle.ortho_rep.specs.Edges.{lesser_darts};
 ghost use Rattle.ortho_rep.specs.Shapes.{angle_at, turns_at};
 ghost use Rattle.ortho_rep.specs.Representation.{IsShape};
@@ -15,6 +15,7 @@ ghost use Rattle.dissect.specs.DartMaps.{IsSound, reflex_turns};
 ghost use Rattle.dissect.specs.Tables.{dart_map_of, room};
 ghost use Rattle.dissect.specs.Paths.{HasPaths, IsConnected};
 ghost use Rattle.dissect.specs.Chains.{AreChains};
+ghost use Rattle.dissect.specs.Labels.{IsLabelling};
 ghost use Rattle.dissect.specs.Bends.{CountsBends, KeepsDarts, KeepsFaces};
 ghost use Rattle.dissect.specs.Steps.{angle_of};
 
@@ -58,6 +59,7 @@ pub fn normalize_into(
         (λ d. map angle_of (turns_at shape.now d))) }
     ensures chains { IfOk result (λ t. AreChains (vertices plane.now) (dart_map_of t)) }
     ensures connected { IfOk result (λ t. IsConnected (dart_map_of t)) }
+    ensures labelled { IfOk result (λ t. (label : ℕ → ℕ) × IsLabelling (darts plane.now) (face_at plane.now) (dart_map_of t) label) }
     ensures space { IfOk result (λ t. t.darts + 4 * reflex_turns (dart_map_of t) + RECTANGLE_ROOM ≤ room t) }
 {
     // Only the proof needs this: `graph` says that the plane is one.

@@ -4,11 +4,13 @@
 //! the outer face and the inside of the rectangle become one face. Each face but the outside of the
 //! rectangle then turns once to the left, and is cut into boxes.
 
-ghost use Rattle.std.specs.Prelude.{◌≡◌, ◌<◌, ◌≤◌, ◌+◌, ◌*◌, ◌%◌, ℕ, [], OnErr, OnOk};
+ghost use Rattle.std.specs.Prelude.{◌≡◌, ◌<◌, ◌≤◌, ◌+◌, ◌*◌, ◌%◌, ℕ, List, [], OnErr, OnOk};
 ghost use Rattle.dissect.specs.declared.table.TheConstants.{RECTANGLE_ROOM};
 ghost use Rattle.dissect.specs.Faces.{AreWaiting, ReachesCorners};
 ghost use Rattle.dissect.specs.Surrounds.{IsEnclosed};
 ghost use Rattle.dissect.specs.FaceNumbers.{HasTurns};
+ghost use Rattle.dissect.specs.Labels.{IsLabelling, KeepsLabelsInside};
+ghost use Rattle.dissect.specs.Paths.{HasPaths};
 ghost use Rattle.dissect.specs.Tables.{room, dart_map_of};
 ghost use Rattle.dissect.specs.DartMaps.{IsSound, reflex_turns};
 
@@ -49,6 +51,9 @@ pub fn refine_in(table: &mut DartTable, outer: u32, faces: Faces) -> Result<Face
     ensures done { OnOk result ((k : ℕ) → k < 4 → AreWaiting (dart_map_of table.new) (table.old.darts + 4 + k) []) }
     ensures reaches { OnOk result (ReachesCorners (dart_map_of table.new)) }
     ensures few { OnOk result (table.new.vertices ≤ table.old.vertices + reflex_turns (dart_map_of table.old) + 4) }
+    ensures labelled { OnOk result ((n : ℕ) (reverse_dart : ℕ → ℕ) (quarters : ℕ → List ℕ) (face label : ℕ → ℕ)
+        → HasPaths (dart_map_of table.old) n reverse_dart quarters → IsLabelling n face (dart_map_of table.old) label
+        → KeepsLabelsInside n face (dart_map_of table.old) label outer (dart_map_of table.new)) }
     ensures unchanged { OnErr result (dart_map_of table.new ≡ dart_map_of table.old) }
     ensures room { room table.new ≡ room table.old }
 {

@@ -4,3 +4,4 @@ pub mod Draws
 pub mod Faults
 pub mod Routes
 pub mod Shown
+pub mod Regions

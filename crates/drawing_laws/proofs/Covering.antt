@@ -48,9 +48,9 @@ module _ (w : DartMap) (sound : IsSound w) where
   -- ---- the rectangle and the outside
 
   module _ (inner : DartMap) (has : HasRectangle inner w) (faces : AreFaces w) where
-    -- the outside arrives at each corner of the rectangle
-    rectangle_corner : (k m v : ℕ) → k < 4 → (k + 2) % 4 ≡ m → inner.vertices + (k + 3) % 4 ≡ v → w.head (faces.around m) ≡ v
-    rectangle_corner k m v few is at =
+    -- round the outside the walk goes along the sides of the rectangle
+    pub rectangle_around : (k m : ℕ) → k < 4 → (k + 2) % 4 ≡ m → faces.around m ≡ inner.darts + 4 + k
+    rectangle_around k m few is =
         let a : ℕ = inner.darts + 4 + k in
         let four = (has.outside k few).four in
         let a_in : a < w.darts = outside_in k few in
@@ -58,13 +58,17 @@ module _ (w : DartMap) (sound : IsSound w) where
         elim (faces.each a a_in (λ e. omega (arith, e, four.angle_first))) [
           | inl (box, round, there) ↦
               absurd (omega (arith, four.angle_first, ap w.angle there, round.angles (w.direction a) (sound.meeting.quarter a a_in)))
-          | inr there ↦ ap w.head (ap faces.around (sym way) ∙ there) ∙ has.corners k few ∙ at
+          | inr there ↦ ap faces.around (sym way) ∙ there
         ]
       where
         outside_in : (k : ℕ) → k < 4 → inner.darts + 4 + k < w.darts
         outside_in k few =
             let chain = (has.sides k few).there in
             omega (arith, chain.back, sound.tied.reverse_dart_in chain.first chain.path.first_in)
+
+    -- the outside arrives at each corner of the rectangle
+    rectangle_corner : (k m v : ℕ) → k < 4 → (k + 2) % 4 ≡ m → inner.vertices + (k + 3) % 4 ≡ v → w.head (faces.around m) ≡ v
+    rectangle_corner k m v few is at = ap w.head (rectangle_around k m few is) ∙ has.corners k few ∙ at
 
 -- ---- cells
 

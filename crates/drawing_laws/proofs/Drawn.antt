@@ -85,7 +85,7 @@ ways_left (suc n) k few =
 
 module _ (p : PlaneModel) (shape : ShapeModel) (b : BoxesModel) (plane : IsPlane p) (boxed : IsBoxed p shape b) (x y : ℕ → ℕ)
     (monotone : IsMonotone (dart_map b) x y) (points : PointsModel) (taken : AreTaken b x y points) where
-  path_of : (d : ℕ) → d < darts p → HasPath (dart_map b) d (reverse_dart p d) (map angle_of (turns_at shape d))
+  pub path_of : (d : ℕ) → d < darts p → HasPath (dart_map b) d (reverse_dart p d) (map angle_of (turns_at shape d))
   path_of d d_in = boxed.paths.paths d d_in
 
   -- the point of a vertex
@@ -117,12 +117,12 @@ module _ (p : PlaneModel) (shape : ShapeModel) (b : BoxesModel) (plane : IsPlane
       ap (dart_map b).head (path_of d d_in).back ∙ boxed.heads (reverse_dart p d) (ends.reverse_dart_in_range d d_in)
       ∙ ap (λ (v : ℕ). v - 1) (ends.reverse_dart_head d d_in)
 
-  abbrev line_of : (d : ℕ) → d < darts p → List Point
+  abbrev pub line_of : (d : ℕ) → d < darts p → List Point
   line_of d d_in =
       line (dart_map b) x y ((dart_map b).head ((dart_map b).reverse_dart (path_of d d_in).first)) (path_of d d_in).first (path_of d d_in).rest
 
   -- the path of an edge is the line along its darts
-  line_is : (d : ℕ) (d_in : d < darts p) → is_lesser p d ≡ true → path_along p points d ≡ line_of d d_in
+  pub line_is : (d : ℕ) (d_in : d < darts p) → is_lesser p d ≡ true → path_along p points d ≡ line_of d d_in
   line_is d d_in lesser =
       let ends = plane_ends p plane in
       let has = path_of d d_in in
@@ -135,7 +135,7 @@ module _ (p : PlaneModel) (shape : ShapeModel) (b : BoxesModel) (plane : IsPlane
       ∙ ap (λ (qs : List Point). point_at x y ((dart_map b).head ((dart_map b).reverse_dart has.first)) ∷ (qs ++ vertex_point points (head p d) ∷ [])) (corners_are d d_in lesser)
       ∙ ap (λ (q : Point). point_at x y ((dart_map b).head ((dart_map b).reverse_dart has.first)) ∷ (map (point_at x y) (turning_vertices (dart_map b) has.first has.rest) ++ q ∷ [])) last
 
-  first_goes : (d : ℕ) (d_in : d < darts p)
+  pub first_goes : (d : ℕ) (d_in : d < darts p)
       → Goes ((dart_map b).direction (path_of d d_in).first) x y ((dart_map b).head ((dart_map b).reverse_dart (path_of d d_in).first)) ((dart_map b).head (path_of d d_in).first)
   first_goes d d_in =
       let has = path_of d d_in in

@@ -14,11 +14,16 @@ pub mod Rounds
 pub mod Rows
 pub mod Apart
 pub mod Covering
+pub mod Segments
+pub mod CellLabels
 pub mod Lines
 pub mod Passing
 pub mod Parts
 pub mod Meeting
 pub mod Drawn
+pub mod DartPaths
+pub mod DrawnRegions
+pub mod RegionLaws
 pub mod Growing
 pub mod FaceNumbering
 pub mod CornerCounts

@@ -98,7 +98,7 @@ module _ (p : PlaneModel) (shape : ShapeModel) (b : BoxesModel) (plane : IsPlane
       inr (one_part d e' a d_in ((plane_ends p plane).reverse_dart_in_range e e_in) one there)
 
   -- two parts of one dart, on one path
-  on_path : (d c first : ℕ) (rest : List ℕ) → IsPath (dart_map b) d first rest → IsPart (dart_map b) d c → In c (first ∷ rest)
+  pub on_path : (d c first : ℕ) (rest : List ℕ) → IsPath (dart_map b) d first rest → IsPart (dart_map b) d c → In c (first ∷ rest)
   on_path d c first rest path part =
       let same = path_unique (dart_map b) d part.first first part.rest rest boxed.boxes.few_darts part.path path in
       subst (λ (xs : List ℕ). In c (first ∷ xs)) same.rests (subst (λ (k : ℕ). In c (k ∷ part.rest)) same.first part.on)

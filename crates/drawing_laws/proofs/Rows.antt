@@ -94,7 +94,7 @@ module _ (w : DartMap) (sound : IsSound w) (x y : ℕ → ℕ) (monotone : IsMon
       )
 
   -- a dart to the south, walked back
-  back_crosses : (j s : ℕ) → s < w.darts → w.direction s ≡ 3 → y (w.head s) ≤ j → j < y (tail w s) → Crosses w y j (w.reverse_dart s)
+  pub back_crosses : (j s : ℕ) → s < w.darts → w.direction s ≡ 3 → y (w.head s) ≤ j → j < y (tail w s) → Crosses w y j (w.reverse_dart s)
   back_crosses j s s_in way low high = record {
     inside = sound.tied.reverse_dart_in s s_in;
     north = omega (arith, sound.straight s s_in, way);

@@ -1,5 +1,6 @@
 pub mod Bound
 pub mod Cells
+pub mod CellFaces
 pub mod Parts
 pub mod Orders
 pub mod Least

@@ -6,6 +6,7 @@ ghost use Rattle.ortho_rep.specs.Shapes.{ShapeModel};
 ghost use Rattle.dissect.specs.Boxes.{BoxesModel, dart_map};
 ghost use Rattle.dissect.specs.Boxed.{IsBoxed};
 ghost use Rattle.dissect.specs.Monotone.{IsMonotone};
+ghost use Rattle.drawing_laws.specs.CellFaces.{AreCellLabels};
 ghost use Rattle.drawing_laws.specs.Cells.{IsWithin, IsCoveredOnce};
 
 /// Where boxes dissect a shape, exactly one of them covers each unit cell of the rectangle round them, in any coordinates that grow
@@ -14,4 +15,11 @@ pub fn cells_are_covered_once()
     ensures { (p : PlaneModel) (shape : ShapeModel) (b : BoxesModel) (x y : ℕ → ℕ) → (boxed : IsBoxed p shape b) → IsMonotone (dart_map b) x y
         → (i j : ℕ) → IsWithin x y (boxed.enclosed.enclosed_map.vertices + 3) (boxed.enclosed.enclosed_map.vertices + 1) i j
         → IsCoveredOnce (dart_map b) x y i j }
+{}
+
+/// In any such coordinates each cell lies in one face of the plane: beside a dart of the boxes in that which the dart has on this side, with a
+/// neighbour in the same where no dart passes between them, and in the outer one to the west and the south of all.
+pub fn cells_lie_in_faces()
+    ensures { (p : PlaneModel) (shape : ShapeModel) (b : BoxesModel) (x y : ℕ → ℕ) → (boxed : IsBoxed p shape b) → IsMonotone (dart_map b) x y
+        → (r : ℕ → ℕ → ℕ) × AreCellLabels (dart_map b) x y boxed.enclosed.labelled.label p.outer r }
 {}

@@ -1,6 +1,6 @@
 //! Laws of shapes and drawings, each as the contract of a function that does nothing: how few bends least shapes
-//! have, that boxes have coordinates that grow along their darts, that points taken from these draw the shape, and that each laid
-//! answer is drawn.
+//! have, that boxes have coordinates that grow along their darts, that points taken from these draw the shape and have its
+//! faces as regions, and that each laid answer is drawn.
 #![tactic(auto)]
 
 mod bends;
@@ -12,10 +12,11 @@ mod least_coordinates;
 mod orders;
 mod planarity;
 mod prices;
+mod regions;
 
 pub use bends::few_bends;
 pub use causes::{least_points_are_in_grid, only_wide, remaining_causes};
-pub use cells::cells_are_covered_once;
+pub use cells::{cells_are_covered_once, cells_lie_in_faces};
 pub use closed_sets::closed_sets_hold_the_outside;
 pub use drawn_answers::{answers_are_drawn, laid_answers_are_drawn, no_cause_is_shown};
 pub use least_coordinates::{
@@ -24,3 +25,4 @@ pub use least_coordinates::{
 pub use orders::monotone_coordinates_exist;
 pub use planarity::{least_points_pass, monotone_coordinates_draw};
 pub use prices::{least_is_priced, least_shape_exists};
+pub use regions::{boxes_have_regions, regions_are_faces};

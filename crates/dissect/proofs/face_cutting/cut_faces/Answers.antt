@@ -6,6 +6,7 @@ use Rattle.dissect.specs.DartMaps.{same}
 use Rattle.dissect.specs.Tables.{dart_map_of}
 use Rattle.dissect.specs.Faces.{AreWaiting, slices_of}
 use Rattle.dissect.proofs.Reading.{cut_up_on, pieces_apart, sum_apart, length-mid_of, length-put_mid}
+use Rattle.dissect.proofs.Labelling.{cut_up_keeps_labels}
 use Rattle.dissect.proofs.face_cutting.cut_faces.Goals as goal
 
 pub faces-init : goal.faces-init
@@ -62,3 +63,10 @@ pub returns-clause-done : goal.returns-clause-done
 returns-clause-done c =
     λ o w0. subst (λ (ns : List ℕ). AreWaiting (dart_map_of c.faces.table) o (slices_of (drop c.faces.start c.faces.corners) ns))
     (drop_all c.faces.count-index c.args.counts.now c.faces-test.false) (c.faces.invariant.waiting o w0)
+
+pub returns-clause-labelled : goal.returns-clause-labelled
+returns-clause-labelled c =
+    λ n reverse_dart quarters face label has labelling.
+    cut_up_keeps_labels n reverse_dart quarters face (dart_map_of c.args.table.now) label (dart_map_of c.faces.table) c.requires.sound.tied c.requires.sound.meeting.quarter
+    (omega (arith, c.args.table.now.darts_in, c.args.table.now.darts_fit)) (omega (arith, c.faces.table.darts_in, c.faces.table.darts_fit))
+    c.faces.invariant.cut_up has labelling

@@ -1,18 +1,20 @@
-use Rattle.std.proofs.Common.{◌+◌, ℕ, List, length, get_or, drop, arith, ap, subst}
+use Rattle.std.proofs.Common.{◌+◌, ℕ, List, length, map, get_or, drop, arith, ap, subst}
 use Rattle.std.specs.Prelude.{slice_index}
 use Rattle.std.proofs.lemmas.List.{drop_all}
-use Rattle.faces.specs.Planes.{darts}
+use Rattle.faces.specs.Planes.{darts, reverse_dart}
 use Rattle.ortho_rep.specs.declared.turn.Turn.{Turn}
 use Rattle.ortho_rep.specs.Shapes.{angle_at, turns_at}
 use Rattle.dissect.specs.DartMaps.{IsTied, IsMeeting}
 use Rattle.dissect.specs.Tables.{dart_map_of}
-use Rattle.dissect.specs.Steps.{IsBent, AreBent, finished}
+use Rattle.dissect.specs.Steps.{IsBent, AreBent, finished, angle_of}
+use Rattle.dissect.specs.Paths.{HasPaths}
 use Rattle.dissect.proofs.EdgeTurns.{bends_twice, lesser_length-lesser, lesser_few}
 use Rattle.dissect.proofs.Normalizing.{AreRemaining, AreDone, none_done, next_at, next_done, none_left}
 use Rattle.dissect.proofs.Starting.{tied, meeting}
 use Rattle.dissect.proofs.Ending.{all_bends}
 use Rattle.dissect.proofs.Pathing.{bends_have_paths, bends_stay_connected}
 use Rattle.dissect.proofs.Chaining.{bends_have_chains}
+use Rattle.dissect.proofs.Labelling.{bends_have_labels}
 use Rattle.dissect.proofs.normalization.normalize_into.Goals as goal
 
 pub edges-init : goal.edges-init
@@ -93,15 +95,18 @@ returns c =
     let bent : AreBent p s 0 w new = done.steps new (finished (darts p) new (omega arith)) in
     let bends = all_bends p a s h w new plane ends rep c.requires.directions bare bent in
     let plain = tied p a s h w plane ends rep c.requires.directions bare in
+    let paths : HasPaths new (darts p) (reverse_dart p) (λ d. map angle_of (s d)) =
+    bends_have_paths p a h s w new plane rep.strings bare plain (omega arith) bent in
     record {
       sound = bends.sound;
       darts = bends.darts;
       directions = bends.directions;
       faces = bends.faces;
       counts = bends.counts;
-      paths = bends_have_paths p a h s w new plane rep.strings bare plain (omega arith) bent;
+      paths = paths;
       chains = bends_have_chains p a h s w new bare plain (meeting p a s h w plane ends rep c.requires.directions bare) bent;
       connected = bends_stay_connected p a h s w new plane bare plain bent;
+      labelled = bends_have_labels p a h s w new (reverse_dart p) (λ d. map angle_of (s d)) plane bare plain (omega arith) paths bent;
       space = omega (
         arith,
         bends.counts.dart_count,

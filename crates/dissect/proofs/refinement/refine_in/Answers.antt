@@ -3,6 +3,7 @@ use Rattle.dissect.specs.Tables.{dart_map_of, room}
 use Rattle.dissect.specs.Faces.{AreWaiting}
 use Rattle.dissect.proofs.Sounding.{surround_sound}
 use Rattle.dissect.proofs.Refining.{AreReady, cut_side_can, bridging_of, bridge_sound, bridge_room, bridge_ready, enclosed_by, enclosed_reaches, enclosed_few}
+use Rattle.dissect.proofs.Labelling.{enclosed_keeps_labels}
 use Rattle.dissect.proofs.refinement.refine_in.Goals as goal
 
 pub cut_across-requires-clause-sound : goal.cut_across-requires-clause-sound
@@ -135,3 +136,16 @@ returns-clause-few c =
     c.cut_across.ensures.cut.0 (dart_map_of c.cut_across.new.table) (dart_map_of c.cut_faces.new.table) c.requires.sound j
     c.cut_faces.ensures.cut_up
     (subst (λ (z : ℕ). AreWaiting (dart_map_of c.cut_faces.new.table) z []) (omega arith) (c.cut_faces.ensures.done o ready.waiting))
+
+pub returns-clause-labelled : goal.returns-clause-labelled
+returns-clause-labelled c =
+    λ n reverse_dart quarters face label has labelling.
+    let w = dart_map_of c.args.table.now in
+    let j = bridging_of w (dart_map_of c.surround.new.table) c.find_right-right.result c.cut_side-side.result
+    c.cut_across.ensures.cut.0 (dart_map_of c.cut_across.new.table) c.requires.sound c.surround.ensures.surrounded c.find_right-right.ensures.inside
+    c.cut_side-side.ensures.side c.cut_across.ensures.cut.1 in
+    let enclosed = enclosed_by w c.args.outer (dart_map_of c.surround.new.table) c.find_right-right.result c.cut_side-side.result
+    c.cut_across.ensures.cut.0 (dart_map_of c.cut_across.new.table) (dart_map_of c.cut_faces.new.table) c.find_right-right.ensures.same j c.cut_faces.ensures.cut_up in
+    enclosed_keeps_labels n reverse_dart quarters face w label c.args.outer (dart_map_of c.cut_faces.new.table) c.requires.turns.0 c.requires.sound.tied
+    c.requires.sound.meeting.quarter (omega (arith, c.args.table.now.darts_in, c.args.table.now.darts_fit))
+    (omega (arith, c.cut_faces.new.table.darts_in, c.cut_faces.new.table.darts_fit)) c.requires.turns.1.face_numbers c.requires.inside enclosed has labelling
