@@ -52,7 +52,7 @@ turned_round path n size =
     ap (λ (q : Point). direction_between q (point_of (reverse path) 1)) (get_or-reverse path 0 origin (omega arith) ∙ ap (λ (i : ℕ). point_of path i) last)
     ∙ ap (λ (q : Point). direction_between (point_of path (n + 1)) q) (get_or-reverse path 1 origin (omega arith) ∙ ap (λ (i : ℕ). point_of path i) before)
 
-reverse_dart_is_greater : (p : PlaneModel) (d : ℕ) → HasEnds p → d < darts p → is_lesser p d ≡ true → is_lesser p (reverse_dart p d) ≡ false
+pub reverse_dart_is_greater : (p : PlaneModel) (d : ℕ) → HasEnds p → d < darts p → is_lesser p d ≡ true → is_lesser p (reverse_dart p d) ≡ false
 reverse_dart_is_greater p d ends inside lesser = turned d (reverse_dart p d) (reverse_dart p (reverse_dart p d)) lesser (ends.reverse_dart_back d inside)
   where
     turned : (a b c : ℕ) → ltb a b ≡ true → c ≡ a → ltb b c ≡ false

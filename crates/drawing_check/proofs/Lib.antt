@@ -5,3 +5,13 @@ pub mod Routing
 pub mod Leaving
 pub mod Straight
 pub mod InGrid
+pub mod Swept
+pub mod Ranking
+pub mod Pieces
+pub mod DartParts
+pub mod RegionMaps
+pub mod Tables
+pub mod RankTables
+pub mod PartLists
+pub mod Marking
+pub mod RankedParts

@@ -17,11 +17,11 @@ use Rattle.drawing_check.specs.Draws.{IsOnAxes, AreOnAxes}
 pub all_from_map : {X Y : Type 0} (P : Y → Type 0) (f : X → Y) (xs : List X) → All P (map f xs) → All (λ x. P (f x)) xs
 all_from_map P f xs h = λ k d lt. subst P (get_or-map f xs k d (f d) lt) (h k (f d) (omega (arith, length-map xs f)))
 
-lesser_inside : (p : PlaneModel) → All (λ d. d < darts p) (lesser_darts p)
+pub lesser_inside : (p : PlaneModel) → All (λ d. d < darts p) (lesser_darts p)
 lesser_inside p = All-filter (is_lesser p) (λ d. d < darts p) (range_with_len 0 (darts p)) (λ k d lt. let size = length-range_with_len 0 (darts p) in let value = get_or-range_with_len 0 (darts p) k d (omega arith) in omega arith)
 
 -- each lesser dart below n stands in their list
-lesser_in : (q : ℕ → Bool) (n d : ℕ) → d < n → q d ≡ true → Contains (filter q (range_with_len 0 n)) d
+pub lesser_in : (q : ℕ → Bool) (n d : ℕ) → d < n → q d ≡ true → Contains (filter q (range_with_len 0 n)) d
 lesser_in q zero d lt here = absurd (omega arith)
 lesser_in q (suc n) d lt here =
     let one : n + 1 ≡ suc n = omega arith in

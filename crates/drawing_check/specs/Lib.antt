@@ -5,3 +5,6 @@ pub mod Faults
 pub mod Routes
 pub mod Shown
 pub mod Regions
+pub mod Parts
+pub mod Cells
+pub mod Ranks

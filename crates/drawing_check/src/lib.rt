@@ -6,16 +6,21 @@
 #![tactic(auto)]
 
 mod axes;
+mod cells;
 mod drawing;
 mod edges;
 mod fault;
 mod grid;
 mod meeting;
+mod parts;
 mod path;
+mod ranks;
+mod regions;
 mod route;
 mod scratch;
 mod turning;
 
 pub use drawing::{Drawing, check, check_in};
 pub use fault::CheckFault;
+pub use regions::{has_regions, has_regions_in};
 pub use scratch::Scratch;

@@ -2,6 +2,7 @@
 
 ghost use Rattle.std.specs.Prelude.{◌≡◌, []};
 
+use crate::parts::Part;
 use geometry::Rectangle;
 use std::alloc::Global;
 
@@ -10,6 +11,15 @@ use std::alloc::Global;
 pub struct Scratch {
     pub(crate) rectangles: Vec<Rectangle>,
     pub(crate) table: Vec<u64>,
+    /// The parts of edges along each axis.
+    pub(crate) uprights: Vec<Part>,
+    pub(crate) levels: Vec<Part>,
+    /// The ranks of coordinates.
+    pub(crate) columns: Vec<usize>,
+    pub(crate) rows: Vec<usize>,
+    /// The face of each cell, as the upright parts tell, and as the level ones do.
+    pub(crate) eastward: Vec<u16>,
+    pub(crate) northward: Vec<u16>,
 }
 
 impl Scratch {
@@ -20,6 +30,12 @@ impl Scratch {
         Scratch {
             rectangles: Vec::new(alloc),
             table: Vec::new(alloc),
+            uprights: Vec::new(alloc),
+            levels: Vec::new(alloc),
+            columns: Vec::new(alloc),
+            rows: Vec::new(alloc),
+            eastward: Vec::new(alloc),
+            northward: Vec::new(alloc),
         }
     }
 }
