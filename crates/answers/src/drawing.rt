@@ -5,6 +5,7 @@ ghost use Rattle.faces.specs.Planes.{darts, vertices};
 ghost use Rattle.ortho_rep.specs.Representation.{IsShape};
 ghost use Rattle.compact.specs.Monotone.{AreDirectionsOf};
 ghost use Rattle.drawing_check.specs.Draws.{Draws};
+ghost use Rattle.drawing_check.specs.Regions.{HasRegions};
 ghost use Rattle.entries.specs.Drawn.{HasPoints, IsDrawn};
 ghost use Rattle.drawing_laws.specs.Least.{AreBelow};
 ghost use Rattle.answers.specs.Lengths.{IsNear, IsNoLonger, IsQuick, edge_length};
@@ -16,7 +17,7 @@ use crate::shaped_plane::{ShapedPlane, SpentShapedPlane};
 use crate::spent::ReturnQueue;
 use common::DrawingKind;
 use compact::{BoxesScratch, CompactFault, compact_in, dissect_along};
-use drawing_check::{CheckFault, Drawing, check_in};
+use drawing_check::{CheckFault, Drawing, check_in, has_regions_in};
 use entries::{Answer, Cause};
 use faces::Plane;
 use ortho_rep::{Points, Shape};
@@ -124,6 +125,8 @@ pub(crate) fn draw(
     ensures no_longer { IfOk result (λ drawn. IfOk drawn (IsNoLonger plane.now shape.now)) }
     ensures near { IfOk result (λ drawn. IfOk drawn (IsNear plane.now shape.now)) }
 {
+    // Only the proof needs this: `graph` says that the plane is one.
+    let _graph = plane.graph();
     let boxes = dissect_along(alloc, &mut scratch.boxes, plane, shape, directions)?;
     let points = match compact_in(alloc, &mut scratch.points, &boxes) {
         Ok(points) => points,
@@ -149,8 +152,8 @@ pub(crate) fn draw(
     }
 }
 
-/// The drawing that compaction makes of points, where its edges are together no longer, all its coordinates are less
-/// than a limit, and it is checked to draw the shape.
+/// The drawing that compaction makes of points, if its edges are together no longer, all its coordinates are less than a
+/// limit, it is checked to draw the shape, and its regions are the faces.
 fn shorter_drawing(
     alloc: Global,
     scratch: &mut DrawScratch,
@@ -164,6 +167,7 @@ fn shorter_drawing(
     requires corners { 2 * length points.now.corners ≡ darts plane.now }
     ensures points { IfOk result (λ found. IfSome found (HasPoints plane.now)) }
     ensures draws { IfOk result (λ found. IfSome found (Draws plane.now shape.now)) }
+    ensures regions { IfOk result (λ found. IfSome found (HasRegions plane.now)) }
     ensures no_longer { IfOk result (λ found. IfSome found (λ drawing.
         edge_length plane.now drawing ≤ edge_length plane.now points.now)) }
     ensures below { IfOk result (λ found. IfSome found (AreBelow limit)) }
@@ -176,9 +180,13 @@ fn shorter_drawing(
     if !is_near || !is_no_longer(plane, &shorter, points) {
         return Ok(None);
     }
-    match check_in(alloc, &mut scratch.check, plane, shape, shorter) {
-        Ok(drawing) => Ok(Some(drawing)),
-        Err((CheckFault::Memory, _)) => Err(AllocError),
-        Err(_) => Ok(None),
+    let drawing = match check_in(alloc, &mut scratch.check, plane, shape, shorter) {
+        Ok(drawing) => drawing,
+        Err((CheckFault::Memory, _)) => return Err(AllocError),
+        Err(_) => return Ok(None),
+    };
+    if !has_regions_in(&mut scratch.check, plane, &drawing)? {
+        return Ok(None);
     }
+    Ok(Some(drawing))
 }

@@ -2,6 +2,7 @@
 
 ghost use Rattle.std.specs.Prelude.{◌≡◌, IfOk};
 ghost use Rattle.drawing_check.specs.Draws.{Draws};
+ghost use Rattle.drawing_check.specs.Regions.{HasRegions};
 ghost use Rattle.entries.specs.Drawn.{HasPoints};
 ghost use Rattle.answers.specs.Lengths.{IsNear, IsNoLonger, IsQuick};
 ghost use Rattle.answers.specs.Steps.{IsShaped};
@@ -68,6 +69,7 @@ impl RecordScratch {
     ) -> Result<Drawing, AllocError>
         ensures points { IfOk result (HasPoints shaped_plane.now.plane) }
         ensures draws { IfOk result (Draws shaped_plane.now.plane shaped_plane.now.shape) }
+        ensures regions { IfOk result (HasRegions shaped_plane.now.plane) }
         ensures quick { drawing_kind ≡ DrawingKind.Quick
             → IfOk result (IsQuick shaped_plane.now.plane shaped_plane.now.shape) }
         ensures no_longer { IfOk result (IsNoLonger shaped_plane.now.plane shaped_plane.now.shape) }

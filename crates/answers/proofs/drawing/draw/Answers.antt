@@ -1,4 +1,6 @@
-use Rattle.std.proofs.Common.{arith, sym, subst}
+use Rattle.std.proofs.Common.{rules, arith, sym, subst}
+use Rattle.drawing_check.specs.Regions.{HasRegions}
+use Rattle.drawing_laws.proofs.DrawnRegions.{least_points_have_regions}
 use Rattle.answers.specs.Lengths.{IsNear}
 use Rattle.answers.proofs.Lengths.{quick_is_near, still_below}
 use Rattle.answers.proofs.drawing.draw.Goals as goal
@@ -11,3 +13,11 @@ pub returns-in-Ok-check_in-clause-near : goal.returns-in-Ok-check_in-clause-near
 returns-in-Ok-check_in-clause-near c =
     subst (IsNear c.args.plane.now c.args.shape.now) (sym c.in-Ok-check_in.ensures.same)
     (quick_is_near c.args.plane.now c.args.shape.now c.in-Ok.points (record { boxes = c.in_ok-boxes.boxes; boxed = c.in_ok-boxes.ensures; least = c.in-Ok.ensures.least }))
+
+pub returns-in-Ok-check_in-clause-drawn : goal.returns-in-Ok-check_in-clause-drawn
+returns-in-Ok-check_in-clause-drawn c = record {
+  whole = search rules;
+  draws = search rules;
+  regions = subst (HasRegions c.args.plane.now) (sym c.in-Ok-check_in.ensures.same)
+      (least_points_have_regions c.args.plane.now c.args.shape.now c.in_ok-boxes.boxes c.in-Ok.points c.graph-graph.ensures.plane c.in_ok-boxes.ensures c.in-Ok.ensures.least);
+}
