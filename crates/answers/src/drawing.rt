@@ -1,19 +1,23 @@
 //! How a shape is drawn.
 
-ghost use Rattle.std.specs.Prelude.{◌≡◌, ◌*◌, length, IfOk, IfSome};
+ghost use Rattle.std.specs.Prelude.{◌≡◌, ◌≤◌, ◌*◌, length, IfOk, IfSome};
 ghost use Rattle.faces.specs.Planes.{darts, vertices};
 ghost use Rattle.ortho_rep.specs.Representation.{IsShape};
 ghost use Rattle.compact.specs.Monotone.{AreDirectionsOf};
 ghost use Rattle.drawing_check.specs.Draws.{Draws};
+ghost use Rattle.drawing_check.specs.Regions.{HasRegions};
 ghost use Rattle.entries.specs.Drawn.{HasPoints, IsDrawn};
+ghost use Rattle.drawing_laws.specs.Least.{AreBelow};
+ghost use Rattle.answers.specs.Lengths.{IsNear, IsNoLonger, IsQuick, edge_length};
 
 use crate::fault::ShapeFault;
 use crate::holder::{Holder, Shell};
+use crate::length::{are_below, is_no_longer};
 use crate::shaped_plane::{ShapedPlane, SpentShapedPlane};
 use crate::spent::ReturnQueue;
 use common::DrawingKind;
 use compact::{BoxesScratch, CompactFault, compact_in, dissect_along};
-use drawing_check::{CheckFault, Drawing, check_in};
+use drawing_check::{CheckFault, Drawing, check_in, has_regions_in};
 use entries::{Answer, Cause};
 use faces::Plane;
 use ortho_rep::{Points, Shape};
@@ -102,7 +106,8 @@ impl DrawScratch {
 
 /// Points that draw the shape so, whose darts arrive in these directions, or why there are none.
 ///
-/// For a short drawing the points are compacted. Those found are handed out only where they are checked to draw the
+/// For a short drawing the points are compacted. Those found are handed out only where their edges are together no
+/// longer than before, no coordinate is as great as the number of boxes' vertices, and they are checked to draw the
 /// shape; else the points before are.
 pub(crate) fn draw(
     alloc: Global,
@@ -114,19 +119,28 @@ pub(crate) fn draw(
 ) -> Result<Result<Drawing, Cause>, AllocError>
     requires shape { IsShape plane.now shape.now }
     requires directions { AreDirectionsOf plane.now shape.now directions.now }
-    ensures { IfOk result (IsDrawn plane.now shape.now) }
+    ensures drawn { IfOk result (IsDrawn plane.now shape.now) }
+    ensures quick { drawing_kind ≡ DrawingKind.Quick
+        → IfOk result (λ drawn. IfOk drawn (IsQuick plane.now shape.now)) }
+    ensures no_longer { IfOk result (λ drawn. IfOk drawn (IsNoLonger plane.now shape.now)) }
+    ensures near { IfOk result (λ drawn. IfOk drawn (IsNear plane.now shape.now)) }
 {
+    // Only the proof needs this: `graph` says that the plane is one.
+    let _graph = plane.graph();
     let boxes = dissect_along(alloc, &mut scratch.boxes, plane, shape, directions)?;
     let points = match compact_in(alloc, &mut scratch.points, &boxes) {
         Ok(points) => points,
         Err(CompactFault::Wide) => return Ok(Err(Cause::Wide)),
         Err(CompactFault::Memory) => return Err(AllocError),
     };
+    let limit = boxes.vertices();
     boxes.give_back(&mut scratch.boxes);
-    match shorter_drawing(alloc, scratch, plane, shape, &points, drawing_kind) {
-        Ok(Some(shorter)) => return Ok(Ok(shorter)),
-        Ok(None) => {}
-        Err(AllocError) => return Err(AllocError),
+    if drawing_kind == DrawingKind::Short {
+        match shorter_drawing(alloc, scratch, plane, shape, &points, limit) {
+            Ok(Some(shorter)) => return Ok(Ok(shorter)),
+            Ok(None) => {}
+            Err(AllocError) => return Err(AllocError),
+        }
     }
     match check_in(alloc, &mut scratch.check, plane, shape, points) {
         Ok(drawing) => Ok(Ok(drawing)),
@@ -138,32 +152,41 @@ pub(crate) fn draw(
     }
 }
 
-/// For a short drawing, the one that compaction makes of points, where its edges are shorter and it is checked to draw
-/// the shape.
+/// The drawing that compaction makes of points, if its edges are together no longer, all its coordinates are less than a
+/// limit, it is checked to draw the shape, and its regions are the faces.
 fn shorter_drawing(
     alloc: Global,
     scratch: &mut DrawScratch,
     plane: &Plane,
     shape: &Shape,
     points: &Points,
-    drawing_kind: DrawingKind,
+    limit: u32,
 ) -> Result<Option<Drawing>, AllocError>
     requires shape { IsShape plane.now shape.now }
     requires vertices { length points.now.vertices ≡ vertices plane.now }
     requires corners { 2 * length points.now.corners ≡ darts plane.now }
     ensures points { IfOk result (λ found. IfSome found (HasPoints plane.now)) }
     ensures draws { IfOk result (λ found. IfSome found (Draws plane.now shape.now)) }
+    ensures regions { IfOk result (λ found. IfSome found (HasRegions plane.now)) }
+    ensures no_longer { IfOk result (λ found. IfSome found (λ drawing.
+        edge_length plane.now drawing ≤ edge_length plane.now points.now)) }
+    ensures below { IfOk result (λ found. IfSome found (AreBelow limit)) }
 {
-    if drawing_kind == DrawingKind::Quick {
-        return Ok(None);
-    }
     let Some(shorter) = compact_by_visibility_in(alloc, &mut scratch.compaction, plane, points)?
     else {
         return Ok(None);
     };
-    match check_in(alloc, &mut scratch.check, plane, shape, shorter) {
-        Ok(drawing) => Ok(Some(drawing)),
-        Err((CheckFault::Memory, _)) => Err(AllocError),
-        Err(_) => Ok(None),
+    let is_near = are_below(&shorter, plane.graph().edges(), limit);
+    if !is_near || !is_no_longer(plane, &shorter, points) {
+        return Ok(None);
     }
+    let drawing = match check_in(alloc, &mut scratch.check, plane, shape, shorter) {
+        Ok(drawing) => drawing,
+        Err((CheckFault::Memory, _)) => return Err(AllocError),
+        Err(_) => return Ok(None),
+    };
+    if !has_regions_in(&mut scratch.check, plane, &drawing)? {
+        return Ok(None);
+    }
+    Ok(Some(drawing))
 }

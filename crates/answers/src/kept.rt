@@ -1,8 +1,10 @@
 //! Records that are answered one after another on the caller's thread, in memory that is kept.
 
-ghost use Rattle.std.specs.Prelude.{IfOk};
+ghost use Rattle.std.specs.Prelude.{◌≡◌, IfOk};
 ghost use Rattle.drawing_check.specs.Draws.{Draws};
+ghost use Rattle.drawing_check.specs.Regions.{HasRegions};
 ghost use Rattle.entries.specs.Drawn.{HasPoints};
+ghost use Rattle.answers.specs.Lengths.{IsNear, IsNoLonger, IsQuick};
 ghost use Rattle.answers.specs.Steps.{IsShaped};
 
 use crate::drawing::{DrawScratch, draw};
@@ -53,7 +55,8 @@ impl RecordScratch {
         shape(alloc, &mut self.shapes, plane, choice, drawing_kind)
     }
 
-    /// Points that draw the shape of a plane. Each least shape has some.
+    /// Points that draw the shape of a plane. Each least shape has some. Where a short drawing is asked for, its edges are
+    /// together no longer than those of a quick one. For n vertices and b bends, coordinates are below 3n + 2b + 5.
     ///
     /// # Errors
     ///
@@ -66,6 +69,11 @@ impl RecordScratch {
     ) -> Result<Drawing, AllocError>
         ensures points { IfOk result (HasPoints shaped_plane.now.plane) }
         ensures draws { IfOk result (Draws shaped_plane.now.plane shaped_plane.now.shape) }
+        ensures regions { IfOk result (HasRegions shaped_plane.now.plane) }
+        ensures quick { drawing_kind ≡ DrawingKind.Quick
+            → IfOk result (IsQuick shaped_plane.now.plane shaped_plane.now.shape) }
+        ensures no_longer { IfOk result (IsNoLonger shaped_plane.now.plane shaped_plane.now.shape) }
+        ensures near { IfOk result (IsNear shaped_plane.now.plane shaped_plane.now.shape) }
     {
         // Only the proof needs this: `graph` says that the plane is one.
         let _graph = shaped_plane.plane.graph();

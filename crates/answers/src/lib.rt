@@ -11,6 +11,7 @@ mod framed;
 mod holder;
 mod item;
 mod kept;
+mod length;
 mod purpose;
 mod scratch;
 mod shaped;

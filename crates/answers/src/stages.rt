@@ -1,6 +1,7 @@
 //! The stages that answer a record.
 
 ghost use Rattle.std.specs.Prelude.{◌≡◌, ℕ, List};
+ghost use Rattle.answers.specs.Lengths.{IfDrawn, IsNear, IsNoLonger, IsQuick};
 ghost use Rattle.answers.specs.Steps.{IsRefused, IsEmbedded, IsShaped};
 ghost use Rattle.common.specs.declared.choice.Choice.{Choice};
 ghost use Rattle.embedding.specs.Rules.{KeepsBefore};
@@ -79,6 +80,9 @@ pub(crate) fn answer_with(
     ensures answers { (choice : Choice) (bytes : List ℕ) → IsShaped choice bytes shaped_plane → Answers choice bytes result }
     ensures memory { (choice : Choice) (bytes : List ℕ) → IsShaped choice bytes shaped_plane
         → result ≡ Answer.NoMemory → KeepsBefore (lists_of bytes) 9 }
+    ensures quick { drawing_kind ≡ DrawingKind.Quick → IfDrawn IsQuick result }
+    ensures no_longer { IfDrawn IsNoLonger result }
+    ensures near { IfDrawn IsNear result }
 {
     let ShapedPlane {
         plane,
@@ -115,6 +119,8 @@ pub fn answer(alloc: Global, file: u32, ordinal: u32, rec: Record, choice: Choic
     ensures chosen { result.choice ≡ choice }
     ensures answered { Answers choice rec result.answer }
     ensures drawn { IsDrawnIfLaid result.answer }
+    ensures quick { IfDrawn IsQuick result.answer }
+    ensures near { IfDrawn IsNear result.answer }
     ensures memory { result.answer ≡ Answer.NoMemory → KeepsBefore (lists_of rec) 9 }
 {
     let mut planes = faces::Scratch::empty(alloc);

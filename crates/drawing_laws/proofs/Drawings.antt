@@ -6,12 +6,11 @@ use Rattle.ortho_rep.specs.Shapes.{ShapeModel}
 use Rattle.ortho_rep.specs.Points.{PointsModel}
 use Rattle.ortho_rep.specs.Prices.{PricesModel}
 use Rattle.ortho_rep.specs.Representation.{IsLeast}
-use Rattle.drawing_check.specs.Draws.{Draws}
 use Rattle.dissect.specs.Boxes.{BoxesModel}
 use Rattle.dissect.specs.Boxed.{IsBoxed}
 use Rattle.drawing_laws.proofs.Coordinates.{boxes_monotone}
 use Rattle.entries.specs.declared.cause.Cause.{Cause}
-use Rattle.entries.specs.Drawn.{ShowsCause, HasPoints}
+use Rattle.entries.specs.Drawn.{ShowsCause, IsDrawingOf}
 use Rattle.entries.specs.declared.answer.Answer.{Answer}
 use Rattle.entries.specs.declared.answer.Answer.TheVariants.{Laid, Refused, NoMemory}
 use Rattle.entries.specs.Answers.{IsLaid, Answers}
@@ -41,8 +40,8 @@ no_cause choice bytes plane shape prices cause is =
 
 pub drawn : (choice : Choice) (bytes : List ℕ) (plane : PlaneModel) (shape : ShapeModel) (prices : PricesModel) (drawing : Result PointsModel Cause)
     → IsLaid choice bytes plane shape prices drawing
-    → (points : PointsModel) × (drawing ≡ Ok points) × HasPoints plane points × Draws plane shape points
-drawn choice bytes plane shape prices (Ok points) is = (points, refl, is.drawn.0, is.drawn.1)
+    → (points : PointsModel) × (drawing ≡ Ok points) × IsDrawingOf plane shape points
+drawn choice bytes plane shape prices (Ok points) is = (points, refl, is.drawn)
 drawn choice bytes plane shape prices (Err cause) is = absurd (no_cause choice bytes plane shape prices cause is)
 
 laid_drawn : (choice : Choice) (bytes : List ℕ) (plane : PlaneModel) (shape : ShapeModel) (prices : PricesModel) (drawing : Result PointsModel Cause)

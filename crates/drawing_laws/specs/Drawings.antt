@@ -3,15 +3,14 @@ use Rattle.std.specs.Prelude.{Result, Ok, Err, ⊤}
 use Rattle.faces.specs.Planes.{PlaneModel}
 use Rattle.ortho_rep.specs.Shapes.{ShapeModel}
 use Rattle.ortho_rep.specs.Points.{PointsModel}
-use Rattle.drawing_check.specs.Draws.{Draws}
 use Rattle.entries.specs.declared.cause.Cause.{Cause}
 use Rattle.entries.specs.declared.answer.Answer.{Answer}
 use Rattle.entries.specs.declared.answer.Answer.TheVariants.{Laid, Refused, NoMemory}
-use Rattle.entries.specs.Drawn.{HasPoints}
+use Rattle.entries.specs.Drawn.{IsDrawingOf}
 
--- there are points and corners for the whole plane, which draw the shape, and no cause in their place
+-- there are points that draw the shape, and no cause in their place
 abbrev pub HasDrawing : PlaneModel → ShapeModel → Result PointsModel Cause → Type 0
-HasDrawing plane shape (Ok points) = HasPoints plane points × Draws plane shape points
+HasDrawing plane shape (Ok points) = IsDrawingOf plane shape points
 HasDrawing plane shape (Err cause) = ⊥
 
 -- where the answer has a shape, it has a drawing of it

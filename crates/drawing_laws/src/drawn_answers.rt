@@ -7,12 +7,11 @@ ghost use Rattle.ortho_rep.specs.Shapes.{ShapeModel};
 ghost use Rattle.ortho_rep.specs.Points.{PointsModel};
 ghost use Rattle.ortho_rep.specs.Prices.{PricesModel};
 ghost use Rattle.ortho_rep.specs.Representation.{IsLeast};
-ghost use Rattle.drawing_check.specs.Draws.{Draws};
 ghost use Rattle.dissect.specs.Boxes.{BoxesModel};
 ghost use Rattle.dissect.specs.Boxed.{IsBoxed};
 ghost use Rattle.entries.specs.declared.cause.Cause.{Cause};
 ghost use Rattle.entries.specs.declared.answer.Answer.{Answer};
-ghost use Rattle.entries.specs.Drawn.{ShowsCause, HasPoints};
+ghost use Rattle.entries.specs.Drawn.{ShowsCause, IsDrawingOf};
 ghost use Rattle.entries.specs.Answers.{IsLaid, Answers};
 ghost use Rattle.drawing_laws.specs.Drawings.{IsDrawnIfLaid};
 
@@ -23,13 +22,13 @@ pub fn no_cause_is_shown()
         → IsPlane plane → IsLeast plane shape → IsBoxed plane shape b → ¬ ShowsCause plane shape b cause }
 {}
 
-/// So a laid answer has no cause in place of points. It has points and corners for the whole plane, and they draw the shape.
+/// So a laid answer has no cause in place of points. It has points for the whole plane, which draw the shape, each face where it belongs.
 pub fn laid_answers_are_drawn()
     ensures cause { (choice : Choice) (bytes : List ℕ) (plane : PlaneModel) (shape : ShapeModel) (prices : PricesModel) (cause : Cause)
         → ¬ IsLaid choice bytes plane shape prices (Err cause) }
     ensures points { (choice : Choice) (bytes : List ℕ) (plane : PlaneModel) (shape : ShapeModel) (prices : PricesModel) (drawing : Result PointsModel Cause)
         → IsLaid choice bytes plane shape prices drawing
-        → (points : PointsModel) × (drawing ≡ Ok points) × HasPoints plane points × Draws plane shape points }
+        → (points : PointsModel) × (drawing ≡ Ok points) × IsDrawingOf plane shape points }
 {}
 
 /// So an answer to a record has a drawing where it has a shape.

@@ -9,6 +9,7 @@ use Rattle.dissect.specs.Monotone.{AreLeastPoints, FitsNoGrid}
 use Rattle.drawing_check.specs.declared.fault.CheckFault.{CheckFault}
 use Rattle.drawing_check.specs.declared.fault.CheckFault.TheVariants as fault
 use Rattle.drawing_check.specs.Draws.{Draws}
+use Rattle.drawing_check.specs.Regions.{HasRegions}
 use Rattle.drawing_check.specs.Faults.{IsFirstFault}
 use Rattle.entries.specs.declared.cause.Cause.{Cause}
 use Rattle.entries.specs.declared.cause.Cause.TheVariants.{Wide, OutOfGrid, NotAxis, WrongTurn, Meet}
@@ -40,7 +41,14 @@ pub record HasPoints (plane : PlaneModel) (points : PointsModel) : Type 0 where
   pub vertex_count : length points.vertices ≡ vertices plane
   pub edge_count : 2 * length points.corners ≡ darts plane
 
--- there are points and corners for the whole plane, and they draw the shape; or the cause in their place is shown
+-- the points draw the shape of the plane
+pub record IsDrawingOf (plane : PlaneModel) (shape : ShapeModel) (points : PointsModel) : Type 0 where
+  pub whole : HasPoints plane points
+  pub draws : Draws plane shape points
+  -- the regions into which the drawing cuts the plane are the faces, each on the left of its darts, and the outer one is outside
+  pub regions : HasRegions plane points
+
+-- the points draw the shape, or the cause in their place is shown
 abbrev pub IsDrawn : PlaneModel → ShapeModel → Result PointsModel Cause → Type 0
-IsDrawn plane shape (Ok points) = HasPoints plane points × Draws plane shape points
+IsDrawn plane shape (Ok points) = IsDrawingOf plane shape points
 IsDrawn plane shape (Err cause) = IsCause plane shape cause

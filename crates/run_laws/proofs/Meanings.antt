@@ -16,10 +16,9 @@ use Rattle.ortho_rep.specs.Points.{PointsModel}
 use Rattle.ortho_rep.specs.Prices.{PricesModel, IsProof}
 use Rattle.ortho_rep.specs.Representation.{Rep, IsLeast, whole_turn}
 use Rattle.ortho_rep.specs.Best.{IsBest, IsChosen}
-use Rattle.drawing_check.specs.Draws.{Draws}
 use Rattle.entries.specs.declared.cause.Cause.{Cause}
 use Rattle.entries.specs.Answers.{IsLaid}
-use Rattle.entries.specs.Drawn.{HasPoints, IsDrawn}
+use Rattle.entries.specs.Drawn.{IsDrawingOf, IsDrawn}
 use Rattle.run_laws.specs.Laid.{Represents, IsFirstBest, HasOuter, ProveLeast, AreDrawn, IsCauseShown, IsLaidPlainly}
 
 -- ---- representations, in both words
@@ -105,10 +104,12 @@ proves p shape prices proof = record {
   bent = λ d d_in. (proof.prove d d_in).tight;
 }
 
-are_drawn : (p : PlaneModel) (shape : ShapeModel) (points : PointsModel) → HasPoints p points → Draws p shape points → AreDrawn p shape points
-are_drawn p shape points has draws = record {
-  vertex_count = has.vertex_count;
-  edge_count = has.edge_count;
+are_drawn : (p : PlaneModel) (shape : ShapeModel) (points : PointsModel) → IsDrawingOf p shape points → AreDrawn p shape points
+are_drawn p shape points is =
+    let draws = is.draws in
+    record {
+  vertex_count = is.whole.vertex_count;
+  edge_count = is.whole.edge_count;
   vertices = draws.grid.ends;
   corners = draws.grid.bends;
   axes = draws.axes;
@@ -116,11 +117,12 @@ are_drawn p shape points has draws = record {
   turned_at = λ k d inside. (draws.turns.edges k d inside).each;
   heads = draws.turns.heads;
   apart = draws.apart;
+  regions = is.regions;
 }
 
 drawn_means : (p : PlaneModel) (shape : ShapeModel) (drawing : Result PointsModel Cause) → IsDrawn p shape drawing
     → (IfOk drawing (AreDrawn p shape)) × (IfErr drawing (IsCauseShown p shape))
-drawn_means p shape (Ok points) drawn = (are_drawn p shape points drawn.0 drawn.1, tt)
+drawn_means p shape (Ok points) drawn = (are_drawn p shape points drawn, tt)
 drawn_means p shape (Err cause) drawn = (tt, record { boxes = drawn.boxes; boxed = drawn.boxed; shown = drawn.shown })
 
 -- ---- the whole answer

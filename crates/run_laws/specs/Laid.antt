@@ -22,6 +22,7 @@ use Rattle.ortho_rep.specs.Edges.{lesser_darts}
 use Rattle.drawing_check.specs.Paths.{path_along, paths, point_of}
 use Rattle.drawing_check.specs.Walks.{interior}
 use Rattle.drawing_check.specs.Draws.{direction_of, turned, leaving}
+use Rattle.drawing_check.specs.Regions.{HasRegions}
 use Rattle.dissect.specs.Boxes.{BoxesModel}
 use Rattle.dissect.specs.Boxed.{IsBoxed}
 use Rattle.entries.specs.declared.cause.Cause.{Cause}
@@ -126,6 +127,9 @@ pub record AreDrawn (plane : PlaneModel) (shape : ShapeModel) (points : PointsMo
       → leaving plane points (reverse_dart plane d) ≡ left_quarters (angle_at shape d) (leaving plane points (next plane d))
   -- no point occurs twice among those of the vertices and those that the paths pass between their ends
   pub apart : AllPairs (λ a b. a ≢ b) (points.vertices ++ flat_map interior (paths plane points))
+  -- each unit cell lies in one face: beside an edge in that on this side, with a neighbour in the same where no edge is
+  -- between them, and outside in the outer one
+  pub regions : HasRegions plane points
 
 -- some boxes that dissect the shape show why it is not drawn
 pub record IsCauseShown (plane : PlaneModel) (shape : ShapeModel) (cause : Cause) : Type 0 where

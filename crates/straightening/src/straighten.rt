@@ -15,19 +15,33 @@ use crate::tally::is_rep;
 use faces::Plane;
 use ortho_rep::{Prices, Shape};
 use std::alloc::{AllocError, Global};
+use std::boxed::Box;
 
-/// What straightening works in, to be lent to one shape after another. It takes about 5 KB, none of it on the heap.
-/// What it holds between two calls is of no use.
+/// What straightening works in, to be lent to one shape after another. It takes no memory until a shape has a vertex
+/// that may be made straight, and 5 KB from then on. What it holds between two calls is of no use.
 #[derive(Drop)]
 pub struct Scratch {
+    workspace: Option<Box<Workspace>>,
+}
+
+impl Scratch {
+    /// No memory yet.
+    pub fn new() -> Scratch {
+        Scratch { workspace: None }
+    }
+}
+
+/// The lists in which a shape is straightened.
+#[derive(Drop)]
+struct Workspace {
     flow: ShapeFlow,
     search: FaceSearch,
 }
 
-impl Scratch {
-    /// One that has worked on nothing.
-    pub fn new() -> Scratch {
-        Scratch {
+impl Workspace {
+    /// One in which nothing was straightened.
+    fn new() -> Workspace {
+        Workspace {
             flow: ShapeFlow::new(),
             search: FaceSearch::new(),
         }
@@ -50,7 +64,7 @@ const REFLEX: u8 = 3;
 ///
 /// # Errors
 ///
-/// `AllocError` where there is no memory for the new shape; the given one is dropped then.
+/// `AllocError` where there is no memory for the new shape or to work in; the given one is dropped then.
 pub fn straighten_in(
     alloc: Global,
     scratch: &mut Scratch,
@@ -70,7 +84,34 @@ pub fn straighten_in(
     let Some(first) = first_movable(plane, &shape, prices) else {
         return Ok(shape);
     };
-    let Scratch { flow, search } = scratch;
+    let mut workspace = match scratch.workspace.take() {
+        Some(workspace) => workspace,
+        None => Box::new(alloc, Workspace::new())?,
+    };
+    let made = straighten_shape(alloc, &mut workspace, plane, shape, prices, first);
+    scratch.workspace = Some(workspace);
+    made
+}
+
+/// The same, in lists that are there, from the head of a dart on.
+fn straighten_shape(
+    alloc: Global,
+    workspace: &mut Workspace,
+    plane: &Plane,
+    shape: Shape,
+    prices: &Prices,
+    first: u16,
+) -> Result<Shape, AllocError>
+    requires shape { IsShape plane.now shape }
+    requires least { IsLeast plane.now shape }
+    requires proof { IsProof plane.now shape prices.now }
+    ensures shape { IfOk result (λ made. IsShape plane.now made) }
+    ensures least { IfOk result (λ made. IsLeast plane.now made) }
+    ensures proof { IfOk result (λ made. IsProof plane.now made prices.now) }
+    ensures straighter { IfOk result (λ made. reflex_angles made ≤ reflex_angles shape) }
+    ensures bends { IfOk result (λ made. bends_of (length made.strings) (turns_at made) ≡ bends_of (length shape.strings) (turns_at shape)) }
+{
+    let Workspace { flow, search } = workspace;
     flow.load(plane, &shape);
     search.clear(plane);
     if !straighten_from(flow, search, plane, prices, first) || !is_rep(plane, flow) {

@@ -1,4 +1,4 @@
-use Rattle.straightening.proofs.straighten.straighten_in.Goals as goal
+use Rattle.straightening.proofs.straighten.straighten_shape.Goals as goal
 
 pub returns-then-count_reflex-clause-proof : goal.returns-then-count_reflex-clause-proof
 returns-then-count_reflex-clause-proof c = c.in_ok-made.ensures.proof c.args.prices.now c.requires.proof.prices c.straighten_from.ensures
