@@ -1,4 +1,4 @@
-use Rattle.std.proofs.Common.{Err, subst}
+use Rattle.std.proofs.Common.{subst}
 use Rattle.entries.specs.Drawn.{IsCause, IsDrawn}
 use Rattle.drawing_laws.proofs.Drawings.{none_shown}
 use Rattle.answers.proofs.kept.RecordScratch.draw.Goals as goal
