@@ -1,5 +1,5 @@
 -- How long edges are, one after another, and how far drawings reach.
-use Rattle.std.proofs.Common.{◌≡◌, ℕ, ◌+◌, ◌<◌, ◌≤◌, List, [], ◌∷◌, All, Bool, true, false, length, ap, ◌∙◌, arith}
+use Rattle.std.proofs.Common.{◌≡◌, ℕ, ◌+◌, ◌≤◌, List, All, true, false, ap, ◌∙◌, arith}
 use Rattle.std.specs.List.{sum_by}
 use Rattle.std.proofs.lemmas.List.Sums.{sum_by_push}
 use Rattle.faces.specs.Planes.{PlaneModel}
@@ -11,7 +11,7 @@ use Rattle.drawing_check.specs.Paths.{path_along}
 use Rattle.drawing_check.proofs.Routing.{paths_below, paths_below-more, paths_below-kept}
 use Rattle.drawing_laws.specs.Least.{AreBelow, IsBelow}
 use Rattle.drawing_laws.proofs.Lowest.{laid_below}
-use Rattle.answers.specs.Lengths.{path_length, edge_length, IsQuick, IsNoLonger, IsNear}
+use Rattle.answers.specs.Lengths.{path_length, IsQuick, IsNoLonger, IsNear}
 
 -- how long the edges are whose lesser darts are below n
 abbrev pub length_below : PlaneModel → PointsModel → ℕ → ℕ

@@ -50,13 +50,7 @@ fn edge_length(plane: &Plane, points: &Points) -> Option<u64>
 }
 
 /// How long the edge with this number is, whose lesser dart and its reverse are given, where the number has 64 bits.
-fn length_along(
-    plane: &Plane,
-    points: &Points,
-    dart: u16,
-    reverse: u16,
-    edge: u16,
-) -> Option<u64>
+fn length_along(plane: &Plane, points: &Points, dart: u16, reverse: u16, edge: u16) -> Option<u64>
     requires inside { dart < darts plane.now }
     requires lesser { IsTrue (is_lesser plane.now dart) }
     requires reverse { reverse ≡ reverse_dart plane.now dart }

@@ -39,12 +39,13 @@ struct Workspace {
 }
 
 impl Workspace {
-    /// One in which nothing was straightened.
-    fn new() -> Workspace {
-        Workspace {
+    /// One in which nothing was straightened. Only this function pays for the room that it takes while it is made.
+    fn boxed(alloc: Global) -> Result<Box<Workspace>, AllocError> {
+        let workspace = Workspace {
             flow: ShapeFlow::new(),
             search: FaceSearch::new(),
-        }
+        };
+        Ok(Box::new(alloc, workspace)?)
     }
 }
 
@@ -86,7 +87,7 @@ pub fn straighten_in(
     };
     let mut workspace = match scratch.workspace.take() {
         Some(workspace) => workspace,
-        None => Box::new(alloc, Workspace::new())?,
+        None => Workspace::boxed(alloc)?,
     };
     let made = straighten_shape(alloc, &mut workspace, plane, shape, prices, first);
     scratch.workspace = Some(workspace);

@@ -1,4 +1,4 @@
-use Rattle.std.proofs.Common.{Err, IfOk, subst}
+use Rattle.std.proofs.Common.{IfOk, subst}
 use Rattle.answers.specs.Lengths.{IsQuick}
 use Rattle.entries.specs.Drawn.{IsCause, IsDrawn}
 use Rattle.drawing_laws.proofs.Drawings.{none_shown}
