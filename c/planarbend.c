@@ -25,14 +25,14 @@ uint32_t planarbend_c_layout(const uint8_t *record, size_t size, uint32_t outer,
 enum { ALIGNMENT = 16, FIRST_ROOM = 16 << 10, MOST_ROOM = (1 << 20) - 256 };
 
 /*
- * Blocks are cut off one after another from one piece of memory. All are let go when none is in use any more, the last one
- * also by itself. Where the piece is too small, malloc gives the block, and the next call finds a greater piece.
+ * Blocks are cut off one after another from one piece of memory. A call gives all of them back before it returns, so each
+ * call begins with the whole piece; of blocks given back before, the last one is used again. Where the piece is too small,
+ * malloc gives the block, and the next call finds a greater piece.
  */
 struct planarbend {
     unsigned char *piece;
-    size_t room;
+    size_t room; /* 0 where there is no piece */
     size_t used;
-    size_t blocks; /* in use, of the piece */
     size_t wanted; /* most bytes of the piece that this call could have used */
     size_t outside;
 };
@@ -59,8 +59,7 @@ static size_t rounded(size_t size) {
 }
 
 static bool is_inside(const planarbend *object, const void *block) {
-    const unsigned char *at = block;
-    return object != NULL && object->piece != NULL && at >= object->piece && at < object->piece + object->room;
+    return object != NULL && (uintptr_t)block - (uintptr_t)object->piece < object->room;
 }
 
 /* A block of the piece, which keeps its size in front of it; or null, where the piece has no room. */
@@ -73,7 +72,6 @@ static void *block_of(planarbend *object, size_t size) {
     unsigned char *at = object->piece + object->used;
     memcpy(at, &whole, sizeof whole);
     object->used += whole;
-    object->blocks++;
     if (object->used > object->wanted) object->wanted = object->used;
     return at + ALIGNMENT;
 }
@@ -126,8 +124,6 @@ void rattle_dealloc(void *block) {
         return;
     }
     if (is_last(current, block)) current->used -= whole_size(block);
-    current->blocks--;
-    if (current->blocks == 0) current->used = 0;
 }
 
 /* After a call: where the piece was too small for it, a piece that is not. Where there is no memory for one, none. */
@@ -176,7 +172,7 @@ int planarbend_layout(planarbend *object, const uint8_t *record, size_t size, in
     memset(&lent, 0, sizeof lent);
     if (lists != NULL) lent = *lists;
     if (outer < 0 || drawing < 0 || (record == NULL && size > 0) || !without_nulls(&lent)) return PLANARBEND_ARGUMENT;
-    if (object != NULL) object->wanted = object->outside = 0;
+    if (object != NULL) object->used = object->wanted = object->outside = 0;
     current = object;
     uint32_t result = planarbend_c_layout(
         record == NULL ? &nothing : record, size, (uint32_t)outer, (uint32_t)drawing, counts == NULL ? &unwanted : counts, &lent);

@@ -4,7 +4,7 @@ ghost use Rattle.std.specs.Prelude.{◌≡◌, ◌*◌, length};
 ghost use Rattle.faces.specs.Planes.{darts, vertices};
 
 use crate::ends::find_ends;
-use crate::scratch::Scratch;
+use crate::scratch::Lists;
 use crate::segments::Segments;
 use faces::Plane;
 use ortho_rep::{Point, Points};
@@ -24,33 +24,27 @@ pub(crate) struct Bent {
 
 /// Lists the segments of a drawing along both axes, with their ends.
 pub(crate) fn list_segments(
-    scratch: &mut Scratch,
+    lists: &mut Lists,
     plane: &Plane,
     points: &Points,
 ) -> Result<(), AllocError>
     requires vertices { length points.now.vertices ≡ vertices plane.now }
     requires corners { 2 * length points.now.corners ≡ darts plane.now }
 {
-    scratch.x.begin(points.vertex_count())?;
-    scratch.y.begin(points.vertex_count())?;
-    list_edges(
-        plane,
-        points,
-        &mut scratch.x,
-        &mut scratch.y,
-        &mut scratch.bent,
-    )?;
+    lists.x.begin(points.vertex_count())?;
+    lists.y.begin(points.vertex_count())?;
+    list_edges(plane, points, &mut lists.x, &mut lists.y, &mut lists.bent)?;
     for (place, point) in points.vertices().iter().enumerate() {
         let vertex = place.wrapping_add(1).min(255) as u8;
-        scratch.x.add_straight(vertex, point.x)?;
-        scratch.y.add_straight(vertex, point.y)?;
+        lists.x.add_straight(vertex, point.x)?;
+        lists.y.add_straight(vertex, point.y)?;
     }
-    for bent in scratch.bent.as_slice() {
+    for bent in lists.bent.as_slice() {
         let corners = corners_of(points, bent.edge);
-        list_corners(corners, *bent, &mut scratch.x, &mut scratch.y)?;
+        list_corners(corners, *bent, &mut lists.x, &mut lists.y)?;
     }
-    find_ends(&mut scratch.x, &mut scratch.y)?;
-    find_ends(&mut scratch.y, &mut scratch.x)
+    find_ends(&mut lists.x, &mut lists.y)?;
+    find_ends(&mut lists.y, &mut lists.x)
 }
 
 /// Joins the ends of all edges that have no corner, and lists those that have some.

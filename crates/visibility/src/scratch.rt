@@ -1,16 +1,29 @@
 //! Memory for compaction, which is used again.
 
-ghost use Rattle.std.specs.Prelude.{◌≡◌, []};
-
 use crate::listing::Bent;
 use crate::segments::Segments;
 use crate::shortening::Shortening;
 use crate::sweep::Sweep;
-use std::alloc::Global;
+use std::alloc::{AllocError, Global};
+use std::boxed::Box;
 
-/// Memory in which one drawing after another is compacted. What it holds between two of them is of no use.
+/// Memory in which one drawing after another is compacted: none until one comes that may become shorter. What it
+/// holds between two of them is of no use.
 #[derive(Drop)]
 pub struct Scratch {
+    pub(crate) lists: Option<Box<Lists>>,
+}
+
+impl Scratch {
+    /// No memory yet.
+    pub fn empty(_alloc: Global) -> Scratch {
+        Scratch { lists: None }
+    }
+}
+
+/// The lists in which drawings are compacted.
+#[derive(Drop)]
+pub(crate) struct Lists {
     /// The segments that have one x.
     pub(crate) x: Segments,
     /// The segments that have one y.
@@ -20,17 +33,16 @@ pub struct Scratch {
     pub(crate) shortening: Shortening,
 }
 
-impl Scratch {
-    /// No memory yet.
-    pub fn empty(alloc: Global) -> Scratch
-        ensures { result.bent.items ≡ [] }
-    {
-        Scratch {
+impl Lists {
+    /// Empty ones.
+    pub(crate) fn boxed(alloc: Global) -> Result<Box<Lists>, AllocError> {
+        let lists = Lists {
             x: Segments::empty(alloc),
             y: Segments::empty(alloc),
             bent: Vec::new(alloc),
             sweep: Sweep::empty(alloc),
             shortening: Shortening::empty(alloc),
-        }
+        };
+        Ok(Box::new(alloc, lists)?)
     }
 }
