@@ -26,7 +26,7 @@ use std::mem;
 use std::sync::Wait;
 use visibility::compact_by_visibility_in;
 
-/// What drawing takes memory for and does not keep. It is lent to one shape after another.
+/// Buffers that the drawing of one shape after another reuses.
 #[derive(Drop)]
 pub struct DrawScratch {
     boxes: BoxesScratch,
@@ -41,7 +41,7 @@ pub struct DrawScratch {
 }
 
 impl DrawScratch {
-    /// No memory yet, and nothing goes back.
+    /// An empty scratch, through which nothing returns. It allocates nothing.
     pub fn empty(alloc: Global) -> DrawScratch {
         DrawScratch {
             boxes: BoxesScratch::empty(alloc),
@@ -59,8 +59,9 @@ impl DrawScratch {
         self.directions = directions;
     }
 
-    /// Takes the lists of an answer that nobody reads any more, so that they are filled anew. Those of its drawing stay
-    /// here, those of its plane and its shape go back in the holder of its shaped plane.
+    /// Takes back the lists of an answer that is no longer read, to be reused.
+    ///
+    /// Those of its drawing stay here; those of its plane and its shape return in the holder of its shaped plane.
     pub fn take_back(&mut self, alloc: Global, answer: Answer) {
         if let Answer::Laid {
             plane,

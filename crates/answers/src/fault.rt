@@ -1,6 +1,6 @@
 //! Why a record gets no shape.
 
-/// Why a record has no plane, or no shape.
+/// The reason why a record has no plane, or no shape.
 #[derive(Clone, Copy, Debug, PartialEq, Eq)]
 pub enum ShapeFault {
     /// It breaks this rule, and none before it.

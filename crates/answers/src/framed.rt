@@ -11,7 +11,7 @@ use planar_code::Record;
 use std::alloc::Global;
 use std::sync::Wait;
 
-/// A record of a file, of which nothing more is known.
+/// A record of a file that no stage has worked on yet.
 pub type Framed<P = Keeping> = Item<P, Record, ()>;
 
 impl<P: Purpose> Staged for Item<P, Record, ()> {

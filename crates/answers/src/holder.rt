@@ -18,13 +18,13 @@ enum Slot<T: Drop, S: Drop> {
     Spent(S),
 }
 
-/// A holder without a value. What is done with may go back in it.
+/// An empty holder, in which lists that are no longer needed may return.
 #[derive(Drop)]
 pub struct Shell<T: Drop, S: Drop> {
     slot: Box<Slot<T, S>>,
 }
 
-/// A value in a holder. In contracts it is the value.
+/// A value with the shell in which its lists return once it is no longer needed. In contracts it is the value.
 #[derive(Drop)]
 pub struct Holder<T: Drop, S: Drop> {
     slot: Box<Slot<T, S>>,

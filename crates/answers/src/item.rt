@@ -7,8 +7,10 @@ use crate::state::State;
 use crate::task::Task;
 use lanes::Numbered;
 
-/// A record of a file between two stages of a lane: which one it is, what the lane is for, what is carried of the
-/// record, and what was made of it so far. Its type keeps that it was made of this record.
+/// A record of a file between two stages of a lane.
+///
+/// It holds which record it is, what the lane is for, what is carried of the record, and what was made of it so far.
+/// Its type guarantees that it was made of this record.
 #[derive(Drop)]
 pub struct Item<P: Purpose, R: Carried, S: State> {
     pub task: Task,

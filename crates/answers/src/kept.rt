@@ -17,7 +17,7 @@ use drawing_check::Drawing;
 use planar_code::Record;
 use std::alloc::{AllocError, Global};
 
-/// What all stages take memory for and do not keep. It is lent to one record after another.
+/// Buffers that all stages reuse for one record after another.
 #[derive(Drop)]
 pub struct RecordScratch {
     planes: faces::Scratch,
@@ -26,7 +26,7 @@ pub struct RecordScratch {
 }
 
 impl RecordScratch {
-    /// No memory yet.
+    /// An empty scratch. It allocates nothing.
     pub fn empty(alloc: Global) -> RecordScratch {
         RecordScratch {
             planes: faces::Scratch::empty(alloc),
@@ -35,12 +35,13 @@ impl RecordScratch {
         }
     }
 
-    /// The plane of a record with the chosen outer face, a least shape of it for this drawing, and prices that prove it
-    /// least, or why there are none. Nothing is drawn.
+    /// The plane of a record with the chosen outer face, a least shape of it, and prices that prove it.
+    ///
+    /// The shape is for this kind of drawing. Nothing is drawn.
     ///
     /// # Errors
     ///
-    /// `Rule` with the first rule that the record breaks; `Memory` if it breaks none, but there is no memory for the plane
+    /// `Rule` with the first rule that the record breaks; `Memory` if it breaks none, but memory runs out for the plane
     /// or its shape.
     pub fn shape(
         &mut self,

@@ -12,7 +12,7 @@ use lanes::Numbered;
 use planar_code::Record;
 use std::alloc::Global;
 
-/// What a lane answers records for: what it carries of each, and what it gives for each.
+/// The purpose for which a lane answers records: what it carries of each record, and which entry it gives for it.
 pub trait Purpose: Drop + Send {
     /// What is carried of a record once its graph is read.
     type Carried: Carried;
@@ -37,7 +37,7 @@ pub trait Purpose: Drop + Send {
         ensures { Self.Entry.about result ≡ about_in task (Self.Carried.bytes rec) };
 }
 
-/// Lanes whose entries are kept, with their records.
+/// The `Purpose` of lanes whose entries are kept whole, with their records.
 #[derive(Clone, Copy, Debug)]
 pub struct Keeping;
 

@@ -11,7 +11,7 @@ use faces::Plane;
 use std::alloc::{AllocError, Global};
 use std::sync::Wait;
 
-/// What reading a record's graph and tracing its faces fills anew. It is lent to one record after another.
+/// Buffers that reading the graph and tracing the faces of one record after another reuse.
 #[derive(Drop)]
 pub struct EmbedScratch {
     pub(crate) planes: faces::Scratch,
@@ -21,7 +21,7 @@ pub struct EmbedScratch {
 }
 
 impl EmbedScratch {
-    /// No memory yet, and nothing comes back.
+    /// An empty scratch, through which nothing returns. It allocates nothing.
     pub fn empty(alloc: Global) -> EmbedScratch {
         EmbedScratch {
             planes: faces::Scratch::empty(alloc),
@@ -59,7 +59,7 @@ impl EmbedScratch {
     }
 }
 
-/// The scratch of each stage of a lane, through which holders and lists go back from each stage to the one before.
+/// The scratch of each stage of a lane, through which holders and lists return from each stage to the one before.
 #[derive(Drop)]
 pub struct StageScratch {
     pub embed: EmbedScratch,
@@ -68,12 +68,13 @@ pub struct StageScratch {
 }
 
 impl StageScratch {
-    /// For a lane whose links have room for `capacity` messages. A holder is on its way in one link, in the hands of a
-    /// stage, or on the way back.
+    /// The scratch of a lane whose links have room for `capacity` messages.
+    ///
+    /// A holder is in transit in one link, in use in a stage, or on its return.
     ///
     /// # Errors
     ///
-    /// `AllocError` where there is no memory for the ways back.
+    /// `AllocError` if there is no memory for the channels by which holders return.
     pub fn new(alloc: Global, capacity: u32) -> Result<StageScratch, AllocError> {
         let room = capacity as usize + 3;
         let (planes, spent_planes) = ReturnQueue::new(alloc, room)?;

@@ -9,7 +9,7 @@ use lanes::{Stage, Staged};
 use std::alloc::Global;
 use std::sync::Wait;
 
-/// A record of a file, and its plane with a least shape or why there is none.
+/// A record of a file and its plane with a least shape, or the reason why there is none.
 pub type Shaped<P = Keeping> = Item<P, <P as Purpose>::Carried, ShapeFound>;
 
 impl<P: Purpose> Staged for Item<P, <P as Purpose>::Carried, ShapeFound> {

@@ -8,8 +8,9 @@ ghost use Rattle.std.proofs.Props.{props};
 use faces::Plane;
 use ortho_rep::{Prices, Shape};
 
-/// A plane, an orthogonal representation of it with the fewest bends, prices that prove so, and the
-/// direction in which each of its darts arrives there, in quarter turns to the left from east.
+/// A plane with an orthogonal representation of fewest bends, prices that prove it, and the directions of its darts.
+///
+/// The direction of a dart is that in which it arrives at its head there, in quarter turns to the left from east.
 #[derive(Drop)]
 pub struct ShapedPlane {
     pub plane: Plane,
@@ -22,7 +23,7 @@ pub struct ShapedPlane {
     pub ghost directed: { AreDirectionsOf plane shape directions.items } by { Prim.hlevel props },
 }
 
-/// A shaped plane that is done with: its lists are filled anew.
+/// A shaped plane that is no longer needed, whose lists are reused.
 #[derive(Drop)]
 pub struct SpentShapedPlane {
     pub plane: Plane,

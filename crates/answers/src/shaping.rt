@@ -20,7 +20,7 @@ use std::mem;
 use std::sync::Wait;
 use straightening::straighten_in;
 
-/// What finding shapes takes memory for and does not keep. It is lent to one plane after another.
+/// Buffers that finding the shape of one plane after another reuses.
 #[derive(Drop)]
 pub struct ShapeScratch {
     shapes: ortho_rep::Scratch,
@@ -44,7 +44,7 @@ pub(crate) struct Passages {
 }
 
 impl ShapeScratch {
-    /// No memory yet, and nothing comes back.
+    /// An empty scratch, through which nothing returns. It allocates nothing.
     pub fn empty(alloc: Global) -> ShapeScratch {
         ShapeScratch {
             shapes: ortho_rep::Scratch::empty(alloc),

@@ -107,11 +107,10 @@ pub(crate) fn answer_with(
     }
 }
 
-/// The entry of a record under a choice of its outer face: one stage after another, on the caller's thread. The
-/// drawing is the quick one.
+/// The entry of a record: all stages, one after another, on the caller's thread, with the quick drawing.
 ///
-/// If the record breaks a rule, the answer names the first one, whatever memory there is. Else it is `NoMemory` if any call
-/// on the way finds no memory.
+/// The outer face is that of this choice. If the record breaks a rule, the answer names the first one, whatever memory
+/// there is. Otherwise it is `NoMemory` if any call on the way runs out of memory.
 pub fn answer(alloc: Global, file: u32, ordinal: u32, rec: Record, choice: Choice) -> Entry
     ensures file { result.file ≡ file }
     ensures ordinal { result.ordinal ≡ ordinal }

@@ -19,14 +19,14 @@ impl State for () {
     ghost describes = { λ _ _. ⊤ };
 }
 
-/// The record's plane, or why there is none.
+/// The record's plane, or the reason why there is none.
 pub type Traced = Result<Holder<Plane, Plane>, ShapeFault>;
 
 impl State for Traced {
     ghost describes = { λ about plane. IsEmbedded about.bytes plane };
 }
 
-/// The record's plane with a least shape, or why there is none.
+/// The record's plane with a least shape, or the reason why there is none.
 pub type ShapeFound = Result<Holder<ShapedPlane, SpentShapedPlane>, ShapeFault>;
 
 impl State for ShapeFound {

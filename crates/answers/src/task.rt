@@ -2,7 +2,7 @@
 
 use common::{Choice, DrawingKind};
 
-/// Which record of a run it is, and how it is answered.
+/// The identity of a record of a run, and how it is to be answered.
 #[derive(Clone, Copy, Debug)]
 pub struct Task {
     /// The file, from 0.

@@ -164,8 +164,9 @@ fn relaxed_along(
     Ok(coordinates)
 }
 
-/// The least coordinates of the vertices that grow along the darts, on x and on y, in the memory of the
-/// lists that are lent. `around` has the neighbours of each vertex.
+/// The least x and y coordinates of the vertices that grow along the darts.
+///
+/// They reuse the buffers of `x` and `y`. `around` has the neighbours of each vertex.
 pub fn least_coordinates(
     boxes: &Boxes,
     around: &[u32],

@@ -6,7 +6,7 @@ ghost use Rattle.compact.specs.Constraints.{Satisfies, AreInRange, IsLow, AreWid
 
 use ortho_rep::MAX_COORDINATE;
 
-/// The coordinate of `to` is to be that of `from` and `least` more, or greater.
+/// A constraint: the coordinate of `to` is at least that of `from` plus `least`.
 #[derive(Clone, Copy, Debug)]
 pub struct Constraint {
     pub from: u32,
@@ -14,7 +14,7 @@ pub struct Constraint {
     pub least: u8,
 }
 
-/// What the relaxation of constraints has found.
+/// The outcome of relaxing constraints.
 #[derive(Clone, Copy, Debug)]
 pub enum Relaxation {
     /// Each constraint is satisfied.
@@ -63,12 +63,13 @@ fn relax_all(constraints: &[Constraint], coordinates: &mut [u16]) -> Relaxation
     found
 }
 
-/// Raises low coordinates until each constraint is satisfied, and says whether that could be: they are then the
-/// least that satisfy the constraints, the lengths of longest paths. If not, all coordinates that satisfy the
-/// constraints exceed 65,535 somewhere.
+/// Raises coordinates until all constraints are satisfied; returns whether that is possible within 65,535.
 ///
-/// Each round is linear in the constraints. Where no cycle has a constraint of 1 it needs at most as many rounds
-/// as a path without repeats has constraints, and one more, though no clause says so.
+/// They are then the least that satisfy the constraints, the lengths of longest paths. If not, all coordinates that
+/// satisfy the constraints exceed 65,535 somewhere.
+///
+/// Each round is linear in the constraints. If no cycle has a constraint of 1 it needs at most as many rounds as a path
+/// without repeats has constraints, and one more, though no clause says so.
 pub fn relax_in_rounds(constraints: &[Constraint], coordinates: &mut [u16]) -> bool
     requires inside { AreInRange (length coordinates.old) constraints.now }
     requires low { IsLow constraints.now (length coordinates.old) (λ v. slice_index coordinates.old v) }

@@ -30,8 +30,7 @@ fn is_turn(boxes: &Boxes, before: u32, dart: u32) -> bool
     boxes.direction(before) != boxes.direction(dart)
 }
 
-/// Puts the points at which the walk along these darts turns behind a list, in walking order. A step
-/// for each of the darts.
+/// Appends to a list the points at which the walk along these darts turns, in walking order. One step for each dart.
 pub fn push_corners(
     corners: &mut Vec<Point>,
     boxes: &Boxes,

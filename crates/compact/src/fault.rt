@@ -2,7 +2,7 @@
 
 use thiserror::Error;
 
-/// Why boxes are given no points.
+/// The reason why boxes get no coordinates.
 #[derive(Clone, Copy, Debug, PartialEq, Eq, Error)]
 pub enum CompactFault {
     /// No coordinates that grow along the darts are all at most 65,535.

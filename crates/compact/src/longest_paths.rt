@@ -23,7 +23,7 @@ pub struct Neighbours<'a> {
 }
 
 impl<'a> Neighbours<'a> {
-    /// Those along x, which grows to the east. Directions are numbered from east.
+    /// The neighbours along x, which grows to the east. Directions are numbered from east.
     pub fn east(around: &'a [u32]) -> Neighbours<'a>
         ensures around { result.around.now ≡ around.now }
         ensures ahead { result.ahead ≡ 0 }
@@ -40,7 +40,7 @@ impl<'a> Neighbours<'a> {
         }
     }
 
-    /// Those along y, which grows to the north.
+    /// The neighbours along y, which grows to the north.
     pub fn north(around: &'a [u32]) -> Neighbours<'a>
         ensures around { result.around.now ≡ around.now }
         ensures ahead { result.ahead ≡ 1 }
@@ -58,8 +58,7 @@ impl<'a> Neighbours<'a> {
     }
 }
 
-/// The segments of all vertices along an axis, and the order in which they come. Its memory is used again for the next
-/// dissection.
+/// The segments of all vertices along an axis, in a topological order. Its buffers are reused for the next dissection.
 #[derive(Drop)]
 pub struct AxisSegments {
     /// For each vertex the first one of its segment. A segment has one coordinate, which stands there.
@@ -76,7 +75,7 @@ pub struct AxisSegments {
 }
 
 impl AxisSegments {
-    /// The segments of no vertices. It takes no memory.
+    /// The segments of no vertices. It allocates nothing.
     pub fn empty(alloc: Global) -> AxisSegments {
         AxisSegments {
             segments: Vec::new(alloc),
@@ -241,7 +240,7 @@ pub struct SegmentsByAxis {
 }
 
 impl SegmentsByAxis {
-    /// The segments of no vertices. It takes no memory.
+    /// The segments of no vertices. It allocates nothing.
     pub fn empty(alloc: Global) -> SegmentsByAxis {
         SegmentsByAxis {
             x: AxisSegments::empty(alloc),
@@ -250,7 +249,7 @@ impl SegmentsByAxis {
     }
 }
 
-/// Finds the segments of so many vertices along x and along y. Linear in the vertices.
+/// Finds the segments of `vertices` vertices along x and along y. Linear in the vertices.
 pub fn find_segments(
     around: &[u32],
     vertices: u32,
@@ -389,8 +388,9 @@ fn spread(segments: &[u32], coordinates: &mut [u16])
     }
 }
 
-/// Raises coordinates to those of longest paths, segment by segment: a segment comes when the coordinates of all
-/// segments that have an arc to it are known. Linear in the vertices.
+/// Raises coordinates to the lengths of longest paths, segment by segment in topological order.
+///
+/// A segment is reached when the coordinates of all segments that have an arc to it are known. Linear in the vertices.
 pub fn raise_to_longest_paths(
     axis_segments: &mut AxisSegments,
     neighbours: Neighbours<'_>,

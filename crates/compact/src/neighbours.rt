@@ -8,12 +8,12 @@ use common::filled;
 use dissect::Boxes;
 use std::alloc::AllocError;
 
-/// Stands where there is no vertex: more than any number of one.
+/// The value for a missing vertex, greater than any vertex number.
 pub const NO_VERTEX: u32 = u32::MAX;
 
-/// For each vertex four vertices, those that the darts from it come to: to the east, north, west and
-/// south. `NO_VERTEX` stands where there is no such dart. They stand in the memory of the list that is
-/// lent. Linear in the darts.
+/// For each vertex, its four neighbours to the east, north, west and south; `NO_VERTEX` if there is none.
+///
+/// They are the vertices to which the darts from it lead, and reuse the buffer of `around`. Linear in the darts.
 pub fn neighbours_of(boxes: &Boxes, around: Vec<u32>) -> Result<Vec<u32>, AllocError>
     ensures neighbours { IfOk result (λ around. AreNeighbours (dart_map boxes.now) around.items boxes.now.vertices) }
     ensures all_neighbours { IfOk result (λ around. HasNeighbours (dart_map boxes.now) around.items boxes.now.darts) }

@@ -62,19 +62,19 @@ fn list_corners(
     Ok((corners, starts))
 }
 
-/// Points for a plane that was cut into boxes: integers from 0 to 65,535 that grow along the darts,
-/// x growing to the east and y to the north, the least there are. Edges run along the axes between their
-/// ends and corners.
+/// The least integer coordinates, 0 to 65,535, that grow along the darts of boxes, as points for the plane in them.
+///
+/// x grows to the east and y to the north. Edges run along the axes between their ends and corners.
 ///
 /// The coordinates are the lengths of longest paths in the two constraint graphs of the dissection (Tamassia 1987).
-/// They are found segment by segment, a segment being the vertices that darts across the axis join, in time linear
-/// in the darts. Where that does not satisfy all constraints, as in a drawing too wide for the grid, the end of
-/// each constraint that is not satisfied is raised, in rounds. The points stand in one list.
+/// They are found segment by segment, a segment being the vertices that darts across the axis join, in time linear in
+/// the darts. If that does not satisfy all constraints, as in a drawing too wide for the grid, the end of each
+/// constraint that is not satisfied is raised, in rounds. The points are in one list.
 ///
 /// # Errors
 ///
-/// `Wide` where no coordinates that grow along the darts are all at most 65,535; `Memory` where there is
-/// none for the neighbours, the coordinates, the segments, the constraints or the points.
+/// `Wide` if no coordinates that grow along the darts are all at most 65,535; `Memory` if memory runs out for the
+/// neighbours, the coordinates, the segments, the constraints or the points.
 pub fn compact(alloc: Global, boxes: &Boxes) -> Result<Points, CompactFault>
     ensures least { IfOk result (AreLeastPoints boxes.now) }
     ensures fault { IfErr result (IsCompactFault boxes.now) }
@@ -83,12 +83,14 @@ pub fn compact(alloc: Global, boxes: &Boxes) -> Result<Points, CompactFault>
     compact_in(alloc, &mut scratch, boxes)
 }
 
-/// The same in memory that is lent: only what it lacks is taken. The points take their list with them;
-/// [`Scratch::take_back`] takes it back.
+/// Least points for the plane in boxes, exactly as [`compact`]; reuses the caller's scratch.
+///
+/// It allocates only if the scratch is too small. The points take their list with them; [`Scratch::take_back`] takes it
+/// back.
 ///
 /// # Errors
 ///
-/// `Wide` and `Memory` as `compact`; the memory that was lent is then gone.
+/// `Wide` and `Memory` as `compact`; the buffers of the scratch are then gone.
 pub fn compact_in(
     alloc: Global,
     scratch: &mut Scratch,

@@ -25,7 +25,7 @@ pub struct Scratch {
 }
 
 impl Scratch {
-    /// No memory yet.
+    /// An empty scratch. It allocates nothing.
     pub fn empty(alloc: Global) -> Scratch
         ensures { result.around.items ≡ [] }
     {
@@ -41,7 +41,7 @@ impl Scratch {
         }
     }
 
-    /// Takes the list of points back to be used again. It takes no memory.
+    /// Takes back the list of points, to be reused. It allocates nothing.
     pub fn take_back(&mut self, points: Points) {
         self.points = points.into_list();
     }

@@ -16,8 +16,9 @@ use std::thread::Threads;
 /// How many messages wait between two threads at most.
 const CAPACITIES: [u32; 2] = [1, 16];
 
-/// Compares runs over the files before the word `best`, by the widest outer face, and over those after it, by
-/// the best one.
+/// Compares runs over files with the widest outer face, and over files with the best one.
+///
+/// The former are the files before the word `best`, the latter those after it.
 pub fn compare_choices<R: Files + Print + AllocGlobal + Threads + Wait + Sync>(
     rt: &R,
     words: &[String],

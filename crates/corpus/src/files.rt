@@ -13,7 +13,7 @@ pub fn read_file<R: Files + AllocGlobal>(rt: &R, name: &str) -> Result<Vec<u8>> 
     fs::read(rt, name).context(format_args!("{name}"))
 }
 
-/// These files in memory.
+/// These files, read into memory.
 pub fn read_files<R: Files + AllocGlobal>(rt: &R, names: &[String]) -> Result<MemOpener> {
     let mut files = Vec::with_capacity(rt.alloc(), names.len())?;
     for name in names {

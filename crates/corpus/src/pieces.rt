@@ -12,7 +12,7 @@ use streams::{Frames, Mark, MemTap, run_frames};
 /// How many bytes a read gives at most.
 const SIZES: [usize; 4] = [1, 2, 7, 65_536];
 
-/// Compares the pieces of one file with the whole.
+/// Checks that a file read in pieces gives the same records as the whole file.
 pub fn compare<R: Files + Print + AllocGlobal + Threads + Wait + Sync>(
     rt: &R,
     name: &str,

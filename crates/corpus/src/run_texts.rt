@@ -18,7 +18,7 @@ const WAITING: usize = 100_000;
 /// Over how many lanes the files are read.
 const LANES: u32 = 3;
 
-/// Compares the texts of these files in both forms.
+/// Compares the texts of these files in both formats.
 pub fn compare_texts<R: Files + AllocGlobal + Threads + Wait + Sync>(
     rt: &R,
     names: &[String],

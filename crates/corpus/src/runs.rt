@@ -26,7 +26,7 @@ pub fn report_over<R: AllocGlobal + Threads + Wait + Sync, G: Gate>(
     report_of(alloc, &batch)
 }
 
-/// The text of a report.
+/// The report of a batch.
 pub fn report_of(alloc: Global, batch: &Batch) -> Result<Vec<u8>> {
     let mut sink = IoSink::new(Vec::new(alloc));
     write_report(batch, &mut sink)?;

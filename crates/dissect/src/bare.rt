@@ -15,10 +15,11 @@ use faces::Plane;
 use ortho_rep::Shape;
 use std::alloc::AllocError;
 
-/// How many darts the table of a shape is to have room for: those of the plane, two for each bend, four for
-/// each right turn, of which there are at most two for each vertex and one for each bend, and
-/// `RECTANGLE_ROOM` for a rectangle round it. A bend is two turns here, one of each dart of its edge.
-/// Linear in the darts.
+/// The number of darts for which the table of a shape needs room.
+///
+/// These are the plane's darts, two for each bend, four for each right turn, of which there are at most two for each
+/// vertex and one for each bend, and `RECTANGLE_ROOM` for a rectangle round it. A bend is two turns here, one of each
+/// dart of its edge. Linear in the darts.
 pub fn room_for(plane: &Plane, shape: &Shape) -> u32
     requires { HasDarts plane.now shape.now }
     ensures { let turns = sum_below (darts plane.now) (λ d. length (turns_at shape.now d)) in
@@ -118,9 +119,10 @@ fn write_dart(table: &mut DartTable, plane: &Plane, shape: &Shape, dart: u16)
     table.angle[place] = shape.angle(dart);
 }
 
-/// The table of a plane's darts with these directions and the angles of the shape, and with at least so much
-/// room, in the memory of an earlier table. Linear in the darts; where the arrays have not enough room, an allocation
-/// for each, and time linear in their places.
+/// The table of a plane's darts with these directions and the angles of the shape.
+///
+/// It has room for at least `places` darts, and reuses the buffers of `table`. Linear in the darts; if the buffers are
+/// too small, an allocation for each, and time linear in their places.
 pub fn bare_table(
     table: DartTable,
     plane: &Plane,

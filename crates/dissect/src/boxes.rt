@@ -11,14 +11,14 @@ use geometry::Direction;
 use ortho_rep::FlatLists;
 use std::marker::Model;
 
-/// A dissection: the map of a plane in four directions, enclosed in a rectangle and cut until each
-/// face but the outside is a box. Its edges have no bends. In contracts it is a `BoxesModel`: a map of
-/// darts, how many vertices of it are the plane's, the lesser darts of the plane's edges, and their paths.
+/// A dissection of a plane's map: enclosed in a rectangle, and cut until each face but the outside is a box.
 ///
-/// Vertices and darts are numbered from 0. The plane's vertex v is vertex v - 1; a dart of the plane
-/// has its number here too, and is the last of the darts that its edge is made of. Edges of the plane
-/// are numbered by their lesser darts, in ascending order. No accessor takes memory, and each takes
-/// constant time.
+/// The map has four directions, and its edges have no bends. In contracts it is a `BoxesModel`: a map of darts, how
+/// many vertices of it are the plane's, the lesser darts of the plane's edges, and their paths.
+///
+/// Vertices and darts are numbered from 0. The plane's vertex v is vertex v - 1; a dart of the plane has its number
+/// here too, and is the last of the darts that make up its edge. Edges of the plane are numbered by their lesser darts,
+/// in ascending order. No accessor allocates, and each takes constant time.
 #[derive(Drop)]
 pub struct Boxes {
     table: DartTable,
@@ -51,7 +51,7 @@ impl Boxes {
         }
     }
 
-    /// Hands the memory of these boxes back to that which they were made in.
+    /// Returns the buffers of these boxes to the scratch that they came from.
     pub fn give_back(self, scratch: &mut Scratch) {
         let (darts, starts) = self.paths.into_parts();
         scratch.table = self.table;
@@ -60,7 +60,7 @@ impl Boxes {
         scratch.starts = starts;
     }
 
-    /// How many vertices there are.
+    /// The number of vertices.
     pub fn vertices(&self) -> u32
         ensures value { result ≡ self.now.vertices }
         ensures boxes { AreBoxes self.now }
@@ -68,7 +68,7 @@ impl Boxes {
         self.table.vertices
     }
 
-    /// How many darts there are, twice the number of edges.
+    /// The number of darts, twice the number of edges.
     pub fn darts(&self) -> u32
         ensures value { result ≡ self.now.darts }
         ensures boxes { AreBoxes self.now }
@@ -94,7 +94,7 @@ impl Boxes {
         self.table.head[dart as usize]
     }
 
-    /// The dart along the same edge the other way.
+    /// The dart along the same edge in the other direction.
     pub fn reverse(&self, dart: u32) -> u32
         requires { dart < self.now.darts }
         ensures value { result ≡ (dart_map self.now).reverse_dart dart }
@@ -103,7 +103,7 @@ impl Boxes {
         self.table.reverse_dart[dart as usize]
     }
 
-    /// The next dart of the face on the left.
+    /// The next dart of the face on the left of this one.
     pub fn next(&self, dart: u32) -> u32
         requires { dart < self.now.darts }
         ensures value { result ≡ (dart_map self.now).next dart }
@@ -121,8 +121,9 @@ impl Boxes {
         Direction::from_quarters(self.table.direction[dart as usize])
     }
 
-    /// The dart before a dart on the same chain, which is an edge of the plane, a side of the rectangle,
-    /// its bridge or a cut; none where it is the first one.
+    /// The previous dart of the same chain, or `None` for the first one.
+    ///
+    /// A chain is an edge of the plane, a side of the rectangle, its bridge or a cut.
     pub fn before(&self, dart: u32) -> Option<u32>
         requires { dart < self.now.darts }
         ensures some { IfSome result (λ front. front ≡ (dart_map self.now).before dart) }
@@ -134,7 +135,7 @@ impl Boxes {
         if front == NO_DART { None } else { Some(front) }
     }
 
-    /// How many vertices the plane has.
+    /// The number of vertices of the plane.
     pub fn old_vertices(&self) -> u8
         ensures value { result ≡ self.now.old }
         ensures inside { result ≤ self.now.vertices }
@@ -142,7 +143,7 @@ impl Boxes {
         self.old
     }
 
-    /// The vertex that a vertex of the plane is, whose vertices are numbered from 1.
+    /// The vertex here of a vertex of the plane, whose vertices are numbered from 1.
     pub fn old(&self, vertex: u8) -> u32
         requires from { 1 ≤ vertex }
         requires to { vertex ≤ self.now.old }
@@ -154,7 +155,7 @@ impl Boxes {
         u32::from(vertex) - 1
     }
 
-    /// How many edges the plane has.
+    /// The number of edges of the plane.
     pub fn edges(&self) -> u16
         ensures value { result ≡ length self.now.edges }
         ensures boxes { AreBoxes self.now }
@@ -171,7 +172,7 @@ impl Boxes {
         self.edges[usize::from(edge)]
     }
 
-    /// The darts that an edge of the plane is made of, in order along its lesser dart.
+    /// The darts that make up an edge of the plane, in order along its lesser dart.
     pub fn path(&self, edge: u16) -> &[u32]
         requires { edge < length self.now.edges }
         ensures path { IsEdgePath self.now edge result.now }

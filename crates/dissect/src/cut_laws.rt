@@ -9,12 +9,12 @@ pub fn cuts_stay_sound()
     ensures { (w new : DartMap) → IsSound w → IsCutUp w new → IsSound new }
 {}
 
-/// Where each dart comes to a corner, it still does after cuts.
+/// If each dart leads to a corner, it still does after cuts.
 pub fn cuts_reach_corners()
     ensures { (w new : DartMap) → IsSound w → IsCutUp w new → ReachesCorners w → ReachesCorners new }
 {}
 
-/// Each cut adds one vertex, and takes one from the right turns.
+/// Each cut adds one vertex and removes one right turn.
 pub fn cuts_use_right_turns()
     ensures { (w new : DartMap) → IsCutUp w new → new.vertices + reflex_turns new ≡ w.vertices + reflex_turns w }
 {}

@@ -6,7 +6,7 @@ ghost use Rattle.ortho_rep.specs.declared.turn.Turn.{Turn};
 ghost use Rattle.ortho_rep.specs.Representation.{Rep};
 ghost use Rattle.dissect.specs.Directions.{AreDirections};
 
-/// Each orthogonal representation of a plane gives its darts directions.
+/// Each orthogonal representation of a plane determines directions of its darts.
 pub fn directions_exist()
     ensures { (p : PlaneModel) (a : ℕ → ℕ) (s : ℕ → List Turn) → IsPlane p → Rep p a s
         → (h : ℕ → ℕ) × AreDirections p a s h }

@@ -19,7 +19,7 @@ use std::alloc::{AllocError, Global};
 /// Stands for no direction.
 const NO_DIRECTION: u8 = 4;
 
-/// A search for directions, whose memory the next one can use again.
+/// A search for the directions of darts, whose buffers the next search reuses.
 #[derive(Drop)]
 pub struct DirectionSearch {
     /// The directions found so far, by dart.
@@ -29,7 +29,7 @@ pub struct DirectionSearch {
 }
 
 impl DirectionSearch {
-    /// A search that has found nothing. It takes no memory.
+    /// A search that has found nothing. It allocates nothing.
     pub fn empty(alloc: Global) -> DirectionSearch
         ensures { result.directions.items ≡ [] }
     {
@@ -91,17 +91,16 @@ fn reverse_direction(direction: u8, turns: &[Turn]) -> u8
     ((usize::from(direction) + 2 + rights + 3 * lefts) % 4) as u8
 }
 
-/// A direction for each dart of an orthogonal representation: place d of `directions` belongs to dart d.
+/// The direction of each dart of an orthogonal representation: `directions[d]` is that of dart d.
 ///
-/// The direction of a dart is that in which it arrives at its head, in quarter turns to the left from
-/// east: 0 is east, 1 north, 2 west and 3 south. Dart 0 arrives to the east. Linear in the
-/// darts and the turns. It works in the memory of the search that is lent, and takes more, a few bytes
-/// for each dart, only where that is not enough.
+/// The direction of a dart is that in which it arrives at its head, in quarter turns to the left from east: 0 is east,
+/// 1 north, 2 west and 3 south. Dart 0 arrives to the east. Linear in the darts and the turns. It reuses the buffers of
+/// `search`, and allocates, a few bytes for each dart, only if they are too small.
 ///
 /// # Errors
 ///
-/// `AllocError` where there is no memory for the directions or for the darts that wait in the search;
-/// the memory that was lent is then gone.
+/// `AllocError` if there is no memory for the directions or for the darts that wait in the search; the buffers of
+/// `search` are then gone.
 pub fn directions_in(
     plane: &Plane,
     shape: &Shape,

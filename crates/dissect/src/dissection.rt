@@ -17,16 +17,16 @@ use ortho_rep::Shape;
 use std::alloc::{AllocError, Global};
 use std::mem;
 
-/// Cuts an orthogonal representation of a plane into boxes.
+/// The dissection of an orthogonal representation of a plane into boxes.
 ///
-/// Each dart is given a direction, each edge is subdivided at its turns, a rectangle is put round the whole
-/// and connected to it at a right turn of the outer face, and each face is cut at its right turns until
-/// all are boxes (after Tamassia 1987, each corner read once). For n vertices and b bends there are at
-/// most 3n + 2b + 5 vertices. Linear in the boxes.
+/// Each dart is given a direction, each edge is subdivided at its turns, a rectangle is put round the whole and
+/// connected to it at a right turn of the outer face, and each face is cut at its right turns until all are boxes
+/// (after Tamassia 1987, each corner read once). For n vertices and b bends there are at most 3n + 2b + 5 vertices.
+/// Linear in the boxes.
 ///
 /// # Errors
 ///
-/// `AllocError` where there is no memory for the boxes; there is no other.
+/// `AllocError` if there is no memory for the boxes; there is no other error.
 pub fn dissect(alloc: Global, plane: &Plane, shape: &Shape) -> Result<Boxes, AllocError>
     requires { IsShape plane.now shape.now }
     ensures { IfOk result (IsBoxed plane.now shape.now) }
@@ -35,12 +35,13 @@ pub fn dissect(alloc: Global, plane: &Plane, shape: &Shape) -> Result<Boxes, All
     dissect_in(alloc, &mut scratch, plane, shape)
 }
 
-/// The same in memory that is lent. What the boxes hold is taken from it, and `Boxes::give_back` hands it
-/// back; memory is asked for only where that is not enough.
+/// The dissection of an orthogonal representation into boxes, exactly as [`dissect`]; reuses the caller's scratch.
+///
+/// The boxes take their buffers from it, and `Boxes::give_back` returns them; it allocates only if they are too small.
 ///
 /// # Errors
 ///
-/// `AllocError` where there is no memory for the boxes, and no other; what was lent may be gone then.
+/// `AllocError` if there is no memory for the boxes, and no other; the buffers of the scratch may be gone then.
 pub fn dissect_in(
     alloc: Global,
     scratch: &mut Scratch,
@@ -57,11 +58,13 @@ pub fn dissect_in(
     Ok(boxes)
 }
 
-/// The same where the directions of the plane's darts are known, as `directions_in` finds them.
+/// The dissection of an orthogonal representation into boxes, given the directions of its darts.
+///
+/// The directions are those that `directions_in` finds. It reuses the caller's scratch, as [`dissect_in`].
 ///
 /// # Errors
 ///
-/// `AllocError` where there is no memory for the boxes, and no other; the memory that was lent is then gone.
+/// `AllocError` if there is no memory for the boxes, and no other; the buffers of the scratch are then gone.
 pub fn dissect_along(
     alloc: Global,
     scratch: &mut Scratch,

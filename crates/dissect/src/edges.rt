@@ -41,7 +41,7 @@ pub fn bend_edge(table: &mut DartTable, e: u32, turns: &[Turn])
     }
 }
 
-/// The lesser dart of each edge, in order, in the memory of this list.
+/// The lesser dart of each edge, in order; reuses the buffer of `edges`.
 pub fn lesser_darts_of(plane: &Plane, edges: Vec<u16>) -> Result<Vec<u16>, AllocError>
     ensures { IfOk result (λ edges. edges.items ≡ lesser_darts plane.now) }
 {

@@ -20,9 +20,10 @@ use crate::table::DartTable;
 /// How many corners a box has.
 const BOX_CORNERS: usize = 4;
 
-/// Cuts across a face: from the head of the dart `d`, which is a right turn, by a new edge to a new
-/// vertex on the edge that follows the dart `c`. The new edge leaves one right angle on its left. The
-/// table needs room for four more darts. Constant time.
+/// Cuts across a face by a new edge from the head of the dart `d`, a right turn, to the edge that follows the dart `c`.
+///
+/// The new edge ends at a new vertex on that edge, and leaves one right angle on its left. The table needs room for
+/// four more darts. Constant time.
 pub fn cut_across(table: &mut DartTable, d: u32, c: u32)
     requires sound { IsSound (dart_map_of table.old) }
     requires can { CanCut (dart_map_of table.old) d c }

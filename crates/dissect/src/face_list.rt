@@ -11,7 +11,7 @@ use crate::walks::walk;
 use common::{emptied, filled};
 use std::alloc::{AllocError, Global};
 
-/// The corners of faces, those of each face in walking order, whose memory can be used again.
+/// The corners of faces, those of each face in walking order. Its buffers can be reused.
 #[derive(Drop)]
 pub struct Faces {
     /// The corners of the inner faces, one face after another, and behind them those of the merged face
@@ -26,7 +26,7 @@ pub struct Faces {
 }
 
 impl Faces {
-    /// No faces. It takes no memory.
+    /// No faces. It allocates nothing.
     pub fn empty(alloc: Global) -> Faces
         ensures { result.corners.items ≡ [] }
     {
@@ -44,8 +44,9 @@ fn face_count(table: &DartTable) -> usize {
     (table.darts / 2 + 2).saturating_sub(table.vertices) as usize
 }
 
-/// Lists the corners of all faces. The outer face is that of the right turn `right`, with which its
-/// corners end. They stand in the memory of earlier faces. Linear in the darts.
+/// Lists the corners of all faces, in the buffers of `faces`.
+///
+/// The outer face is that of the right turn `right`, with which its corners end. Linear in the darts.
 pub fn list_faces(table: &DartTable, right: u32, faces: Faces) -> Result<Faces, AllocError>
     requires tied { IsTied (dart_map_of table.now) }
     requires inside { right < table.now.darts }
@@ -77,9 +78,10 @@ pub fn list_faces(table: &DartTable, right: u32, faces: Faces) -> Result<Faces, 
     })
 }
 
-/// Adds the face that a cut from `right` to the side `side` makes of the outer face and the inside of
-/// the rectangle: behind `right` it goes along the cut, round the inside of the rectangle and back.
-/// `right` stays one of its corners unless the cut leaves it straight.
+/// Adds the face into which a cut merges the outer face and the inside of the rectangle.
+///
+/// The cut leads from `right` to the side `side`. After `right` it goes along the cut, round the inside of the
+/// rectangle and back. `right` stays one of its corners unless the cut leaves it straight.
 pub fn add_merged_face(
     table: &DartTable,
     right: u32,

@@ -27,8 +27,9 @@ fn push_path(darts: &mut Vec<u32>, table: &DartTable, last: u32) -> Result<(), A
     Ok(())
 }
 
-/// The darts that each of these edges is made of, which are named by their last darts, in the memory of
-/// these lists. Linear in these darts.
+/// The darts that make up each of these edges, which are named by their last darts.
+///
+/// It reuses the buffers of `darts` and `starts`. Linear in these darts.
 pub fn paths_of(
     table: &DartTable,
     edges: &[u16],

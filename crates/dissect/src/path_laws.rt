@@ -6,7 +6,7 @@ ghost use Rattle.dissect.specs.Faces.{Distinct};
 ghost use Rattle.dissect.specs.Paths.{HasPaths, IsConnected, IsPath, turn_to};
 ghost use Rattle.dissect.specs.Surrounds.{IsEnclosed};
 
-/// Where no dart stands before another, each dart is the path of an edge without turns.
+/// If no dart precedes another on an edge, each dart is the path of an edge without turns.
 pub fn darts_are_paths()
     ensures { (w : DartMap) (n : ℕ) (reverse_dart : ℕ → ℕ) → w.darts ≡ n
         → ((a : ℕ) → a < n → w.before a ≡ no_dart)
@@ -21,8 +21,9 @@ pub fn subdivisions_keep_paths()
         → HasPaths w n reverse_dart quarters → HasPaths new n reverse_dart quarters }
 {}
 
-/// A subdivision that turns gives the edge of `e` a last turn, the way back the opposite one as its first, and the
-/// other edges none.
+/// A subdivision that turns appends a turn to the edge of `e`, and changes no other edge.
+///
+/// The way back gets the opposite turn as its first.
 pub fn bends_turn_paths()
     ensures { (w : DartMap) (e way left_angle : ℕ) (new : DartMap) (n : ℕ) (reverse_dart : ℕ → ℕ) (quarters turned : ℕ → List ℕ)
         → IsTied w → e < n → w.darts ≤ no_dart → way < 4 → (left_angle ≡ 1) ⊎ (left_angle ≡ 3) → IsSubdivided w e way left_angle new
@@ -57,12 +58,12 @@ pub fn cuts_stay_connected()
     ensures { (w new : DartMap) → IsSound w → IsCutUp w new → IsConnected w → IsConnected new }
 {}
 
-/// A connected map stays connected in its rectangle.
+/// A connected map together with the rectangle round it stays connected.
 pub fn rectangles_stay_connected()
     ensures { (w : DartMap) (outer : ℕ) (new : DartMap) → IsSound w → IsEnclosed w outer new → IsConnected w → IsConnected new }
 {}
 
-/// There is one path to a dart, no dart is on it twice, and it has no more darts than the map.
+/// The path to a dart is unique, has no dart twice, and has no more darts than the map.
 pub fn paths_are_unique()
     ensures { (w : DartMap) (end first : ℕ) (rest : List ℕ) → w.darts ≤ no_dart → IsPath w end first rest
         → (Distinct (first ∷ rest)) × (length rest < w.darts)

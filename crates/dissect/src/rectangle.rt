@@ -16,9 +16,10 @@ fn put_at<T: Copy>(list: &mut Vec<T>, start: usize, items: &[T])
     list[start..start + items.len()].copy_from_slice(items);
 }
 
-/// Adds a rectangle round the map, not yet connected to it: its inside runs along the four new darts from `darts`
-/// on, to the east, north, west and south, and its outside along their reverses, the four after these. The table
-/// needs room for eight darts. Constant time.
+/// Adds a rectangle round the map, not yet connected to it.
+///
+/// Its inside runs along the four new darts from `darts` on, to the east, north, west and south, and its outside along
+/// their reverses, the four after these. The table needs room for eight darts. Constant time.
 pub fn surround(table: &mut DartTable)
     requires space { table.old.darts + 8 ≤ room table.old }
     ensures surrounded { IsSurrounded (dart_map_of table.old) (dart_map_of table.new) }

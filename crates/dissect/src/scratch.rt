@@ -8,7 +8,7 @@ use crate::face_list::Faces;
 use crate::table::DartTable;
 use std::alloc::Global;
 
-/// Memory that one dissection after another works in. What it holds between two of them is of no use.
+/// Buffers that one dissection after another reuses. Their contents between two calls do not matter.
 #[derive(Drop)]
 pub struct Scratch {
     pub(crate) table: DartTable,
@@ -20,7 +20,7 @@ pub struct Scratch {
 }
 
 impl Scratch {
-    /// No memory yet.
+    /// An empty scratch. It allocates nothing.
     pub fn empty(alloc: Global) -> Scratch
         ensures { room result.table ≡ 0 }
     {

@@ -5,11 +5,12 @@ ghost use Rattle.std.specs.Prelude.{◌≡◌, ◌≢◌, ◌+◌, ◌^◌, ◌<
 use crate::ties::{pair, put_before, set_next, take_over};
 use std::alloc::Global;
 
-/// Stands where there is no dart.
+/// The value for a missing dart.
 pub const NO_DART: u32 = u32::MAX;
 
-/// How many more darts a table needs room for where a rectangle is put round its map: 8 for the sides,
-/// and 4 for each of the four right turns at its corners, as for each other right turn.
+/// The number of darts for which a table needs additional room if a rectangle is put round its map.
+///
+/// These are 8 for the sides, and 4 for each of the four right turns at its corners, as for each other right turn.
 pub const RECTANGLE_ROOM: u32 = 24;
 
 /// The darts of a map in four directions, in flat arrays with room for more of them. Darts and
@@ -49,7 +50,7 @@ impl DartTable {
     ghost use Rattle.dissect.specs.DartMaps.{IsTied, IsSubdivided, IsChord, HasChordAngles};
     ghost use Rattle.dissect.specs.Tables.{dart_map_of, room};
 
-    /// A table with no darts and no room. It takes no memory.
+    /// A table with no darts and no room. It allocates nothing.
     pub fn empty(alloc: Global) -> DartTable
         ensures { room result ≡ 0 }
     {
@@ -66,8 +67,9 @@ impl DartTable {
         }
     }
 
-    /// Subdivides the edge of the dart `e` by a new vertex, at which the walk along `e` arrives in the
-    /// direction `way` and has the angle `left_angle` on its left.
+    /// Subdivides the edge of the dart `e` by a new vertex.
+    ///
+    /// There the walk along `e` arrives in the direction `way` and has the angle `left_angle` on its left.
     pub fn subdivide(&mut self, e: u32, way: u8, left_angle: u8)
         requires tied { IsTied (dart_map_of self.old) }
         requires e_in { e < self.old.darts }
@@ -97,8 +99,9 @@ impl DartTable {
         self.vertices += 1;
     }
 
-    /// Connects the angle at the head of the dart `d` with the angle at the head of the dart `f` by an
-    /// edge that leaves in the direction `way`.
+    /// Connects the heads of the darts `d` and `f` by an edge that leaves in the direction `way`.
+    ///
+    /// It lies in the angles at the two heads.
     pub fn chord(&mut self, d: u32, f: u32, way: u8)
         requires tied { IsTied (dart_map_of self.old) }
         requires fits { HasChordAngles (dart_map_of self.old) d f way }

@@ -2,7 +2,7 @@
 
 ghost use Rattle.std.specs.Prelude.{◌≡◌, ◌<◌, vec_len, slice_index, slice_set};
 
-/// Puts the dart `new` before the dart `old` on its face.
+/// Inserts the dart `new` before the dart `old` on its face.
 pub fn put_before(next: &mut Vec<u32>, prev: &mut Vec<u32>, new: u32, old: u32)
     requires new_next { new < vec_len next.old }
     requires new_prev { new < vec_len prev.old }
@@ -22,7 +22,7 @@ pub fn put_before(next: &mut Vec<u32>, prev: &mut Vec<u32>, new: u32, old: u32)
     prev[old as usize] = new;
 }
 
-/// Lets `b` follow `a` on its face.
+/// Makes `b` the dart that follows `a` on its face.
 pub fn set_next(next: &mut Vec<u32>, prev: &mut Vec<u32>, a: u32, b: u32)
     requires a_in { a < vec_len next.old }
     requires b_in { b < vec_len prev.old }
@@ -46,7 +46,7 @@ pub fn pair(reverse_dart: &mut Vec<u32>, a: u32, b: u32)
     reverse_dart[b as usize] = a;
 }
 
-/// Puts the dart `new` before the dart `old` on its edge.
+/// Inserts the dart `new` before the dart `old` on its edge.
 pub fn take_over(before: &mut Vec<u32>, new: u32, old: u32)
     requires new_in { new < vec_len before.old }
     requires old_in { old < vec_len before.old }

@@ -9,7 +9,8 @@ ghost use Rattle.dissect.specs.Walks.{IsWalked};
 use crate::table::DartTable;
 use std::alloc::AllocError;
 
-/// The first right turn on the walk from `outer` on, round a face whose walk turns to the right.
+/// The first right turn on the walk round a face from `outer` on; the walk must turn to the right somewhere.
+///
 /// Linear in the darts of the face.
 pub fn find_right(table: &DartTable, outer: u32) -> u32
     requires tied { IsTied (dart_map_of table.now) }
@@ -40,8 +41,9 @@ fn push_corner(corners: &mut Vec<u32>, dart: u32, angle: u8) -> Result<(), Alloc
     Ok(())
 }
 
-/// Walks from the dart `start` once round its face, flags the darts as seen, and adds the corners
-/// among them to the list, `start` last where it is one.
+/// Walks once round the face of `start`, marks its darts as seen, and appends its corners to the list.
+///
+/// `start` comes last if it is a corner.
 pub fn walk(
     table: &DartTable,
     start: u32,

@@ -20,7 +20,7 @@ use std::marker::Model;
 /// How many darts are few: a list of so many directions is quickly made.
 const FEW_DARTS: usize = 128;
 
-/// Points that draw a shape of a plane, as `check` has found. In contracts it is the points.
+/// Points that `check` has found to draw a shape of a plane. In contracts it is the points.
 #[derive(Debug, Drop)]
 pub struct Drawing {
     points: Points,
@@ -35,14 +35,14 @@ impl Model for Drawing {
 }
 
 impl Drawing {
-    /// The points. It takes no memory.
+    /// The points of the drawing. It allocates nothing.
     pub fn points(&self) -> &Points
         ensures { result.now ≡ self.now }
     {
         &self.points
     }
 
-    /// The points themselves. It takes no memory.
+    /// Returns the points of the drawing. It allocates nothing.
     pub fn into_points(self) -> Points
         ensures { result ≡ self }
     {
@@ -50,23 +50,21 @@ impl Drawing {
     }
 }
 
-/// The points as a drawing, where they draw the shape; if not, the first condition that fails, and the points as
-/// they were.
+/// The points as a drawing, if they draw the shape; otherwise the first condition that fails, and the points unchanged.
 ///
-/// The conditions are, in order: every coordinate is at most 65,535; consecutive points of an edge's
-/// path differ in exactly one coordinate; each edge has as many corners as turns, each corner turns as
-/// its string says, and at the head of each dart the direction changes as its angle says; no whole
-/// point is met twice, by vertices and between the ends of paths. The first three need no memory:
-/// want of it is returned only where they hold.
+/// The conditions are, in order: every coordinate is at most 65,535; consecutive points of an edge's path differ in
+/// exactly one coordinate; each edge has as many corners as turns, each corner turns as its string says, and at the
+/// head of each dart the direction changes as its angle says; no grid point is used twice, by vertices and between the
+/// ends of paths. The first three are checked without allocation: `Memory` is returned only if they hold.
 ///
-/// The points are compared as rectangles, one for each vertex and at most one for each part. For s of
-/// them it takes O(s log s) time, and 16 bytes of memory each, sorted in place unless they lie in few rows
-/// and columns; besides, a table of at most 64 bytes each, or a dictionary of those that a sweep still meets.
+/// The points are compared as rectangles, one for each vertex and at most one for each part. For s of them it takes O(s
+/// log s) time, and 16 bytes of memory each, sorted in place unless they lie in few rows and columns; besides, a table
+/// of at most 64 bytes each, or a dictionary of the active ones of a sweep.
 ///
 /// # Errors
 ///
-/// The first condition that fails, or `Memory` where there is none for the rectangles, the table or the dictionary;
-/// with it the points.
+/// The first condition that fails, or `Memory` if memory runs out for the rectangles, the table or the dictionary; with
+/// it the points.
 pub fn check(
     alloc: Global,
     plane: &Plane,
@@ -87,7 +85,9 @@ pub fn check(
     check_in(alloc, &mut scratch, plane, shape, points)
 }
 
-/// The same in memory that is lent; more is asked for only where that is not enough, and for the dictionary.
+/// The points as a drawing, or the first condition that fails, exactly as [`check`]; reuses the caller's scratch.
+///
+/// It allocates only if the scratch is too small, and for the dictionary.
 ///
 /// # Errors
 ///

@@ -2,7 +2,7 @@
 
 use thiserror::Error;
 
-/// Which condition of a drawing is the first to fail, in this order.
+/// The first condition of a drawing that fails, in this order.
 #[derive(Clone, Copy, Debug, PartialEq, Eq, Error)]
 pub enum CheckFault {
     /// Some coordinate is above 65,535.

@@ -14,16 +14,18 @@ use crate::scratch::Scratch;
 use faces::Plane;
 use std::alloc::{AllocError, Global};
 
-/// Whether the regions into which a drawing of this plane cuts the grid's plane are the faces: each face lies on the left of
-/// its darts, and the outer one outside. So it is false of a drawing that is mirrored, or whose outside is another face.
+/// Whether the regions into which a drawing of this plane cuts the grid's plane are its faces.
 ///
-/// The parts of edges tell of each cell in which face it lies, once from west to east and once from south to north. For s of
-/// them it takes O(s + m + c · r) time and memory, where m is the greatest coordinate, c is how many columns and r how many
-/// rows the parts begin, end or lie on.
+/// Each face lies on the left of its darts, and the outer one outside. So it is false of a drawing that is mirrored, or
+/// whose outside is another face.
+///
+/// The parts of edges determine in which face each cell lies, once from west to east and once from south to north. For
+/// s of them it takes O(s + m + c · r) time and memory, where m is the greatest coordinate, c is the number of columns
+/// and r that of rows on which the parts begin, end or lie.
 ///
 /// # Errors
 ///
-/// `AllocError` where there is no memory for the parts, the ranks of their coordinates and the cells.
+/// `AllocError` if there is no memory for the parts, the ranks of their coordinates and the cells.
 pub fn has_regions(alloc: Global, plane: &Plane, drawing: &Drawing) -> Result<bool, AllocError>
     requires vertices { length drawing.now.vertices ≡ vertices plane.now }
     requires corners { 2 * length drawing.now.corners ≡ darts plane.now }
@@ -33,7 +35,9 @@ pub fn has_regions(alloc: Global, plane: &Plane, drawing: &Drawing) -> Result<bo
     has_regions_in(&mut scratch, plane, drawing)
 }
 
-/// The same in memory that is lent; more is asked for only where that is not enough.
+/// Whether the regions of a drawing are the faces, exactly as [`has_regions`]; reuses the caller's scratch.
+///
+/// It allocates only if the scratch is too small.
 ///
 /// # Errors
 ///

@@ -6,7 +6,7 @@ use crate::parts::Part;
 use geometry::Rectangle;
 use std::alloc::Global;
 
-/// Memory in which one drawing after another is checked. What it holds between two of them is of no use.
+/// Buffers that the check of one drawing after another reuses. Their contents between two calls do not matter.
 #[derive(Drop)]
 pub struct Scratch {
     pub(crate) rectangles: Vec<Rectangle>,
@@ -23,7 +23,7 @@ pub struct Scratch {
 }
 
 impl Scratch {
-    /// No memory yet.
+    /// An empty scratch. It allocates nothing.
     pub fn empty(alloc: Global) -> Scratch
         ensures { result.table.items ≡ [] }
     {

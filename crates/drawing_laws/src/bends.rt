@@ -6,8 +6,9 @@ ghost use Rattle.ortho_rep.specs.Representation.{IsLeast};
 ghost use Rattle.ortho_rep.specs.Shapes.{ShapeModel};
 ghost use Rattle.drawing_laws.specs.Bound.{bend_bound, bends, edges};
 
-/// A least shape of a plane has at most one bend for each edge and four for each inner face; so at most five for each edge, and
-/// never more than 1,534. No solver is needed for it.
+/// A least shape of a plane has at most one bend for each edge and four for each inner face.
+///
+/// This is at most five for each edge, and never more than 1,534. No solver is needed for it.
 pub fn few_bends()
     ensures inner { (p : PlaneModel) (shape : ShapeModel) → IsPlane p → IsLeast p shape → bends p shape ≤ bend_bound p }
     ensures five { (p : PlaneModel) (shape : ShapeModel) → IsPlane p → IsLeast p shape → bends p shape ≤ 5 * edges p }

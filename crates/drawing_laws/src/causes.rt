@@ -25,9 +25,10 @@ pub fn least_points_are_in_grid()
         → IsBoxed plane shape b → ¬ ShowsCause plane shape b Cause.OutOfGrid }
 {}
 
-/// What boxes may show that have at most as many vertices as the grid has columns: `Wide` only where no coordinates at all grow
-/// along their darts. The boxes of a shape with the fewest bends have so few, so the same holds of each cause that stands in place of
-/// points in a laid answer.
+/// Boxes that are not too many for the grid show `Wide` only if no coordinates grow along their darts.
+///
+/// They have at most as many vertices as the grid has columns. The boxes of a shape with the fewest bends have so few,
+/// so this holds for each cause in place of points in a laid answer.
 pub fn remaining_causes()
     ensures vertices { (plane : PlaneModel) (shape : ShapeModel) (b : BoxesModel) (cause : Cause)
         → IsBoxed plane shape b → b.vertices ≤ MAX_COORDINATE + 1
@@ -40,8 +41,10 @@ pub fn remaining_causes()
         → (boxes : BoxesModel) × IsBoxed plane shape boxes × MayShow boxes cause }
 {}
 
-/// The least points of boxes of a shape of a plane draw it, so of the causes `Wide` alone can be shown. In place of points a
-/// laid answer has it only where some boxes of its shape have no coordinates that grow along their darts at all.
+/// Of the causes, boxes of a shape of a plane can show only `Wide`, since their least points draw the shape.
+///
+/// In place of points a laid answer has it only if some boxes of its shape have no coordinates that grow along their
+/// darts at all.
 pub fn only_wide()
     ensures shown { (plane : PlaneModel) (shape : ShapeModel) (b : BoxesModel) (cause : Cause)
         → IsPlane plane → IsBoxed plane shape b → ShowsCause plane shape b cause → cause ≡ Cause.Wide }

@@ -9,8 +9,10 @@ ghost use Rattle.dissect.specs.Monotone.{IsMonotone};
 ghost use Rattle.drawing_laws.specs.CellFaces.{AreCellLabels};
 ghost use Rattle.drawing_laws.specs.Cells.{IsWithin, IsCoveredOnce};
 
-/// Where boxes dissect a shape, exactly one of them covers each unit cell of the rectangle round them, in any coordinates that grow
-/// along their darts. The rectangle's corners are the first vertices behind those of the drawing.
+/// Exactly one of the boxes that dissect a shape covers each unit cell of the rectangle round them.
+///
+/// This holds in any coordinates that grow along their darts. The rectangle's corners are the first vertices after
+/// those of the drawing.
 pub fn cells_are_covered_once()
     ensures { (p : PlaneModel) (shape : ShapeModel) (b : BoxesModel) (x y : ℕ → ℕ) → (boxed : IsBoxed p shape b) → IsMonotone (dart_map b) x y
         → (i j : ℕ) → IsWithin x y (boxed.enclosed.enclosed_map.vertices + 3) (boxed.enclosed.enclosed_map.vertices + 1) i j

@@ -15,8 +15,10 @@ ghost use Rattle.entries.specs.Drawn.{ShowsCause, IsDrawingOf};
 ghost use Rattle.entries.specs.Answers.{IsLaid, Answers};
 ghost use Rattle.drawing_laws.specs.Drawings.{IsDrawnIfLaid};
 
-/// Boxes that dissect a shape with the fewest bends show no cause: some coordinates grow along their darts, so the least ones are within the
-/// grid, and points that are taken from these draw the shape.
+/// Boxes that dissect a shape with the fewest bends show no cause.
+///
+/// Some coordinates grow along their darts, so the least ones are within the grid, and points that are derived from
+/// these draw the shape.
 pub fn no_cause_is_shown()
     ensures { (plane : PlaneModel) (shape : ShapeModel) (b : BoxesModel) (cause : Cause)
         → IsPlane plane → IsLeast plane shape → IsBoxed plane shape b → ¬ ShowsCause plane shape b cause }
@@ -31,7 +33,7 @@ pub fn laid_answers_are_drawn()
         → (points : PointsModel) × (drawing ≡ Ok points) × IsDrawingOf plane shape points }
 {}
 
-/// So an answer to a record has a drawing where it has a shape.
+/// An answer to a record that has a shape has a drawing of it.
 pub fn answers_are_drawn()
     ensures { (choice : Choice) (bytes : List ℕ) (answer : Answer) → Answers choice bytes answer → IsDrawnIfLaid answer }
 {}

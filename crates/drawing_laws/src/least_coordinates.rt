@@ -6,9 +6,10 @@ ghost use Rattle.dissect.specs.Boxes.{BoxesModel, AreBoxes, dart_map};
 ghost use Rattle.dissect.specs.Monotone.{IsMonotone, AreLeastPoints};
 ghost use Rattle.drawing_laws.specs.Least.{AreLeast, AreBelow, HasLeast, HasNoGap};
 
-/// The least coordinates that grow along the darts of boxes have no gap: if no vertex had some coordinate below that of another,
-/// all coordinates above it could be lowered by one and still grow so. So each is less than the number of
-/// vertices.
+/// The least coordinates that grow along the darts of boxes have no gap, and are less than the number of vertices.
+///
+/// If no vertex had some coordinate below that of another, all coordinates above it could be lowered by one and still
+/// grow along the darts.
 pub fn least_coordinates_have_no_gap()
     ensures x { (b : BoxesModel) (x y : ℕ → ℕ) → AreBoxes b → AreLeast b x y → HasNoGap b.vertices x }
     ensures y { (b : BoxesModel) (x y : ℕ → ℕ) → AreBoxes b → AreLeast b x y → HasNoGap b.vertices y }
@@ -16,12 +17,12 @@ pub fn least_coordinates_have_no_gap()
         → (v : ℕ) → v < b.vertices → (x v < b.vertices) × (y v < b.vertices) }
 {}
 
-/// Where any coordinates grow along the darts of boxes, there are least ones.
+/// If any coordinates grow along the darts of boxes, there are least ones.
 pub fn least_coordinates_exist()
     ensures { (b : BoxesModel) (x y : ℕ → ℕ) → AreBoxes b → IsMonotone (dart_map b) x y → HasLeast b }
 {}
 
-/// So the coordinates of least points are less than the number of vertices of the boxes.
+/// The coordinates of least points are less than the number of vertices of the boxes.
 pub fn least_points_have_no_gap()
     ensures { (b : BoxesModel) (points : PointsModel) → AreBoxes b → AreLeastPoints b points → AreBelow b.vertices points }
 {}

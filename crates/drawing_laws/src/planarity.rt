@@ -27,14 +27,15 @@ ghost use Rattle.drawing_check.specs.declared.fault.CheckFault.TheVariants.{Memo
 ghost use Rattle.drawing_check.specs.Draws.{Draws};
 ghost use Rattle.drawing_check.specs.Faults.{IsFirstFault};
 
-/// Where boxes dissect a shape of a plane, points that are taken from any coordinates that grow along their darts, within the grid,
-/// draw the shape.
+/// Points derived from any coordinates within the grid that grow along the darts of boxes draw the shape.
+///
+/// The boxes dissect a shape of a plane.
 pub fn monotone_coordinates_draw()
     ensures { (p : PlaneModel) (shape : ShapeModel) (b : BoxesModel) (x y : ℕ → ℕ) (points : PointsModel) → IsPlane p → IsBoxed p shape b
         → IsMonotone (dart_map b) x y → AreWithin b.vertices x → AreWithin b.vertices y → AreTaken b x y points → Draws p shape points }
 {}
 
-/// The least points of boxes of a shape are refused by a check for want of memory alone: each condition of a drawing holds.
+/// A check refuses the least points of boxes of a shape only if memory runs out: each condition of a drawing holds.
 pub fn least_points_pass()
     ensures { (p : PlaneModel) (shape : ShapeModel) (b : BoxesModel) (points : PointsModel) → IsPlane p → IsBoxed p shape b
         → AreLeastPoints b points → (fault : CheckFault) → IsFirstFault p shape points fault → fault ≡ Memory }

@@ -7,8 +7,9 @@ ghost use Rattle.ortho_rep.specs.Prices.{IsProof, PricesModel};
 ghost use Rattle.ortho_rep.specs.Representation.{IsLeast, IsShape};
 ghost use Rattle.ortho_rep.specs.Shapes.{ShapeModel};
 
-/// A shape of a plane has the fewest bends exactly where some prices prove it (strong duality, of which `certify` uses the
-/// one direction). No solver is needed for it.
+/// A shape of a plane has the fewest bends exactly if some prices prove it (strong duality).
+///
+/// `certify` uses one direction of it. No solver is needed for it.
 pub fn least_is_priced()
     ensures { (p : PlaneModel) (shape : ShapeModel) → IsPlane p → IsShape p shape
         → IsLeast p shape ↔ ((t : PricesModel) × IsProof p shape t) }

@@ -17,8 +17,10 @@ ghost use Rattle.drawing_check.specs.Paths.{paths};
 ghost use Rattle.drawing_check.specs.Regions.{HasRegions, IsRegionMap};
 ghost use Rattle.drawing_laws.specs.Least.{AreBelow};
 
-/// Where boxes dissect a shape of a plane, points that are taken from any coordinates that grow along their darts have regions, each of which is
-/// a face on the left of its darts, with the outer face outside. So have least points.
+/// Points derived from coordinates that grow along the darts of boxes of a shape have regions, which are the faces.
+///
+/// The boxes dissect a shape of a plane. Each region is a face on the left of its darts, with the outer face outside.
+/// Least points have regions, too.
 pub fn boxes_have_regions()
     ensures taken { (p : PlaneModel) (shape : ShapeModel) (b : BoxesModel) (x y : ℕ → ℕ) (points : PointsModel) → IsPlane p → IsBoxed p shape b
         → IsMonotone (dart_map b) x y → AreTaken b x y points → HasRegions p points }
@@ -26,8 +28,10 @@ pub fn boxes_have_regions()
         → AreLeastPoints b points → HasRegions p points }
 {}
 
-/// What lies in a face, of points that have regions: the points alone tell it of each cell; each cell lies in a face, each face has a cell
-/// where parts of edges run along the axes, and whatever lies beyond the greatest coordinate n is in the outer face.
+/// Points that have regions determine in which face each cell lies.
+///
+/// Each cell lies in a face, each face has a cell where parts of edges run along the axes, and whatever lies beyond the
+/// greatest coordinate n is in the outer face.
 pub fn regions_are_faces()
     ensures one { (p : PlaneModel) (points : PointsModel) (r s : ℕ → ℕ → ℕ) → IsRegionMap p points r → IsRegionMap p points s
         → (i j : ℕ) → r i j ≡ s i j }

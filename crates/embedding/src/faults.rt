@@ -3,7 +3,7 @@
 use crate::rules::Rule;
 use thiserror::Error;
 
-/// Why a record gives no graph.
+/// The reason why a record has no graph.
 #[derive(Debug, Clone, Copy, PartialEq, Eq, Error)]
 pub enum ReadFault {
     /// The record breaks this rule of the first seven, and none before it.

@@ -30,8 +30,10 @@ fn breaks_genus(lists: &Lists<'_>) -> bool
     2 * (usize::from(lists.count()) + usize::from(faces)) != darts + 4
 }
 
-/// The first of the eight rules that a record breaks, or `None` if it breaks none. It takes no memory, and time in
-/// proportion to the record's bytes. The last rule is Euler's formula, for faces traced as Edmonds (1960) does.
+/// The first of the eight rules that a record breaks, or `None` if it breaks none.
+///
+/// It allocates nothing, and takes time linear in the record's bytes. The last rule is Euler's formula, for faces
+/// traced as Edmonds (1960) does.
 pub fn broken_rule(rec: &Record) -> Option<Rule>
     ensures { MatchOption result (KeepsBefore (lists_of rec.now) 9)
         (λ rule. FirstBroken (lists_of rec.now) rule) }

@@ -20,18 +20,18 @@ use std::alloc::{AllocError, Global};
 use std::marker::Model;
 use std::mem;
 
-/// How many darts a graph has at most: four for each of 255 vertices.
+/// The maximum number of darts of a graph: four for each of 255 vertices.
 pub const MAX_DARTS: usize = 1020;
 
-/// How many edges a graph has at most: half as many as darts.
+/// The maximum number of edges of a graph: half the number of darts.
 pub const MAX_EDGES: usize = 510;
 
-/// A connected graph without loops or double edges, of maximum degree at most 4, given by the
-/// clockwise list of neighbours of each vertex. In contracts it is these lists.
+/// A connected simple graph of maximum degree at most 4, given by its clockwise neighbour lists.
 ///
-/// Each entry v in the list of u is the dart from u, its tail, to v, its head. Vertices are
-/// numbered from 1, and darts from 0 in the order in which their entries stand. No accessor takes
-/// memory, and each takes constant time.
+/// It has no loops or double edges. In contracts it is these lists, one for each vertex.
+///
+/// Each entry v in the list of u is the dart from u, its tail, to v, its head. Vertices are numbered from 1, and darts
+/// from 0 in the order of their entries. No accessor allocates, and each takes constant time.
 #[derive(Debug, Drop)]
 pub struct Graph {
     heads: Vec<u8>,
@@ -55,12 +55,12 @@ impl Model for Graph {
 }
 
 impl Graph {
-    /// Reads the graph of a record. It takes time in proportion to the record's bytes.
+    /// The graph of a record. The time is linear in the record's bytes.
     ///
     /// # Errors
     ///
-    /// `Rule` with the first of rules 1 to 7 that the record's lists break, exactly where they
-    /// break one; `Memory` where they break none, but there was no memory for the graph.
+    /// `Rule` with the first of rules 1 to 7 that the record's lists break, exactly if they break one; `Memory` if they
+    /// break none, but there was no memory for the graph.
     pub fn read(alloc: Global, rec: &Record) -> Result<Graph, ReadFault>
         ensures lists { IfOk result (λ graph. graph ≡ lists_of rec.now) }
         ensures rules { OnOk result (KeepsBefore (lists_of rec.now) 8) }
@@ -70,13 +70,14 @@ impl Graph {
         Graph::read_in(alloc, &mut scratch, rec)
     }
 
-    /// The same as [`Graph::read`], in memory that is lent. The graph takes its lists with it; they can be given
-    /// back by [`Graph::give_back`].
+    /// The graph of a record, exactly as [`Graph::read`]; reuses the caller's scratch.
+    ///
+    /// The graph takes its lists with it; [`Graph::give_back`] returns them.
     ///
     /// # Errors
     ///
-    /// As [`Graph::read`]. Where a rule is broken, all lists stay in the scratch; where there was no memory, lists
-    /// that were lent may be gone, and the scratch can be lent again.
+    /// As [`Graph::read`]. If a rule is broken, all lists stay in the scratch; if memory runs out, lists of the scratch
+    /// may be gone, and it can be used again.
     pub fn read_in(alloc: Global, scratch: &mut Scratch, rec: &Record) -> Result<Graph, ReadFault>
         ensures lists { IfOk result (λ graph. graph ≡ lists_of rec.now) }
         ensures rules { OnOk result (KeepsBefore (lists_of rec.now) 8) }
@@ -108,13 +109,13 @@ impl Graph {
         })
     }
 
-    /// Gives the lists of this graph back to be used again. It takes no memory.
+    /// Returns the lists of this graph to the scratch, to be reused. It allocates nothing.
     pub fn give_back(self, scratch: &mut Scratch) {
         scratch.heads = self.heads;
         scratch.table = self.table;
     }
 
-    /// How many vertices there are, 1 to 255.
+    /// The number of vertices, 1 to 255.
     pub fn vertices(&self) -> u8
         ensures count { result ≡ length self.now }
         ensures some { 0 < result }
@@ -123,7 +124,7 @@ impl Graph {
         (self.table.len() - 3 * self.heads.len() - usize::from(self.faces) - 1) as u8
     }
 
-    /// How many edges there are, 1 to 510: half as many as darts.
+    /// The number of edges, 1 to 510: half the number of darts.
     pub fn edges(&self) -> u16
         ensures count { 2 * result ≡ dart_count self.now }
         ensures some { 0 < result }
@@ -132,7 +133,7 @@ impl Graph {
         (self.heads.len() / 2) as u16
     }
 
-    /// How many darts there are, 2 to 1,020.
+    /// The number of darts, 2 to 1,020.
     pub fn darts(&self) -> u16
         ensures count { result ≡ dart_count self.now }
         ensures some { 0 < result }
@@ -181,7 +182,7 @@ impl Graph {
         self.heads[usize::from(dart)]
     }
 
-    /// The dart along the same edge the other way.
+    /// The dart along the same edge in the other direction.
     pub fn reverse(&self, dart: u16) -> u16
         requires { dart < dart_count self.now }
         ensures value { result ≡ reverse_of self.now dart }
@@ -193,7 +194,7 @@ impl Graph {
         self.table[2 * usize::from(dart)]
     }
 
-    /// The next dart clockwise round the vertex that a dart comes from.
+    /// The next dart clockwise around the tail of a dart.
     pub fn after(&self, dart: u16) -> u16
         requires { dart < dart_count self.now }
         ensures value { result ≡ after_of self.now dart }
@@ -203,8 +204,9 @@ impl Graph {
         self.table[2 * usize::from(dart) + 1]
     }
 
-    /// The face on the left of a dart. Faces are walked by the darts' next ones, and are numbered from 0 in the order of
-    /// their least darts.
+    /// The face on the left of a dart.
+    ///
+    /// Faces are walked by the darts' next ones, and are numbered from 0 in the order of their least darts.
     pub fn face_of(&self, dart: u16) -> u16
         requires { dart < dart_count self.now }
         ensures { (face : ℕ → ℕ) (f : ℕ) → HasFaces (dart_count self.now) (next_of self.now) face f
@@ -213,7 +215,7 @@ impl Graph {
         self.table[2 * self.heads.len() + usize::from(dart)]
     }
 
-    /// How many faces there are.
+    /// The number of faces.
     pub fn face_count(&self) -> u16
         ensures value { (face : ℕ → ℕ) (f : ℕ) → HasFaces (dart_count self.now) (next_of self.now) face f
             → result ≡ f }
@@ -223,7 +225,7 @@ impl Graph {
         self.faces
     }
 
-    /// How many darts a face has.
+    /// The number of darts of a face.
     pub fn face_degree(&self, face: u16) -> u16
         requires { (other : ℕ → ℕ) (f : ℕ) → HasFaces (dart_count self.now) (next_of self.now) other f → face < f }
         ensures { (other : ℕ → ℕ) (f : ℕ) → HasFaces (dart_count self.now) (next_of self.now) other f

@@ -2,8 +2,9 @@
 
 ghost use Rattle.std.specs.Prelude.{◌≡◌};
 
-/// A rule for graphs. They are tried in this order, and a record is refused with the first one
-/// that it breaks.
+/// A rule that graphs must obey, in the order in which they are checked.
+///
+/// A record is refused with the first one that it breaks.
 #[derive(Debug, Clone, Copy, PartialEq, Eq)]
 pub enum Rule {
     /// Some entry is greater than the number of vertices.
@@ -27,7 +28,7 @@ pub enum Rule {
 impl Rule {
     ghost use Rattle.embedding.specs.Words.{word_of};
 
-    /// The word that reports have for the rule.
+    /// The word for the rule in reports.
     pub fn word(self) -> &'static str
         ensures { result.now ≡ word_of self }
     {

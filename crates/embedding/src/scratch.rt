@@ -2,11 +2,10 @@
 
 use std::alloc::Global;
 
-/// The lists of a graph, to be used again. What they hold between two graphs is of no use.
+/// The buffers of a graph, to be reused for the next one. Their contents between two graphs do not matter.
 ///
-/// A graph takes its two lists with it. Where each graph is given back before the next one is read, none takes
-/// memory for a record with no more vertices and no more darts than one before it had; where one is not, the
-/// next graph takes memory for both.
+/// A graph takes its two lists with it. If each graph is returned before the next one is read, none allocates for a
+/// record with no more vertices and no more darts than one before it had; if one is not, the next graph allocates both.
 #[derive(Drop)]
 pub struct Scratch {
     pub(crate) heads: Vec<u8>,
@@ -14,7 +13,7 @@ pub struct Scratch {
 }
 
 impl Scratch {
-    /// An empty one, for which no memory is taken.
+    /// An empty scratch. It allocates nothing.
     pub fn empty(alloc: Global) -> Scratch {
         Scratch {
             heads: Vec::new(alloc),

@@ -1,4 +1,4 @@
-//! What is answered to a record.
+//! The answer to a record.
 
 use crate::cause::Cause;
 use drawing_check::Drawing;
@@ -6,18 +6,18 @@ use embedding::Rule;
 use faces::Plane;
 use ortho_rep::{Prices, Shape};
 
-/// What is answered to a record.
+/// The answer to a record: its drawing and the proof of its bends, the rule it breaks, or out of memory.
 #[derive(Drop)]
 pub enum Answer {
-    /// The record breaks no rule.
+    /// The answer to a record that breaks no rule.
     Laid {
-        /// Its neighbour lists with their faces and the chosen outer face.
+        /// The plane: the record's neighbour lists with their faces and the chosen outer face.
         plane: Plane,
-        /// A shape of the plane with the fewest bends.
+        /// An orthogonal representation of the plane with the fewest bends.
         shape: Shape,
-        /// What proves the shape least.
+        /// The dual prices that prove that the shape has the fewest bends.
         prices: Prices,
-        /// Points that draw the shape, or why there are none.
+        /// Coordinates that draw the shape, or the cause why there are none.
         drawing: Result<Drawing, Cause>,
     },
     /// The first rule that the record breaks.

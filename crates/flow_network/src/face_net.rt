@@ -47,11 +47,11 @@ impl Model for FaceNet {
 impl FaceNet {
     ghost use Rattle.flow_network.specs.FaceNet.{IsFaceNetOf, IsKeepingNetOf};
 
-    /// The network of a plane. Linear in the darts.
+    /// The flow network of a plane. Linear in the darts.
     ///
     /// # Errors
     ///
-    /// `AllocError` where there is no memory for it.
+    /// `AllocError` if there is no memory for it.
     pub fn build(alloc: Global, plane: &Plane) -> Result<FaceNet, AllocError>
         ensures net { IfOk result (IsFaceNetOf plane.now) }
         ensures flow { IfOk result (λ n. (y : ℕ → ℕ) × Flow n.network y) }
@@ -60,12 +60,13 @@ impl FaceNet {
         FaceNet::build_in(alloc, &mut scratch, plane)
     }
 
-    /// The same as [`FaceNet::build`], in memory that is lent. The network takes its lists with it; they can be
-    /// given back by [`FaceNet::give_back`].
+    /// The flow network of a plane, exactly as [`FaceNet::build`]; reuses the caller's scratch.
+    ///
+    /// The network takes its lists with it; [`FaceNet::give_back`] returns them.
     ///
     /// # Errors
     ///
-    /// `AllocError` as [`FaceNet::build`]. After a refusal lists that were lent may be gone.
+    /// `AllocError` as [`FaceNet::build`]. After a refusal lists of the scratch may be gone.
     pub fn build_in(
         alloc: Global,
         scratch: &mut Scratch,
@@ -108,22 +109,23 @@ impl FaceNet {
         })
     }
 
-    /// The network itself.
+    /// The network as nodes with supplies and arcs.
     pub fn network(&self) -> &Network
         ensures { result.now ≡ self.now.network }
     {
         &self.network
     }
 
-    /// Gives the lists of this network back to be used again. It takes no memory.
+    /// Returns the lists of this network to the scratch, to be reused. It allocates nothing.
     pub fn give_back(self, scratch: &mut Scratch) {
         let (supplies, arcs) = self.network.into_lists();
         scratch.supplies = supplies;
         scratch.arcs = arcs;
     }
 
-    /// Makes a face the outer one in place of the plane's: eight units more are supplied at the old one, and
-    /// eight less at the new one. It takes no memory.
+    /// Makes `face` the outer face in place of the plane's, by moving supply between the two faces.
+    ///
+    /// Eight units more are supplied at the old one, and eight less at the new one. It allocates nothing.
     pub fn set_outer(&mut self, plane: &Plane, face: u16)
         requires net { IsFaceNetOf plane.now self.old }
         requires face { face < plane.now.faces }
@@ -138,21 +140,21 @@ impl FaceNet {
         self.network.shift(from, to, 8);
     }
 
-    /// The number of the arc that carries one less than the angle of a dart.
+    /// The number of the corner arc of a dart, which carries its angle less one.
     pub fn corner_arc(&self, dart: u16) -> u32
         ensures { result ≡ dart }
     {
         u32::from(dart)
     }
 
-    /// The number of the arc that carries the left turns of a dart.
+    /// The number of the crossing arc of a dart, which carries its left turns.
     pub fn crossing_arc(&self, dart: u16) -> u32
         ensures { result ≡ self.now.darts + dart }
     {
         self.darts + u32::from(dart)
     }
 
-    /// The number of the node of a vertex; vertices count from 1.
+    /// The node of a vertex; vertices are numbered from 1.
     pub fn vertex_node(&self, vertex: u8) -> u32
         requires { 1 ≤ vertex }
         ensures { result ≡ vertex - 1 }
@@ -160,7 +162,7 @@ impl FaceNet {
         u32::from(vertex) - 1
     }
 
-    /// The number of the node of a face; faces count from 0.
+    /// The node of a face; faces are numbered from 0.
     pub fn face_node(&self, face: u16) -> u32
         ensures { result ≡ self.now.vertices + face }
     {

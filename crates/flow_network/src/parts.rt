@@ -32,8 +32,7 @@ fn face_supply(plane: &Plane, face: u16) -> i32
     turn - i32::from(plane.degree(face))
 }
 
-/// The supply of each node: those of the vertices, and then those of the faces. They stand in the memory of
-/// an old list where that is enough.
+/// The supply of each node: those of the vertices, followed by those of the faces. Reuses the buffer of `old`.
 pub fn supplies_of(old: Vec<i32>, plane: &Plane) -> Result<Vec<i32>, AllocError>
     ensures nodes { IfOk result (λ s. length s.items ≡ vertices plane.now + plane.now.faces) }
     ensures at_vertex { IfOk result (λ s. (v : ℕ) → 1 ≤ v → v ≤ vertices plane.now
@@ -66,8 +65,9 @@ fn cap_across(plane: &Plane, straight: &[bool], dart: u16) -> Cap
     }
 }
 
-/// The arcs: the corner arcs of all darts, and then their crossing arcs. The edges of marked darts are to stay
-/// straight. They stand in the memory of an old list where that is enough.
+/// The arcs: the corner arcs of all darts, followed by their crossing arcs. Reuses the buffer of `old`.
+///
+/// The edges of marked darts are to stay straight.
 pub fn arcs_of(old: Vec<Arc>, plane: &Plane, straight: &[bool]) -> Result<Vec<Arc>, AllocError>
     ensures arcs { IfOk result (λ a. length a.items ≡ darts plane.now + darts plane.now) }
     ensures corner { IfOk result (λ a. (d : ℕ) → d < darts plane.now

@@ -3,11 +3,10 @@
 use min_cost_flow::Arc;
 use std::alloc::Global;
 
-/// The lists of a network, to be used again. What they hold between two networks is of no use.
+/// The buffers of a network, to be reused for the next one. Their contents between two networks do not matter.
 ///
-/// A network takes both lists with it. Where each is given back before the next one is made, none takes memory
-/// for a plane with no more vertices and faces and no more darts than one before it had; where one is not, the
-/// next takes memory for both.
+/// A network takes both lists with it. If each is returned before the next one is made, none allocates for a plane with
+/// no more vertices and faces and no more darts than one before it had; if one is not, the next allocates both.
 #[derive(Drop)]
 pub struct Scratch {
     pub(crate) supplies: Vec<i32>,
@@ -15,7 +14,7 @@ pub struct Scratch {
 }
 
 impl Scratch {
-    /// An empty one, for which no memory is taken.
+    /// An empty scratch. It allocates nothing.
     pub fn empty(alloc: Global) -> Scratch {
         Scratch {
             supplies: Vec::new(alloc),

@@ -2,18 +2,18 @@
 use crate::state::Solver;
 use std::alloc::Global;
 
-/// Lists that a solve works in, to be used again. What they hold between two solves is of no use.
+/// Buffers that one solve after another reuses. Their contents between two solves do not matter.
 ///
-/// A solution takes two of the lists with it. Where each solution is given back before the next solve, none
-/// takes memory for a network with no more nodes and no more arcs than one before it had; where one is not,
-/// the next solve takes memory for these two lists alone.
+/// A solution takes two of the lists with it. If each solution is returned before the next solve, none allocates for a
+/// network with no more nodes and no more arcs than one before it had; if one is not, the next solve allocates these
+/// two lists alone.
 #[derive(Drop)]
 pub struct Scratch {
     pub(crate) solver: Solver,
 }
 
 impl Scratch {
-    /// An empty one, for which no memory is taken.
+    /// An empty scratch. It allocates nothing.
     pub fn empty(alloc: Global) -> Scratch {
         Scratch {
             solver: Solver::empty(alloc),

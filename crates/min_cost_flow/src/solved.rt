@@ -5,7 +5,7 @@ ghost use Rattle.networks.specs.Flow.{SolvedModel, at_nodes};
 use crate::scratch::Scratch;
 use std::marker::Model;
 
-/// A flow of least cost, and potentials that show it.
+/// A flow of least cost, with potentials that prove it.
 #[derive(Debug, Drop)]
 pub struct Solved {
     flow: Vec<u32>,
@@ -33,13 +33,13 @@ impl Solved {
         }
     }
 
-    /// Gives the two lists of this solution back to be used again. It takes no memory.
+    /// Returns the two lists of this solution to the scratch, to be reused. It allocates nothing.
     pub fn give_back(self, scratch: &mut Scratch) {
         scratch.solver.residual.forward = self.flow;
         scratch.solver.nodes.potential = self.potential;
     }
 
-    /// How many units the arc of a number carries.
+    /// The number of units that an arc carries.
     pub fn flow(&self, arc: u32) -> u32
         requires { arc < length self.now.flow }
         ensures { result ≡ slice_index self.now.flow arc }
@@ -55,14 +55,14 @@ impl Solved {
         self.potential[node as usize]
     }
 
-    /// How many times a path was searched for.
+    /// The number of searches for a path.
     pub fn searches(&self) -> u32
         ensures { result ≡ self.now.searches }
     {
         self.searches
     }
 
-    /// How many times a residual arc was looked at, in all searches.
+    /// The number of looks at residual arcs, in all searches.
     pub fn looks(&self) -> u64
         ensures { result ≡ self.now.looks }
     {

@@ -23,7 +23,7 @@ use std::alloc::{AllocError, Global};
 use std::mem;
 use thiserror::Error;
 
-/// Why there is no solution.
+/// The reason why there is no solution.
 #[derive(Clone, Copy, Debug, PartialEq, Eq, Error)]
 pub enum SolveFault {
     /// No flow meets the supplies.
@@ -42,15 +42,14 @@ impl From<AllocError> for SolveFault {
     }
 }
 
-/// A flow of least cost that meets all supplies, with potentials that show it.
+/// A flow of least cost that meets all supplies, with potentials that prove it.
 ///
-/// All memory is taken before it begins. Each search sends at least one unit, so there are no more
-/// searches than units are supplied, and looks at each residual arc once at most, so there are no
-/// more looks than twice the number of arcs a search. The potentials are at most twice the number of
-/// nodes in absolute value.
+/// All memory is allocated before it begins. Each search sends at least one unit, so there are no more searches than
+/// units are supplied, and looks at each residual arc at most once, so there are no more looks than twice the number of
+/// arcs a search. The potentials are at most twice the number of nodes in absolute value.
 ///
 /// # Errors
-/// `Infeasible` exactly where there is no flow, memory aside, and `Memory` where an allocation was refused.
+/// `Infeasible` exactly if there is no flow, memory aside, and `Memory` if an allocation was refused.
 pub fn solve(alloc: Global, network: &Network) -> Result<Solved, SolveFault>
     ensures ok { IfOk result (λ solved. Solves network.now solved) }
     ensures infeasible { IfErr result (λ fault. fault ≡ SolveFault.Infeasible → HasNoFlow network.now) }
@@ -64,9 +63,10 @@ pub fn solve(alloc: Global, network: &Network) -> Result<Solved, SolveFault>
     solve_in(alloc, &mut scratch, network)
 }
 
-/// The same as [`solve`], in memory that is lent. The solution takes its two lists with it; they can be given
-/// back by [`Solved::give_back`]. Where there is no solution, or an allocation was refused, all lists stay in the
-/// scratch, which can be lent again.
+/// A flow of least cost that meets all supplies, exactly as [`solve`]; reuses the caller's scratch.
+///
+/// The solution takes its two lists with it; [`Solved::give_back`] returns them. If there is no solution, or an
+/// allocation was refused, all lists stay in the scratch, which can be used again.
 pub fn solve_in(
     alloc: Global,
     scratch: &mut Scratch,

@@ -5,7 +5,7 @@ ghost use Rattle.min_cost_flow.specs.SolverState.{IsSized};
 use networks::{FAR, Network, Residual, ResidualArc, ResidualCapacity, Visit};
 use std::alloc::{AllocError, Global};
 
-/// What is known of each node of a network.
+/// The state of each node of a network.
 #[derive(Drop)]
 pub struct Nodes {
     /// Under these no unsaturated residual arc has a reduced cost below 0, and at a deficit they are 0.
@@ -16,9 +16,11 @@ pub struct Nodes {
     pub score: Vec<i32>,
 }
 
-/// The residual network, what is known of each node, what the last search left of it and the residual arc that it
-/// found, and how much work was done since the solver began: searches, and looks at residual arcs in them. Where it
-/// goes on after a move, no searches are counted, and only the looks of the last one.
+/// The state of a solver: the residual network, the state of each node, and the results of the last search.
+///
+/// The latter include the residual arc that the search found. It also counts the work done since the solver began:
+/// searches, and looks at residual arcs in them. If it goes on after a move, no searches are counted, and only the
+/// looks of the last one.
 #[derive(Drop)]
 pub struct Solver {
     pub residual: Residual,

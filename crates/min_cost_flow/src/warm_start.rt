@@ -14,7 +14,7 @@ use networks::{Network, ResidualCapacity};
 use std::alloc::{AllocError, Global};
 use std::marker::Model;
 
-/// A flow of least cost in a network of its own, which follows as supplies move.
+/// A flow of least cost in a network of its own, which is updated as supplies move.
 #[derive(Drop)]
 pub struct WarmStart {
     network: Network,
@@ -30,10 +30,10 @@ impl Model for WarmStart {
 }
 
 impl WarmStart {
-    /// A flow of least cost in a network.
+    /// A flow of least cost in a copy of a network, which later calls of `shift` update.
     ///
     /// # Errors
-    /// `Infeasible` exactly where there is no flow, memory aside, and `Memory` where an allocation was refused.
+    /// `Infeasible` exactly if there is no flow, memory aside, and `Memory` if an allocation was refused.
     pub fn new(alloc: Global, network: &Network) -> Result<WarmStart, SolveFault>
         ensures net { IfOk result (λ s. s ≡ network.now) }
         ensures infeasible { IfErr result (λ fault. fault ≡ SolveFault.Infeasible → HasNoFlow network.now) }
@@ -47,9 +47,9 @@ impl WarmStart {
         Ok(WarmStart { network, solver })
     }
 
-    /// Lets node `from` supply so many units more, and node `to` so many less, and the flow follows at
-    /// least cost; `None` where there is no flow any more, and then the old one is gone too. No memory is
-    /// taken.
+    /// Raises the supply of node `from` by `amount`, lowers that of `to` as much, and updates the flow at least cost.
+    ///
+    /// `None` if there is no flow any more; the old one is then gone too. It allocates nothing.
     pub fn shift(self, from: u32, to: u32, amount: u32) -> Option<WarmStart>
         requires from { from < node_count self }
         requires to { to < node_count self }
@@ -66,17 +66,17 @@ impl WarmStart {
         Some(WarmStart { network, solver })
     }
 
-    /// The network, with its supplies as they are now.
+    /// The network, with its current supplies.
     pub fn network(&self) -> &Network
         ensures { result.now ≡ self.now }
     {
         &self.network
     }
 
-    /// The flow and its potentials, with no work counted.
+    /// A copy of the flow and its potentials, with no work counted.
     ///
     /// # Errors
-    /// `AllocError` where there is no memory for them.
+    /// `AllocError` if there is no memory for them.
     pub fn solved(&self, alloc: Global) -> Result<Solved, AllocError>
         ensures solves { IfOk result (λ solved. Solves self.now solved) }
         ensures work { IfOk result (λ solved. (solved.searches ≡ 0) × (solved.looks ≡ 0)) }
@@ -89,7 +89,7 @@ impl WarmStart {
         Ok(Solved::new(flow, potential, 0, 0))
     }
 
-    /// What the flow costs, and its potentials by node. No memory is taken; linear in the arcs.
+    /// The cost of the flow, and its potentials by node. It allocates nothing; linear in the arcs.
     pub fn least_cost(&self) -> (u64, &[i32])
         ensures shown { IsShown self.now result.0 result.1.now }
         ensures few { result.0 < 2 ^ 48 }

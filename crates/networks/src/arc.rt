@@ -1,6 +1,6 @@
 //! Arcs of a flow network, with their capacities and costs.
 
-/// How much an arc may carry.
+/// The capacity of an arc.
 #[derive(Clone, Copy, Debug, PartialEq, Eq)]
 pub enum Cap {
     /// At most so many units.

@@ -12,18 +12,16 @@ use crate::residual::ResidualArc;
 use crate::state::{Candidate, FAR, Search, SearchInput, Visit};
 
 impl<'a> Search<'a> {
-    /// Labels the nodes round a root, in order of their distance by reduced costs, up to the nearest one
-    /// with a deficit.
+    /// Labels the nodes around a root in order of their distance, up to the nearest one with a deficit.
     ///
-    /// Then `bound` is the distance of that node, and `found` the last residual arc on the way there;
-    /// where unsaturated residual arcs lead to no such node, `bound` is `FAR`. A node's label is the root's
-    /// potential and the costs of the residual arcs on the way; less its own potential it is its distance.
-    /// Each node that was reached has the residual arc by which it was, and a place in the order,
-    /// the root the first. Those at its first `scanned` places were scanned, and the others that were reached
-    /// are no nearer than `bound`.
+    /// Distances are by reduced costs. Then `bound` is the distance of that node, and `found` the last residual arc on
+    /// the way there; if unsaturated residual arcs lead to no such node, `bound` is `FAR`. A node's label is the root's
+    /// potential and the costs of the residual arcs on the way; less its own potential it is its distance. Each node
+    /// that was reached has the residual arc by which it was, and a place in the order, the root the first. Those at
+    /// its first `scanned` places were scanned, and the others that were reached are no nearer than `bound`.
     ///
-    /// It looks at each residual arc once at most, and takes no memory. Beside that it goes over the nodes
-    /// that were reached and wait, for each distance that it comes to.
+    /// It looks at each residual arc at most once, and allocates nothing. Besides that it goes over the nodes that were
+    /// reached and wait, for each distance that it comes to.
     pub fn run(input: SearchInput<'_>, visits: &'a mut [Visit], looks: &mut u64) -> Search<'a>
         requires unlabelled { IsUnlabelled input visits.old }
         requires few { looks.old < 2 ^ 61 }

@@ -6,10 +6,10 @@ ghost use Rattle.networks.specs.Networks.{net_of, HasEnds, HasSuppliesInRange, H
 use crate::arc::Arc;
 use thiserror::Error;
 
-/// How many units a node supplies or wants at most.
+/// The maximum number of units that a node supplies or demands.
 pub const MAX_SUPPLY: u32 = 2_048;
 
-/// Why there is no network of the given supplies and arcs.
+/// The reason why the given supplies and arcs are not a network.
 #[derive(Clone, Copy, Debug, PartialEq, Eq, Error)]
 pub enum NetFault {
     /// There are more than 1,024 supplies or 4,096 arcs.

@@ -10,10 +10,10 @@ use crate::units::move_units;
 use std::alloc::{AllocError, Global};
 use std::marker::Model;
 
-/// How many nodes a network has at most.
+/// The maximum number of nodes of a network.
 pub const MAX_NODES: usize = 1_024;
 
-/// How many arcs a network has at most.
+/// The maximum number of arcs of a network.
 pub const MAX_ARCS: usize = 4_096;
 
 /// Nodes with supplies, joined by arcs. Nodes and arcs are numbered from 0; a node whose
@@ -35,7 +35,9 @@ impl Model for Network {
 impl Network {
     ghost use Rattle.networks.specs.Fault.{IsFirstFault};
 
-    /// The network with one node for each supply. A refusal drops both lists. No memory is taken, and time is linear.
+    /// The network with these supplies, one for each node, and these arcs. A refusal drops both lists.
+    ///
+    /// It allocates nothing, and its time is linear.
     ///
     /// # Errors
     /// The first fault in the order of [`NetFault`].
@@ -58,7 +60,9 @@ impl Network {
         Ok(Network { supplies, arcs })
     }
 
-    /// The network of supplies and arcs that are known to be those of one: it looks at none of them, and takes no memory.
+    /// The network with these supplies and arcs, which must be those of a network.
+    ///
+    /// It looks at none of them, and allocates nothing.
     pub fn of_lists(supplies: Vec<i32>, arcs: Vec<Arc>) -> Network
         requires { IsNetwork (net_of supplies.items arcs.items) }
         ensures { result ≡ net_of supplies.items arcs.items }
@@ -66,7 +70,7 @@ impl Network {
         Network { supplies, arcs }
     }
 
-    /// How many nodes there are.
+    /// The number of nodes.
     pub fn node_count(&self) -> usize
         ensures count { result ≡ node_count self.now }
         ensures kept { IsNetwork self.now }
@@ -74,7 +78,7 @@ impl Network {
         self.supplies.len()
     }
 
-    /// How many arcs there are.
+    /// The number of arcs.
     pub fn arc_count(&self) -> usize
         ensures count { result ≡ arc_count self.now }
         ensures kept { IsNetwork self.now }
@@ -98,7 +102,7 @@ impl Network {
         &self.supplies
     }
 
-    /// Lets node `from` supply so many units more, and node `to` so many less. It takes no memory.
+    /// Raises the supply of node `from` by `amount`, and lowers that of node `to` by as much. It allocates nothing.
     pub fn shift(&mut self, from: u32, to: u32, amount: u32)
         requires from { from < node_count self.old }
         requires to { to < node_count self.old }
@@ -109,7 +113,7 @@ impl Network {
         move_units(&mut self.supplies, from, to, amount);
     }
 
-    /// The supplies and the arcs. It takes no memory.
+    /// Returns the supplies and the arcs. It allocates nothing.
     pub fn into_lists(self) -> (Vec<i32>, Vec<Arc>)
         ensures supplies { result.0.items ≡ self.supplies }
         ensures arcs { result.1.items ≡ self.arcs }
@@ -117,10 +121,10 @@ impl Network {
         (self.supplies, self.arcs)
     }
 
-    /// The same network again.
+    /// A copy of the network.
     ///
     /// # Errors
-    /// `AllocError` where there is no memory for its lists.
+    /// `AllocError` if there is no memory for its lists.
     pub fn copy(&self) -> Result<Network, AllocError>
         ensures { IfOk result (λ net. net ≡ self.now) }
     {

@@ -6,22 +6,20 @@ ghost use Rattle.networks.specs.Residuals.{HasNumber, IsSetTo};
 
 use crate::network::MAX_ARCS;
 
-/// How many residual arcs a network has at most: two for each arc.
+/// The maximum number of residual arcs of a network: two for each arc.
 pub const MAX_RESIDUAL_ARCS: usize = 2 * MAX_ARCS;
 
-/// What the cost of a residual arc is raised by while nothing fits.
+/// The amount by which the cost of a saturated residual arc is raised.
 pub const SATURATED: i16 = 16_000;
 
-/// A residual arc as a search reads it: the node where it ends, and what a unit along it costs, with `SATURATED` more
-/// while nothing fits.
+/// The end and the cost of a residual arc, which a search reads. The cost is raised by `SATURATED` if it is saturated.
 #[derive(Clone, Copy, Debug, Default, PartialEq, Eq)]
 pub struct ResidualArc {
     pub end: u16,
     pub cost: i16,
 }
 
-/// What sending along a residual arc reads: the number of the residual arc the other way, and the residual capacity:
-/// how many more units fit along this one.
+/// The reverse and the residual capacity of a residual arc, which sending units along it reads.
 #[derive(Clone, Copy, Debug, Default, PartialEq, Eq)]
 pub struct ResidualCapacity {
     pub reverse: u32,
@@ -46,7 +44,7 @@ impl ResidualArc {
     }
 }
 
-/// The residual arcs of a network under a flow. Those that start at a node stand side by side.
+/// The residual arcs of a network under a flow, sorted by the node where they start.
 #[derive(Drop)]
 pub struct Residual {
     /// The residual arcs that start at node v have the numbers from `first[v]` up to `first[v + 1]`.
@@ -68,7 +66,7 @@ impl Residual {
         self.arcs[self.capacities[number].reverse as usize].end as usize
     }
 
-    /// Takes capacity for so many units, at least one, from a residual arc, and saturates it where no more fits.
+    /// Lowers the capacity of a residual arc by `units`, at least one; it is saturated if no capacity is left.
     pub fn take_capacity(&mut self, number: usize, units: u32)
         requires arc { HasNumber self.old number }
         requires cost { (z : ℤ) × (negsuc 0 ≤ℤ z) × (z ≤ℤ pos 1) × IsCosted self.old.arcs.items self.old.capacities.items number z }
@@ -83,7 +81,7 @@ impl Residual {
         }
     }
 
-    /// Makes capacity for so many units more, at least one, along a residual arc, which may have been saturated.
+    /// Raises the capacity of a residual arc by `units`, at least one. It may have been saturated.
     pub fn add_capacity(&mut self, number: usize, units: u32)
         requires arc { HasNumber self.old number }
         requires cost { (z : ℤ) × (negsuc 0 ≤ℤ z) × (z ≤ℤ pos 1) × IsCosted self.old.arcs.items self.old.capacities.items number z }

@@ -4,7 +4,7 @@ use crate::residual::ResidualArc;
 /// The label of a node that was not reached, above that of each node that was.
 pub const FAR: i16 = 8_000;
 
-/// What a search reads: residual arcs, what is known of each node, and the node where the search begins.
+/// The input of a search: residual arcs, the state of each node, and the node where the search begins.
 #[derive(Clone, Copy)]
 pub struct SearchInput<'a> {
     /// The residual arcs that start at node v have the numbers from `first[v]` up to `first[v + 1]`.
@@ -19,8 +19,9 @@ pub struct SearchInput<'a> {
     pub root: usize,
 }
 
-/// What a search knows of a node; and what stands at the place of the same number in the order of the nodes that
-/// were reached: first those that were scanned, then those at the radius, then those further off.
+/// The state of a node in a search, and the node at this place in the order of the nodes that were reached.
+///
+/// That order begins with those that were scanned, then come those at the radius, then those further off.
 #[derive(Clone, Copy)]
 pub struct Visit {
     /// The root's potential and the costs of the residual arcs on the way to the node, or `FAR`.
@@ -33,7 +34,7 @@ pub struct Visit {
     pub at_place: u16,
 }
 
-/// What a search has found so far.
+/// The results of a search so far.
 #[derive(Drop)]
 pub struct Search<'a> {
     /// One for each node.

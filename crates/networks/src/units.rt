@@ -3,7 +3,7 @@ ghost use Rattle.std.specs.Prelude.{◌≡◌, ◌<◌, ◌≤◌, ℕ, pos, ◌
 ghost use Rattle.networks.specs.declared.fault.TheConstants.{MAX_SUPPLY};
 ghost use Rattle.networks.specs.Networks.{moved};
 
-/// Gives node `from` so many units more, and node `to` so many less. It takes no memory.
+/// Adds `amount` units to the entry of node `from`, and subtracts them from that of node `to`. It allocates nothing.
 pub fn move_units(units: &mut [i32], from: u32, to: u32, amount: u32)
     requires from { from < length units.old }
     requires to { to < length units.old }

@@ -38,16 +38,14 @@ impl Incumbent {
     }
 }
 
-/// Makes the best face the outer one, and gives a least shape with prices that prove it least.
+/// Makes the best face the outer face; returns a least shape, with prices that prove it.
 ///
-/// The best face is the one with which the fewest bends are needed, among equals the one with the least
-/// number. Each face is tried, but for those of which the potentials of an earlier one prove that they
-/// are no better.
+/// The best face minimises bends, and has the least number among equals. Each face is tried, except those for which the
+/// potentials of an earlier one prove that they are no better.
 ///
 /// # Errors
 ///
-/// `AllocError` where there is no memory for a network, its flow, the shape or the prices. The plane is then
-/// what it was.
+/// `AllocError` if there is no memory for a network, its flow, the shape or the prices. The plane is then unchanged.
 pub fn best_shape(alloc: Global, plane: &mut Plane) -> Result<(Shape, Prices), AllocError>
     ensures outer_moved { OnOk result (plane.new ≡ with_outer plane.old plane.new.outer) }
     ensures best { OnOk result (IsBest plane.new) }

@@ -16,11 +16,11 @@ use crate::turn::{Turn, count_lefts};
 use faces::Plane;
 use flow_network::stays_straight;
 
-/// Whether the prices prove the shape least: whether all four lists have the plane's lengths, and each
-/// dart's angle and turns agree with the prices of its head, of its face and of the face across.
+/// Whether the prices prove that the shape has the fewest bends (complementary slackness).
 ///
-/// A shape that `is_shape` accepts too has the fewest bends (complementary slackness), whoever made it
-/// and its prices. No memory is taken; linear in the turns and the darts.
+/// All four lists must have the plane's lengths, and each dart's angle and turns must agree with the prices of its
+/// head, of its face and of the face across. A shape that `is_shape` accepts too then has the fewest bends, whoever
+/// made it and its prices. It allocates nothing; linear in the turns and the darts.
 pub fn certify(plane: &Plane, shape: &Shape, prices: &Prices) -> bool
     ensures exact { IsTrue result ↔ IsProof plane.now shape.now prices.now }
     ensures least { IsTrue result → IsShape plane.now shape.now → IsLeast plane.now shape.now }
@@ -28,10 +28,12 @@ pub fn certify(plane: &Plane, shape: &Shape, prices: &Prices) -> bool
     certify_keeping(plane, &[], shape, prices)
 }
 
-/// The same among the shapes that keep the edges of marked darts straight: whether they have no turns, and the prices of
-/// all other darts agree. For their own darts the price of a bend says nothing.
+/// Whether the prices prove that the shape has the fewest bends of all that keep the marked edges straight.
 ///
-/// An edge is to have no turns where one of its two darts is marked; darts past the end of the list are not. A shape that
+/// These edges must have no turns, and the prices of all other darts must agree with the shape. For the marked edges'
+/// own darts the price of a bend says nothing.
+///
+/// An edge has no turns if one of its two darts is marked; darts past the end of the list are not marked. A shape that
 /// `is_shape` accepts too has the fewest bends of all that keep these edges straight.
 pub fn certify_keeping(plane: &Plane, straight: &[bool], shape: &Shape, prices: &Prices) -> bool
     ensures exact { IsTrue result ↔ IsProofKeeping plane.now straight.now shape.now prices.now }

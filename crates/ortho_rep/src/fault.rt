@@ -6,7 +6,7 @@ ghost use Rattle.ortho_rep.specs.declared.fault.ShapeFault.TheVariants.{Memory};
 use std::alloc::AllocError;
 use thiserror::Error;
 
-/// Why there is no shape.
+/// The reason why there is no shape.
 #[derive(Clone, Copy, Debug, PartialEq, Eq, Error)]
 pub enum ShapeFault {
     /// No orthogonal representation of the plane with its outer face keeps these edges straight.

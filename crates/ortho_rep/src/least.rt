@@ -26,14 +26,14 @@ use min_cost_flow::{Network, SolveFault, Solved, solve_in};
 use std::alloc::{AllocError, Global};
 use std::mem;
 
-/// An orthogonal representation of the plane with the fewest bends, and prices that prove it least.
+/// An orthogonal representation of the plane with the fewest bends, and prices that prove it.
 ///
-/// It is a flow of least cost in the plane's network, and the prices are its potentials (Tamassia
-/// 1987): a corner arc carries a dart's angle less one, a crossing arc its left turns.
+/// It is a flow of least cost in the plane's network, and the prices are its potentials (Tamassia 1987): a corner arc
+/// carries a dart's angle less one, a crossing arc its left turns.
 ///
 /// # Errors
 ///
-/// `AllocError` where there is no memory for the network, its flow, the shape or the prices.
+/// `AllocError` if there is no memory for the network, its flow, the shape or the prices.
 pub fn least_shape(alloc: Global, plane: &Plane) -> Result<(Shape, Prices), AllocError>
     ensures shape { IfOk result (λ found. IsShape plane.now found.0) }
     ensures least { IfOk result (λ found. IsLeast plane.now found.0) }
@@ -43,8 +43,9 @@ pub fn least_shape(alloc: Global, plane: &Plane) -> Result<(Shape, Prices), Allo
     least_shape_in(alloc, &mut scratch, plane)
 }
 
-/// The same as [`least_shape`], in memory that is lent. The shape and the prices take their lists with them; they can
-/// be given back by [`Shape::give_back`] and [`Prices::give_back`].
+/// An orthogonal representation with the fewest bends, and its prices, exactly as [`least_shape`]; reuses the scratch.
+///
+/// The shape and the prices take their lists with them; [`Shape::give_back`] and [`Prices::give_back`] return them.
 ///
 /// # Errors
 ///
@@ -65,16 +66,15 @@ pub fn least_shape_in(
     }
 }
 
-/// An orthogonal representation of the plane with the fewest bends among those that keep the edges of marked darts
-/// straight, and prices that prove it.
+/// An orthogonal representation of fewest bends among those that keep marked edges straight, and prices that prove it.
 ///
-/// An edge is to have no turns where one of its two darts is marked; darts past the end of the list are not. It is
+/// An edge has no turns if one of its two darts is marked; darts past the end of the list are not marked. It is
 /// [`least_shape`] with nothing crossing these edges, and whatever a unit across them would gain.
 ///
 /// # Errors
 ///
-/// `NoShape` exactly where no representation keeps these edges straight, memory aside, and `Memory` where there is
-/// none for the network, its flow, the shape or the prices.
+/// `NoShape` exactly if no representation keeps these edges straight, memory aside, and `Memory` if memory runs out for
+/// the network, its flow, the shape or the prices.
 pub fn least_shape_keeping(
     alloc: Global,
     plane: &Plane,
@@ -90,8 +90,9 @@ pub fn least_shape_keeping(
     least_shape_keeping_in(alloc, &mut scratch, plane, straight)
 }
 
-/// The same as [`least_shape_keeping`], in memory that is lent, as by [`least_shape_in`]. After a refusal some of it may
-/// be lost; the next call then takes it anew.
+/// The representation and prices of [`least_shape_keeping`]; reuses the caller's scratch, as [`least_shape_in`].
+///
+/// After a refusal some of the scratch may be lost; the next call then allocates it anew.
 ///
 /// # Errors
 ///

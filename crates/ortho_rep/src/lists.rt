@@ -5,7 +5,7 @@ ghost use Rattle.ortho_rep.specs.Storage.{slices_at, AreStarts};
 
 use std::marker::Model;
 
-/// Lists of items that stand in one list. In contracts it is the list of these lists.
+/// A list of lists of items, stored in one flat list. In contracts it is the list of these lists.
 #[derive(Debug, Drop)]
 pub struct FlatLists<T> {
     // all items, and where those of each list start; one place more, where the last ones end
@@ -25,7 +25,7 @@ impl<T> Model for FlatLists<T> {
 }
 
 impl<T> FlatLists<T> {
-    /// The pieces between places that follow one another in one list of items. It takes no memory.
+    /// The lists between consecutive places of `starts` in one flat list of items. It allocates nothing.
     pub fn new(items: Vec<T>, starts: Vec<usize>) -> FlatLists<T>
         requires { AreStarts starts.items items.items }
         ensures { result ≡ slices_at starts.items items.items }
@@ -33,21 +33,21 @@ impl<T> FlatLists<T> {
         FlatLists { items, starts }
     }
 
-    /// The one list and the places, whose memory can be used again.
+    /// Returns the flat list and the places, whose buffers can be reused.
     pub fn into_parts(self) -> (Vec<T>, Vec<usize>)
         ensures { self ≡ slices_at result.1.items result.0.items }
     {
         (self.items, self.starts)
     }
 
-    /// How many lists there are.
+    /// The number of lists.
     pub fn len(&self) -> usize
         ensures { result ≡ length self.now }
     {
         self.starts.len() - 1
     }
 
-    /// List i.
+    /// The list with index i.
     pub fn get(&self, i: usize) -> &[T]
         requires { i < length self.now }
         ensures { result.now ≡ slice_index_or self.now i [] }

@@ -18,11 +18,12 @@ pub struct Point {
     pub y: u32,
 }
 
-/// A point for each vertex of a plane, and for each edge its corner points along its lesser dart. In
-/// contracts it is the list of the vertex points and the list of the lists of corners.
+/// The point of each vertex of a plane, and the corner points of each edge along its lesser dart.
 ///
-/// Edges are numbered from 0 in the order of their lesser darts. The points need not draw anything:
-/// that is for the check of a drawing to say. No accessor takes memory, and each takes constant time.
+/// In contracts it is the list of the vertex points and the list of the lists of corners.
+///
+/// Edges are numbered from 0 in the order of their lesser darts. The points need not draw anything: that is for the
+/// check of a drawing to say. No accessor allocates, and each takes constant time.
 #[derive(Debug, Drop)]
 pub struct Points {
     store: PointStore,
@@ -48,8 +49,9 @@ impl Model for Points {
 }
 
 impl Points {
-    /// These points: that of vertex v at place v - 1 of the first list, the corners of edge e at place e
-    /// of the second. It takes no memory.
+    /// The points with these lists: `vertices[v - 1]` is the point of vertex v, `corners[e]` are the corners of edge e.
+    ///
+    /// It allocates nothing.
     pub fn new(vertices: Vec<Point>, corners: Vec<Vec<Point>>) -> Points
         ensures { result ≡ record { vertices = vertices.items; corners = lists_in corners.items } }
     {
@@ -58,13 +60,15 @@ impl Points {
         }
     }
 
-    /// These points: that of vertex v at place v - 1 of the first list, and of the second the corners of
-    /// edge e from place `starts[e]` to place `starts[e + 1]`. All stand in the first list then, which takes more memory
-    /// only where it has no room for the corners and for a point more for each edge.
+    /// The points with these lists, where one flat list holds the corners of all edges.
+    ///
+    /// The point of vertex v is `vertices[v - 1]`; the corners of edge e are those of `corners` from place `starts[e]`
+    /// to place `starts[e + 1]`. All points are then in the first list, which allocates only if it has no room for the
+    /// corners and for a point more for each edge.
     ///
     /// # Errors
     ///
-    /// `AllocError` where there is no memory for them, or there are more than 4,294,967,295 corners.
+    /// `AllocError` if there is no memory for them, or there are more than 4,294,967,295 corners.
     pub fn concatenated(
         vertices: Vec<Point>,
         corners: &[Point],
@@ -79,8 +83,9 @@ impl Points {
         })
     }
 
-    /// The list in which these points stand, whose memory can be used again; of points that are not in one list, that
-    /// of the vertices. It takes none.
+    /// Returns the list of these points, whose buffer can be reused. It allocates nothing.
+    ///
+    /// If the points are not in one list, it is that of the vertices.
     pub fn into_list(self) -> Vec<Point> {
         match self.store {
             PointStore::InTwoLists {
@@ -91,14 +96,14 @@ impl Points {
         }
     }
 
-    /// How many vertices have a point.
+    /// The number of vertices that have a point.
     pub fn vertex_count(&self) -> usize
         ensures { result ≡ length self.now.vertices }
     {
         self.vertices().len()
     }
 
-    /// How many edges have a list of corners.
+    /// The number of edges that have a list of corners.
     pub fn edge_count(&self) -> usize
         ensures { result ≡ length self.now.corners }
     {

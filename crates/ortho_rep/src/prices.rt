@@ -6,10 +6,10 @@ ghost use Rattle.ortho_rep.specs.Prices.{vertex_price, face_price};
 use crate::scratch::Scratch;
 use std::marker::Model;
 
-/// An integer for each vertex and each face of a plane. In contracts it is the two lists.
+/// The dual prices: an integer for each vertex and each face of a plane. In contracts it is the two lists.
 ///
-/// Where they agree with a representation, they prove it least: `certify` is the test. No accessor takes memory,
-/// and each takes constant time.
+/// If they agree with a representation, they prove it least: `certify` is the test. No accessor allocates, and each
+/// takes constant time.
 #[derive(Debug, Drop)]
 pub struct Prices {
     store: PriceStore,
@@ -34,8 +34,8 @@ impl Model for Prices {
 }
 
 impl Prices {
-    /// These prices: that of vertex v at place v - 1 of the first list, that of face f at place f of the
-    /// second. It takes no memory.
+    /// The prices with these lists: `vertices[v - 1]` is that of vertex v, `faces[f]` that of face f. It allocates
+    /// nothing.
     pub fn new(vertices: Vec<i32>, faces: Vec<i32>) -> Prices
         ensures { result ≡ record { vertices = vertices.items; faces = faces.items } }
     {
@@ -54,8 +54,9 @@ impl Prices {
         }
     }
 
-    /// Gives the list of these prices back to be used again; lists of prices that do not stand in one, as
-    /// [`least_shape_in`](crate::least_shape_in) makes them, it drops. It takes no memory.
+    /// Returns the list of these prices to the scratch, to be reused. It allocates nothing.
+    ///
+    /// Prices that are not in one list, as [`least_shape_in`](crate::least_shape_in) makes them, are dropped.
     pub fn give_back(self, scratch: &mut Scratch) {
         match self.store {
             PriceStore::Concatenated {
@@ -69,7 +70,7 @@ impl Prices {
         }
     }
 
-    /// How many vertices have a price.
+    /// The number of vertices that have a price.
     pub fn vertex_count(&self) -> usize
         ensures { result ≡ length self.now.vertices }
     {
@@ -79,7 +80,7 @@ impl Prices {
         }
     }
 
-    /// How many faces have a price.
+    /// The number of faces that have a price.
     pub fn face_count(&self) -> usize
         ensures { result ≡ length self.now.faces }
     {

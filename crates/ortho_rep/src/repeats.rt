@@ -10,7 +10,7 @@ ghost use Rattle.ortho_rep.specs.Repeats.{AreRepeats, shape_in};
 use crate::turn::{Turn, repeat};
 use std::marker::Model;
 
-/// The angle of a dart, in right angles, and how many turns it has, where they are all of one kind.
+/// The angle of a dart, in right angles, and the number of its turns, if they are all of one kind.
 #[derive(Clone, Copy, Debug)]
 pub struct DartShape {
     pub angle: u8,

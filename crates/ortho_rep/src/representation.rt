@@ -10,10 +10,10 @@ use crate::shape::Shape;
 use crate::turn::{count_lefts, mirrors};
 use faces::{MAX_FACES, Plane};
 
-/// Whether the shape is an orthogonal representation of the plane with its outer face, and has an angle
-/// and a string for each dart and for nothing else.
+/// Whether the shape is an orthogonal representation of the plane with its outer face.
 ///
-/// No memory is taken; linear in the turns, darts, vertices and faces.
+/// It must also have an angle and a string for each dart and for nothing else. It allocates nothing; linear in the
+/// turns, darts, vertices and faces.
 pub fn is_shape(plane: &Plane, shape: &Shape) -> bool
     ensures { IsTrue result ↔ IsShape plane.now shape.now }
 {

@@ -3,12 +3,12 @@
 use crate::repeats::DartShape;
 use std::alloc::Global;
 
-/// What finding a least shape takes memory for, to be used again. What it holds between two calls is of no use.
+/// Buffers that finding one least shape after another reuses. Their contents between two calls do not matter.
 ///
-/// A shape and its prices take their lists with them. Where both are given back before the next call, none takes
-/// memory for a plane with no more vertices, faces and darts than one before it had; where one is not, the
-/// next call takes memory for its lists alone, and for just what they hold. A call that found too little memory may
-/// lose what it was lent; the next one then takes it anew.
+/// A shape and its prices take their lists with them. If both are returned before the next call, none allocates for a
+/// plane with no more vertices, faces and darts than one before it had; if one is not, the next call allocates its
+/// lists alone, and exactly what they hold. A call that runs out of memory may lose the buffers; the next one then
+/// allocates them anew.
 #[derive(Drop)]
 pub struct Scratch {
     pub(crate) net: flow_network::Scratch,
@@ -17,7 +17,7 @@ pub struct Scratch {
 }
 
 impl Scratch {
-    /// An empty one, for which no memory is taken.
+    /// An empty scratch. It allocates nothing.
     pub fn empty(alloc: Global) -> Scratch {
         Scratch {
             net: flow_network::Scratch::empty(alloc),

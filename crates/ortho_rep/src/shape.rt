@@ -17,11 +17,12 @@ use crate::turn::Turn;
 use embedding::MAX_DARTS;
 use std::marker::Model;
 
-/// An angle and a string of turns for each dart of a plane, which need not be an orthogonal
-/// representation. In contracts it is the list of the angles and the list of the strings.
+/// An angle and a string of turns for each dart of a plane; it need not be an orthogonal representation.
 ///
-/// The angle of a dart lies at its head, between it and the next dart of its face, and is counted in
-/// right angles. Its string holds its quarter turns in walking order. No accessor takes memory.
+/// In contracts it is the list of the angles and the list of the strings.
+///
+/// The angle of a dart lies at its head, between it and the next dart of its face, and is counted in right angles. Its
+/// string holds its quarter turns in walking order. No accessor allocates.
 #[derive(Debug, Drop)]
 pub struct Shape {
     store: ShapeStore,
@@ -53,8 +54,7 @@ impl Shape {
         strings.len() <= MAX_DARTS && strings.iter().all(|string| string.len() <= MAX_TURNS)
     }
 
-    /// The shape with these angles and strings, each at the place of its dart's number. It takes no
-    /// memory.
+    /// The shape with these angles and strings, each indexed by dart. It allocates nothing.
     pub fn new(angles: Vec<u8>, strings: Vec<Vec<Turn>>) -> Shape
         requires few { vec_len strings ≤ MAX_DARTS }
         requires short { All (λ string. vec_len string ≤ MAX_TURNS) strings.items }
@@ -68,7 +68,7 @@ impl Shape {
         }
     }
 
-    /// The shape of darts that turn to one side only, each at the place of its number. It takes no memory.
+    /// The shape of darts that turn to one side only, indexed by dart. It allocates nothing.
     pub fn of_darts(darts: Vec<DartShape>) -> Shape
         requires few { vec_len darts ≤ MAX_DARTS }
         requires short { All (λ dart. dart.count ≤ MAX_REPEATS) darts.items }
@@ -79,8 +79,9 @@ impl Shape {
         }
     }
 
-    /// Gives the list of this shape back to be used again; lists that are not of darts, as
-    /// [`least_shape_in`](crate::least_shape_in) makes it, it drops. It takes no memory.
+    /// Returns the list of this shape to the scratch, to be reused. It allocates nothing.
+    ///
+    /// Lists that are not of darts, as [`least_shape_in`](crate::least_shape_in) makes it, are dropped.
     pub fn give_back(self, scratch: &mut Scratch) {
         match self.store {
             ShapeStore::OneSided(repeats) => scratch.lists.darts = repeats.into_darts(),
@@ -91,7 +92,7 @@ impl Shape {
         }
     }
 
-    /// How many angles there are.
+    /// The number of angles.
     pub fn angle_count(&self) -> usize
         ensures { result ≡ length self.now.angles }
     {
@@ -101,7 +102,7 @@ impl Shape {
         }
     }
 
-    /// How many strings there are, at most 1,020.
+    /// The number of strings, at most 1,020.
     pub fn string_count(&self) -> usize
         ensures count { result ≡ length self.now.strings }
         ensures few { result ≤ MAX_DARTS }
@@ -136,7 +137,7 @@ impl Shape {
         }
     }
 
-    /// How many turns all strings have. Linear in the strings.
+    /// The total number of turns of all strings. Linear in the strings.
     pub fn turn_count(&self) -> u32
         ensures count { result ≡ sum_below (length self.now.strings) (λ d. length (turns_at self.now d)) }
         ensures few { result ≤ length self.now.strings * MAX_TURNS }

@@ -9,7 +9,7 @@ ghost use Rattle.ortho_rep.specs.Storage.{lists_in, HasFewTurns};
 use crate::turn::Turn;
 use std::marker::Model;
 
-/// How many turns a string has at most.
+/// The maximum number of turns of a string.
 pub const MAX_TURNS: usize = 1_000_000;
 
 /// The string of turns of each dart: at most 1,020 strings of at most 1,000,000 turns. In contracts it

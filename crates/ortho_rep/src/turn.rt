@@ -4,7 +4,7 @@ ghost use Rattle.std.specs.Prelude.{◌≡◌, ◌≤◌, ◌↔◌, IsTrue, len
 ghost use Rattle.ortho_rep.specs.declared.turn.TheConstants.{MAX_REPEATS};
 ghost use Rattle.ortho_rep.specs.Turns.{lefts, mirrored};
 
-/// A quarter turn of an edge, met in walking along a dart.
+/// A quarter turn of an edge, seen in walking along a dart.
 #[derive(Clone, Copy, Debug, PartialEq, Eq)]
 pub enum Turn {
     Left,
@@ -14,7 +14,7 @@ pub enum Turn {
 // A turn takes one byte.
 const _: () = prove!(size_of::<Turn>() == 1);
 
-/// How many turns of one kind stand ready. No string of a least shape has more.
+/// The length of the prepared strings of turns of one kind. No string of a least shape is longer.
 pub const MAX_REPEATS: usize = 6_144;
 
 static LEFTS: [Turn; MAX_REPEATS] = [Turn::Left; MAX_REPEATS];
@@ -32,7 +32,7 @@ pub(crate) fn repeat(turn: Turn, count: u16) -> &'static [Turn]
     }
 }
 
-/// How many of these turns are left turns. Linear in the turns.
+/// The number of left turns among these turns. Linear in the turns.
 pub fn count_lefts(turns: &[Turn]) -> usize
     ensures count { result ≡ lefts turns.now }
     ensures few { result ≤ length turns.now }

@@ -6,7 +6,7 @@ ghost use Rattle.planarbend_c.specs.Found.{AreCounts, IsDrawnIfAsked, corners_dr
 use crate::layout::Layout;
 use crate::points::corner_count;
 
-/// How many of each there are, and which face is the outer one.
+/// The numbers of vertices, edges, faces, bends and corners, and the number of the outer face.
 #[repr(C)]
 #[derive(Clone, Copy)]
 pub struct Counts {

@@ -14,7 +14,7 @@ pub struct GridPoint {
     pub y: u16,
 }
 
-/// How many quarter turns a dart makes to each side. One of the two is 0.
+/// The numbers of left and right quarter turns of a dart. One of the two is 0.
 #[repr(C)]
 #[derive(Clone, Copy)]
 pub struct DartTurns {
@@ -22,8 +22,9 @@ pub struct DartTurns {
     pub right: u32,
 }
 
-/// Lists that a call writes. One of length 0 is left out, and what a longer one has behind what is written is left as it
-/// was.
+/// The output lists of a call.
+///
+/// One of length 0 is left out, and the entries of a longer one after those written are unchanged.
 #[repr(C)]
 pub struct Lists<'a> {
     /// Of each dart its angle, in right angles.

@@ -6,7 +6,7 @@ use collector::{Choice, Gate, Stage, run_batch};
 use std::sync::atomic::{AtomicBool, AtomicU32, Ordering};
 use std::thread;
 
-/// How often each turn of a wait yields: on a shared machine a thread may be away for a million yields.
+/// The number of yields of each turn of a wait: on a shared machine a thread may be away for a million yields.
 pub const YIELDS: u32 = 16;
 
 /// Holds a call of each stage, at a record of its own, until all four were made.

@@ -15,7 +15,7 @@ pub struct Scratch {
 }
 
 impl Scratch {
-    /// No memory yet.
+    /// An empty scratch. It allocates nothing.
     pub fn empty(_alloc: Global) -> Scratch {
         Scratch { lists: None }
     }
