@@ -108,17 +108,17 @@ are_drawn : (p : PlaneModel) (shape : ShapeModel) (points : PointsModel) → IsD
 are_drawn p shape points is =
     let draws = is.draws in
     record {
-  vertex_count = is.whole.vertex_count;
-  edge_count = is.whole.edge_count;
-  vertices = draws.grid.ends;
-  corners = draws.grid.bends;
-  axes = draws.axes;
-  counted = λ k d inside. (draws.turns.edges k d inside).corners;
-  turned_at = λ k d inside. (draws.turns.edges k d inside).each;
-  heads = draws.turns.heads;
-  apart = draws.apart;
-  regions = is.regions;
-}
+      vertex_count = is.whole.vertex_count;
+      edge_count = is.whole.edge_count;
+      vertices = draws.grid.ends;
+      corners = draws.grid.bends;
+      axes = draws.axes;
+      counted = λ k d inside. (draws.turns.edges k d inside).corners;
+      turned_at = λ k d inside. (draws.turns.edges k d inside).each;
+      heads = draws.turns.heads;
+      apart = draws.apart;
+      regions = is.regions;
+    }
 
 drawn_means : (p : PlaneModel) (shape : ShapeModel) (drawing : Result PointsModel Cause) → IsDrawn p shape drawing
     → (IfOk drawing (AreDrawn p shape)) × (IfErr drawing (IsCauseShown p shape))
