@@ -1,5 +1,5 @@
 -- Labellings by faces of the plane: of the map that got all bends, of what a rectangle and cuts make of it.
-use Rattle.std.proofs.Common.{◌≡◌, ◌≢◌, ℕ, ◌+◌, ◌<◌, ◌≤◌, ◌⊎◌, ◌∙◌, eqb, Bool, true, List, [], ◌∷◌, arith, subst, sym, ap, refl, inl, inr}
+use Rattle.std.proofs.Common.{◌≡◌, ℕ, ◌+◌, ◌<◌, ◌≤◌, ◌∙◌, eqb, Bool, List, [], ◌∷◌, arith, subst, sym, ap, refl, inl, inr}
 use Rattle.std.proofs.lemmas.Bool.{eq-eqb, eqb-true}
 use Rattle.faces.specs.Planes.{PlaneModel, IsPlane, darts, face_at}
 use Rattle.ortho_rep.specs.declared.turn.Turn.{Turn}

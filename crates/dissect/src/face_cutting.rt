@@ -139,7 +139,8 @@ pub fn cut_face(table: &mut DartTable, ring: &mut [u32])
 }
 
 /// Cuts all faces into boxes, one after another: `corners` holds their corners, those of each face in
-/// walking order, and `counts` how many each face has. What remains in `corners` is of no use.
+/// walking order, and `counts` how many each face has. What remains in `corners` is of no use. Each dart
+/// keeps the face of the plane in which it lies, and new edges divide none.
 /// Linear in the corners.
 pub fn cut_faces(table: &mut DartTable, corners: &mut [u32], counts: &[u32])
     requires sound { IsSound (dart_map_of table.old) }

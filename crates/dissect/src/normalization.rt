@@ -31,7 +31,8 @@ use std::alloc::{AllocError, Global};
 /// for cuts at all right turns. The lesser darts of the edges are given.
 ///
 /// The plane's darts keep their numbers, heads, angles and faces; vertex v has the number v - 1. Each of
-/// them is the last dart of its edge: `before` leads back along the edge, which turns as its string says.
+/// them is the last dart of its edge: `before` leads back along the edge, which turns as its string says. Each
+/// dart of the map lies in the face of the plane's dart of which it is a part.
 /// The directions are counted by quarter turns to the left from east. Linear in the darts and the turns,
 /// in the memory of the table that is lent, with one allocation for each of its arrays that has not enough.
 ///

@@ -34,7 +34,8 @@ fn cut_side(table: &DartTable, right: u32) -> u32
 
 /// Puts a rectangle round the map, connects it to a right turn of the outer face, which is that of
 /// the dart `outer`, and cuts all faces into boxes. The table needs room for four darts for each
-/// right turn, and for `RECTANGLE_ROOM` more. Linear in the darts. Faces are listed in the memory that is
+/// right turn, and for `RECTANGLE_ROOM` more. Each dart keeps the face of the plane in which it lies, new edges
+/// divide none, and the rectangle lies in that of `outer`. Linear in the darts. Faces are listed in the memory that is
 /// lent, which is given back.
 ///
 /// # Errors
