@@ -1,9 +1,9 @@
 -- Each cell has the label of the box that covers it, and that of the outside where none does. Along each dart these are the labels of
 -- its two sides, and where no dart is between two cells they are of one box or of the outside.
-use Rattle.std.proofs.Common.{◌≡◌, ◌≢◌, ℕ, zero, suc, ◌+◌, ◌-◌, ◌%◌, ◌<◌, ◌≤◌, ◌⊎◌, ◌∙◌, arith, subst, sym, ap, refl, inl, inr}
+use Rattle.std.proofs.Common.{◌≡◌, ℕ, zero, suc, ◌+◌, ◌-◌, ◌%◌, ◌<◌, ◌≤◌, ◌⊎◌, ◌∙◌, arith, subst, sym, ap, refl, inl, inr}
 use Rattle.std.proofs.lemmas.Bool.{cases_eq, cases_lt}
 use Rattle.dissect.specs.DartMaps.{DartMap, IsSound}
-use Rattle.dissect.specs.Faces.{IsCorner, Stretches}
+use Rattle.dissect.specs.Faces.{Stretches}
 use Rattle.dissect.proofs.Stretching.{stretch_level}
 use Rattle.dissect.specs.Monotone.{IsMonotone, tail}
 use Rattle.dissect.specs.Boxes.{BoxesModel, dart_map}
@@ -14,7 +14,7 @@ use Rattle.drawing_laws.specs.CellFaces.{PassesRow, PassesColumn, AreCellLabels}
 use Rattle.drawing_laws.proofs.Sides.{Goes, Spans, IsOn, Keeps, on_one, keeps_way, tail_back, dart_goes, side_spans, side_wide, side_leads}
 use Rattle.drawing_laws.proofs.Covering.{rectangle_around}
 use Rattle.drawing_laws.proofs.Rounds.{IsRound, AreFaces, are_faces}
-use Rattle.drawing_laws.proofs.Rows.{Crosses, IsStep, DartsAcross, Covers, round_corner, round_goes, box_upright, right_dart, left_dart, right_rows, back_crosses, step_west, chain_crosses, chain_one, chain_east, chain_of, cover_step, cover_one, cover_some}
+use Rattle.drawing_laws.proofs.Rows.{Crosses, DartsAcross, Covers, round_corner, round_goes, box_upright, right_dart, left_dart, right_rows, back_crosses, step_west, chain_crosses, chain_one, chain_east, chain_of, cover_step, cover_one, cover_some}
 
 -- what does not change round any face is the same all along a side
 keeps_level : (w : DartMap) (label : ℕ → ℕ) → IsSound w → ((a : ℕ) → a < w.darts → label (w.next a) ≡ label a) → (k a c : ℕ) → a < w.darts →
@@ -363,12 +363,16 @@ module _ (w : DartMap) (sound : IsSound w) (x y : ℕ → ℕ) (monotone : IsMon
         let (b, crosses, on, line) = left_dart w sound x y monotone corner j round covers.below covers.above in
         elim (cases_eq (x (w.head b)) i) [
           | inl at ↦ inl (b, crosses, at)
-          | inr off ↦ inr (i - 1, omega (arith, covers.left, line, off), record {
-            left = omega (arith, covers.left, line, off);
-            right = omega (arith, covers.right);
-            below = covers.below;
-            above = covers.above;
-          })
+          | inr off ↦ inr (
+            i - 1,
+            omega (arith, covers.left, line, off),
+            record {
+              left = omega (arith, covers.left, line, off);
+              right = omega (arith, covers.right);
+              below = covers.below;
+              above = covers.above;
+            },
+          )
         ]
 
     -- a dart of the column, to the east along the line j
@@ -387,13 +391,16 @@ module _ (w : DartMap) (sound : IsSound w) (x y : ℕ → ℕ) (monotone : IsMon
         let a : ℕ = w.reverse_dart s in
         let back : x (w.head (w.reverse_dart a)) ≡ x (w.head s) = ap x (tail_back w sound x y monotone s s_in) in
         elim (cases_eq (y (w.head a)) (j + 1)) [
-          | inl at ↦ inl (a, (
-            sound.tied.reverse_dart_in s s_in,
-            sound.straight s s_in ∙ ap (λ (d : ℕ). (d + 2) % 4) way,
-            at,
-            omega (arith, back, passes.0),
-            omega (arith, passes.1),
-          ))
+          | inl at ↦ inl (
+            a,
+            (
+              sound.tied.reverse_dart_in s s_in,
+              sound.straight s s_in ∙ ap (λ (d : ℕ). (d + 2) % 4) way,
+              at,
+              omega (arith, back, passes.0),
+              omega (arith, passes.1),
+            ),
+          )
           | inr off ↦ inr (record {
             left = covers.left;
             right = covers.right;
@@ -413,12 +420,16 @@ module _ (w : DartMap) (sound : IsSound w) (x y : ℕ → ℕ) (monotone : IsMon
         let line = (side_leads w sound x y monotone 0 a (corner 0) a_in (round.ways 0 (omega arith)) on).1 in
         elim (cases_eq (y (w.head a)) j) [
           | inl at ↦ inl (a, (a_in, way, at, passes.0, passes.1))
-          | inr off ↦ inr (j - 1, omega (arith, covers.below, line, off), record {
-            left = covers.left;
-            right = covers.right;
-            below = omega (arith, covers.below, line, off);
-            above = omega (arith, covers.above);
-          })
+          | inr off ↦ inr (
+            j - 1,
+            omega (arith, covers.below, line, off),
+            record {
+              left = covers.left;
+              right = covers.right;
+              below = omega (arith, covers.below, line, off);
+              above = omega (arith, covers.above);
+            },
+          )
         ]
 
     beside_one : (i j : ℕ) → CrossesAt i j ⊎ (region i (j + 1) ≡ region (i + 1) (j + 1))
@@ -441,9 +452,9 @@ module _ (w : DartMap) (sound : IsSound w) (x y : ℕ → ℕ) (monotone : IsMon
               elim (covers_east corner i j round covers) [
                 | inl (a, crosses, line) ↦ inl (a, crosses, line ∙ sym at_i)
                 | inr more ↦ inr (
-                  region_covered (suc i) (j + 1) i j at_i refl corner round covers
-                  ∙ sym (region_covered (suc i + 1) (j + 1) (i + 1) j at_more refl corner round more)
-                )
+                    region_covered (suc i) (j + 1) i j at_i refl corner round covers
+                    ∙ sym (region_covered (suc i + 1) (j + 1) (i + 1) j at_more refl corner round more)
+                    )
               ]
           | inr off ↦ elim (inside_or_not (i + 1) j) [
             | inl (west, east, south, north) ↦
@@ -479,9 +490,9 @@ module _ (w : DartMap) (sound : IsSound w) (x y : ℕ → ℕ) (monotone : IsMon
               elim (covers_north corner i j round covers) [
                 | inl passes ↦ inl (passing passes)
                 | inr more ↦ inr (
-                  region_covered (i + 1) (suc j) i j refl at_j corner round covers
-                  ∙ sym (region_covered (i + 1) (suc j + 1) i (j + 1) refl at_more corner round more)
-                )
+                    region_covered (i + 1) (suc j) i j refl at_j corner round covers
+                    ∙ sym (region_covered (i + 1) (suc j + 1) i (j + 1) refl at_more corner round more)
+                    )
               ]
           | inr off ↦ elim (inside_or_not i (j + 1)) [
             | inl (west, east, south, north) ↦

@@ -1,5 +1,5 @@
 -- Where the path of a dart of the plane runs along a unit side, a part of the dart in the boxes does, and the other way round.
-use Rattle.std.proofs.Common.{◌≡◌, ◌≢◌, ℕ, zero, suc, ◌+◌, ◌-◌, ◌<◌, ◌≤◌, ◌⊎◌, ◌∙◌, List, [], ◌∷◌, length, reverse, true, false, ltb, arith, subst, sym, ap, refl, inl, inr}
+use Rattle.std.proofs.Common.{◌≡◌, ℕ, ◌+◌, ◌-◌, ◌<◌, ◌≤◌, ◌⊎◌, ◌∙◌, List, ◌∷◌, length, reverse, true, false, ltb, arith, subst, sym, ap, refl, inl, inr}
 use Rattle.std.proofs.lemmas.Bool.{cases_lt, lt-ltb, le-ltb, ltb-true, cond-true, cond-false}
 use Rattle.std.proofs.lemmas.List.{get_or-reverse, length-reverse}
 use Rattle.faces.specs.Planes.{PlaneModel, IsPlane, darts, reverse_dart}
@@ -12,11 +12,10 @@ use Rattle.dissect.specs.Faces.{In}
 use Rattle.dissect.specs.Paths.{IsPart}
 use Rattle.dissect.specs.Boxes.{BoxesModel, dart_map}
 use Rattle.dissect.specs.Boxed.{IsBoxed}
-use Rattle.dissect.specs.Monotone.{IsMonotone, AreTaken, tail, point_at}
+use Rattle.dissect.specs.Monotone.{IsMonotone, AreTaken, point_at}
 use Rattle.drawing_check.specs.Paths.{path_along, dart_path, point_of}
-use Rattle.drawing_laws.proofs.Lines.{line}
 use Rattle.drawing_laws.proofs.Segments.{Runs, runs_back, runs_turned, DartRuns, PathRuns, line_runs, first_runs, later_runs}
-use Rattle.drawing_laws.proofs.Drawn.{path_of, line_is, first_goes, line_of}
+use Rattle.drawing_laws.proofs.Drawn.{path_of, line_is, first_goes}
 use Rattle.drawing_laws.proofs.Parts.{part_in, part_back, on_path}
 
 -- a path walked back has the same parts the other way
@@ -30,9 +29,12 @@ back_runs path k i j few (n, inside, runs) =
     let m : ℕ = length path - 1 - (n + 1) in
     let one : point_of (reverse path) n ≡ point_of path (m + 1) =
     backwards path n (omega (arith, within)) ∙ ap (λ (c : ℕ). point_of path c) (let e : length path - 1 - n ≡ m + 1 = omega (arith, within) in e) in
-    let two : point_of (reverse path) (n + 1) ≡ point_of path m = backwards path (n + 1) within in
-    (m, omega (arith, within), runs_turned k (point_of path (m + 1)) (point_of path m) i j few
-    (subst (λ (q : Point). Runs k q (point_of path m) i j) one (subst (λ (q : Point). Runs k (point_of (reverse path) n) q i j) two runs)))
+    let two : point_of (reverse path) (n + 1) ≡ point_of path m = backwards path (n + 1) within in (
+      m,
+      omega (arith, within),
+      runs_turned k (point_of path (m + 1)) (point_of path m) i j few
+          (subst (λ (q : Point). Runs k q (point_of path m) i j) one (subst (λ (q : Point). Runs k (point_of (reverse path) n) q i j) two runs)),
+    )
 
 pub runs_reversed : (path : List Point) (k i j : ℕ) → k < 2 → PathRuns path (k + 2) i j → PathRuns (reverse path) k i j
 runs_reversed path k i j few (n, inside, runs) =
@@ -41,9 +43,12 @@ runs_reversed path k i j few (n, inside, runs) =
     let one : point_of (reverse path) m ≡ point_of path (n + 1) =
     backwards path m (omega (arith, inside)) ∙ ap (λ (c : ℕ). point_of path c) (let e : length path - 1 - m ≡ n + 1 = omega (arith, inside) in e) in
     let two : point_of (reverse path) (m + 1) ≡ point_of path n =
-    backwards path (m + 1) (omega (arith, inside)) ∙ ap (λ (c : ℕ). point_of path c) (let e : length path - 1 - (m + 1) ≡ n = omega (arith, inside) in e) in
-    (m, omega (arith, inside, size), subst (λ (q : Point). Runs k q (point_of (reverse path) (m + 1)) i j) (sym one)
-    (subst (λ (q : Point). Runs k (point_of path (n + 1)) q i j) (sym two) (runs_back k (point_of path n) (point_of path (n + 1)) i j few runs)))
+    backwards path (m + 1) (omega (arith, inside)) ∙ ap (λ (c : ℕ). point_of path c) (let e : length path - 1 - (m + 1) ≡ n = omega (arith, inside) in e) in (
+      m,
+      omega (arith, inside, size),
+      subst (λ (q : Point). Runs k q (point_of (reverse path) (m + 1)) i j) (sym one)
+          (subst (λ (q : Point). Runs k (point_of path (n + 1)) q i j) (sym two) (runs_back k (point_of path n) (point_of path (n + 1)) i j few runs)),
+    )
 
 -- ---- the paths of darts
 
@@ -121,8 +126,7 @@ module _ (p : PlaneModel) (shape : ShapeModel) (b : BoxesModel) (plane : IsPlane
       let back : IsPart w (reverse_dart p (reverse_dart p d)) (w.reverse_dart a) =
       part_back p shape b plane boxed (reverse_dart p d) a (ends.reverse_dart_in_range d d_in) part in
       let a_in : a < b.darts = part_in p shape b plane boxed (reverse_dart p d) a part in
-      let from : w.head (w.reverse_dart (w.reverse_dart a)) ≡ w.head a = ap w.head (boxed.boxes.sound.tied.reverse_dart_back a a_in) in
-      (
+      let from : w.head (w.reverse_dart (w.reverse_dart a)) ≡ w.head a = ap w.head (boxed.boxes.sound.tied.reverse_dart_back a a_in) in (
         w.reverse_dart a,
         subst (λ (e : ℕ). IsPart w e (w.reverse_dart a)) (ends.reverse_dart_back d d_in) back,
         subst (λ (v : ℕ). Runs k (point_at x y v) (point_at x y (w.head (w.reverse_dart a))) i j) (sym from)
@@ -133,8 +137,7 @@ module _ (p : PlaneModel) (shape : ShapeModel) (b : BoxesModel) (plane : IsPlane
   part_turned d k i j d_in few (a, part, runs) =
       let w = dart_map b in
       let a_in : a < b.darts = part_in p shape b plane boxed d a part in
-      let from : w.head (w.reverse_dart (w.reverse_dart a)) ≡ w.head a = ap w.head (boxed.boxes.sound.tied.reverse_dart_back a a_in) in
-      (
+      let from : w.head (w.reverse_dart (w.reverse_dart a)) ≡ w.head a = ap w.head (boxed.boxes.sound.tied.reverse_dart_back a a_in) in (
         w.reverse_dart a,
         part_back p shape b plane boxed d a d_in part,
         subst (λ (v : ℕ). Runs (k + 2) (point_at x y v) (point_at x y (w.head (w.reverse_dart a))) i j) (sym from)

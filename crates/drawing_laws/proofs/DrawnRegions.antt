@@ -1,5 +1,5 @@
 -- Points that are taken from coordinates in order have regions: each cell lies in the face that is the label of its box.
-use Rattle.std.proofs.Common.{◌≡◌, ℕ, ◌+◌, ◌<◌, ◌∙◌, arith, sym, ap, refl, inl, inr}
+use Rattle.std.proofs.Common.{◌≡◌, ℕ, ◌<◌, ◌∙◌, arith, sym, refl, inl, inr}
 use Rattle.faces.specs.Planes.{PlaneModel, IsPlane, darts, reverse_dart, face_at}
 use Rattle.faces.proofs.Ends.{plane_ends}
 use Rattle.ortho_rep.specs.Points.{PointsModel}

@@ -1,6 +1,6 @@
 -- A drawing has one map of its regions at most. In it each face has a cell, no cell lies in anything but a face, and all cells beyond the
 -- greatest coordinates lie in the outer one.
-use Rattle.std.proofs.Common.{◌≡◌, ◌≢◌, ℕ, zero, suc, ◌+◌, ◌-◌, ◌<◌, ◌≤◌, ◌⊎◌, ◌∙◌, List, [], ◌∷◌, ◌++◌, All, length, reverse, get_or, arith, subst, sym, ap, refl, inl, inr, true, false}
+use Rattle.std.proofs.Common.{◌≡◌, ℕ, zero, suc, ◌+◌, ◌-◌, ◌<◌, ◌⊎◌, ◌∙◌, List, [], ◌∷◌, ◌++◌, All, length, reverse, get_or, arith, subst, sym, ap, refl, inl, inr, true}
 use Rattle.std.proofs.lemmas.Bool.{cases_eq, cases_lt}
 use Rattle.std.proofs.lemmas.List.{length-reverse}
 use Rattle.std.proofs.lemmas.List.Elements.{All-cons, All-push}
@@ -10,8 +10,8 @@ use Rattle.ortho_rep.specs.declared.points.Point.{Point}
 use Rattle.ortho_rep.specs.Points.{PointsModel, origin, vertex_point, corners_at}
 use Rattle.ortho_rep.specs.Edges.{is_lesser, edge_number}
 use Rattle.drawing_check.specs.Paths.{path_along, paths, dart_path, point_of}
-use Rattle.drawing_check.specs.Draws.{AreOnAxes, IsAxis}
-use Rattle.drawing_check.specs.Regions.{GoesNorth, GoesEast, PassesNorth, PassesEast, IsRegionMap}
+use Rattle.drawing_check.specs.Draws.{AreOnAxes}
+use Rattle.drawing_check.specs.Regions.{GoesNorth, PassesNorth, PassesEast, IsRegionMap}
 use Rattle.drawing_check.proofs.Routing.{axes_each}
 use Rattle.drawing_laws.specs.Least.{IsBelow, AreBelow}
 use Rattle.drawing_laws.proofs.Segments.{Runs, PathRuns}

@@ -1,5 +1,5 @@
 -- Which parts of an edge's line run along a unit side, and which darts of its path do.
-use Rattle.std.proofs.Common.{◌≡◌, ◌≢◌, ℕ, zero, suc, ◌+◌, ◌<◌, ◌≤◌, ◌⊎◌, ◌∙◌, List, [], ◌∷◌, length, arith, subst, sym, ap, refl, inl, inr}
+use Rattle.std.proofs.Common.{◌≡◌, ℕ, zero, suc, ◌+◌, ◌<◌, ◌≤◌, ◌⊎◌, ◌∙◌, List, [], ◌∷◌, length, arith, subst, sym, refl, inl, inr}
 use Rattle.std.proofs.lemmas.Bool.{cases_eq, cases_lt}
 use Rattle.ortho_rep.specs.declared.points.Point.{Point}
 use Rattle.dissect.specs.DartMaps.{DartMap, IsSound}
@@ -7,7 +7,7 @@ use Rattle.dissect.specs.Faces.{Below, In}
 use Rattle.dissect.specs.Paths.{Follows, turn_to}
 use Rattle.dissect.specs.Monotone.{IsMonotone, tail, point_at}
 use Rattle.drawing_check.specs.Paths.{point_of}
-use Rattle.drawing_laws.proofs.Sides.{Goes, Leads, leads_same, goes_leads, goes_on, dart_goes}
+use Rattle.drawing_laws.proofs.Sides.{Goes, Leads, leads_same, goes_leads}
 use Rattle.drawing_laws.proofs.Lines.{line, line_straight, line_turn, on_straight, on_turn}
 
 -- from a to b the way has the direction k and runs along a side of cell (i, j), which is named by its upper right corner: the lower
