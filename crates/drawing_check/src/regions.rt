@@ -14,12 +14,13 @@ use crate::scratch::Scratch;
 use faces::Plane;
 use std::alloc::{AllocError, Global};
 
-/// Whether the regions into which a drawing of this plane cuts the grid's plane are the faces: each face lies on the left of
-/// its darts, and the outer one outside. So it is false of a drawing that is mirrored, or whose outside is another face.
+/// Whether the regions into which a drawing cuts the plane are the faces: whether each face lies on the left of its darts,
+/// and the outer one is outside. It is false where the drawing is mirrored, or another face is outside.
 ///
-/// The parts of edges tell of each cell in which face it lies, once from west to east and once from south to north. For s of
-/// them it takes O(s + m + c · r) time and memory, where m is the greatest coordinate, c is how many columns and r how many
-/// rows the parts begin, end or lie on.
+/// It holds of the drawing where a map gives each unit cell a face so that cells with no edge between them have one. The
+/// parts of edges tell of each cell which face that is, once from west to east and once from south to north; the regions
+/// are the faces where both agree. For s parts with c different x, r different y and no coordinate above m it takes
+/// O(s (c + r) + c r + m) time, and memory for the parts, two tables of c r cells and a rank for each coordinate up to m.
 ///
 /// # Errors
 ///
