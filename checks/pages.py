@@ -1,14 +1,17 @@
 """What checks/ready looks for in the pages: that each is no longer than it may be, that the numbers of crates, proofs,
 edits, attacks and tests that they quote are those of the tree, and that each name in backticks is one of the tree: a
 file, a crate, an option, or a word of the code, the definitions or the scripts. In docs/PROVED.md a name must stand in
-the crates of its section, so that a clause is looked for where it is said to be. Blocks of code are not looked at."""
+the crates of its section, and in its tables each clause in the contract of a call beside it. Blocks of code are not
+looked at."""
 import glob
 import os
 import re
 
 ROOT = os.path.dirname(os.path.dirname(os.path.abspath(__file__)))
 PAGES = ["README.md", "CONTRIBUTING.md", "docs/*.md", "bench/*.md"]
-MOST = {"README.md": 900, "CONTRIBUTING.md": 900, "docs/CLUSTER.md": 750, "": 16_000}  # words; of all pages
+COUNTED = [*PAGES, "CHANGELOG.md", "examples/README.md"]
+MOST = {"README.md": 900, "CONTRIBUTING.md": 900, "CHANGELOG.md": 600, "docs/CLUSTER.md": 750, "": 13_000}  # words; of all pages
+WRITTEN = {"bench/RESULTS.md", "docs/COUNTS.md"}  # by scripts, and so not counted
 NO_TREE = {"bench/RESULTS.md"}  # quotes what ran
 NUMBER = re.compile(r"([\d,]*\d) (crates|proofs|edits|attacks|tests)\b")
 # Words of other programs, of formats, and of the system.
@@ -23,21 +26,15 @@ def text_of(path):
         return text.read()
 
 
-def pages():
-    """The pages, with their texts."""
-    paths = [path for pattern in PAGES for path in sorted(glob.glob(os.path.join(ROOT, pattern)))]
+def pages(patterns):
+    """The pages that these patterns name, with their texts."""
+    paths = [path for pattern in patterns for path in sorted(glob.glob(os.path.join(ROOT, pattern)))]
     return {os.path.relpath(path, ROOT): text_of(path) for path in paths}
 
 
-def words_in(page, text):
-    """How many words a page has; of docs/COUNTS.md without its tables."""
-    lines = text.splitlines()
-    return sum(len(line.split()) for line in lines if not (page == "docs/COUNTS.md" and line.startswith("|")))
-
-
-def too_long(found):
-    """Says of each page, and of all, that it has too many words."""
-    counts = {page: words_in(page, text) for page, text in found.items()}
+def too_long():
+    """Says of each page, and of all but those that scripts write, that it has too many words."""
+    counts = {page: len(text.split()) for page, text in pages(COUNTED).items() if page not in WRITTEN}
     counts[""] = sum(counts.values())
     return [f"{page or 'all pages'}: {counts[page]} words, {most} at most"
             for page, most in MOST.items() if counts.get(page, 0) > most]
@@ -133,6 +130,34 @@ def lost_names(tree, page, text):
     return lost
 
 
+def clauses_by_call(tree):
+    """The named clauses of all functions of the crates, by the function's name."""
+    found = {}
+    for file in tree.files:
+        if re.fullmatch(r"crates/\w+/src/.*\.rt", file):
+            _, *parts = re.split(r"\bfn (\w+)", text_of(file))
+            for name, contract in zip(parts[::2], parts[1::2]):
+                found.setdefault(name, set()).update(re.findall(r"\bensures (\w+) \{", contract))
+    return found
+
+
+def lost_clauses(tree, text):
+    """The clauses in the tables of docs/PROVED.md that no call beside them has. A cell without a call repeats the one above;
+    in a table of two columns the call stands in the heading."""
+    clauses, lost = clauses_by_call(tree), []
+    for table in re.findall(r"(?:^\|.*\n)+", text, flags=re.M):
+        rows = [line[1:-1].split("|") for line in table.splitlines()]
+        calls = []
+        for cells in rows if rows[0][-1] == "Clause" else []:
+            if cells is rows[0] or len(cells) == 3:
+                calls = [name for name in re.findall(r"`(?:\w+::)*(\w+)`", cells[-2]) if name in clauses] or calls
+            has = set().union(*(clauses[name] for name in calls))
+            if not cells[-2].startswith("type "):
+                lost += [f"docs/PROVED.md: no clause {name} of {' or '.join(calls)}"
+                         for name in re.findall(r"`(\w+)`", cells[-1]) if name not in has]
+    return lost
+
+
 def wrong_numbers(counts, page, text):
     """The numbers of things of the tree that a page quotes wrongly."""
     return [f"{page}: {number} {what}, and there are {counts[what]:,}" for number, what in NUMBER.findall(text)
@@ -141,9 +166,10 @@ def wrong_numbers(counts, page, text):
 
 def faults(crates):
     """What is wrong with the pages, a line each."""
-    tree, found = Tree(crates), pages()
-    counts, lines = tree.counts(), too_long(found)
+    tree, found = Tree(crates), pages(PAGES)
+    counts, lines = tree.counts(), too_long()
     for page, text in found.items():
         if page not in NO_TREE:
             lines += lost_names(tree, page, text) + wrong_numbers(counts, page, text)
+    lines += lost_clauses(tree, found["docs/PROVED.md"])
     return lines
