@@ -12,9 +12,9 @@ pub(crate) type Place = (u32, u32);
 
 /// The record of a plane, and the angles and strings of a shape of it.
 pub(crate) struct Figure {
-    record: &'static [u8],
-    angles: &'static [u8],
-    strings: &'static [&'static [Turn]],
+    pub(crate) record: &'static [u8],
+    pub(crate) angles: &'static [u8],
+    pub(crate) strings: &'static [&'static [Turn]],
 }
 
 const LEFT: Turn = Turn::Left;
@@ -38,7 +38,7 @@ pub(crate) const BENT_EDGE: Figure = Figure {
 };
 
 /// The triangle with one bend, on the edge from 1 to 3.
-const TRIANGLE: Figure = Figure {
+pub(crate) const TRIANGLE: Figure = Figure {
     record: &known::TRIANGLE,
     angles: &[3, 1, 3, 1, 3, 1],
     strings: &[&[], &[LEFT], &[], &[], &[RIGHT], &[]],
@@ -51,13 +51,13 @@ pub(crate) const PATH: Figure = Figure {
     strings: &STRAIGHT,
 };
 
-const SQUARE: Figure = Figure {
+pub(crate) const SQUARE: Figure = Figure {
     record: &[4, 2, 4, 0, 3, 1, 0, 4, 2, 0, 1, 3, 0],
     angles: &[3, 1, 3, 1, 3, 1, 3, 1],
     strings: &STRAIGHT,
 };
 
-const STAR: Figure = Figure {
+pub(crate) const STAR: Figure = Figure {
     record: &known::STAR,
     angles: &[4, 4, 4, 4, 1, 1, 1, 1],
     strings: &STRAIGHT,
@@ -75,7 +75,7 @@ fn strings_in(alloc: Global, strings: &[&[Turn]]) -> Result<Vec<Vec<Turn>>, Allo
 }
 
 /// The shape of a figure, or nothing where memory is refused.
-fn shape_in(alloc: Global, figure: &Figure) -> Option<Shape> {
+pub(crate) fn shape_in(alloc: Global, figure: &Figure) -> Option<Shape> {
     let strings = strings_in(alloc, figure.strings).ok()?;
     let angles = figure.angles.to_vec(alloc).ok()?;
     if Shape::have_few_turns(&strings) {
@@ -93,7 +93,7 @@ fn list_in(alloc: Global, places: &[Place]) -> Result<Vec<Point>, AllocError> {
 }
 
 /// The points of vertices and of the corners of edges.
-fn points_in(
+pub(crate) fn points_in(
     alloc: Global,
     vertices: &[Place],
     corners: &[&[Place]],
@@ -106,7 +106,7 @@ fn points_in(
 }
 
 /// What `check` answers where its conditions hold.
-fn answer(
+pub(crate) fn answer(
     rt: &impl Abort,
     alloc: Global,
     plane: &Plane,

@@ -21,6 +21,8 @@ mod planes;
 #[cfg(test)]
 mod polylines;
 #[cfg(test)]
+mod regions;
+#[cfg(test)]
 mod rules;
 #[cfg(test)]
 mod sources;
