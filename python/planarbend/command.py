@@ -8,7 +8,7 @@ import sys
 from planarbend.draw import DrawError, Options, draw
 from planarbend.drawn import Drawing
 from planarbend.graph import Graph, Kind, split
-from planarbend.layouts import PlanarbendError
+from planarbend.programs import PlanarbendError
 from planarbend.picture import CONVERTED, NoConverter, svg, write_picture
 from planarbend.readers import FORMS, ReadError, read
 

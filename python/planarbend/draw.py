@@ -12,7 +12,7 @@ from planarbend.drawn import Box, Crossing, Drawing, Point
 from planarbend.engine import Engine, default_engine
 from planarbend.expand import Expansion
 from planarbend.graph import Edge, Graph
-from planarbend.layouts import PlanarbendError
+from planarbend.programs import PlanarbendError
 from planarbend.planar_code import MOST_VERTICES, Lists
 from planarbend.planarize import Planarization, TooManyCrossings, planarize
 from planarbend.spread import Sheet

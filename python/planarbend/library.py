@@ -8,23 +8,23 @@ A `Library` holds memory that it keeps from call to call, so each thread wants o
 from __future__ import annotations
 
 import ctypes
-import ctypes.util
 import os
 from collections.abc import Iterable, Iterator, Sequence
-from pathlib import Path
-from typing import Any
+from typing import TYPE_CHECKING, Any
 
 from planarbend.engine import Answer, answer_of
-from planarbend.layouts import Layout, NoProgram, Record
 from planarbend.planar_code import Lists, record_of
+from planarbend.programs import ROOT, NoProgram
+
+if TYPE_CHECKING:
+    from planarbend.laid_out import Layout, Record
 
 MOST_VERTICES, MOST_EDGES, MOST_FACES, MOST_BENDS = 255, 510, 257, 1534
 OUTER = {"first": 0, "best": 1}
 DRAWING = {"none": 0, "quick": 1, "short": 2}
 OK, FIRST_RULE, LAST_RULE, NOT_A_RECORD, MEMORY = 0, 1, 8, 9, 10
 NAME = "libplanarbend.so.1"
-PACKAGE = Path(__file__).resolve().parent
-PLACES = [PACKAGE.parents[1] / "out" / NAME, PACKAGE.parents[2] / NAME]  # as it is built, and as it is installed
+PLACES = [os.path.join(ROOT, "out", NAME), os.path.join(os.path.dirname(ROOT), NAME)]  # as it is built, and as it is installed
 
 
 class Counts(ctypes.Structure):
@@ -61,8 +61,10 @@ def path() -> str | None:
     if named is not None:
         return named or None
     for place in PLACES:
-        if place.is_file():
-            return str(place)
+        if os.path.isfile(place):
+            return place
+    import ctypes.util  # which takes long to load
+
     return NAME if ctypes.util.find_library("planarbend") else None
 
 
@@ -225,8 +227,11 @@ class LibraryLayouts:
     """
 
     def __init__(self, graphs: Iterable[Any], outer: str = "first", drawing: str = "short") -> None:
+        from planarbend.laid_out import Layout, Record  # which drawing does without
+
         self.library = Library()
         self.records: Iterator[Record] = map(Record.of, graphs)
+        self.layout_of = Layout.of
         self.outer, self.drawing = outer, drawing
         self.number = 0
 
@@ -241,7 +246,7 @@ class LibraryLayouts:
             raise
         self.number += 1
         line = self.library.line(record.bytes(), self.outer, self.drawing)
-        return Layout.of(self.number, record, line | {"file": 1, "graph": self.number})
+        return self.layout_of(self.number, record, line | {"file": 1, "graph": self.number})
 
     def close(self) -> None:
         """Ends the stream where it is."""

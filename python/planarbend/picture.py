@@ -4,9 +4,6 @@ from __future__ import annotations
 import itertools
 import math
 import os
-import shutil
-import subprocess
-import tempfile
 from collections import Counter
 
 from planarbend.drawn import Box, Drawing, Point
@@ -133,6 +130,10 @@ def write_picture(text: str, path: str, scale: float = 1.0) -> None:
     NoConverter
         If PNG or PDF is wanted and rsvg-convert is missing or fails.
     """
+    import shutil  # this, and the next two, take long to load
+    import subprocess
+    import tempfile
+
     kind = CONVERTED.get(os.path.splitext(path)[1])
     if kind and not shutil.which("rsvg-convert"):
         raise NoConverter(f"{path}: needs rsvg-convert (Debian: librsvg2-bin)")

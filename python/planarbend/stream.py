@@ -11,7 +11,7 @@ import threading
 from typing import BinaryIO
 
 from planarbend.planar_code import HEADER, MOST_NEIGHBOURS, MOST_RECORD, MOST_RECORDS
-from planarbend.layouts import NoProgram, program
+from planarbend.programs import NoProgram, program
 
 TEXT = """\
   geng -c -D4 12 | planarg -p | python3 examples/stream.py

@@ -6,8 +6,6 @@ import re
 import warnings
 from collections.abc import Hashable, Iterable
 from typing import Any
-from xml.etree import ElementTree
-from xml.parsers import expat
 
 from planarbend.graph import Arrow, Graph
 from planarbend.readers.building import Builder
@@ -38,6 +36,8 @@ def read_graphml(data: bytes) -> Graph:
     Fault
         The text is not XML or not GraphML, has a hyperedge, or an edge to a node that it does not have.
     """
+    from xml.etree import ElementTree
+
     networkx = library("networkx", PACKAGE)
     directions = scanned(data)
     root = ElementTree.fromstring(data)
@@ -69,6 +69,8 @@ def read_graphml(data: bytes) -> Graph:
 
 def scanned(data: bytes) -> list[tuple[str, str, bool | None]]:
     """The edges of a GraphML text in order: source, target, and `directed` where it is given."""
+    from xml.parsers import expat
+
     parser = expat.ParserCreate(namespace_separator="}")
     nodes: set[str] = set()
     edges: list[tuple[int, str, str, bool | None]] = []
