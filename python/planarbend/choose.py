@@ -21,7 +21,7 @@ MOST_REPAIRS = 3
 MOST_MENDS = 4  # rounds in which edges are let bend in place of boxes
 MOST_PICKED = 4  # shapes that are looked at in pixels
 NUMBERINGS = 7  # of each plan, for each unit of effort
-LARGE = 48  # nodes of an expansion for which other embeddings are tried although nothing bends
+LARGE = 80  # nodes of an expansion for which other embeddings are tried although nothing bends
 ROUNDS, WIDTH = 8, 12  # of the search for another embedding: rounds for each unit of effort, and embeddings in each
 
 Rect = tuple[int, int, int, int]
@@ -89,25 +89,28 @@ def shape_of(expansion: Expansion, form: Form, answer: Answer) -> Shape:
         line = [points[chain[0]]]
         for tail, head in itertools.pairwise(chain):
             line += path(tail, head)[1:]
-        lines.append(without_straight(line))
+        lines.append(without_straight(line) if len(line) > 2 else line)
     boxes, broken = [], {}
     for vertex, nodes in enumerate(expansion.homes):
+        if len(nodes) == 1:
+            boxes.append(points[nodes[0]] * 2)
+            continue
         is_cage = vertex in expansion.cages
         pairs = zip(nodes, nodes[1:] + nodes[:1]) if is_cage else itertools.pairwise(nodes)
         sections = [path(tail, head) for tail, head in pairs]
         ring = [points[nodes[0]], *(point for section in sections for point in section[1:])]
         boxes.append(rect_of(ring))
-        if is_cage and not is_clockwise_rectangle(ring) or vertex in expansion.spines and len(without_straight(ring)) > 2:
+        if not is_clockwise_rectangle(ring) if is_cage else len(without_straight(ring)) > 2:
             broken[vertex] = sections
-    drawn = points + [point for line in lines for point in line]
-    size = (max(x for x, _ in drawn) - min(x for x, _ in drawn) + 1, max(y for _, y in drawn) - min(y for _, y in drawn) + 1)
-    bends = sum(len(line) - 2 for line in lines)
-    return Shape(expansion, points, lines, boxes, list(broken), bends, size, broken)
+    left, top, right, bottom = rect_of([*points, *(point for line in lines if len(line) > 2 for point in line)])
+    bends = sum(map(len, lines)) - 2 * len(lines)
+    return Shape(expansion, points, lines, boxes, list(broken), bends, (right - left + 1, bottom - top + 1), broken)
 
 
-def rect_of(points: Sequence[GridPoint]) -> Rect:
+def rect_of(points: Iterable[GridPoint]) -> Rect:
     """The least rectangle round points."""
-    return (min(x for x, _ in points), min(y for _, y in points), max(x for x, _ in points), max(y for _, y in points))
+    xs, ys = zip(*points)
+    return min(xs), min(ys), max(xs), max(ys)
 
 
 def is_clockwise_rectangle(ring: list[GridPoint]) -> bool:

@@ -8,13 +8,14 @@ A `Library` holds memory that it keeps from call to call, so each thread wants o
 from __future__ import annotations
 
 import ctypes
+import itertools
 import os
 from collections.abc import Iterable, Iterator, Sequence
 from typing import TYPE_CHECKING, Any
 
-from planarbend.engine import Answer, answer_of
+from planarbend.engine import Answer
 from planarbend.planar_code import Lists, record_of
-from planarbend.programs import ROOT, NoProgram
+from planarbend.programs import ROOT, NoProgram, PlanarbendError
 
 if TYPE_CHECKING:
     from planarbend.laid_out import Layout, Record
@@ -194,6 +195,26 @@ class Library:
             "turns": ["L" * left + "R" * right for left, right in zip(turns[::2], turns[1::2])],
         }
 
+    def answer(self, record: bytes, outer: str) -> Answer:
+        """The bends and the points of a record, as drawing wants them.
+
+        Raises
+        ------
+        PlanarbendError
+            The record is refused, or memory ran out.
+        """
+        result = self._layout(self._object, record, len(record), OUTER[outer], DRAWING["short"], *self._addresses)
+        if result != OK:
+            raise PlanarbendError(f"planarbend does not draw a graph: {self.word(result)}")
+        counts, buffer = self._counts, self._buffer
+        numbers = buffer.points[:2 * counts.vertices]
+        points = list(zip(numbers[::2], numbers[1::2]))
+        if not counts.corners:
+            return Answer(counts.bends, points, [[]] * counts.edges)
+        numbers, starts = buffer.corners[:2 * counts.corners], buffer.corner_starts[:counts.edges + 1]
+        corners = list(zip(numbers[::2], numbers[1::2]))
+        return Answer(counts.bends, points, [corners[start:end] for start, end in itertools.pairwise(starts)])
+
     def _points(self) -> dict[str, Any]:
         """The points of the record that was laid out last."""
         counts, buffer = self._counts, self._buffer
@@ -217,7 +238,7 @@ class LibraryEngine:
 
     def lay(self, graphs: Sequence[Lists], outer: str) -> list[Answer]:
         """See `Engine`."""
-        return [answer_of(self.library.line(record_of(lists), outer)) for lists in graphs]
+        return [self.library.answer(record_of(lists), outer) for lists in graphs]
 
 
 class LibraryLayouts:
