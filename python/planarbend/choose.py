@@ -20,6 +20,7 @@ MOST_TURNS = 8  # spines that are tried in place of a cage
 MOST_REPAIRS = 3
 MOST_MENDS = 4  # rounds in which edges are let bend in place of boxes
 MOST_PICKED = 4  # shapes that are looked at in pixels
+MOST_COMPACT = 8  # the same, beside these, where the least room is wanted
 NUMBERINGS = 7  # of each plan, for each unit of effort
 LARGE = 80  # nodes of an expansion for which other embeddings are tried although nothing bends
 ROUNDS, WIDTH = 8, 12  # of the search for another embedding: rounds for each unit of effort, and embeddings in each
@@ -158,7 +159,7 @@ class Found:
         """Whether a vertex has at most one connection at each of its sides, all on different ones."""
         sides = []
         for line, chain in zip(self.shape.lines, self.shape.expansion.chains):
-            for node, (x, y), (after, below) in ((chain[0], *line[:2]), (chain[-1], *line[:-3:-1])):
+            for node, (x, y), (after, below) in ((chain[0], line[0], line[1]), (chain[-1], line[-1], line[-2])):
                 if node in self.shape.expansion.homes[vertex]:
                     sides.append(((after > x) - (after < x), (below > y) - (below < y)))
         return len(sides) == len(set(sides))
@@ -236,26 +237,28 @@ class Search:
         answers = self.engine.lay([form.lists for form in forms], "first")
         return [Found(shape_of(expansion, form, answer), plan) for form, answer in zip(forms, answers)]
 
-    def run(self, compact: bool) -> list[Found]:
+    def look(self, plan: Plan) -> list[Found]:
+        """The shapes of a plan, with `outer` on the outer face if there are such vertices."""
+        return self.turned_out(plan) if self.outer else self.shapes_of([plan])
+
+    def run(self) -> list[Found]:
         """Shapes of this embedding."""
-        look = self.turned_out if self.outer else lambda plan: self.shapes_of([plan])
-        first = self.first_plan(compact)
+        look, first = self.look, self.first_plan(False)
         pool = look(first)
-        if not pool and not compact:
+        if not pool:
             first = self.first_plan(True)
             pool = look(first)
         if not pool:
             if self.outer and self.shapes_of([first]):
                 raise NoSuchFace
             raise TooLarge(len(expand(self.planar, (), {vertex: 0 for vertex in self.large}).around))
-        if not compact:
-            best = min(pool, key=Found.price)
-            small = [vertex for vertex in range(self.planar.vertex_count) if self.can_be_cage(vertex, first)]
-            pool += look(first.caged(small))
-            pool += look(first.caged(self.small_at_bends(best)))
-            best = min(pool, key=Found.price)
-            needless = [vertex for vertex in best.plan.cages - first.cages if best.is_point(vertex)]
-            pool += look(best.plan.uncaged(needless))
+        best = min(pool, key=Found.price)
+        small = [vertex for vertex in range(self.planar.vertex_count) if self.can_be_cage(vertex, first)]
+        pool += look(first.caged(small))
+        pool += look(first.caged(self.small_at_bends(best)))
+        best = min(pool, key=Found.price)
+        needless = [vertex for vertex in best.plan.cages - first.cages if best.is_point(vertex)]
+        pool += look(best.plan.uncaged(needless))
         if min(pool, key=Found.price).shape.broken:
             self.repair(pool)
         return pool
@@ -317,15 +320,14 @@ class Search:
 
     def mend(self, pool: list[Found]) -> None:
         """Where a box is no rectangle: edges that may bend in its place."""
-        look = self.turned_out if self.outer else lambda plan: self.shapes_of([plan])
         current = min(pool, key=Found.price)
         for _ in range(MOST_MENDS):
-            tried = [found for plan in self.mended(current) for found in look(plan)]
+            tried = [found for plan in self.mended(current) for found in self.look(plan)]
             pool += tried
             current = min([current, *tried], key=Found.price)
             if not current.shape.broken:
                 needed = tuple(pair for pair in current.plan.loose if self.is_bent(current, pair[0]))
-                pool += look(replace(current.plan, loose=needed))
+                pool += self.look(replace(current.plan, loose=needed))
                 return
 
     def mended(self, found: Found) -> list[Plan]:
@@ -386,10 +388,13 @@ def choose(planar: Planarization, engine: Engine, *, compact: bool = False, effo
         If no face has all of `outer` on it.
     """
     search = Search(planar, engine, effort, seed, outer)
-    pool = search.run(compact)
+    pool = search.run()
     if not outer:
         pool += search.elsewhere(min(pool, key=Found.price))
-    return picked(pool)
+    shapes = picked(pool)
+    if compact:
+        shapes += smallest(pool + search.look(search.first_plan(True)))
+    return shapes
 
 
 def picked(pool: list[Found]) -> list[Shape]:
@@ -399,3 +404,9 @@ def picked(pool: list[Found]) -> list[Shape]:
         best.setdefault(found.plan, found)
     fewest = min(len(found.shape.broken) for found in best.values())
     return [found.shape for found in best.values() if len(found.shape.broken) == fewest][:MOST_PICKED]
+
+
+def smallest(pool: list[Found]) -> list[Shape]:
+    """The shapes that take the least room on the grid; whole ones only, if there are some."""
+    found = sorted(pool, key=lambda found: (found.price()[0], found.price()[2], found.price()[1]))
+    return [one.shape for one in found[:MOST_COMPACT] if len(one.shape.broken) == len(found[0].shape.broken)]

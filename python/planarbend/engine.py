@@ -90,4 +90,6 @@ def default_engine() -> Engine:
     """
     from planarbend import library  # which uses this module
 
-    return library.LibraryEngine() if library.is_wanted() else ProcessEngine()
+    if library.is_wanted():
+        return library.LibraryEngine()
+    return ProcessEngine()

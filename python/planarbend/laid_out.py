@@ -170,11 +170,14 @@ class Run:
             self.child = subprocess.Popen(words, stdin=subprocess.PIPE, stdout=subprocess.PIPE, stderr=self.said)
         except OSError as error:
             raise NoProgram(f"{words[0]}: {error.strerror}") from None
+        assert self.child.stdout is not None
+        self.output = self.child.stdout
         self.feeder = threading.Thread(target=self._feed, args=(records, most), daemon=True)
         self.feeder.start()
 
     def _feed(self, records: Iterator[Record], most: int) -> None:
         try:
+            assert self.child.stdin is not None
             with self.child.stdin as sink:
                 sink.write(HEADER)
                 sink.flush()
@@ -192,7 +195,7 @@ class Run:
     def lines(self) -> Iterator[tuple[Record, dict[str, Any]]]:
         """Each record with its line, in order. Raises what went wrong after the last of them."""
         ended = False
-        for text in self.child.stdout:
+        for text in self.output:
             try:
                 line = json_line(text.decode())
             except (NoLine, UnicodeDecodeError):
@@ -205,7 +208,7 @@ class Run:
 
     def end(self, is_whole: bool) -> None:
         """Waits for the end of the run. Raises what the caller's graphs raised, or `RunFailed`."""
-        self.child.stdout.close()
+        self.output.close()
         status = self.child.wait()
         self.feeder.join()
         self.said.seek(0)
@@ -219,7 +222,7 @@ class Run:
     def stop(self) -> None:
         """Ends the run before its end."""
         self.child.kill()
-        self.child.stdout.close()
+        self.output.close()
         self.child.wait()
         self.said.close()
 

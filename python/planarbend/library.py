@@ -127,11 +127,11 @@ class Library:
 
     def version(self) -> str:
         """The version of the library."""
-        return self._library.planarbend_version().decode()
+        return bytes(self._library.planarbend_version()).decode()
 
     def word(self, result: int) -> str:
         """The word of a result."""
-        return self._library.planarbend_word(result).decode()
+        return bytes(self._library.planarbend_word(result)).decode()
 
     def bends(self, records: Iterable[bytes], outer: str = "first") -> Iterator[int | None]:
         """The fewest bends of each record, and None for one that is refused. Nothing is drawn.
@@ -147,10 +147,12 @@ class Library:
         at = self._addresses[0]
         for record in records:
             result = layout(held, record, len(record), choice, 0, at, None)
-            yield counts.bends if result == OK else self._refused(result)
+            if result != OK:
+                self._look_at(result)
+            yield counts.bends if result == OK else None
 
-    def _refused(self, result: int) -> None:
-        """Nothing for a rule, and else an exception."""
+    def _look_at(self, result: int) -> None:
+        """Raises what is no rule that a graph breaks."""
         if result == NOT_A_RECORD:
             raise ValueError("the bytes are not one record of planar_code")
         if result == MEMORY:
@@ -177,7 +179,7 @@ class Library:
         if result == MEMORY:
             return {"status": "memory"}
         if result != OK:
-            self._refused(result)
+            self._look_at(result)
             return {"rule": self.word(result), "status": "refused"}
         counts, buffer = self._counts, self._buffer
         vertices, edges, faces = counts.vertices, counts.edges, counts.faces

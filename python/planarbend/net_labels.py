@@ -48,7 +48,8 @@ def net_labels(drawing: Drawing) -> dict[int, Box]:
             inside = place[0] >= 0 and place[1] >= 0 and place[2] <= drawing.size[0] and place[3] <= drawing.size[1]
             others = (box for other, box in enumerate(drawing.boxes) if other in ends and other != net)
             if inside and not any(map(near(place), itertools.chain(taken, others))):
-                found[net] = tuple(round(value, 3) for value in place)
+                left, top, right, bottom = (round(value, 3) for value in place)
+                found[net] = left, top, right, bottom
                 taken.append(place)
                 break
     return found

@@ -95,7 +95,8 @@ def contracted(expansion: Expansion, room: int = 0, kept: Sequence[int] = ()) ->
     kept : sequence of int
         Nodes that are not left out.
     """
-    around, runs = dict(enumerate(expansion.around)), {}
+    around: Around = dict(enumerate(expansion.around))
+    runs: Runs = {}
     excess = len(around) + room - MOST_VERTICES
     if excess <= 0:
         return around, runs

@@ -25,7 +25,7 @@ class NoConverter(Exception):
 
 def svg(drawing: Drawing) -> str:
     """The SVG text of a drawing."""
-    width, height = map(math.ceil, drawing.size)
+    width, height = math.ceil(drawing.size[0]), math.ceil(drawing.size[1])
     head = [f'<svg xmlns="http://www.w3.org/2000/svg" width="{width}" height="{height}"'
             f' viewBox="0 0 {width} {height}">', '<rect width="100%" height="100%" fill="white"/>']
     if any(edge.arrow is not Arrow.NONE for edge in drawing.graph.edges):

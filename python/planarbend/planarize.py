@@ -65,11 +65,19 @@ class Planarization:
 
 
 class TooManyCrossings(Exception):
-    """No planarization was found with as few crossings as are allowed; how many the best one has, or must have."""
+    """No planarization was found with as few crossings as are allowed.
 
-    def __init__(self, crossings: int) -> None:
-        super().__init__(f"{crossings} crossings")
-        self.crossings = crossings
+    Attributes
+    ----------
+    crossings : int
+        How many the best one has that was found, or any must have.
+    must : bool
+        Whether any planarization has so many.
+    """
+
+    def __init__(self, crossings: int, must: bool = False) -> None:
+        super().__init__(f"at least {crossings} crossings" if must else f"{crossings} or more crossings, as far as was tried")
+        self.crossings, self.must = crossings, must
 
 
 def planarize(vertex_count: int, edges: Sequence[tuple[int, int]], *, effort: int = 1, seed: int = 0,
@@ -107,7 +115,7 @@ def planarize(vertex_count: int, edges: Sequence[tuple[int, int]], *, effort: in
     """
     limit = sys.maxsize if most is None else most
     if needed_crossings(vertex_count, edges) > limit:
-        raise TooManyCrossings(needed_crossings(vertex_count, edges))
+        raise TooManyCrossings(needed_crossings(vertex_count, edges), must=True)
     ends = list(edges)
     weights = [1] * len(ends)
     count = vertex_count

@@ -35,9 +35,9 @@ def program() -> str:
     if not named:
         import shutil  # which takes long to load
 
-        path = shutil.which("planarbend")
-        if path and is_program(path):
-            return os.path.abspath(path)
+        found = shutil.which("planarbend")
+        if found and is_program(found):
+            return os.path.abspath(found)
     raise NoProgram(f"no such program: {named or SCRIPT}")
 
 

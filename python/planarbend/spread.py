@@ -114,9 +114,10 @@ class Sheet:
         for edge, line in zip(self.graph.edges, self.shape.lines):
             if not line:
                 has_loop.add(edge.tail)
-            for vertex, one, other in ((edge.tail, *line[:2]), (edge.head, *line[:-3:-1])) if line else ():
+                continue
+            for end, one, other in ((edge.tail, line[0], line[1]), (edge.head, line[-1], line[-2])):
                 axis = 0 if one[0] == other[0] else 1
-                ends[vertex][axis].add(one[axis])
+                ends[end][axis].add(one[axis])
         found: list[list[int | None]] = []
         for number, vertex in enumerate(self.graph.vertices):
             left, top, right, bottom = self.shape.boxes[number]
@@ -179,7 +180,7 @@ class Sheet:
         host = self.graph.edges[number].tail
         box = self.boxes[host]
         along, is_low = min(((along, is_low) for along in (0, 1) for is_low in (True, False)),
-                            key=lambda side: (len(self.sides.get((host, *side), [])), side))
+                            key=lambda side: (len(self.sides.get((host, side[0], side[1]), [])), side))
         across = 1 - along
         count = len(self.loops.setdefault((host, along, is_low), []))
         self.loops[host, along, is_low].append(number)
