@@ -19,6 +19,7 @@ MOST_FACES = 24  # outer faces that are tried
 MOST_TURNS = 8  # spines that are tried in place of a cage
 MOST_REPAIRS = 3
 MOST_MENDS = 4  # rounds in which edges are let bend in place of boxes
+MOST_MENDED = 4  # shapes from which each round goes on
 MOST_PICKED = 4  # shapes that are looked at in pixels
 MOST_COMPACT = 8  # the same, beside these, where the least room is wanted
 NUMBERINGS = 7  # of each plan, for each unit of effort
@@ -319,15 +320,17 @@ class Search:
             pool += self.shapes_of([self.first_plan(True)])
 
     def mend(self, pool: list[Found]) -> None:
-        """Where a box is no rectangle: edges that may bend in its place."""
-        current = min(pool, key=Found.price)
+        """Where a box is no rectangle: edges that may bend in its place, from a few of the best shapes on."""
+        beam, tried = sorted(pool, key=Found.price)[:MOST_MENDED], set[Plan]()
         for _ in range(MOST_MENDS):
-            tried = [found for plan in self.mended(current) for found in self.look(plan)]
-            pool += tried
-            current = min([current, *tried], key=Found.price)
-            if not current.shape.broken:
-                needed = tuple(pair for pair in current.plan.loose if self.is_bent(current, pair[0]))
-                pool += self.look(replace(current.plan, loose=needed))
+            plans = [plan for found in beam for plan in self.mended(found) if plan not in tried]
+            tried |= set(plans)
+            found = [found for plan in dict.fromkeys(plans) for found in self.look(plan)]
+            pool += found
+            beam = sorted([*beam, *found], key=Found.price)[:MOST_MENDED]
+            if not beam[0].shape.broken:
+                needed = tuple(pair for pair in beam[0].plan.loose if self.is_bent(beam[0], pair[0]))
+                pool += self.look(replace(beam[0].plan, loose=needed))
                 return
 
     def mended(self, found: Found) -> list[Plan]:

@@ -145,7 +145,8 @@ def part_of(graph: Graph, vertices: list[int], edges: list[int], options: Option
     (broken, _), sheet = best
     if broken:
         names = ", ".join(inner.vertices[vertex].name for vertex in sheet.shape.broken)
-        raise DrawError(f"no drawing was found in which these boxes are rectangles: {names} (try another seed)")
+        raise DrawError(f"no drawing was found in which these boxes are rectangles: {names} (try another --seed, or --split"
+                        " with the nets that join most)")
     return in_pixels(sheet, vertices, edges)
 
 

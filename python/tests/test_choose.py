@@ -10,14 +10,15 @@ from collections.abc import Sequence
 
 import support
 from drawing_checker import check
+from planarbend import library
 from planarbend.choose import Found, Search
 from planarbend.draw import Options, draw
-from planarbend.engine import default_engine
-from planarbend.expand import expand
+from planarbend.engine import ProcessEngine, default_engine
+from planarbend.expand import Expansion, expand
 from planarbend.graph import Edge, Graph, Kind, Vertex
 from planarbend.mend import corners_of, ways_round_cage
 from planarbend.nets import dots_of, pieces_of
-from planarbend.numbering import contracted
+from planarbend.numbering import contracted, numbered
 from planarbend.planarize import easily_embedded, planarize
 
 # From (0, 0) to the right and round, y downwards: a square of side 4 from which the quarter at the lower left is cut away.
@@ -60,7 +61,7 @@ class Mended(unittest.TestCase):
     def test_steps_are_mended(self) -> None:
         """Wherever a box of the least shape has a step, edges that bend in its place make it a rectangle."""
         engine, mended = default_engine(), 0
-        for seed in range(1, 36):
+        for seed in range(1, 24):
             search = Search(planarize(*hubs(seed)), engine, 1, 0)
             pool = search.shapes_of([search.first_plan(False)])
             best = min(pool, key=Found.price)
@@ -74,7 +75,7 @@ class Mended(unittest.TestCase):
         self.assertGreaterEqual(mended, 3)
 
     def test_drawings_of_hubs_have_rectangles(self) -> None:
-        for seed in range(12):
+        for seed in range(6):
             count, edges = hubs(seed)
             kind = (Kind.VERTEX, Kind.PART, Kind.NET)[seed % 3]
             graph = Graph([Vertex(str(number), str(number), kind) for number in range(count)], [Edge(*edge) for edge in edges])
@@ -110,6 +111,25 @@ class Room(unittest.TestCase):
             edges += list(zip([0, *inner], [*inner, 1]))
         graph = Graph([Vertex(str(number), str(number)) for number in range(242)], [Edge(*edge) for edge in edges])
         checked(graph, edges)
+
+
+@unittest.skipUnless(library.path(), "the library is missing (planarbend --build makes it)")
+class Engines(unittest.TestCase):
+    def test_library_and_program_answer_alike(self) -> None:
+        graphs = [numbered(around, list(around), runs).lists for around, runs in map(contracted, expansions())]
+        for outer in ("first", "best"):
+            self.assertEqual(library.LibraryEngine().lay(graphs, outer), ProcessEngine().lay(graphs, outer))
+
+
+def expansions() -> list[Expansion]:
+    """Expansions of random graphs in which four vertices have most of the edges."""
+    found = []
+    for seed in range(8):
+        search = Search(planarize(*hubs(seed), effort=0), default_engine(), 0, 0)
+        expansion = search.expanded(search.first_plan(False))
+        assert expansion is not None
+        found.append(expansion)
+    return found
 
 
 class Easy(unittest.TestCase):
