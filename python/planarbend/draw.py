@@ -20,6 +20,7 @@ from planarbend.spread import Sheet
 MARGIN = 10.0  # pixels round the whole
 BETWEEN = 18.0  # pixels between components
 MOST_EMBEDDINGS = 4  # that are tried where a box would be no rectangle
+MOST_BROKEN = 4  # boxes that are no rectangles, above which no further embedding is tried
 BEND_WEIGHT = 2.5  # of bends an edge, where shapes are compared by area
 COMPACT_WEIGHT = 0.25  # the same where the least room is wanted
 
@@ -139,7 +140,7 @@ def part_of(graph: Graph, vertices: list[int], edges: list[int], options: Option
             price = (len(shape.broken), price_of(sheet, len(pairs), COMPACT_WEIGHT if options.compact else BEND_WEIGHT))
             if best is None or price < best[0]:
                 best = price, sheet
-        if best is not None and not best[0][0]:
+        if best is not None and not 0 < best[0][0] <= MOST_BROKEN:
             break
     assert best is not None, "a component has a shape"
     (broken, _), sheet = best
