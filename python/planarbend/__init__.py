@@ -4,9 +4,25 @@
     for layout in layouts([{"a": ["b"], "b": ["a"]}], outer="best"):
         print(layout.bends, layout.points["a"], layout.path("a", "b"), layout.outer_face)
 """
+from __future__ import annotations
+
+from typing import TYPE_CHECKING, Any
+
 from planarbend.graph import Arrow, Edge, Graph, Kind, Vertex
-from planarbend.layouts import (GraphError, GraphLost, GraphRefused, GraphUndrawn, Layout, Layouts, NoProgram,
-                                PlanarbendError, Record, RunFailed, layout_of, layouts, program)
+from planarbend.programs import NoProgram, PlanarbendError, RunFailed, program
+
+if TYPE_CHECKING:
+    from planarbend.laid_out import (GraphError, GraphLost, GraphRefused, GraphUndrawn, Layout, Layouts, Record, layout_of,
+                                    layouts)
 
 __all__ = ["Arrow", "Edge", "Graph", "GraphError", "GraphLost", "GraphRefused", "GraphUndrawn", "Kind", "Layout", "Layouts",
            "NoProgram", "PlanarbendError", "Record", "RunFailed", "Vertex", "layout_of", "layouts", "program"]
+
+
+def __getattr__(name: str) -> Any:
+    """What comes from `planarbend.laid_out`, which is loaded when it is first needed: drawing does without."""
+    if name not in __all__:
+        raise AttributeError(f"module 'planarbend' has no attribute {name!r}")
+    import importlib
+
+    return getattr(importlib.import_module("planarbend.laid_out"), name)

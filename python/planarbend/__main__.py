@@ -25,7 +25,7 @@ def main() -> int:
         return 0 if is_help else 2
     module, function, _ = COMMANDS[name]
     sys.argv[:2] = [f"planarbend {name}"]
-    return getattr(importlib.import_module(f"planarbend.{module}"), function)()
+    return int(getattr(importlib.import_module(f"planarbend.{module}"), function)())
 
 
 if __name__ == "__main__":

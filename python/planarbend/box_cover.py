@@ -121,13 +121,16 @@ def picture(cover: Cover, vertices: list[Point], row: int, point: Point) -> str:
         return MARGIN + (x - cover.left) * STEP, MARGIN + (cover.above - y) * STEP
 
     def line(x: float, y: float, u: float, v: float, rest: str) -> str:
-        return '<path d="M{:g} {:g}L{:g} {:g}" {}/>'.format(*place(x, y), *place(u, v), rest)
+        (a, b), (c, d) = place(x, y), place(u, v)
+        return f'<path d="M{a:g} {b:g}L{c:g} {d:g}" {rest}/>'
 
     def cell(x: int, y: int, fill: str) -> str:
-        return '<rect x="{:g}" y="{:g}" width="{}" height="{}" fill="{}"/>'.format(*place(x, y + 1), STEP, STEP, fill)
+        a, b = place(x, y + 1)
+        return f'<rect x="{a:g}" y="{b:g}" width="{STEP}" height="{STEP}" fill="{fill}"/>'
 
     def circle(x: int, y: int, radius: int, colour: str) -> str:
-        return '<circle cx="{:g}" cy="{:g}" r="{}" fill="white" stroke="{}"/>'.format(*place(x, y), radius, colour)
+        a, b = place(x, y)
+        return f'<circle cx="{a:g}" cy="{b:g}" r="{radius}" fill="white" stroke="{colour}"/>'
 
     def arrow(name: str, colour: str) -> str:
         return f'stroke="{colour}" stroke-width="6" marker-end="url(#{name})"'
@@ -143,10 +146,10 @@ def picture(cover: Cover, vertices: list[Point], row: int, point: Point) -> str:
     elements += [cell(*at, colours[box]) for at, box in cover.boxes.items()]
     elements += [cell(x, row, f'{ROW}" fill-opacity="0.22') for x in columns]
     elements.append(cell(*point, f'{SEEN}" fill-opacity="0.4'))
-    for unit in sorted(map(sorted, cover.lines)):
-        drawn = frozenset(unit) in cover.drawn
+    for (x, y), (u, v) in sorted((min(unit), max(unit)) for unit in cover.lines):
+        drawn = frozenset(((x, y), (u, v))) in cover.drawn
         rest = 'stroke="black" stroke-linecap="square"' if drawn else f'stroke="{GREY}" stroke-dasharray="6 6"'
-        elements.append(line(*unit[0], *unit[1], rest))
+        elements.append(line(x, y, u, v, rest))
     crossed = [x for x in range(cover.left, cover.right + 1) if side((x, row), 1) in cover.lines]
     elements += [line(x, row + 0.15, x, row + 0.74, arrow("row", ROW)) for x in crossed]
     words = [((x + u) / 2, row + 0.5, number, ROW, 24) for number, (x, u) in enumerate(itertools.pairwise(crossed), 1)]
@@ -157,11 +160,12 @@ def picture(cover: Cover, vertices: list[Point], row: int, point: Point) -> str:
     for number, at in enumerate(vertices, 1):
         elements.append(circle(*at, 15, "black"))
         words.append((*at, number, "black", 19))
-    elements += ['<text x="{:g}" y="{:g}" dy=".35em" stroke="none" fill="{}" font-size="{}">{}</text>'.format(
-        *place(x, y), fill, size, text) for x, y, text, fill, size in words]
+    for across, up, text, fill, size in words:
+        a, b = place(across, up)
+        elements.append(f'<text x="{a:g}" y="{b:g}" dy=".35em" stroke="none" fill="{fill}" font-size="{size}">{text}</text>')
     wide, high = (2 * MARGIN + size * STEP for size in (cover.right - cover.left, cover.above - cover.below))
-    head = '<g font-family="sans-serif" text-anchor="middle" fill="none" stroke-width="3">'
-    return svg(wide, high, [head, *elements, "</g>"])
+    group = '<g font-family="sans-serif" text-anchor="middle" fill="none" stroke-width="3">'
+    return svg(wide, high, [group, *elements, "</g>"])
 
 
 def cover_of(path: str, lines: Lines, number: int) -> tuple[Cover, list[Point]]:
@@ -172,7 +176,7 @@ def cover_of(path: str, lines: Lines, number: int) -> tuple[Cover, list[Point]]:
     if reason_of(answer) is not None:
         raise Refused(f"graph {number}: {reason_of(answer)}")
     paths = paths_of(Plane(read_lists(path, {number})[number]), answer["points"])
-    darts = {pair for path in paths for pair in itertools.pairwise(map(tuple, path))}
+    darts = {((x, y), (u, v)) for path in paths for (x, y), (u, v) in itertools.pairwise(path)}
     return Cover(darts), [(x, y) for x, y in answer["points"]["vertices"]]
 
 

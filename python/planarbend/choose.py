@@ -5,23 +5,27 @@ import itertools
 import random
 import sys
 from collections.abc import Iterable, Iterator, Sequence
-from dataclasses import dataclass, field
+from dataclasses import dataclass, field, replace
 
 from planarbend.embeddings import Price, climbed
 from planarbend.engine import Answer, Engine, GridPoint
 from planarbend.expand import LEAST_CAGE, MOST_CONNECTIONS, Expansion, expand, size_of
-from planarbend.planar_code import MOST_VERTICES, Lists, Plane
+from planarbend.mend import Loose, loosened, ways_round_cage, ways_round_spine
+from planarbend.numbering import Form, contracted, numbered, outer_forms
+from planarbend.planar_code import MOST_VERTICES
 from planarbend.planarize import Planarization
 
 MOST_FACES = 24  # outer faces that are tried
 MOST_TURNS = 8  # spines that are tried in place of a cage
 MOST_REPAIRS = 3
+MOST_MENDS = 4  # rounds in which edges are let bend in place of boxes
+MOST_MENDED = 4  # shapes from which each round goes on
 MOST_PICKED = 4  # shapes that are looked at in pixels
+MOST_COMPACT = 8  # the same, beside these, where the least room is wanted
 NUMBERINGS = 7  # of each plan, for each unit of effort
-LARGE = 48  # nodes of an expansion for which other embeddings are tried although nothing bends
+LARGE = 80  # nodes of an expansion for which other embeddings are tried although nothing bends
 ROUNDS, WIDTH = 8, 12  # of the search for another embedding: rounds for each unit of effort, and embeddings in each
 
-Dart = tuple[int, int]
 Rect = tuple[int, int, int, int]
 
 
@@ -31,24 +35,6 @@ class TooLarge(Exception):
 
 class NoSuchFace(Exception):
     """No face has all the vertices on it that the outer face must have."""
-
-
-@dataclass(frozen=True, slots=True)
-class Form:
-    """An expansion as it is handed to planarbend, which may have a tail that makes a face the largest.
-
-    Attributes
-    ----------
-    lists : neighbour lists
-    number : list of int
-        The vertex, counted from 0, of each node of the expansion.
-    divided : (int, int, int) or None
-        Two nodes whose piece has one more vertex in its middle, and that vertex.
-    """
-
-    lists: Lists
-    number: list[int]
-    divided: tuple[int, int, int] | None = None
 
 
 @dataclass(slots=True)
@@ -68,6 +54,10 @@ class Shape:
         The vertices whose cage is no rectangle, or is turned inside out, and those whose spine is bent.
     bends : int
         Of all edges.
+    size : (width, height)
+        Grid lines that it takes.
+    sections : dict of int to list of list of (x, y)
+        For each broken vertex the points from each of its nodes to the next.
     """
 
     expansion: Expansion
@@ -76,7 +66,8 @@ class Shape:
     boxes: list[Rect]
     broken: list[int]
     bends: int
-    size: tuple[int, int] = field(default=(0, 0))
+    size: tuple[int, int] = (0, 0)
+    sections: dict[int, list[list[GridPoint]]] = field(default_factory=dict)
 
 
 def without_straight(points: Sequence[GridPoint]) -> list[GridPoint]:
@@ -90,55 +81,38 @@ def without_straight(points: Sequence[GridPoint]) -> list[GridPoint]:
 
 def shape_of(expansion: Expansion, form: Form, answer: Answer) -> Shape:
     """What an answer says of the nodes and edges of an expansion."""
-    places = [(x, -y) for x, y in answer.points]
-    paths = paths_of(form.lists, places, answer)
-    points = [places[vertex] for vertex in form.number[:len(expansion.around)]]
+    points, paths = form.places(answer)
 
     def path(tail: int, head: int) -> list[GridPoint]:
-        first, last = form.number[tail], form.number[head]
-        if form.divided and {tail, head} == set(form.divided[:2]):
-            middle = form.divided[2]
-            return paths[first, middle] + paths[middle, last][1:]
-        return paths[first, last]
+        return paths[tail, head] if (tail, head) in paths else paths[head, tail][::-1]
 
     lines = []
     for chain in expansion.chains:
         line = [points[chain[0]]]
         for tail, head in itertools.pairwise(chain):
             line += path(tail, head)[1:]
-        lines.append(without_straight(line))
-    boxes, broken = [], []
+        lines.append(without_straight(line) if len(line) > 2 else line)
+    boxes, broken = [], {}
     for vertex, nodes in enumerate(expansion.homes):
-        ring = [points[nodes[0]]]
-        pairs = zip(nodes, nodes[1:] + nodes[:1]) if vertex in expansion.cages else itertools.pairwise(nodes)
-        for tail, head in pairs:
-            ring += path(tail, head)[1:]
+        if len(nodes) == 1:
+            boxes.append(points[nodes[0]] * 2)
+            continue
+        is_cage = vertex in expansion.cages
+        pairs = zip(nodes, nodes[1:] + nodes[:1]) if is_cage else itertools.pairwise(nodes)
+        sections = [path(tail, head) for tail, head in pairs]
+        ring = [points[nodes[0]], *(point for section in sections for point in section[1:])]
         boxes.append(rect_of(ring))
-        if vertex in expansion.cages and not is_clockwise_rectangle(ring):
-            broken.append(vertex)
-        if vertex in expansion.spines and len(without_straight(ring)) > 2:
-            broken.append(vertex)
-    drawn = points + [point for line in lines for point in line]
-    size = (max(x for x, _ in drawn) - min(x for x, _ in drawn) + 1, max(y for _, y in drawn) - min(y for _, y in drawn) + 1)
-    return Shape(expansion, points, lines, boxes, broken, sum(len(line) - 2 for line in lines), size)
+        if not is_clockwise_rectangle(ring) if is_cage else len(without_straight(ring)) > 2:
+            broken[vertex] = sections
+    left, top, right, bottom = rect_of([*points, *(point for line in lines if len(line) > 2 for point in line)])
+    bends = sum(map(len, lines)) - 2 * len(lines)
+    return Shape(expansion, points, lines, boxes, list(broken), bends, (right - left + 1, bottom - top + 1), broken)
 
 
-def paths_of(lists: Lists, places: list[GridPoint], answer: Answer) -> dict[Dart, list[GridPoint]]:
-    """The points along each dart, ends included."""
-    found: dict[Dart, list[GridPoint]] = {}
-    corners = iter(answer.corners)
-    for tail, heads in enumerate(lists):
-        for head in heads:
-            if tail < head - 1:
-                path = [places[tail], *((x, -y) for x, y in next(corners)), places[head - 1]]
-                found[tail, head - 1] = path
-                found[head - 1, tail] = path[::-1]
-    return found
-
-
-def rect_of(points: Sequence[GridPoint]) -> Rect:
+def rect_of(points: Iterable[GridPoint]) -> Rect:
     """The least rectangle round points."""
-    return (min(x for x, _ in points), min(y for _, y in points), max(x for x, _ in points), max(y for _, y in points))
+    xs, ys = zip(*points)
+    return min(xs), min(ys), max(xs), max(ys)
 
 
 def is_clockwise_rectangle(ring: list[GridPoint]) -> bool:
@@ -151,23 +125,24 @@ def is_clockwise_rectangle(ring: list[GridPoint]) -> bool:
 
 @dataclass(frozen=True, slots=True)
 class Plan:
-    """Which vertices are cages, and which are spines, each with the place at which it begins."""
+    """Which vertices are cages, which are spines, each with the place at which it begins, and which pieces are loose."""
 
     cages: frozenset[int]
     spines: tuple[tuple[int, int], ...] = ()
+    loose: Loose = ()
 
     def caged(self, vertices: Iterable[int]) -> Plan:
         """With these vertices as cages too."""
-        return Plan(self.cages | frozenset(vertices), self.spines)
+        return replace(self, cages=self.cages | frozenset(vertices))
 
     def uncaged(self, vertices: Iterable[int]) -> Plan:
         """With these cages as points."""
-        return Plan(self.cages - frozenset(vertices), self.spines)
+        return replace(self, cages=self.cages - frozenset(vertices))
 
     def spined(self, vertex: int, turn: int) -> Plan:
         """With this vertex as a spine."""
         others = tuple(pair for pair in self.spines if pair[0] != vertex)
-        return Plan(self.cages - {vertex}, tuple(sorted((*others, (vertex, turn)))))
+        return replace(self, cages=self.cages - {vertex}, spines=tuple(sorted((*others, (vertex, turn)))))
 
 
 @dataclass(frozen=True, slots=True)
@@ -185,7 +160,7 @@ class Found:
         """Whether a vertex has at most one connection at each of its sides, all on different ones."""
         sides = []
         for line, chain in zip(self.shape.lines, self.shape.expansion.chains):
-            for node, (x, y), (after, below) in ((chain[0], *line[:2]), (chain[-1], *line[:-3:-1])):
+            for node, (x, y), (after, below) in ((chain[0], line[0], line[1]), (chain[-1], line[-1], line[-2])):
                 if node in self.shape.expansion.homes[vertex]:
                     sides.append(((after > x) - (after < x), (below > y) - (below < y)))
         return len(sides) == len(set(sides))
@@ -214,7 +189,15 @@ class Search:
 
     def fits(self, plan: Plan) -> bool:
         """Whether a plan takes few enough vertices, before loops and parallel edges."""
-        return size_of(self.planar, self.degree, plan.cages, dict(plan.spines)) <= MOST_VERTICES
+        size = size_of(self.planar, self.degree, plan.cages, dict(plan.spines)) + sum(count for _, count in plan.loose)
+        return size - self.degree.count(2) <= MOST_VERTICES
+
+    def expanded(self, plan: Plan) -> Expansion | None:
+        """The expansion of a plan, or None if it takes too many vertices."""
+        if not self.fits(plan):
+            return None
+        expansion = expand(self.planar, plan.cages, dict(plan.spines), dict(plan.loose))
+        return expansion if len(contracted(expansion)[0]) <= MOST_VERTICES else None
 
     def first_plan(self, compact: bool) -> Plan:
         """Cages for all vertices above degree 4; spines if compact, or for the largest until all fits."""
@@ -230,10 +213,8 @@ class Search:
         one is then found."""
         tried: list[tuple[Expansion, Plan, Form]] = []
         for plan in dict.fromkeys(plans):
-            if not self.fits(plan):
-                continue
-            expansion = expand(self.planar, plan.cages, dict(plan.spines))
-            if len(expansion.around) <= MOST_VERTICES:
+            expansion = self.expanded(plan)
+            if expansion is not None:
                 tried += [(expansion, plan, form) for form in self.numberings(expansion)]
         answers = self.engine.lay([form.lists for _, _, form in tried], "best")
         return [Found(shape_of(expansion, form, answer), plan)
@@ -241,43 +222,44 @@ class Search:
 
     def numberings(self, expansion: Expansion) -> Iterator[Form]:
         """An expansion under several numberings."""
-        order = list(range(len(expansion.around)))
-        yield numbered(expansion.around, order, None)
+        around, runs = contracted(expansion)
+        order = list(around)
+        yield numbered(around, order, runs)
         for _ in range(NUMBERINGS * self.effort):
             self.random.shuffle(order)
-            yield numbered(expansion.around, order, None)
+            yield numbered(around, order, runs)
 
     def turned_out(self, plan: Plan) -> list[Found]:
         """The shapes of a plan with other outer faces: those with all of `outer` on them, if there are some."""
-        if not self.fits(plan):
-            return []
-        expansion = expand(self.planar, plan.cages, dict(plan.spines))
-        if len(expansion.around) > MOST_VERTICES:
+        expansion = self.expanded(plan)
+        if expansion is None:
             return []
         forms = list(itertools.islice(outer_forms(expansion, self.outer), MOST_FACES))
         answers = self.engine.lay([form.lists for form in forms], "first")
         return [Found(shape_of(expansion, form, answer), plan) for form, answer in zip(forms, answers)]
 
-    def run(self, compact: bool) -> list[Found]:
+    def look(self, plan: Plan) -> list[Found]:
+        """The shapes of a plan, with `outer` on the outer face if there are such vertices."""
+        return self.turned_out(plan) if self.outer else self.shapes_of([plan])
+
+    def run(self) -> list[Found]:
         """Shapes of this embedding."""
-        look = self.turned_out if self.outer else lambda plan: self.shapes_of([plan])
-        first = self.first_plan(compact)
+        look, first = self.look, self.first_plan(False)
         pool = look(first)
-        if not pool and not compact:
+        if not pool:
             first = self.first_plan(True)
             pool = look(first)
         if not pool:
             if self.outer and self.shapes_of([first]):
                 raise NoSuchFace
             raise TooLarge(len(expand(self.planar, (), {vertex: 0 for vertex in self.large}).around))
-        if not compact:
-            best = min(pool, key=Found.price)
-            small = [vertex for vertex in range(self.planar.vertex_count) if self.can_be_cage(vertex, first)]
-            pool += look(first.caged(small))
-            pool += look(first.caged(self.small_at_bends(best)))
-            best = min(pool, key=Found.price)
-            needless = [vertex for vertex in best.plan.cages - first.cages if best.is_point(vertex)]
-            pool += look(best.plan.uncaged(needless))
+        best = min(pool, key=Found.price)
+        small = [vertex for vertex in range(self.planar.vertex_count) if self.can_be_cage(vertex, first)]
+        pool += look(first.caged(small))
+        pool += look(first.caged(self.small_at_bends(best)))
+        best = min(pool, key=Found.price)
+        needless = [vertex for vertex in best.plan.cages - first.cages if best.is_point(vertex)]
+        pool += look(best.plan.uncaged(needless))
         if min(pool, key=Found.price).shape.broken:
             self.repair(pool)
         return pool
@@ -291,15 +273,15 @@ class Search:
         if other is self.planar:
             return []
         search = Search(other, self.engine, self.effort, 0)
-        pool = search.shapes_of([best.plan])
+        pool = search.shapes_of([replace(best.plan, loose=())])
         if pool and min(pool, key=Found.price).shape.broken:
             search.repair(pool)
         return pool
 
     def prices(self, planars: Sequence[Planarization], plan: Plan) -> list[Price]:
         """What a plan comes to in each of several embeddings."""
-        expansions = [expand(planar, plan.cages, dict(plan.spines)) for planar in planars]
-        forms = [numbered(expansion.around, list(range(len(expansion.around))), None) for expansion in expansions]
+        expansions = [expand(planar, plan.cages, dict(plan.spines)) for planar in planars]  # with other pieces
+        forms = [next(self.numberings(expansion)) for expansion in expansions]
         fitting = [place for place, form in enumerate(forms) if len(form.lists) <= MOST_VERTICES]
         prices: list[Price] = [(sys.maxsize,)] * len(planars)
         for place, answer in zip(fitting, self.engine.lay([forms[place].lists for place in fitting], "best")):
@@ -311,7 +293,10 @@ class Search:
         return LEAST_CAGE <= self.degree[vertex] <= MOST_CONNECTIONS and vertex not in plan.cages
 
     def repair(self, pool: list[Found]) -> None:
-        """Where a cage is no rectangle: other outer faces; at last spines."""
+        """Where a box is no rectangle: edges that bend in its place, then other outer faces, at last spines."""
+        self.mend(pool)
+        if not min(pool, key=Found.price).shape.broken:
+            return
         if not self.outer:
             plans = list(dict.fromkeys(found.plan for found in sorted(pool, key=Found.price)))
             for plan in plans[:2]:
@@ -333,6 +318,53 @@ class Search:
             current = min(tried, key=Found.price)
         if not self.outer:
             pool += self.shapes_of([self.first_plan(True)])
+
+    def mend(self, pool: list[Found]) -> None:
+        """Where a box is no rectangle: edges that may bend in its place, from a few of the best shapes on."""
+        beam, tried = sorted(pool, key=Found.price)[:MOST_MENDED], set[Plan]()
+        for _ in range(MOST_MENDS):
+            plans = [plan for found in beam for plan in self.mended(found) if plan not in tried]
+            tried |= set(plans)
+            found = [found for plan in dict.fromkeys(plans) for found in self.look(plan)]
+            pool += found
+            beam = sorted([*beam, *found], key=Found.price)[:MOST_MENDED]
+            if not beam[0].shape.broken:
+                needed = tuple(pair for pair in beam[0].plan.loose if self.is_bent(beam[0], pair[0]))
+                pool += self.look(replace(beam[0].plan, loose=needed))
+                return
+
+    def mended(self, found: Found) -> list[Plan]:
+        """Plans by which broken boxes may be rectangles: the first by all of them at once."""
+        first: list[int] = []
+        ways: list[list[int]] = []
+        for vertex, sections in found.shape.sections.items():
+            out = self.planar.rotation[vertex]
+            if vertex in found.plan.cages:
+                sets = list(ways_round_cage(sections))
+            else:
+                turn = dict(found.plan.spines)[vertex]
+                out = out[turn:] + out[:turn]
+                sets = list(ways_round_spine(sections, len(out)))
+            pieces = [[out[place] >> 1 for place in places] for places in sets]
+            first += pieces[0] if pieces else []
+            ways += pieces
+        plans = [replace(found.plan, loose=loosened(found.plan.loose, way)) for way in [first, *ways] if way]
+        roomier = [self.roomier(plan, found.shape.broken) for plan in dict.fromkeys(plans)]
+        return [plan for plan in dict.fromkeys(roomier) if self.fits(plan)]
+
+    def roomier(self, plan: Plan, but: Sequence[int]) -> Plan:
+        """A plan with spines in place of some cages, the smallest first, if it takes too many vertices as it is."""
+        for vertex in sorted(plan.cages, key=lambda vertex: (self.degree[vertex], vertex)):
+            if self.fits(plan):
+                break
+            if self.degree[vertex] > MOST_CONNECTIONS and vertex not in but:
+                plan = plan.spined(vertex, 0)
+        return plan
+
+    def is_bent(self, found: Found, piece: int) -> bool:
+        """Whether the edge with a piece bends."""
+        return any(len(line) > 2 and any(dart >> 1 == piece for dart in chain)
+                   for line, chain in zip(found.shape.lines, self.planar.chains))
 
     def small_at_bends(self, found: Found) -> list[int]:
         """The vertices of degree 3 and 4 at the ends of edges that bend."""
@@ -359,10 +391,13 @@ def choose(planar: Planarization, engine: Engine, *, compact: bool = False, effo
         If no face has all of `outer` on it.
     """
     search = Search(planar, engine, effort, seed, outer)
-    pool = search.run(compact)
+    pool = search.run()
     if not outer:
         pool += search.elsewhere(min(pool, key=Found.price))
-    return picked(pool)
+    shapes = picked(pool)
+    if compact:
+        shapes += smallest(pool + search.look(search.first_plan(True)))
+    return shapes
 
 
 def picked(pool: list[Found]) -> list[Shape]:
@@ -374,62 +409,7 @@ def picked(pool: list[Found]) -> list[Shape]:
     return [found.shape for found in best.values() if len(found.shape.broken) == fewest][:MOST_PICKED]
 
 
-def outer_forms(expansion: Expansion, outer: Sequence[int] = ()) -> Iterator[Form]:
-    """Forms with one face after another as the outer face, longest first; never the inner face of a cage. Only faces
-    with the vertices of `outer` on them."""
-    plane = Plane(expansion.lists)
-    home = {node: vertex for vertex, nodes in enumerate(expansion.homes) for node in nodes}
-    cage_of = {node: vertex for vertex in expansion.cages for node in expansion.homes[vertex]}
-    walks = []
-    for walk in plane.walks:
-        owners = {cage_of.get(plane.darts[dart][0] - 1) for dart in walk}
-        met = {home.get(plane.darts[dart][0] - 1) for dart in walk} if outer else set()
-        if (None in owners or len(owners) > 1) and met.issuperset(outer):
-            walks.append([(plane.darts[dart][0] - 1, plane.darts[dart][1] - 1) for dart in walk])
-    most = max(map(len, plane.walks))
-    walks.sort(key=lambda walk: (-len(walk), walk[0]))
-    for walk in walks:
-        form = form_with_outer(expansion, walk, most)
-        if form is not None:
-            yield form
-
-
-def form_with_outer(expansion: Expansion, walk: list[Dart], most: int) -> Form | None:
-    """A form of which `first` takes this face: the face begins with the first dart, and has a tail where others are
-    longer. None if that takes too many vertices."""
-    around = [list(nodes) for nodes in expansion.around]
-    if len(walk) == most:
-        tail, head = walk[0]
-        place = around[tail].index(head)
-        around[tail] = around[tail][place:] + around[tail][:place]
-        order = [tail, *(node for node in range(len(around)) if node != tail)]
-        return numbered(around, order, None)
-    tail, head = tail_place(expansion, walk)
-    middle = len(around)
-    length = (most - len(walk)) // 2 + 1
-    if middle + 1 + length > MOST_VERTICES:
-        return None
-    around[tail][around[tail].index(head)] = middle
-    around[head][around[head].index(tail)] = middle
-    around += [[tail, middle + 1, head]]  # the face lies on the left of tail to head
-    for node in range(middle + 1, middle + 1 + length):
-        around.append([node - 1, node + 1] if node < middle + length else [node - 1])
-    return numbered(around, list(range(len(around))), (tail, head, middle))
-
-
-def tail_place(expansion: Expansion, walk: list[Dart]) -> Dart:
-    """The piece of a face that gets a tail: one of an edge, if there is one."""
-    home = {node: vertex for vertex, nodes in enumerate(expansion.homes) for node in nodes}
-    for tail, head in walk:
-        if home.get(tail, -1) != home.get(head, -2):
-            return tail, head
-    return walk[0]
-
-
-def numbered(around: list[list[int]], order: list[int], divided: tuple[int, int, int] | None) -> Form:
-    """The form whose vertices are these nodes in this order."""
-    number = [0] * len(around)
-    for vertex, node in enumerate(order):
-        number[node] = vertex
-    lists = [[number[other] + 1 for other in around[node]] for node in order]
-    return Form(lists, number, divided)
+def smallest(pool: list[Found]) -> list[Shape]:
+    """The shapes that take the least room on the grid; whole ones only, if there are some."""
+    found = sorted(pool, key=lambda found: (found.price()[0], found.price()[2], found.price()[1]))
+    return [one.shape for one in found[:MOST_COMPACT] if len(one.shape.broken) == len(found[0].shape.broken)]

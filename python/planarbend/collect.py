@@ -48,7 +48,7 @@ class Table:
             self.refused[graph.rule] += 1
         elif graph.size is not None and graph.bends is not None:
             self.laid[graph.size[0], graph.size[1], graph.bends] += 1
-            if graph.drawn not in (None, "yes"):
+            if graph.drawn is not None and graph.drawn != "yes":
                 self.not_drawn[graph.drawn] += 1
 
 

@@ -12,7 +12,7 @@ from planarbend.drawn import Box, Crossing, Drawing, Point
 from planarbend.engine import Engine, default_engine
 from planarbend.expand import Expansion
 from planarbend.graph import Edge, Graph
-from planarbend.layouts import PlanarbendError
+from planarbend.programs import PlanarbendError
 from planarbend.planar_code import MOST_VERTICES, Lists
 from planarbend.planarize import Planarization, TooManyCrossings, planarize
 from planarbend.spread import Sheet
@@ -20,7 +20,9 @@ from planarbend.spread import Sheet
 MARGIN = 10.0  # pixels round the whole
 BETWEEN = 18.0  # pixels between components
 MOST_EMBEDDINGS = 4  # that are tried where a box would be no rectangle
+MOST_BROKEN = 4  # boxes that are no rectangles, above which no further embedding is tried
 BEND_WEIGHT = 2.5  # of bends an edge, where shapes are compared by area
+COMPACT_WEIGHT = 0.25  # the same where the least room is wanted
 
 
 class DrawError(Exception):
@@ -135,16 +137,17 @@ def part_of(graph: Graph, vertices: list[int], edges: list[int], options: Option
             continue  # an earlier embedding could be drawn
         for shape in shapes:
             sheet = settled(with_loops(shape, plain, len(pairs)), inner)
-            price = (len(shape.broken), price_of(sheet, len(pairs)))
+            price = (len(shape.broken), price_of(sheet, len(pairs), COMPACT_WEIGHT if options.compact else BEND_WEIGHT))
             if best is None or price < best[0]:
                 best = price, sheet
-        if best is not None and not best[0][0]:
+        if best is not None and not 0 < best[0][0] <= MOST_BROKEN:
             break
     assert best is not None, "a component has a shape"
     (broken, _), sheet = best
     if broken:
         names = ", ".join(inner.vertices[vertex].name for vertex in sheet.shape.broken)
-        raise DrawError(f"no drawing was found in which these boxes are rectangles: {names} (try another seed)")
+        raise DrawError(f"no drawing was found in which these boxes are rectangles: {names} (try another --seed, or --split"
+                        " with the nets that join most)")
     return in_pixels(sheet, vertices, edges)
 
 
@@ -164,8 +167,8 @@ def embedded(count: int, pairs: list[tuple[int, int]], options: Options, togethe
     try:
         return embedded_within(most, count, pairs, options, together, attempt)
     except TooManyCrossings as fault:
-        raise DrawError(f"a component has {count} vertices, {len(pairs)} edges and {fault.crossings} crossings; the limit is"
-                        f" {MOST_VERTICES} vertices and crossings") from None
+        raise DrawError(f"a component has {count} vertices, {len(pairs)} edges and {fault}; the limit is {MOST_VERTICES}"
+                        " vertices and crossings") from None
 
 
 def embedded_within(most: int, count: int, pairs: list[tuple[int, int]], options: Options, together: Sequence[int],
@@ -198,10 +201,10 @@ def settled(shape: Shape, graph: Graph) -> Sheet:
     return sheet
 
 
-def price_of(sheet: Sheet, edges: int) -> float:
+def price_of(sheet: Sheet, edges: int, weight: float) -> float:
     """What is to be least: the area, times more the more edges bend."""
     left, top, right, bottom = sheet.bounds()
-    return (right - left) * (bottom - top) * (1 + BEND_WEIGHT * sheet.shape.bends / edges)
+    return (right - left) * (bottom - top) * (1 + weight * sheet.shape.bends / edges)
 
 
 def with_loops(shape: Shape, plain: list[int], count: int) -> Shape:

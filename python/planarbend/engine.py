@@ -2,13 +2,12 @@
 from __future__ import annotations
 
 import json
-import subprocess
 from collections.abc import Sequence
 from dataclasses import dataclass
 from typing import Any, Protocol
 
-from planarbend.layouts import PlanarbendError, RunFailed, program
 from planarbend.planar_code import HEADER, Lists, record_of
+from planarbend.programs import PlanarbendError, RunFailed, program
 
 GridPoint = tuple[int, int]
 
@@ -65,6 +64,8 @@ class ProcessEngine:
         """See `Engine`."""
         if not graphs:
             return []
+        import subprocess  # which takes long to load, and the library does without
+
         given = HEADER + b"".join(map(record_of, graphs))
         ran = subprocess.run([self.program, "layout", "--json", "--outer", outer, "-"], input=given, capture_output=True)
         lines = [json.loads(line) for line in ran.stdout.splitlines()] if ran.returncode in (0, 3) else []
@@ -89,4 +90,6 @@ def default_engine() -> Engine:
     """
     from planarbend import library  # which uses this module
 
-    return library.LibraryEngine() if library.is_wanted() else ProcessEngine()
+    if library.is_wanted():
+        return library.LibraryEngine()
+    return ProcessEngine()

@@ -9,6 +9,7 @@ from __future__ import annotations
 
 from collections.abc import Collection, Mapping
 from dataclasses import dataclass, field
+from types import MappingProxyType
 
 from planarbend.planar_code import Lists
 from planarbend.planarize import Planarization
@@ -108,7 +109,8 @@ class Builder:
         return on
 
 
-def expand(planar: Planarization, cages: Collection[int], spines: Mapping[int, int]) -> Expansion:
+def expand(planar: Planarization, cages: Collection[int], spines: Mapping[int, int],
+           loose: Mapping[int, int] = MappingProxyType({})) -> Expansion:
     """Make all degrees at most 4.
 
     Parameters
@@ -120,6 +122,8 @@ def expand(planar: Planarization, cages: Collection[int], spines: Mapping[int, i
     spines : mapping from int to int
         Vertices that become spines, each with the place in its rotation at which its first end lies; they have at
         least 5 connections.
+    loose : mapping from int to int
+        Pieces that may bend free of charge, each with how many times: so many nodes of degree 2 lie on it.
 
     Returns
     -------
@@ -134,15 +138,15 @@ def expand(planar: Planarization, cages: Collection[int], spines: Mapping[int, i
             homes.append(builder.spine(vertex, spines[vertex]))
         else:
             homes.append([vertex])
-    chains = make_simple(builder, planar.chains)
+    chains = make_simple(builder, planar.chains, loose)
     around = [[builder.tail[dart ^ 1] for dart in darts] for darts in builder.rotation]
     return Expansion(around, homes, chains, set(cages), set(spines), list(range(count, len(planar.rotation))),
                      planar)
 
 
-def make_simple(builder: Builder, chains: list[list[int]]) -> list[list[int]]:
-    """Divide pieces of edges that are loops, or that join nodes which are joined already. Returns the nodes along each
-    edge."""
+def make_simple(builder: Builder, chains: list[list[int]], loose: Mapping[int, int]) -> list[list[int]]:
+    """Divide pieces of edges that are loose, or are loops, or join nodes which are joined already. Returns the nodes along
+    each edge."""
     of_edges = {dart & ~1 for chain in chains for dart in chain}
     joined = {frozenset(builder.tail[dart:dart + 2]) for dart in range(0, len(builder.tail), 2) if dart not in of_edges}
     found = []
@@ -151,7 +155,7 @@ def make_simple(builder: Builder, chains: list[list[int]]) -> list[list[int]]:
         for dart in chain:
             ends = frozenset((builder.tail[dart], builder.tail[dart ^ 1]))
             pieces = [dart]
-            for _ in range(2 if len(ends) == 1 else ends in joined):
+            for _ in range(max(loose.get(dart >> 1, 0), 2 if len(ends) == 1 else ends in joined)):
                 pieces.append(builder.divide(pieces[-1]))
             joined |= {frozenset((builder.tail[piece], builder.tail[piece ^ 1])) for piece in pieces}
             nodes += [builder.tail[piece ^ 1] for piece in pieces]

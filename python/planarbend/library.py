@@ -8,23 +8,24 @@ A `Library` holds memory that it keeps from call to call, so each thread wants o
 from __future__ import annotations
 
 import ctypes
-import ctypes.util
+import itertools
 import os
 from collections.abc import Iterable, Iterator, Sequence
-from pathlib import Path
-from typing import Any
+from typing import TYPE_CHECKING, Any
 
-from planarbend.engine import Answer, answer_of
-from planarbend.layouts import Layout, NoProgram, Record
+from planarbend.engine import Answer
 from planarbend.planar_code import Lists, record_of
+from planarbend.programs import ROOT, NoProgram, PlanarbendError
+
+if TYPE_CHECKING:
+    from planarbend.laid_out import Layout, Record
 
 MOST_VERTICES, MOST_EDGES, MOST_FACES, MOST_BENDS = 255, 510, 257, 1534
 OUTER = {"first": 0, "best": 1}
 DRAWING = {"none": 0, "quick": 1, "short": 2}
 OK, FIRST_RULE, LAST_RULE, NOT_A_RECORD, MEMORY = 0, 1, 8, 9, 10
 NAME = "libplanarbend.so.1"
-PACKAGE = Path(__file__).resolve().parent
-PLACES = [PACKAGE.parents[1] / "out" / NAME, PACKAGE.parents[2] / NAME]  # as it is built, and as it is installed
+PLACES = [os.path.join(ROOT, "out", NAME), os.path.join(os.path.dirname(ROOT), NAME)]  # as it is built, and as it is installed
 
 
 class Counts(ctypes.Structure):
@@ -61,8 +62,10 @@ def path() -> str | None:
     if named is not None:
         return named or None
     for place in PLACES:
-        if place.is_file():
-            return str(place)
+        if os.path.isfile(place):
+            return place
+    import ctypes.util  # which takes long to load
+
     return NAME if ctypes.util.find_library("planarbend") else None
 
 
@@ -124,11 +127,11 @@ class Library:
 
     def version(self) -> str:
         """The version of the library."""
-        return self._library.planarbend_version().decode()
+        return bytes(self._library.planarbend_version()).decode()
 
     def word(self, result: int) -> str:
         """The word of a result."""
-        return self._library.planarbend_word(result).decode()
+        return bytes(self._library.planarbend_word(result)).decode()
 
     def bends(self, records: Iterable[bytes], outer: str = "first") -> Iterator[int | None]:
         """The fewest bends of each record, and None for one that is refused. Nothing is drawn.
@@ -144,10 +147,12 @@ class Library:
         at = self._addresses[0]
         for record in records:
             result = layout(held, record, len(record), choice, 0, at, None)
-            yield counts.bends if result == OK else self._refused(result)
+            if result != OK:
+                self._look_at(result)
+            yield counts.bends if result == OK else None
 
-    def _refused(self, result: int) -> None:
-        """Nothing for a rule, and else an exception."""
+    def _look_at(self, result: int) -> None:
+        """Raises what is no rule that a graph breaks."""
         if result == NOT_A_RECORD:
             raise ValueError("the bytes are not one record of planar_code")
         if result == MEMORY:
@@ -174,7 +179,7 @@ class Library:
         if result == MEMORY:
             return {"status": "memory"}
         if result != OK:
-            self._refused(result)
+            self._look_at(result)
             return {"rule": self.word(result), "status": "refused"}
         counts, buffer = self._counts, self._buffer
         vertices, edges, faces = counts.vertices, counts.edges, counts.faces
@@ -191,6 +196,26 @@ class Library:
             "status": "ok",
             "turns": ["L" * left + "R" * right for left, right in zip(turns[::2], turns[1::2])],
         }
+
+    def answer(self, record: bytes, outer: str) -> Answer:
+        """The bends and the points of a record, as drawing wants them.
+
+        Raises
+        ------
+        PlanarbendError
+            The record is refused, or memory ran out.
+        """
+        result = self._layout(self._object, record, len(record), OUTER[outer], DRAWING["short"], *self._addresses)
+        if result != OK:
+            raise PlanarbendError(f"planarbend does not draw a graph: {self.word(result)}")
+        counts, buffer = self._counts, self._buffer
+        numbers = buffer.points[:2 * counts.vertices]
+        points = list(zip(numbers[::2], numbers[1::2]))
+        if not counts.corners:
+            return Answer(counts.bends, points, [[]] * counts.edges)
+        numbers, starts = buffer.corners[:2 * counts.corners], buffer.corner_starts[:counts.edges + 1]
+        corners = list(zip(numbers[::2], numbers[1::2]))
+        return Answer(counts.bends, points, [corners[start:end] for start, end in itertools.pairwise(starts)])
 
     def _points(self) -> dict[str, Any]:
         """The points of the record that was laid out last."""
@@ -215,7 +240,7 @@ class LibraryEngine:
 
     def lay(self, graphs: Sequence[Lists], outer: str) -> list[Answer]:
         """See `Engine`."""
-        return [answer_of(self.library.line(record_of(lists), outer)) for lists in graphs]
+        return [self.library.answer(record_of(lists), outer) for lists in graphs]
 
 
 class LibraryLayouts:
@@ -225,8 +250,11 @@ class LibraryLayouts:
     """
 
     def __init__(self, graphs: Iterable[Any], outer: str = "first", drawing: str = "short") -> None:
+        from planarbend.laid_out import Layout, Record  # which drawing does without
+
         self.library = Library()
         self.records: Iterator[Record] = map(Record.of, graphs)
+        self.layout_of = Layout.of
         self.outer, self.drawing = outer, drawing
         self.number = 0
 
@@ -241,7 +269,7 @@ class LibraryLayouts:
             raise
         self.number += 1
         line = self.library.line(record.bytes(), self.outer, self.drawing)
-        return Layout.of(self.number, record, line | {"file": 1, "graph": self.number})
+        return self.layout_of(self.number, record, line | {"file": 1, "graph": self.number})
 
     def close(self) -> None:
         """Ends the stream where it is."""

@@ -5,7 +5,7 @@ import itertools
 from collections.abc import Callable, Iterator
 from typing import TYPE_CHECKING
 
-from planarbend.graph import Kind
+from planarbend.nets import ends_of, pieces_of
 from planarbend.texts import width_of
 
 if TYPE_CHECKING:
@@ -29,24 +29,35 @@ def net_labels(drawing: Drawing) -> dict[int, Box]:
     dict from vertex to Box
         A box for each net with a label, but for those beside whose lines there is no room.
     """
-    nets = [number for number, vertex in enumerate(drawing.graph.vertices) if vertex.kind is Kind.NET and vertex.label]
-    taken = [*drawing.boxes, *drawing.label_boxes.values()]
-    lines: dict[int, list[Box]] = {net: [drawing.boxes[net]] for net in nets}
+    ends = ends_of(drawing)
+    nets = [number for number in ends if drawing.graph.vertices[number].label]
+    taken = [*(box for number, box in enumerate(drawing.boxes) if number not in ends), *drawing.label_boxes.values()]
+    lines: dict[int, list[Box]] = {}
+    for net in ends:
+        lines[net] = sorted(((*one, *other) for one, other in pieces_of(drawing.boxes[net], ends[net])), key=longest_first)
+        taken += lines[net]
     for edge, line in zip(drawing.graph.edges, drawing.lines, strict=True):
         pieces = [(min(x, u), min(y, v), max(x, u), max(y, v)) for (x, y), (u, v) in itertools.pairwise(line)]
         taken += pieces
         for end in {edge.tail, edge.head} & lines.keys():
-            lines[end] += sorted(pieces, key=lambda piece: piece[0] + piece[1] - piece[2] - piece[3])
+            lines[end] += sorted(pieces, key=longest_first)
     found: dict[int, Box] = {}
     for net in nets:
         width = width_of(drawing.graph.vertices[net].label, FONT)
         for place in places(lines[net], width):
             inside = place[0] >= 0 and place[1] >= 0 and place[2] <= drawing.size[0] and place[3] <= drawing.size[1]
-            if inside and not any(map(near(place), taken)):
-                found[net] = tuple(round(value, 3) for value in place)
+            others = (box for other, box in enumerate(drawing.boxes) if other in ends and other != net)
+            if inside and not any(map(near(place), itertools.chain(taken, others))):
+                left, top, right, bottom = (round(value, 3) for value in place)
+                found[net] = left, top, right, bottom
                 taken.append(place)
                 break
     return found
+
+
+def longest_first(piece: Box) -> float:
+    """Sorts straight pieces."""
+    return piece[0] + piece[1] - piece[2] - piece[3]
 
 
 def places(lines: list[Box], width: float) -> Iterator[Box]:

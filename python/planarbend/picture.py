@@ -1,17 +1,13 @@
 """A drawing as SVG, and by rsvg-convert as PNG or PDF."""
 from __future__ import annotations
 
-import itertools
 import math
 import os
-import shutil
-import subprocess
-import tempfile
-from collections import Counter
 
-from planarbend.drawn import Box, Drawing, Point
+from planarbend.drawn import Drawing
 from planarbend.graph import Arrow, Kind
 from planarbend.net_labels import net_labels
+from planarbend.nets import dots_of, ends_of, pieces_of
 from planarbend.texts import FAMILY, FONT, LINE_HEIGHT, lines_of, xml_text
 
 STROKE = 1.6  # pixels, of lines
@@ -29,7 +25,7 @@ class NoConverter(Exception):
 
 def svg(drawing: Drawing) -> str:
     """The SVG text of a drawing."""
-    width, height = map(math.ceil, drawing.size)
+    width, height = math.ceil(drawing.size[0]), math.ceil(drawing.size[1])
     head = [f'<svg xmlns="http://www.w3.org/2000/svg" width="{width}" height="{height}"'
             f' viewBox="0 0 {width} {height}">', '<rect width="100%" height="100%" fill="white"/>']
     if any(edge.arrow is not Arrow.NONE for edge in drawing.graph.edges):
@@ -74,34 +70,12 @@ def text_lines(lines: list[str], x: float, y: float, height: float) -> list[str]
 
 def net_elements(drawing: Drawing) -> list[str]:
     """The nets: lines that join their connections, with a dot where three meet."""
-    ends: dict[int, list[tuple[Point, bool]]] = {}  # each with whether it arrives upright
-    for edge, line in zip(drawing.graph.edges, drawing.lines, strict=True):
-        ends.setdefault(edge.tail, []).append((line[0], line[0][0] == line[1][0]))
-        ends.setdefault(edge.head, []).append((line[-1], line[-1][0] == line[-2][0]))
     found = [f'<g fill="{LINE}" stroke="{LINE}" stroke-width="{STROKE}" stroke-linecap="square">']
-    for number, vertex in enumerate(drawing.graph.vertices):
-        if vertex.kind is Kind.NET:
-            found += net_lines(drawing.boxes[number], ends.get(number, []))
+    for number, ends in ends_of(drawing).items():
+        pieces = pieces_of(drawing.boxes[number], ends)
+        found += [f'<path d="M{x:.1f} {y:.1f}L{u:.1f} {v:.1f}" fill="none"/>' for (x, y), (u, v) in pieces]
+        found += [f'<circle cx="{x:.1f}" cy="{y:.1f}" r="{DOT}" stroke="none"/>' for x, y in dots_of(pieces, ends)]
     return found + ["</g>"]
-
-
-def net_lines(box: Box, ends: list[tuple[Point, bool]]) -> list[str]:
-    """A net within its box: a line across, a line to each end above and below it, and dots where three lines meet."""
-    left, top, right, bottom = box
-    upright = [point for point, is_upright in ends if is_upright]
-    sideways = [point for point, is_upright in ends if not is_upright]
-    middle = sideways[0][1] if len({y for _, y in sideways}) == 1 else (top + bottom) / 2
-    pieces = {((x, min(y, middle)), (x, max(y, middle))) for x, y in upright if y != middle}
-    for side in {x for x, _ in sideways}:
-        at = [y for x, y in sideways if x == side] + [middle]
-        pieces |= {((side, one), (side, other)) for one, other in itertools.pairwise(sorted(set(at)))}
-    across = sorted({x for (x, _), _ in ends})
-    pieces |= {((one, middle), (other, middle)) for one, other in itertools.pairwise(across)}
-    meet: Counter[Point] = Counter(point for piece in pieces for point in piece)
-    meet.update(point for point, _ in ends)
-    found = [f'<path d="M{x:.1f} {y:.1f}L{u:.1f} {v:.1f}" fill="none"/>' for (x, y), (u, v) in sorted(pieces)]
-    return found + [f'<circle cx="{x:.1f}" cy="{y:.1f}" r="{DOT}" stroke="none"/>'
-                    for (x, y), count in sorted(meet.items()) if count > 2]
 
 
 def label_elements(drawing: Drawing) -> list[str]:
@@ -133,6 +107,10 @@ def write_picture(text: str, path: str, scale: float = 1.0) -> None:
     NoConverter
         If PNG or PDF is wanted and rsvg-convert is missing or fails.
     """
+    import shutil  # this, and the next two, take long to load
+    import subprocess
+    import tempfile
+
     kind = CONVERTED.get(os.path.splitext(path)[1])
     if kind and not shutil.which("rsvg-convert"):
         raise NoConverter(f"{path}: needs rsvg-convert (Debian: librsvg2-bin)")

@@ -14,7 +14,7 @@ from typing import Any
 
 from .core import Core, core_of
 from .reinsert import FIXED, Reinsertion
-from .rotation import Rotation
+from .rotation import NONE, Rotation
 
 STARTS = 8
 """Number of first embeddings that are improved, for each unit of effort."""
@@ -28,6 +28,8 @@ HOPELESS = 6
 """How many times the allowed crossings a first embedding may have: improving it divides them by three at most."""
 MOST_TESTS = 100
 """Number of planarity tests for one first embedding."""
+EASY = 25_000
+"""Number of darts to pass for an embedding without a planarity test: some of the time that loading networkx takes."""
 
 
 @dataclass(frozen=True, slots=True)
@@ -63,11 +65,19 @@ class Planarization:
 
 
 class TooManyCrossings(Exception):
-    """No planarization was found with as few crossings as are allowed; how many the best one has, or must have."""
+    """No planarization was found with as few crossings as are allowed.
 
-    def __init__(self, crossings: int) -> None:
-        super().__init__(f"{crossings} crossings")
-        self.crossings = crossings
+    Attributes
+    ----------
+    crossings : int
+        How many the best one has that was found, or any must have.
+    must : bool
+        Whether any planarization has so many.
+    """
+
+    def __init__(self, crossings: int, must: bool = False) -> None:
+        super().__init__(f"at least {crossings} crossings" if must else f"{crossings} or more crossings, as far as was tried")
+        self.crossings, self.must = crossings, must
 
 
 def planarize(vertex_count: int, edges: Sequence[tuple[int, int]], *, effort: int = 1, seed: int = 0,
@@ -105,19 +115,21 @@ def planarize(vertex_count: int, edges: Sequence[tuple[int, int]], *, effort: in
     """
     limit = sys.maxsize if most is None else most
     if needed_crossings(vertex_count, edges) > limit:
-        raise TooManyCrossings(needed_crossings(vertex_count, edges))
+        raise TooManyCrossings(needed_crossings(vertex_count, edges), must=True)
     ends = list(edges)
     weights = [1] * len(ends)
     count = vertex_count
     if together:
         count, ends, weights = _joined(vertex_count, ends, sorted(set(together)))
+    around = easily_embedded(count, ends) or _planar(count, ends)
+    if around is not None:
+        return _read(vertex_count, count, ends, around)[0]
     crossed: list[list[int]] = [[] for _ in ends]
     made = 0
-    if _planar(count, ends) is None:
-        for block in _blocks(count, ends):
-            if _planar(count, [ends[edge] for edge in block]) is None:
-                core = core_of(block, ends, weights, FIXED)
-                made = _unfold(core, _least(core, effort, seed, limit - made).rotation, crossed, made)
+    for block in _blocks(count, ends):
+        if _planar(count, [ends[edge] for edge in block]) is None:
+            core = core_of(block, ends, weights, FIXED)
+            made = _unfold(core, _least(core, effort, seed, limit - made).rotation, crossed, made)
     result = _embedded(vertex_count, count, ends, crossed)
     if result.crossings > limit:
         raise TooManyCrossings(result.crossings)
@@ -172,11 +184,59 @@ def _graph(vertex_count: int, ends: Iterable[tuple[int, int]]) -> Any:
     return graph
 
 
-def _planar(vertex_count: int, ends: Iterable[tuple[int, int]]) -> Any:
-    """A networkx embedding, or `None` if the graph is not planar."""
+def _planar(vertex_count: int, ends: Iterable[tuple[int, int]]) -> list[list[int]] | None:
+    """For each vertex its neighbours, clockwise, in an embedding by networkx; `None` if the graph is not planar."""
     import networkx
 
-    return networkx.check_planarity(_graph(vertex_count, ends))[1]
+    embedding = networkx.check_planarity(_graph(vertex_count, ends))[1]
+    if embedding is None:
+        return None
+    return [list(embedding.neighbors_cw_order(vertex)) if embedding.degree(vertex) else [] for vertex in range(vertex_count)]
+
+
+def easily_embedded(vertex_count: int, ends: Iterable[tuple[int, int]]) -> list[list[int]] | None:
+    """For each vertex its neighbours, clockwise, in an embedding that is found without a planarity test.
+
+    Vertices are put in one by one, each where it crosses least, in several orders. `None` if no order does without a
+    crossing.
+    """
+    pairs = sorted({(min(pair), max(pair)) for pair in ends if pair[0] != pair[1]})
+    if len(pairs) > max(1, 3 * vertex_count - 6):
+        return None
+    dice, work = random.Random(0), 0
+    while work <= EASY:
+        search = Reinsertion(Rotation(vertex_count, pairs), [1] * len(pairs), dice)
+        if _put_in(search, EASY - work):
+            rotation = search.rotation
+            return [[rotation.origin[dart ^ 1] for dart in rotation.around(vertex)][::-1] for vertex in range(vertex_count)]
+        work += max(search.work, len(pairs))
+    return None
+
+
+def _put_in(search: Reinsertion, most_work: int) -> bool:
+    """Puts all vertices in, that one first which has most neighbours there; whether no edge crosses another.
+
+    Ends with the first crossing, or after this much work.
+    """
+    rotation, chance = search.rotation, search.dice.random
+    placed = [0] * rotation.vertex_count  # neighbours that are in
+    waiting = dict.fromkeys(range(rotation.vertex_count))
+    while waiting:
+        vertex = max(waiting, key=lambda vertex: (placed[vertex], len(search.at[vertex]), chance()))
+        del waiting[vertex]
+        edges = []
+        for edge in search.at[vertex]:
+            other = sum(rotation.ends[edge]) - vertex
+            placed[other] += 1
+            if other not in waiting:
+                edges.append(edge)
+        if edges and rotation.leaving[sum(rotation.ends[edges[0]]) - vertex] == NONE:  # the second vertex of a part
+            rotation.insert(edges[0], NONE, (), NONE)
+        elif edges:
+            search.put_vertex(vertex, edges)
+        if search.cost or search.work > most_work:
+            return False
+    return True
 
 
 def _blocks(vertex_count: int, ends: Sequence[tuple[int, int]]) -> list[list[int]]:
@@ -224,8 +284,7 @@ class _Starts:
         for edge, (tail, head) in enumerate(core.ends):
             number[tail, head], number[head, tail] = (edge, 0), (edge, 1)
         count = len(core.vertices)
-        around = [[number[vertex, other] for other in embedding.neighbors_cw_order(vertex)][::-1]
-                  for vertex in range(count)]
+        around = [[number[vertex, other] for other in embedding[vertex]][::-1] for vertex in range(count)]
         search = Reinsertion(Rotation.of(count, core.ends, around), core.weights, self.dice)
         for edge in order:
             if search.rotation.start[edge] < 0:
@@ -234,7 +293,7 @@ class _Starts:
                 raise TooManyCrossings(search.cost)
         return search
 
-    def _planar_part(self, order: Sequence[int]) -> Any:
+    def _planar_part(self, order: Sequence[int]) -> list[list[int]]:
         """The embedding of a large planar subgraph: a tree, then further edges in order while it stays planar.
 
         Edges are tried many at once, and by halves where they are too many. After `MOST_TESTS` the rest is left out.
@@ -243,6 +302,7 @@ class _Starts:
         count = len(core.vertices)
         kept, rest = _tree(count, [core.ends[edge] for edge in order])
         embedding = self._test(kept)
+        assert embedding is not None, "a tree is planar"
         waiting = [rest]
         for _ in range(MOST_TESTS):
             if not waiting:
@@ -257,7 +317,7 @@ class _Starts:
                 waiting += (some[middle:], some[:middle])
         return embedding
 
-    def _test(self, pairs: list[tuple[int, int]]) -> Any:
+    def _test(self, pairs: list[tuple[int, int]]) -> list[list[int]] | None:
         """An embedding of edges of the core, or `None`."""
         self.work += TEST * len(pairs)
         return _planar(len(self.core.vertices), pairs)
@@ -352,16 +412,16 @@ def _embedded(vertex_count: int, count: int, ends: Sequence[tuple[int, int]], cr
         numbers = sorted({crossing for found in crossed for crossing in found})
         name = {crossing: count + place for place, crossing in enumerate(numbers)}
         lines = [[tail, *(name[crossing] for crossing in found), head] for (tail, head), found in zip(ends, crossed)]
-        embedding = _planar(count + len(numbers), (pair for line in lines for pair in zip(line, line[1:])))
-        assert embedding is not None, "crossings that do not make the graph planar"
-        result, touching = _read(vertex_count, count, lines, embedding)
+        around = _planar(count + len(numbers), (pair for line in lines for pair in zip(line, line[1:])))
+        assert around is not None, "crossings that do not make the graph planar"
+        result, touching = _read(vertex_count, count, lines, around)
         if not touching:
             return result
         undone = {numbers[place] for place in touching}
         crossed = [[crossing for crossing in found if crossing not in undone] for found in crossed]
 
 
-def _read(vertex_count: int, count: int, lines: Sequence[Sequence[int]], embedding: Any
+def _read(vertex_count: int, count: int, lines: Sequence[Sequence[int]], neighbours: Sequence[Sequence[int]]
           ) -> tuple[Planarization, list[int]]:
     """A planarization from an embedding without loops and parallel pieces; crossings in which two edges only touch.
 
@@ -389,9 +449,8 @@ def _read(vertex_count: int, count: int, lines: Sequence[Sequence[int]], embeddi
                 between.setdefault((head, tail), []).insert(0, dart + 1)
     rotation: list[list[int]] = []
     touching: list[int] = []
-    for vertex in [*range(vertex_count), *range(count, embedding.number_of_nodes())]:
-        around = [dart for other in (embedding.neighbors_cw_order(vertex) if embedding.degree(vertex) else ())
-                  for dart in between.get((vertex, other), ())] + loops.get(vertex, [])
+    for vertex in [*range(vertex_count), *range(count, len(neighbours))]:
+        around = [dart for other in neighbours[vertex] for dart in between.get((vertex, other), ())] + loops.get(vertex, [])
         rotation.append(around)
         if vertex >= count and edge_of[around[0] >> 1] != edge_of[around[2] >> 1]:
             touching.append(vertex - count)

@@ -227,6 +227,10 @@ class Reinsertion:
         edges = self.at[vertex]
         for edge in edges:
             self.take(edge)
+        self.put_vertex(vertex, edges)
+
+    def put_vertex(self, vertex: int, edges: Sequence[int]) -> None:
+        """Puts a vertex in with these of its edges, whose other ends have further edges."""
         totals: list[int] = [0] * len(self.rotation.corner)
         near: list[list[int]] = []
         for edge in edges:

@@ -115,7 +115,7 @@ def figures_of(text: str) -> Graph:
 def json_line(text: str) -> dict[str, Any]:
     """The object of a JSON line. Raises `NoLine` where it has not the keys of one, in order."""
     try:
-        line = json.loads(text)
+        line: dict[str, Any] = json.loads(text)
         status = line.get("status")
         if list(line) != KEYS.get(status) or not isinstance(line["file"], int):
             raise ValueError

@@ -91,7 +91,7 @@ class Sheet:
         self.corners: dict[int, list[tuple[int, int]]] = {}  # of loops
         self.within: tuple[list[tuple[int, int, float]], ...] = ([], [])  # from, to, distance
         self.at_box: tuple[dict[int, list[int]], ...] = ({}, {})  # for each box the pieces' coordinates at its sides
-        self.dots = self._dots()
+        self.flat = self._flat()
         self.sizes = [size_of(vertex.label, vertex.kind) for vertex in graph.vertices]
         for number in range(len(graph.vertices)):
             self._add_box(number)
@@ -106,20 +106,34 @@ class Sheet:
             if edge.label.strip():
                 self._add_label(number, edge.label)
 
-    def _dots(self) -> list[bool]:
-        """Whether each vertex is a net at one point."""
-        loops = {edge.tail for edge, line in zip(self.graph.edges, self.shape.lines) if not line}
-        return [vertex.kind is Kind.NET and len(self.shape.expansion.homes[number]) == 1 and number not in loops
-                for number, vertex in enumerate(self.graph.vertices)]
+    def _flat(self) -> list[list[int | None]]:
+        """For each vertex and axis where on the grid it lies if it has no extent along that axis: that of a net at one
+        point, or of a net whose lines across the axis all lie on one line."""
+        ends: list[tuple[set[int], set[int]]] = [(set(), set()) for _ in self.graph.vertices]
+        has_loop = set()
+        for edge, line in zip(self.graph.edges, self.shape.lines):
+            if not line:
+                has_loop.add(edge.tail)
+                continue
+            for end, one, other in ((edge.tail, line[0], line[1]), (edge.head, line[-1], line[-2])):
+                axis = 0 if one[0] == other[0] else 1
+                ends[end][axis].add(one[axis])
+        found: list[list[int | None]] = []
+        for number, vertex in enumerate(self.graph.vertices):
+            left, top, right, bottom = self.shape.boxes[number]
+            is_net = vertex.kind is Kind.NET and number not in has_loop
+            found.append([min(ends[number][axis], default=(low + high) // 2) if is_net and len(ends[number][axis]) < 2 else None
+                          for axis, low, high in ((0, left, right), (1, top, bottom))])
+        return found
 
     def _add_box(self, number: int) -> None:
         left, top, right, bottom = (UNIT * side for side in self.shape.boxes[number])
-        is_dot = self.dots[number]
         low, high = [], []
         for axis, first, last in ((0, left, right), (1, top, bottom)):
-            low.append(self.axes[axis].add(first, -1.0 if not is_dot else 0.0))
-            high.append(low[-1] if is_dot else self.axes[axis].add(last, 1.0))
-            if not is_dot:
+            place = self.flat[number][axis]
+            low.append(self.axes[axis].add(first if place is None else UNIT * place, -1.0 if place is None else 0.0))
+            high.append(low[-1] if place is not None else self.axes[axis].add(last, 1.0))
+            if place is None:
                 self.within[axis].append((low[-1], high[-1], self.sizes[number][axis]))
         item = Item(BOX, low, high, [(left, right), (top, bottom)], (True, True), host=(number,))
         self.boxes.append(item)
@@ -166,7 +180,7 @@ class Sheet:
         host = self.graph.edges[number].tail
         box = self.boxes[host]
         along, is_low = min(((along, is_low) for along in (0, 1) for is_low in (True, False)),
-                            key=lambda side: (len(self.sides.get((host, *side), [])), side))
+                            key=lambda side: (len(self.sides.get((host, side[0], side[1]), [])), side))
         across = 1 - along
         count = len(self.loops.setdefault((host, along, is_low), []))
         self.loops[host, along, is_low].append(number)
@@ -309,9 +323,16 @@ class Sheet:
                 hosts.setdefault(line, []).append(number)
         bent = {side for pieces in self.pieces for piece in pieces if piece.owns[1 - axis]
                 for side in (piece.low[axis], piece.high[axis])}
+        at_nets = {line for number, lines in self.at_box[axis].items() for line in lines
+                   if len(lines) == 2 and self.graph.vertices[number].kind is Kind.NET}
         for _ in range(3):
+            for number, box in enumerate(self.boxes):
+                lines = self.at_box[axis].get(number, [])
+                if self.graph.vertices[number].kind is Kind.NET and len(lines) == 2 and box.low[axis] != box.high[axis]:
+                    solver.move_to(lines[0], solver.value[lines[1]])
+                    solver.move_to(lines[1], solver.value[lines[0]])
             for line, numbers in hosts.items():
-                if line not in bent:
+                if line not in bent and line not in at_nets:
                     wanted = [(solver.value[self.boxes[number].low[axis]] + solver.value[self.boxes[number].high[axis]]) / 2
                               for number in numbers]
                     solver.move_to(line, sum(wanted) / len(wanted))

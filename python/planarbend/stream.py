@@ -3,15 +3,16 @@ from __future__ import annotations
 
 import argparse
 import functools
+import io
 import os
 import re
 import subprocess
 import sys
 import threading
-from typing import BinaryIO
+from typing import IO
 
 from planarbend.planar_code import HEADER, MOST_NEIGHBOURS, MOST_RECORD, MOST_RECORDS
-from planarbend.layouts import NoProgram, program
+from planarbend.programs import NoProgram, program
 
 TEXT = """\
   geng -c -D4 12 | planarg -p | python3 examples/stream.py
@@ -53,7 +54,7 @@ def record_of_order(vertices: int) -> re.Pattern[bytes]:
 class Stream:
     """Standard input behind its header, cut into parts of whole records."""
 
-    def __init__(self, source: BinaryIO) -> None:
+    def __init__(self, source: io.BufferedReader) -> None:
         self.source = source
         self.held = b""
         self.is_over = False  # whether the source has ended
@@ -82,7 +83,7 @@ class Stream:
         records, self.held = self.held[:start], self.held[start:]
         return records, count
 
-    def feed(self, sink: BinaryIO, most: int) -> None:
+    def feed(self, sink: IO[bytes], most: int) -> None:
         """Writes the next part, of at most so many records."""
         while most > 0 and self.has_more():
             records, count = self.whole(most)
@@ -104,7 +105,7 @@ class Stream:
 class Report:
     """The one report: the lines of one part after another, counted on."""
 
-    def __init__(self, sink: BinaryIO, is_json: bool) -> None:
+    def __init__(self, sink: IO[bytes], is_json: bool) -> None:
         self.sink, self.is_json = sink, is_json
         self.graphs = 0  # of the parts that have ended
         self.ending = ""  # of the last part
@@ -112,7 +113,7 @@ class Report:
     def begin(self) -> None:
         self.sink.write(FIRST_LINE[self.is_json])
 
-    def add(self, lines: BinaryIO) -> None:
+    def add(self, lines: IO[bytes]) -> None:
         """Adds the lines of a part but for its first and its last."""
         number, base = NUMBER[self.is_json], self.graphs
         for line in lines:
@@ -138,6 +139,7 @@ def run_part(words: list[str], stream: Stream, report: Report, most: int) -> int
         adder = threading.Thread(target=lines_of, args=(report, child))
         adder.start()
         try:
+            assert child.stdin is not None
             with child.stdin as sink:
                 sink.write(HEADER)
                 stream.feed(sink, most)
@@ -151,6 +153,7 @@ def run_part(words: list[str], stream: Stream, report: Report, most: int) -> int
 
 def lines_of(report: Report, child: subprocess.Popen[bytes]) -> None:
     try:
+        assert child.stdout is not None
         report.add(child.stdout)
     except BrokenPipeError:
         report.ending = ""
@@ -160,6 +163,7 @@ def lines_of(report: Report, child: subprocess.Popen[bytes]) -> None:
 def run_all(words: list[str], report: Report, most: int) -> int:
     """All runs: the greatest status."""
     source = sys.stdin.buffer
+    assert isinstance(source, io.BufferedReader)
     beginning = source.read(len(HEADER))
     if beginning != HEADER:
         return run_whole(words, beginning, source)
@@ -173,9 +177,10 @@ def run_all(words: list[str], report: Report, most: int) -> int:
     return status
 
 
-def run_whole(words: list[str], beginning: bytes, source: BinaryIO) -> int:
+def run_whole(words: list[str], beginning: bytes, source: IO[bytes]) -> int:
     """One run over a stream that is no planar_code, which says so."""
     with subprocess.Popen(words, stdin=subprocess.PIPE) as child:
+        assert child.stdin is not None
         try:
             child.stdin.write(beginning)
             child.stdin.close()

@@ -10,7 +10,7 @@ from collections.abc import Iterable, Iterator
 from typing import Any
 
 from planarbend.planar_code import Lists, Plane, Unreadable, lists_of, records
-from planarbend.layouts import outer_of
+from planarbend.laid_out import outer_of
 from planarbend.reports import NoLine, json_line
 
 TEXT = """\

@@ -2,7 +2,6 @@
 from __future__ import annotations
 
 import unicodedata
-from xml.sax.saxutils import escape
 
 FONT = 11  # pixels, the letters of a name
 LINE_HEIGHT = 14  # pixels from line to line of a name
@@ -50,4 +49,5 @@ def lines_of(name: str, longest: float = LONGEST_LINE) -> list[str]:
 
 def xml_text(text: str) -> str:
     """A text as XML has it; what XML has no letter for becomes the sign for that."""
-    return escape("".join(letter if letter >= " " and letter not in "\ufffe\uffff" else "\ufffd" for letter in text))
+    known = "".join(letter if letter >= " " and letter not in "\ufffe\uffff" else "\ufffd" for letter in text)
+    return known.replace("&", "&amp;").replace("<", "&lt;").replace(">", "&gt;")

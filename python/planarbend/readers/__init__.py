@@ -2,20 +2,17 @@
 from __future__ import annotations
 
 from collections.abc import Callable
+from importlib import import_module
 
 from planarbend.graph import Graph
-from planarbend.readers.dot import read_dot
 from planarbend.readers.fault import Fault, ReadError
 from planarbend.readers.forms import form_of
-from planarbend.readers.kicad import read_board, read_netlist
-from planarbend.readers.lists import read_list
-from planarbend.readers.networks import read_gml, read_graph6, read_graphml, read_json
 
 __all__ = ["FORMS", "ReadError", "read"]
 
-READERS: dict[str, Callable[[bytes], Graph]] = {
-    "list": read_list, "dot": read_dot, "graphml": read_graphml, "gml": read_gml, "json": read_json,
-    "graph6": read_graph6, "netlist": read_netlist, "board": read_board}
+READERS = {  # the module of each format's reader, which is loaded when it is needed
+    "list": "lists", "dot": "dot", "graphml": "networks", "gml": "networks", "json": "networks", "graph6": "networks",
+    "netlist": "kicad", "board": "kicad"}
 FORMS: tuple[str, ...] = tuple(READERS)  # what --format takes
 
 
@@ -47,9 +44,16 @@ def read(data: bytes, name: str, form: str | None = None) -> Graph:
     if form is not None and form not in READERS:
         raise ValueError(f"no such format: {form} (there are {', '.join(FORMS)})")
     try:
-        graph = READERS[form or form_of(data, name)](data)
+        graph = reader_of(form or form_of(data, name))(data)
         if not graph.vertices:
             raise Fault("the file names no vertex")
     except Fault as fault:
         raise ReadError(name, fault.line, fault.reason) from None
     return graph
+
+
+def reader_of(form: str) -> Callable[[bytes], Graph]:
+    """The function that reads a format."""
+    module = import_module(f"planarbend.readers.{READERS[form]}")
+    reader: Callable[[bytes], Graph] = getattr(module, f"read_{form}")
+    return reader

@@ -2,7 +2,6 @@
 from __future__ import annotations
 
 import importlib
-import shutil
 from types import ModuleType
 
 MOST_SHOWN = 60  # letters of the input that a message repeats
@@ -51,6 +50,8 @@ def library(name: str, package: str) -> ModuleType:
 
 def program(name: str, package: str) -> str:
     """The path of a program; raises `Fault` with the name of Debian's package if it is missing."""
+    import shutil  # which takes long to load
+
     path = shutil.which(name)
     if path is None:
         raise Fault(f"the program {name} is needed to read this format (Debian: apt install {package})")

@@ -11,7 +11,7 @@ ENDINGS = {".dot": "dot", ".gv": "dot", ".graphml": "graphml", ".gml": "gml", ".
            ".net": "netlist", ".kicad_pcb": "board"}
 
 # What is not a graph, by its first bytes.
-FOREIGN = [
+FOREIGN: list[tuple[bytes, str] | tuple[bytes, str, bytes]] = [
     (b">>planar_code", "a planar_code file of embedded graphs; `planarbend layout` reads it"),
     (b">>edge_code", "an edge_code file; plantri writes it, and nothing here reads it"),
     (b">>sparse6<<", "a sparse6 file; nauty's `copyg -g` makes graph6 of it"),

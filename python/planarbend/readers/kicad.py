@@ -51,8 +51,8 @@ class Circuit:
             if len(parts) >= LEAST_PARTS:
                 net = ("net", name)
                 built.vertex(net, shown, Kind.NET, name)
-                for part in parts:
-                    built.edge(part, net)
+                for pin in parts:
+                    built.edge(pin, net)
             elif len(pins) > 1:
                 built.edge(parts[0], parts[-1], shown)
         return built.graph()
@@ -111,7 +111,7 @@ def read_board(data: bytes) -> Graph:
 
 def net_of(pad: Expression, names: dict[str, str]) -> str:
     """The name of a pad's net: its second word after the number, or, in newer boards, its only word."""
-    words = next((net.words[1:] for net in pad.all("net")), [])
+    words: list[str] = next((net.words[1:] for net in pad.all("net")), [])
     return words[1] if len(words) > 1 else names.get(words[0], words[0]) if words else ""
 
 

@@ -2,12 +2,11 @@
 from __future__ import annotations
 
 import json
+import operator
 import re
 import warnings
 from collections.abc import Hashable, Iterable
 from typing import Any
-from xml.etree import ElementTree
-from xml.parsers import expat
 
 from planarbend.graph import Arrow, Graph
 from planarbend.readers.building import Builder
@@ -38,6 +37,8 @@ def read_graphml(data: bytes) -> Graph:
     Fault
         The text is not XML or not GraphML, has a hyperedge, or an edge to a node that it does not have.
     """
+    from xml.etree import ElementTree
+
     networkx = library("networkx", PACKAGE)
     directions = scanned(data)
     root = ElementTree.fromstring(data)
@@ -59,7 +60,7 @@ def read_graphml(data: bytes) -> Graph:
     built = Builder(found.is_directed())
     for node, values in found.nodes(data=True):
         built.vertex(node, label_of(values))
-    for tail, head, key, values in sorted(found.edges(keys=True, data=True), key=lambda edge: edge[2]):
+    for tail, head, key, values in sorted(found.edges(keys=True, data=True), key=operator.itemgetter(2)):
         tail, head = directions[key][0], directions[key][1]  # of an undirected graph networkx may exchange the ends
         is_arrow = found.is_directed() if directions[key][2] is None else directions[key][2]
         built.edge(tail, head, label_of(values) or "", Arrow.FORWARD if is_arrow else Arrow.NONE)
@@ -69,6 +70,8 @@ def read_graphml(data: bytes) -> Graph:
 
 def scanned(data: bytes) -> list[tuple[str, str, bool | None]]:
     """The edges of a GraphML text in order: source, target, and `directed` where it is given."""
+    from xml.parsers import expat
+
     parser = expat.ParserCreate(namespace_separator="}")
     nodes: set[str] = set()
     edges: list[tuple[int, str, str, bool | None]] = []
@@ -193,7 +196,7 @@ def read_json(data: bytes) -> Graph:
             if end is None or not built.has(end):
                 raise Fault(f"not node-link JSON: the {key} of link {number} is no node: {shown(str(end))}")
         label = edge.get("label")
-        built.edge(*ends, "" if label is None else str(label), Arrow.FORWARD if built.directed else Arrow.NONE)
+        built.edge(ends[0], ends[1], "" if label is None else str(label), Arrow.FORWARD if built.directed else Arrow.NONE)
     return built.graph()
 
 
@@ -209,4 +212,5 @@ def hashable(key: Any) -> Hashable:
     """A node's id as networkx has it: a list becomes a tuple."""
     if isinstance(key, dict):
         raise Fault("not node-link JSON: an id is an object")
-    return tuple(map(hashable, key)) if isinstance(key, list) else key
+    found: Hashable = tuple(map(hashable, key)) if isinstance(key, list) else key
+    return found

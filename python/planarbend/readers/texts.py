@@ -11,7 +11,7 @@ FIELD_END = " | "  # between the fields of a record, or the cells of a row
 
 def plain(label: str, names: dict[str, str]) -> str:
     """A label with its escapes resolved: line ends, and the names that `\\N`, `\\G`, `\\T`, `\\H` and `\\E` stand for."""
-    return html.unescape(re.sub(r"\\(.)", lambda match: escape(match[1], names), label, flags=re.S)).strip("\n")
+    return html.unescape(re.sub(r"\\(.)", lambda match: escape(str(match[1]), names), label, flags=re.S)).strip("\n")
 
 
 def escape(letter: str, names: dict[str, str]) -> str:

@@ -15,8 +15,6 @@ from __future__ import annotations
 import collections
 import dataclasses
 import itertools
-import os
-import shutil
 import subprocess
 import tempfile
 import threading
@@ -24,34 +22,14 @@ from collections.abc import Hashable, Iterable, Iterator, Mapping
 from typing import TYPE_CHECKING, Any
 
 from planarbend.planar_code import HEADER, MOST_NEIGHBOURS, MOST_RECORDS, MOST_VERTICES, Lists, Plane, lists_of, record_of
+from planarbend.programs import NoProgram, PlanarbendError, RunFailed, program
 from planarbend.reports import NoLine, json_line
 
 if TYPE_CHECKING:
     from planarbend.library import LibraryLayouts
 
-ROOT = os.path.dirname(os.path.dirname(os.path.dirname(os.path.abspath(__file__))))
-BUILT = os.path.join(ROOT, "crates/planarbend/out/planarbend")
-SCRIPT = os.path.join(ROOT, "planarbend")
-INSTALLED = os.path.join(os.path.dirname(os.path.dirname(ROOT)), "bin/planarbend")  # where --install put it with this package
-
 Vertex = Hashable
 Point = tuple[int, int]
-
-
-class PlanarbendError(Exception):
-    """What planarbend says in place of a layout."""
-
-
-class NoProgram(PlanarbendError):
-    """There is no program to run."""
-
-
-class RunFailed(PlanarbendError):
-    """The run ended before its last graph: its status, and all that it wrote on standard error (`said`)."""
-
-    def __init__(self, status: int, said: str) -> None:
-        super().__init__(said or f"planarbend ended with status {status}")
-        self.status, self.said = status, said
 
 
 class GraphError(PlanarbendError):
@@ -180,16 +158,6 @@ def outer_of(plane: Plane, line: dict[str, Any]) -> int:
     return found[0]
 
 
-def program() -> str:
-    """The program to run: PLANARBEND, or the one that is built here, or ./planarbend, or the one installed with this package,
-    or the one on the path. Raises `NoProgram` where there is none."""
-    named = os.environ.get("PLANARBEND")
-    for path in [named] if named else [BUILT, SCRIPT, INSTALLED, shutil.which("planarbend")]:
-        if path and os.path.isfile(path) and os.access(path, os.X_OK):
-            return os.path.abspath(path)
-    raise NoProgram(f"no such program: {named or SCRIPT}")
-
-
 class Run:
     """One run of `layout --json -`: records go in by a thread of their own, lines come out."""
 
@@ -202,11 +170,14 @@ class Run:
             self.child = subprocess.Popen(words, stdin=subprocess.PIPE, stdout=subprocess.PIPE, stderr=self.said)
         except OSError as error:
             raise NoProgram(f"{words[0]}: {error.strerror}") from None
+        assert self.child.stdout is not None
+        self.output = self.child.stdout
         self.feeder = threading.Thread(target=self._feed, args=(records, most), daemon=True)
         self.feeder.start()
 
     def _feed(self, records: Iterator[Record], most: int) -> None:
         try:
+            assert self.child.stdin is not None
             with self.child.stdin as sink:
                 sink.write(HEADER)
                 sink.flush()
@@ -224,7 +195,7 @@ class Run:
     def lines(self) -> Iterator[tuple[Record, dict[str, Any]]]:
         """Each record with its line, in order. Raises what went wrong after the last of them."""
         ended = False
-        for text in self.child.stdout:
+        for text in self.output:
             try:
                 line = json_line(text.decode())
             except (NoLine, UnicodeDecodeError):
@@ -237,7 +208,7 @@ class Run:
 
     def end(self, is_whole: bool) -> None:
         """Waits for the end of the run. Raises what the caller's graphs raised, or `RunFailed`."""
-        self.child.stdout.close()
+        self.output.close()
         status = self.child.wait()
         self.feeder.join()
         self.said.seek(0)
@@ -251,7 +222,7 @@ class Run:
     def stop(self) -> None:
         """Ends the run before its end."""
         self.child.kill()
-        self.child.stdout.close()
+        self.output.close()
         self.child.wait()
         self.said.close()
 

@@ -1,0 +1,46 @@
+"""The program planarbend: where it is, and what goes wrong with a run."""
+from __future__ import annotations
+
+import os
+
+ROOT = os.path.dirname(os.path.dirname(os.path.dirname(os.path.abspath(__file__))))
+BUILT = os.path.join(ROOT, "crates/planarbend/out/planarbend")
+SCRIPT = os.path.join(ROOT, "planarbend")
+INSTALLED = os.path.join(os.path.dirname(os.path.dirname(ROOT)), "bin/planarbend")  # where --install put it with this package
+
+
+class PlanarbendError(Exception):
+    """What planarbend says in place of a layout."""
+
+
+class NoProgram(PlanarbendError):
+    """There is no program to run."""
+
+
+class RunFailed(PlanarbendError):
+    """The run ended before its last graph: its status, and all that it wrote on standard error (`said`)."""
+
+    def __init__(self, status: int, said: str) -> None:
+        super().__init__(said or f"planarbend ended with status {status}")
+        self.status, self.said = status, said
+
+
+def program() -> str:
+    """The program to run: PLANARBEND, or the one that is built here, or ./planarbend, or the one installed with this package,
+    or the one on the path. Raises `NoProgram` where there is none."""
+    named = os.environ.get("PLANARBEND")
+    for path in [named] if named else [BUILT, SCRIPT, INSTALLED]:
+        if path and is_program(path):
+            return os.path.abspath(path)
+    if not named:
+        import shutil  # which takes long to load
+
+        found = shutil.which("planarbend")
+        if found and is_program(found):
+            return os.path.abspath(found)
+    raise NoProgram(f"no such program: {named or SCRIPT}")
+
+
+def is_program(path: str) -> bool:
+    """Whether a file can be run."""
+    return os.path.isfile(path) and os.access(path, os.X_OK)

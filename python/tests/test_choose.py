@@ -1,0 +1,230 @@
+"""Boxes become rectangles: the corners of cages, edges that bend in place of a box, and nodes that are left out for room."""
+from __future__ import annotations
+
+import json
+import random
+import subprocess
+import sys
+import unittest
+from collections.abc import Sequence
+
+import support
+from drawing_checker import check
+from planarbend import library
+from planarbend.choose import Found, Search
+from planarbend.draw import Options, draw
+from planarbend.engine import ProcessEngine, default_engine
+from planarbend.expand import Expansion, expand
+from planarbend.graph import Edge, Graph, Kind, Vertex
+from planarbend.mend import corners_of, ways_round_cage
+from planarbend.nets import dots_of, pieces_of
+from planarbend.numbering import contracted, numbered
+from planarbend.planarize import easily_embedded, planarize
+
+# From (0, 0) to the right and round, y downwards: a square of side 4 from which the quarter at the lower left is cut away.
+STEP = [[(0, 0), (4, 0)], [(4, 0), (4, 4)], [(4, 4), (2, 4)], [(2, 4), (2, 2), (0, 2)], [(0, 2), (0, 0)]]
+SQUARE = [[(0, 0), (2, 0)], [(2, 0), (4, 0), (4, 4)], [(4, 4), (0, 4)], [(0, 4), (0, 0)]]
+
+
+def hubs(seed: int) -> tuple[int, list[tuple[int, int]]]:
+    """A random connected graph in which four vertices have most of the edges: the number of its vertices, and its edges."""
+    dice = random.Random(seed)
+    count = dice.randrange(8, 22)
+    edges = [(dice.randrange(min(vertex, 4)), vertex) for vertex in range(1, count)]
+    for _ in range(dice.randrange(count // 2, 2 * count)):
+        tail, head = dice.sample(range(count), 2)
+        edges.append((tail, head))
+    return count, edges
+
+
+class Corners(unittest.TestCase):
+    def test_corners(self) -> None:
+        self.assertEqual(corners_of(SQUARE), [(0, 1), (3, 1), (4, 1), (6, 1)])
+        self.assertEqual(corners_of(STEP), [(0, 1), (2, 1), (4, 1), (6, 1), (7, -1), (8, 1)])
+
+    def test_ways(self) -> None:
+        """A step lies between two nodes: the edge at either of them can bend in its place, or all edges can."""
+        one, after, before, every = ways_round_cage(STEP)
+        self.assertIn(one, ([3], [4]))
+        self.assertEqual(sorted([after, before]), [[3], [4]])
+        self.assertEqual(every, [0, 1, 2, 3, 4])
+
+    def test_turned_inside_out(self) -> None:
+        """No edge helps where the inside of a cage lies outside."""
+        turned = [section[::-1] for section in reversed(SQUARE)]
+        self.assertEqual([turn for _, turn in corners_of(turned)], [-1] * 4)
+        self.assertEqual(list(ways_round_cage(turned)), [])
+
+
+@support.needs_networkx
+class Mended(unittest.TestCase):
+    def test_steps_are_mended(self) -> None:
+        """Wherever a box of the least shape has a step, edges that bend in its place make it a rectangle."""
+        engine, mended = default_engine(), 0
+        for seed in range(1, 24):
+            search = Search(planarize(*hubs(seed)), engine, 1, 0)
+            pool = search.shapes_of([search.first_plan(False)])
+            best = min(pool, key=Found.price)
+            if best.shape.broken and search.mended(best):
+                search.mend(pool)
+                found = min(pool, key=Found.price).shape
+                with self.subTest(seed=seed):
+                    self.assertEqual(found.broken, [])
+                    self.assertEqual(found.bends, sum(len(line) - 2 for line in found.lines))
+                    mended += 1
+        self.assertGreaterEqual(mended, 3)
+
+    def test_drawings_of_hubs_have_rectangles(self) -> None:
+        for seed in range(6):
+            count, edges = hubs(seed)
+            kind = (Kind.VERTEX, Kind.PART, Kind.NET)[seed % 3]
+            graph = Graph([Vertex(str(number), str(number), kind) for number in range(count)], [Edge(*edge) for edge in edges])
+            with self.subTest(seed=seed, kind=kind):
+                checked(graph, edges)
+
+
+def checked(graph: Graph, edges: Sequence[tuple[int, int]], options: Options = Options()) -> None:
+    """Finds a drawing right, with rectangles alone."""
+    found = check(json.loads(draw(graph, options).json()), edges, [vertex.name for vertex in graph.vertices])
+    assert not found.broken
+
+
+class Room(unittest.TestCase):
+    def test_vertices_of_degree_2_make_room(self) -> None:
+        """Two hubs with 100 vertices between them: 300 nodes with two cages, of which 45 are left out and put back."""
+        edges = [(hub, 2 + leaf) for leaf in range(100) for hub in (0, 1)]
+        graph = Graph([Vertex(str(number), str(number)) for number in range(102)], [Edge(*edge) for edge in edges])
+        around, runs = contracted(expand(planarize(102, edges), (0, 1), {}))
+        self.assertEqual((len(around), len(runs)), (255, 2 * 45))
+        for node, others in around.items():
+            self.assertEqual(len(set(others)), len(others))
+            self.assertTrue(all(node in around[other] for other in others))
+        for options in (Options(), Options(outer=(0, 1)), Options(outer=(0, 5, 1))):
+            with self.subTest(outer=options.outer):
+                checked(graph, edges, options)
+
+    def test_chains_of_vertices(self) -> None:
+        """Two hubs with 40 chains of six vertices between them."""
+        edges = []
+        for chain in range(40):
+            inner = list(range(2 + 6 * chain, 8 + 6 * chain))
+            edges += list(zip([0, *inner], [*inner, 1]))
+        graph = Graph([Vertex(str(number), str(number)) for number in range(242)], [Edge(*edge) for edge in edges])
+        checked(graph, edges)
+
+
+@unittest.skipUnless(library.path(), "the library is missing (planarbend --build makes it)")
+class Engines(unittest.TestCase):
+    def test_library_and_program_answer_alike(self) -> None:
+        graphs = [numbered(around, list(around), runs).lists for around, runs in map(contracted, expansions())]
+        for outer in ("first", "best"):
+            self.assertEqual(library.LibraryEngine().lay(graphs, outer), ProcessEngine().lay(graphs, outer))
+
+
+def expansions() -> list[Expansion]:
+    """Expansions of random graphs in which four vertices have most of the edges."""
+    found = []
+    for seed in range(8):
+        search = Search(planarize(*hubs(seed), effort=0), default_engine(), 0, 0)
+        expansion = search.expanded(search.first_plan(False))
+        assert expansion is not None
+        found.append(expansion)
+    return found
+
+
+class Easy(unittest.TestCase):
+    def test_planar_graphs_without_a_test(self) -> None:
+        """Whatever is found is an embedding of the graph: each edge at both ends, and Euler's formula holds."""
+        for seed in range(60):
+            dice = random.Random(seed)
+            count = dice.randrange(1, 14)
+            edges = [(dice.randrange(count), dice.randrange(count)) for _ in range(dice.randrange(2 * count))]
+            around = easily_embedded(count, edges)
+            if around is None:
+                continue
+            pairs = {frozenset(edge) for edge in edges if edge[0] != edge[1]}
+            self.assertEqual({frozenset((tail, head)) for tail, heads in enumerate(around) for head in heads}, pairs)
+            self.assertEqual(sum(map(len, around)), 2 * len(pairs))
+            self.assertEqual(count - len(pairs) + faces(around), 1 + parts(around))
+
+    def test_what_is_not_planar(self) -> None:
+        for edges in ([(one, other) for one in range(5) for other in range(one)],
+                      [(one, other) for one in range(3) for other in range(3, 6)]):
+            self.assertIsNone(easily_embedded(6, edges))
+
+    def test_drawing_without_networkx(self) -> None:
+        """A tree, a ring and an octahedron are drawn where networkx cannot be loaded, and quickly loaded modules suffice."""
+        program = ("import sys; sys.modules['networkx'] = None\n"
+                   "from planarbend.draw import draw\nfrom planarbend.graph import Edge, Graph, Vertex\n"
+                   "import planarbend.command\n"
+                   "for edges in ({edges!r}):\n"
+                   "    count = 1 + max(map(max, edges))\n"
+                   "    graph = Graph([Vertex(str(n), str(n)) for n in range(count)], [Edge(*edge) for edge in edges])\n"
+                   "    assert not draw(graph).crossings\n"
+                   "assert 'xml' not in sys.modules and 'planarbend.laid_out' not in sys.modules\n")
+        octahedron = [(one, other) for one in range(6) for other in range(one) if one + other != 5]
+        edges = [[(number // 2, number + 1) for number in range(20)], [(number, (number + 1) % 9) for number in range(9)],
+                 octahedron]
+        ran = subprocess.run([sys.executable, "-c", program.format(edges=edges)], cwd=support.PACKAGE, capture_output=True,
+                             text=True, check=False)
+        self.assertEqual(ran.returncode, 0, ran.stderr)
+
+
+def faces(around: list[list[int]]) -> int:
+    """The number of faces of an embedding, with one for each vertex that stands alone."""
+    after = {}
+    for vertex, others in enumerate(around):
+        for one, other in zip(others, others[1:] + others[:1]):
+            after[one, vertex] = vertex, other
+    count, left = sum(not others for others in around), set(after)
+    while left:
+        count += 1
+        dart = first = left.pop()
+        while after[dart] != first:
+            dart = after[dart]
+            left.discard(dart)
+    return count - (parts(around) - 1)
+
+
+def parts(around: list[list[int]]) -> int:
+    """The number of connected parts."""
+    left, count = set(range(len(around))), 0
+    while left:
+        count += 1
+        waiting = [left.pop()]
+        while waiting:
+            for other in around[waiting.pop()]:
+                if other in left:
+                    left.discard(other)
+                    waiting.append(other)
+    return count
+
+
+class Nets(unittest.TestCase):
+    def test_pieces_join_all_ends_within_the_box(self) -> None:
+        for seed in range(200):
+            dice = random.Random(seed)
+            left, top = 0.0, 0.0
+            right, bottom = dice.choice((0.0, 6.0, 40.0, 90.0)), dice.choice((0.0, 6.0, 40.0, 90.0))
+            ends = {((dice.uniform(left, right), dice.choice((top, bottom))), True) for _ in range(dice.randrange(4))}
+            ends |= {((dice.choice((left, right)), dice.uniform(top, bottom)), False) for _ in range(dice.randrange(4))}
+            pieces = pieces_of((left, top, right, bottom), sorted(ends))
+            points = {point for point, _ in ends}
+            with self.subTest(seed=seed):
+                for (x, y), (u, v) in pieces:
+                    self.assertTrue(x == u or y == v)
+                    self.assertTrue(left <= min(x, u) and max(x, u) <= right and top <= min(y, v) and max(y, v) <= bottom)
+                reached, waiting = set(), [min(points)] if points else []
+                while waiting:
+                    point = waiting.pop()
+                    reached.add(point)
+                    waiting += [end for piece in pieces if point in piece for end in piece if end not in reached]
+                self.assertLessEqual(points, reached)
+
+    def test_a_dot_where_three_meet(self) -> None:
+        ends = [((0.0, 5.0), False), ((20.0, 5.0), False), ((8.0, 0.0), True)]
+        self.assertEqual(dots_of(pieces_of((0.0, 0.0, 20.0, 10.0), ends), ends), [(8.0, 5.0)])
+
+
+if __name__ == "__main__":
+    unittest.main()
