@@ -1,5 +1,6 @@
 pub mod OuterFaces
 pub mod Meanings
+pub mod LeastCorners
 pub mod LeastPoints
 pub mod Straight
 pub mod Enclosing
