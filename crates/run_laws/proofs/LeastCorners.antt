@@ -1,12 +1,12 @@
 -- The least corner of a drawing lies on the outer face.
-use Rattle.std.proofs.Common.{◌≡◌, ◌≢◌, ℕ, zero, suc, ◌+◌, ◌-◌, ◌<◌, ◌≤◌, ◌⊎◌, ◌∙◌, List, [], ◌∷◌, ◌++◌, length, reverse, arith, subst, sym, ap, refl, inl, inr, true}
-use Rattle.std.proofs.lemmas.Bool.{cases_eq, cases_lt}
+use Rattle.std.proofs.Common.{◌≡◌, ℕ, zero, suc, ◌+◌, ◌-◌, ◌<◌, ◌≤◌, ◌∙◌, List, [], ◌∷◌, ◌++◌, length, reverse, arith, subst, sym, ap, refl, inl, inr}
+use Rattle.std.proofs.lemmas.Bool.{cases_lt}
 use Rattle.std.proofs.lemmas.List.{length-reverse, reverse-reverse}
 use Rattle.faces.specs.Planes.{PlaneModel, IsPlane, darts, tail, head, reverse_dart, face_at}
 use Rattle.faces.proofs.Ends.{plane_ends}
 use Rattle.ortho_rep.specs.declared.points.Point.{Point}
 use Rattle.ortho_rep.specs.Points.{PointsModel, vertex_point, corners_at}
-use Rattle.ortho_rep.specs.Edges.{is_lesser, edge_number}
+use Rattle.ortho_rep.specs.Edges.{edge_number}
 use Rattle.drawing_check.specs.Paths.{path_along, paths, dart_path, point_of}
 use Rattle.drawing_check.specs.Draws.{IsAxis, IsOnAxes, AreOnAxes}
 use Rattle.drawing_check.specs.Regions.{PassesNorth, PassesEast, IsRegionMap}
@@ -31,7 +31,7 @@ axes_back path on k inside =
     (subst (λ (q : Point). IsAxis (point_of path (m + 1)) q) (sym two)
     (other_way (point_of path m) (point_of path (m + 1)) (on m (omega (arith, within)))))
 
-path_long : (q : Point) (qs : List Point) (e : Point) → 1 < length (q ∷ (qs ++ e ∷ []))
+pub path_long : (q : Point) (qs : List Point) (e : Point) → 1 < length (q ∷ (qs ++ e ∷ []))
 path_long q [] e = omega arith
 path_long q (c ∷ cs) e = omega arith
 

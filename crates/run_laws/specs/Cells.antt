@@ -1,5 +1,6 @@
--- The least corner of a drawing, and which cells of the plane are joined. A cell is named by its upper right corner.
-use Rattle.std.specs.Prelude.{◌≡◌, ℕ, ◌+◌, ◌<◌, ◌≤◌, ◌⊎◌, List, length, Bool}
+-- The least corner of a drawing, and which cells of the plane are joined. A cell is a unit square, named by its upper right
+-- corner.
+use Rattle.std.specs.Prelude.{◌≡◌, ℕ, ◌+◌, ◌<◌, ◌≤◌, ◌⊎◌, length, Bool}
 use Rattle.faces.specs.Planes.{PlaneModel, darts}
 use Rattle.ortho_rep.specs.declared.points.Point.{Point}
 use Rattle.ortho_rep.specs.Points.{PointsModel}
@@ -10,7 +11,7 @@ use Rattle.drawing_check.specs.Regions.{PassesNorth, PassesEast}
 abbrev pub Meets : PlaneModel → PointsModel → ℕ → Point → Type 0
 Meets p points d q = (k : ℕ) × (k < length (dart_path p points d)) × (point_of (dart_path p points d) k ≡ q)
 
--- q lies west of o, or both have one x, and q is not north of o
+-- q lies west of o, or has the same x and lies no further north
 abbrev pub Precedes : Point → Point → Type 0
 Precedes q o = (q.x < o.x) ⊎ ((q.x ≡ o.x) × (q.y ≤ o.y))
 
@@ -19,12 +20,11 @@ pub record IsLeastCorner (p : PlaneModel) (points : PointsModel) (q : Point) : T
   pub some : (d : ℕ) × (d < darts p) × Meets p points d q
   pub least : (d : ℕ) (o : Point) → d < darts p → Meets p points d o → Precedes q o
 
--- a set of cells that holds with each cell the neighbours from which no edge divides it
+-- a set of cells that holds both or neither of any two neighbours between which no edge passes
 pub record IsUndivided (p : PlaneModel) (points : PointsModel) (s : ℕ → ℕ → Bool) : Type 0 where
   pub beside : (x y : ℕ) → ((d : ℕ) → ¬ PassesNorth p points d x y) → s x y ≡ s (x + 1) y
   pub above : (x y : ℕ) → ((d : ℕ) → ¬ PassesEast p points d x y) → s x y ≡ s x (y + 1)
 
--- cells (i, j) and (k, l) are joined: steps between such neighbours lead from one to the other, so each undivided set holds both or
--- neither
+-- steps between such neighbours lead from cell (i, j) to cell (k, l): each set of this kind holds both or neither
 abbrev pub AreJoined : PlaneModel → PointsModel → ℕ → ℕ → ℕ → ℕ → Type 0
 AreJoined p points i j k l = (s : ℕ → ℕ → Bool) → IsUndivided p points s → s i j ≡ s k l
