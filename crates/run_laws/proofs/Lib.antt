@@ -14,3 +14,10 @@ pub mod Booking
 pub mod Wording
 pub mod WholeReports
 pub mod WholeRuns
+pub mod LeastCorners
+pub mod Sectors
+pub mod Places
+pub mod CellSides
+pub mod Along
+pub mod Joining
+pub mod OneRegion

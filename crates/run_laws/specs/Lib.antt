@@ -2,3 +2,4 @@ pub mod Laid
 pub mod Outside
 pub mod Supplies
 pub mod Reports
+pub mod Cells

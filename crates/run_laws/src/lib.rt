@@ -1,5 +1,6 @@
 //! Theorems about answers, reports and whole runs, each as the contract of an empty function: the meaning of a laid
-//! answer in plain terms, the uniqueness of faces, coordinates and reports, and upper bounds on sizes.
+//! answer in plain terms, the uniqueness of faces, coordinates and reports, the regions of drawings, and upper bounds on
+//! sizes.
 #![tactic(auto)]
 
 mod bends;
@@ -9,6 +10,7 @@ mod limits;
 mod outer;
 mod outside;
 mod parts;
+mod regions;
 mod runs;
 mod same_reports;
 mod supplies;
@@ -20,6 +22,7 @@ pub use limits::{network_limits, plane_limits, record_limits};
 pub use outer::{one_best, one_greatest};
 pub use outside::outer_face_looks_out;
 pub use parts::{edges_meet_at_ends, edges_share_no_part};
+pub use regions::{least_corner_is_outer, regions_are_connected};
 pub use runs::{same_whole_runs, written_is_report};
 pub use same_reports::{one_book_text, one_report};
 pub use supplies::units_supplied;
