@@ -1,4 +1,4 @@
-//! A stand-in for Rattle's vectors, maps and allocation errors in plain Rust, for `bench/plain`.
+//! A stand-in for Rattle's vectors, boxes, maps and allocation errors in plain Rust, for `bench/plain`.
 #![allow(warnings)]
 pub mod alloc {
     #[derive(Debug, Clone, Copy, PartialEq, Eq)]
@@ -171,6 +171,27 @@ impl<'a, T> IntoIterator for &'a mut Vec<T> {
     #[inline]
     fn into_iter(self) -> Self::IntoIter {
         self.0.iter_mut()
+    }
+}
+/// A value on the heap.
+#[derive(Debug)]
+pub struct Box<T>(std::boxed::Box<T>);
+impl<T> Box<T> {
+    pub fn new(_a: Global, t: T) -> Result<Box<T>, AllocError> {
+        Ok(Box(std::boxed::Box::new(t)))
+    }
+}
+impl<T> Deref for Box<T> {
+    type Target = T;
+    #[inline]
+    fn deref(&self) -> &T {
+        &self.0
+    }
+}
+impl<T> DerefMut for Box<T> {
+    #[inline]
+    fn deref_mut(&mut self) -> &mut T {
+        &mut self.0
     }
 }
 pub struct BTreeMap<K, V>(pub std::collections::BTreeMap<K, V>);
