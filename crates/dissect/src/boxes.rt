@@ -121,6 +121,32 @@ impl Boxes {
         Direction::from_quarters(self.table.direction[dart as usize])
     }
 
+    /// The vertices that the darts go to, in the order of the darts; others may stand behind them.
+    pub fn heads(&self) -> &[u32]
+        ensures value { result.now ≡ self.now.head }
+        ensures count { self.now.darts ≤ length result.now }
+        ensures boxes { AreBoxes self.now }
+    {
+        self.table.head.as_slice()
+    }
+
+    /// The darts along the same edges in the other direction, in the order of the darts; others may stand behind them.
+    pub fn reverse_darts(&self) -> &[u32]
+        ensures value { result.now ≡ self.now.reverse_dart }
+        ensures count { self.now.darts ≤ length result.now }
+    {
+        self.table.reverse_dart.as_slice()
+    }
+
+    /// The directions in which the darts run, in quarter turns to the left from east and in the order of the darts;
+    /// others may stand behind them.
+    pub fn directions(&self) -> &[u8]
+        ensures value { result.now ≡ self.now.direction }
+        ensures count { self.now.darts ≤ length result.now }
+    {
+        self.table.direction.as_slice()
+    }
+
     /// The previous dart of the same chain, or `None` for the first one.
     ///
     /// A chain is an edge of the plane, a side of the rectangle, its bridge or a cut.

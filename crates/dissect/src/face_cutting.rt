@@ -85,7 +85,8 @@ fn read_corner(table: &mut DartTable, ring: &mut [u32], height: usize, read: usi
     height
 }
 
-/// The place before which the walk along the corners has turned left most, the first of them.
+/// The place before which the walk along the corners has turned left most, the first of them. What is kept is how many
+/// quarter turns the walk is behind that place.
 fn peak(angle: &[u8], ring: &[u32]) -> usize
     requires inside { All (λ a. a < length angle.now) ring.now }
     requires small { All (λ a. slice_index angle.now a ≤ 4) ring.now }
@@ -93,24 +94,28 @@ fn peak(angle: &[u8], ring: &[u32]) -> usize
     ensures { IsPeak (map (λ a. slice_index angle.now a) ring.now) result }
 {
     let mut best: usize = 0;
-    let mut best_sum: u64 = 0;
-    let mut sum: u64 = 0;
+    let mut behind: u64 = 0;
     'corners: for (at, dart) in ring.iter().enumerate() {
-        sum += u64::from(angle[*dart as usize]);
-        let count = at as u64 + 1;
-        if 2 * count + best_sum > 2 * best as u64 + sum {
+        let reach = behind + u64::from(angle[*dart as usize]);
+        if reach < 2 {
             best = at + 1;
-            best_sum = sum;
+            behind = 0;
+        } else {
+            behind = reach - 2;
         }
     }
     best
 }
 
-/// Rotates a ring so that it starts at another place. (`rotate_left` clears 4 KB at each call.)
+/// Rotates a ring so that it starts at another place, most often at its end, as it does already. (`rotate_left` clears
+/// 4 KB at each call.)
 fn start_at(ring: &mut [u32], start: usize)
     requires { start ≤ length ring.old }
     ensures after { ring.new ≡ drop start ring.old ++ take start ring.old }
 {
+    if start == ring.len() {
+        return;
+    }
     ring[..start].reverse();
     ring[start..].reverse();
     ring.reverse();
