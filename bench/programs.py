@@ -230,7 +230,8 @@ def copy_parts(source, target, parts):
 
 def build(folder, name, source, needed, words):
     """Builds the program of a source file in a folder of its own, over copies of the crates that it
-    needs, and answers its path. `rt run` builds it, so it is run once, with these words."""
+    needs and of the libraries that are proved here, and answers its path. `rt run` builds it, so it is run once, with these
+    words."""
     uses = libraries()
     crates = closure(needed, uses)
     for crate in crates:
@@ -244,6 +245,7 @@ def build(folder, name, source, needed, words):
         for crate in crates:
             out.write(crate + ": " + " ".join(uses[crate]) + "\n")
         out.write(name + ": " + " ".join(needed) + "\n")
+    subprocess.run([os.path.join(ROOT, "checks", "libraries"), folder, ROOT], check=True, stdout=subprocess.DEVNULL)
     subprocess.run(["rt", "run", "--"] + words, cwd=program, check=True,
                    stdout=subprocess.DEVNULL)
     return os.path.join(program, "out", name)
