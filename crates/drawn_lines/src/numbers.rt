@@ -1,0 +1,46 @@
+//! Parts of a JSON value: numbers and lists.
+ghost use Rattle.std.specs.Prelude.{◌≡◌, ◌≢◌, ◌^◌, ◌<◌, ℕ, IfOk, IfErr, Some, None, map};
+ghost use Rattle.serde_json.specs.Data.{Items, array};
+ghost use Rattle.serde_json.specs.Find.{get};
+ghost use Rattle.serde_json.specs.View.{view, items_of};
+ghost use Rattle.drawn_lines.specs.Said.{natural};
+ghost use Rattle.drawn_lines.specs.declared.fault.LineFault.TheVariants.{Memory};
+
+use crate::fault::LineFault;
+use serde_json::Value;
+
+/// The coordinate that a value is.
+pub(crate) fn coordinate_in(value: &Value) -> Result<u32, LineFault>
+    ensures ok { IfOk result (λ n. view value.now ≡ natural n) }
+    ensures none { IfErr result (λ _. (n : ℕ) → n < 2 ^ 32 → view value.now ≢ natural n) }
+    ensures kind { IfErr result (λ fault. fault ≢ Memory) }
+{
+    match value.as_u64() {
+        Some(number) if number <= 4_294_967_295 => Ok(number as u32),
+        _ => Err(LineFault::Number),
+    }
+}
+
+/// The elements of the list that a value is.
+pub(crate) fn list_in(value: &Value) -> Result<&[Value], LineFault>
+    ensures ok { IfOk result (λ values. view value.now ≡ array (items_of (map view values.now))) }
+    ensures none { IfErr result (λ _. (items : Items) → view value.now ≢ array items) }
+    ensures kind { IfErr result (λ fault. fault ≢ Memory) }
+{
+    match value.as_array() {
+        Some(values) => Ok(values.as_slice()),
+        None => Err(LineFault::Points),
+    }
+}
+
+/// The field of this name that a value has.
+pub(crate) fn field_in<'v>(value: &'v Value, name: &str) -> Result<&'v Value, LineFault>
+    ensures ok { IfOk result (λ field. get name.now (view value.now) ≡ Some (view field.now)) }
+    ensures none { IfErr result (λ _. get name.now (view value.now) ≡ None) }
+    ensures kind { IfErr result (λ fault. fault ≢ Memory) }
+{
+    match value.get(name) {
+        Some(field) => Ok(field),
+        None => Err(LineFault::Points),
+    }
+}

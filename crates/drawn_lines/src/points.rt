@@ -1,0 +1,108 @@
+//! The points that a line has.
+ghost use Rattle.std.specs.Prelude.{◌≡◌, ◌≢◌, List, IfOk, IfErr, All};
+ghost use Rattle.serde_json.specs.Errors.{IsMemory};
+ghost use Rattle.serde_json.specs.View.{view};
+ghost use Rattle.ortho_rep.specs.declared.points.Point.{Point};
+ghost use Rattle.ortho_rep.specs.Points.{PointsModel};
+ghost use Rattle.ortho_rep.specs.Storage.{lists_in};
+ghost use Rattle.drawn_lines.specs.Said.{point_data, list_data, lists_data, IsShort, AreShort, Says, SaysPoints};
+ghost use Rattle.drawn_lines.specs.declared.fault.LineFault.TheVariants.{Memory};
+
+use crate::fault::LineFault;
+use crate::numbers::{coordinate_in, field_in, list_in};
+use ortho_rep::{Point, Points};
+use serde_json::{Error, Value};
+use std::alloc::Global;
+
+/// The points of a line: those of the field `points` of its JSON value.
+///
+/// # Errors
+///
+/// `Memory` if memory runs out. Otherwise the line says no points whose coordinates have 32 bits.
+pub fn points_of_line(alloc: Global, line: &[u8]) -> Result<Points, LineFault>
+    ensures ok { IfOk result (Says line.now) }
+    ensures none { IfErr result (λ fault. fault ≢ Memory
+        → (points : PointsModel) → AreShort points → Says line.now points → ⊥) }
+{
+    match Value::from_slice(alloc, line) {
+        Ok(value) => points_in(alloc, &value),
+        Err(error) => Err(fault_of(&error)),
+    }
+}
+
+/// Why a text is no value.
+fn fault_of(error: &Error) -> LineFault
+    ensures { result ≢ Memory → ¬ IsMemory error.now }
+{
+    if error.is_memory() {
+        LineFault::Memory
+    } else {
+        LineFault::Malformed
+    }
+}
+
+/// The points of the field `points` of a value.
+///
+/// # Errors
+///
+/// `Memory` if memory runs out. Otherwise the value has no points whose coordinates have 32 bits.
+pub fn points_in(alloc: Global, value: &Value) -> Result<Points, LineFault>
+    ensures ok { IfOk result (SaysPoints (view value.now)) }
+    ensures none { IfErr result (λ fault. fault ≢ Memory
+        → (points : PointsModel) → AreShort points → SaysPoints (view value.now) points → ⊥) }
+{
+    let field = field_in(value, "points")?;
+    let vertices = point_list(alloc, field_in(field, "vertices")?)?;
+    let corners = corner_lists(alloc, field_in(field, "corners")?)?;
+    Ok(Points::new(vertices, corners))
+}
+
+/// The lists of points that a value is.
+fn corner_lists(alloc: Global, value: &Value) -> Result<Vec<Vec<Point>>, LineFault>
+    ensures ok { IfOk result (λ lists. view value.now ≡ lists_data (lists_in lists.items)) }
+    ensures none { IfErr result (λ fault. fault ≢ Memory
+        → (lists : List (List Point)) → All (All IsShort) lists → view value.now ≢ lists_data lists) }
+{
+    let mut lists = Vec::new(alloc);
+    let elements = list_in(value)?;
+    for element in elements {
+        let points = match point_list(alloc, element) {
+            Ok(points) => points,
+            Err(fault) => return Err(fault),
+        };
+        lists.push(points)?;
+    }
+    Ok(lists)
+}
+
+/// The points that a value is.
+fn point_list(alloc: Global, value: &Value) -> Result<Vec<Point>, LineFault>
+    ensures ok { IfOk result (λ points. view value.now ≡ list_data points.items) }
+    ensures none { IfErr result (λ fault. fault ≢ Memory
+        → (points : List Point) → All IsShort points → view value.now ≢ list_data points) }
+{
+    let mut points = Vec::new(alloc);
+    let elements = list_in(value)?;
+    for element in elements {
+        let point = match point_in(element) {
+            Ok(point) => point,
+            Err(fault) => return Err(fault),
+        };
+        points.push(point)?;
+    }
+    Ok(points)
+}
+
+/// The point that a value is.
+fn point_in(value: &Value) -> Result<Point, LineFault>
+    ensures ok { IfOk result (λ point. view value.now ≡ point_data point) }
+    ensures none { IfErr result (λ _. (point : Point) → IsShort point → view value.now ≢ point_data point) }
+{
+    let coordinates = list_in(value)?;
+    if coordinates.len() != 2 {
+        return Err(LineFault::Points);
+    }
+    let x = coordinate_in(&coordinates[0])?;
+    let y = coordinate_in(&coordinates[1])?;
+    Ok(Point { x, y })
+}
