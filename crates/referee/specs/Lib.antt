@@ -1,0 +1,4 @@
+pub mod Drawings
+pub mod Routes
+pub mod Claims
+pub mod Taken

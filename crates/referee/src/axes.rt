@@ -1,0 +1,49 @@
+//! Whether the parts of paths are parallel to an axis.
+
+ghost use Rattle.std.specs.Prelude.{◌↔◌, IsTrue, OnOk};
+ghost use Rattle.drawing_check.specs.Draws.{IsAxis, IsOnAxes, AreOnAxes};
+ghost use Rattle.drawing_check.specs.Paths.{paths};
+ghost use Rattle.referee.specs.Routes.{path_of};
+ghost use Rattle.referee.specs.Drawings.{HasPoints};
+
+use crate::fault::Fault;
+use crate::route::{Route, route_of};
+use faces::Plane;
+use ortho_rep::{Point, Points};
+
+/// That each part of each path is parallel to an axis.
+pub(crate) fn check_axes(plane: &Plane, points: &Points) -> Result<(), Fault>
+    requires { HasPoints plane.now points.now }
+    ensures { OnOk result (AreOnAxes (paths plane.now points.now)) }
+{
+    let graph = plane.graph();
+    let mut edge = 0;
+    for dart in 0..graph.darts() {
+        let reverse = graph.reverse(dart);
+        if dart < reverse {
+            let route = route_of(plane, points, dart, reverse, edge);
+            check_route(&route, edge)?;
+            edge += 1;
+        }
+    }
+    Ok(())
+}
+
+/// That each part of the path of this edge is parallel to an axis.
+fn check_route(route: &Route<'_>, edge: u16) -> Result<(), Fault>
+    ensures { OnOk result (IsOnAxes (path_of route.now)) }
+{
+    for part in 0..route.corners.len() + 1 {
+        if !is_axis(route.point_at(part), route.point_at(part + 1)) {
+            return Err(Fault::NotAxis { edge, part });
+        }
+    }
+    Ok(())
+}
+
+/// Whether two points differ in exactly one coordinate.
+fn is_axis(a: Point, b: Point) -> bool
+    ensures { IsTrue result ↔ IsAxis a b }
+{
+    (a.x == b.x) != (a.y == b.y)
+}

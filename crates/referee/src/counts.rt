@@ -1,0 +1,27 @@
+//! How many points and corners there are.
+
+ghost use Rattle.std.specs.Prelude.{OnOk};
+ghost use Rattle.referee.specs.Drawings.{HasPoints};
+
+use crate::fault::Fault;
+use faces::Plane;
+use ortho_rep::{MAX_TURNS, Points};
+
+/// That there is a point for each vertex, and for each edge a list of few enough corners.
+pub(crate) fn check_counts(plane: &Plane, points: &Points) -> Result<(), Fault>
+    ensures { OnOk result (HasPoints plane.now points.now) }
+{
+    let graph = plane.graph();
+    if points.vertex_count() != usize::from(graph.vertices()) {
+        return Err(Fault::Vertices);
+    }
+    if points.edge_count() != usize::from(graph.edges()) {
+        return Err(Fault::Edges);
+    }
+    for edge in 0..graph.edges() {
+        if points.corners(edge).len() > MAX_TURNS {
+            return Err(Fault::Long { edge });
+        }
+    }
+    Ok(())
+}

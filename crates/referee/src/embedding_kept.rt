@@ -1,0 +1,39 @@
+//! Whether the edges at each vertex leave it in the order of the record: whether the angles at it make one round.
+
+ghost use Rattle.std.specs.Prelude.{◌≡◌, ◌≤◌, ◌<◌, ℕ, OnOk, length, replicate, slice_index};
+ghost use Rattle.faces.specs.Planes.{vertices};
+ghost use Rattle.ortho_rep.specs.Shapes.{angle_at};
+ghost use Rattle.ortho_rep.specs.Representation.{HasDarts, angles_around};
+
+use crate::fault::Fault;
+use faces::Plane;
+use ortho_rep::Shape;
+
+/// That the angles round each vertex sum to four quarters.
+pub(crate) fn check_embedding(plane: &Plane, shape: &Shape) -> Result<(), Fault>
+    requires { HasDarts plane.now shape.now }
+{
+    let vertices = plane.graph().vertices();
+    let mut sums = [0; 256];
+    add_angles(plane, shape, &mut sums);
+    for place in 0..vertices {
+        if sums[usize::from(place) + 1] != 4 {
+            return Err(Fault::Embedding { vertex: place + 1 });
+        }
+    }
+    Ok(())
+}
+
+/// Sums the angles that arrive at each vertex.
+fn add_angles(plane: &Plane, shape: &Shape, sums: &mut [u32])
+    requires darts { HasDarts plane.now shape.now }
+    requires room { vertices plane.now < length sums.old }
+    requires clear { sums.old ≡ replicate (length sums.old) 0 }
+    ensures { (v : ℕ) → v ≤ vertices plane.now
+        → slice_index sums.new v ≡ angles_around plane.now (angle_at shape.now) v }
+{
+    let graph = plane.graph();
+    for dart in 0..graph.darts() {
+        sums[usize::from(graph.head(dart))] += u32::from(shape.angle(dart));
+    }
+}

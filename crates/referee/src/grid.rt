@@ -1,0 +1,46 @@
+//! Whether points lie in the grid.
+
+ghost use Rattle.std.specs.Prelude.{OnOk};
+ghost use Rattle.drawing_check.specs.Draws.{AreInGrid};
+ghost use Rattle.referee.specs.Drawings.{HasPoints};
+
+use crate::fault::Fault;
+use faces::Plane;
+use ortho_rep::{MAX_COORDINATE, Point, Points};
+
+/// That all points lie in the grid: those of vertices first, then the corners, edge by edge.
+pub(crate) fn check_grid(plane: &Plane, points: &Points) -> Result<(), Fault>
+    requires { HasPoints plane.now points.now }
+{
+    check_vertices(plane, points)?;
+    check_corners(plane, points)
+}
+
+fn check_vertices(plane: &Plane, points: &Points) -> Result<(), Fault>
+    requires { HasPoints plane.now points.now }
+{
+    for place in 0..plane.graph().vertices() {
+        let vertex = place + 1;
+        if !is_in_grid(points.vertex(vertex)) {
+            return Err(Fault::VertexOutOfGrid { vertex });
+        }
+    }
+    Ok(())
+}
+
+fn check_corners(plane: &Plane, points: &Points) -> Result<(), Fault>
+    requires { HasPoints plane.now points.now }
+{
+    for edge in 0..plane.graph().edges() {
+        for (corner, point) in points.corners(edge).iter().enumerate() {
+            if !is_in_grid(*point) {
+                return Err(Fault::CornerOutOfGrid { edge, corner });
+            }
+        }
+    }
+    Ok(())
+}
+
+fn is_in_grid(point: Point) -> bool {
+    point.x <= MAX_COORDINATE && point.y <= MAX_COORDINATE
+}

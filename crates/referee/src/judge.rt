@@ -1,0 +1,60 @@
+//! The verdict on points: whether they draw an embedding.
+
+ghost use Rattle.std.specs.Prelude.{◌≡◌, IfOk};
+ghost use Rattle.faces.specs.Planes.{with_outer};
+ghost use Rattle.referee.specs.Drawings.{IsDrawnBy};
+
+use crate::axes::check_axes;
+use crate::counts::check_counts;
+use crate::embedding_kept::check_embedding;
+use crate::fault::Fault;
+use crate::grid::check_grid;
+use crate::outer_face::find_outer;
+use crate::scratch::Scratch;
+use crate::shape_of::shape_of;
+use drawing_check::{CheckFault, Drawing, check_in};
+use faces::Plane;
+use ortho_rep::{Points, Shape, is_shape};
+use std::alloc::Global;
+
+/// Points that draw an embedding, and the orthogonal representation that they draw.
+#[derive(Debug, Drop)]
+pub struct Judged {
+    pub shape: Shape,
+    pub drawing: Drawing,
+}
+
+/// The orthogonal representation of a plane's embedding that these points draw, with whatever outer face.
+///
+/// The outer face of the drawing is then that of the plane. The points determine it and the representation.
+///
+/// # Errors
+///
+/// The first condition that fails; then they draw no representation of the embedding. `Memory` says nothing of the
+/// points.
+pub fn judge_in(
+    alloc: Global,
+    scratch: &mut Scratch,
+    plane: &mut Plane,
+    points: Points,
+) -> Result<Judged, Fault>
+    ensures same_plane { plane.new ≡ with_outer plane.old plane.new.outer }
+    ensures drawn { IfOk result (λ judged. IsDrawnBy plane.new judged.drawing judged.shape) }
+    ensures same_points { IfOk result (λ judged. judged.drawing ≡ points) }
+{
+    check_counts(plane, &points)?;
+    check_grid(plane, &points)?;
+    check_axes(plane, &points)?;
+    let shape = shape_of(alloc, plane, &points)?;
+    check_embedding(plane, &shape)?;
+    let outer = find_outer(plane, &shape)?;
+    plane.set_outer(outer);
+    if !is_shape(plane, &shape) {
+        return Err(Fault::Outer);
+    }
+    match check_in(alloc, &mut scratch.drawings, plane, &shape, points) {
+        Ok(drawing) => Ok(Judged { shape, drawing }),
+        Err((CheckFault::Memory, _)) => Err(Fault::Memory),
+        Err(_) => Err(Fault::Meet),
+    }
+}

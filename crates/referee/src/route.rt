@@ -1,0 +1,79 @@
+//! The path of an edge, seen in place.
+
+ghost use Rattle.std.specs.Prelude.{◌≡◌, ℕ, ◌+◌, ◌*◌, ◌<◌, ◌≤◌, length, IsTrue};
+ghost use Rattle.faces.specs.Planes.{darts, vertices, reverse_dart};
+ghost use Rattle.ortho_rep.specs.Points.{corners_at};
+ghost use Rattle.ortho_rep.specs.Edges.{is_lesser, edge_number};
+ghost use Rattle.drawing_check.specs.Paths.{path_along, point_of};
+ghost use Rattle.drawing_check.specs.Draws.{direction_between};
+ghost use Rattle.referee.specs.Routes.{path_of};
+ghost use Rattle.referee.specs.Drawings.{HasPoints};
+
+use faces::Plane;
+use geometry::Direction;
+use ortho_rep::{Point, Points};
+
+/// The path of an edge along its lesser dart: from one end by the corners to the other.
+#[derive(Clone, Copy)]
+pub(crate) struct Route<'a> {
+    pub(crate) start: Point,
+    pub(crate) corners: &'a [Point],
+    pub(crate) end: Point,
+}
+
+impl Route<'_> {
+    /// Point k of the path.
+    pub(crate) fn point_at(&self, k: usize) -> Point
+        requires { k < length (path_of self.now) }
+        ensures { result ≡ point_of (path_of self.now) k }
+    {
+        if k == 0 {
+            return self.start;
+        }
+        if k <= self.corners.len() {
+            return self.corners[k - 1];
+        }
+        self.end
+    }
+}
+
+/// The path of the edge with this number, whose lesser dart and its reverse are given.
+pub(crate) fn route_of<'a>(
+    plane: &Plane,
+    points: &'a Points,
+    dart: u16,
+    reverse: u16,
+    edge: u16,
+) -> Route<'a>
+    requires inside { dart < darts plane.now }
+    requires lesser { IsTrue (is_lesser plane.now dart) }
+    requires reverse { reverse ≡ reverse_dart plane.now dart }
+    requires number { edge ≡ edge_number plane.now dart }
+    requires whole { HasPoints plane.now points.now }
+    ensures path { path_of result ≡ path_along plane.now points.now dart }
+    ensures corners { result.corners.now ≡ corners_at points.now edge }
+{
+    let graph = plane.graph();
+    Route {
+        start: points.vertex(graph.head(reverse)),
+        corners: points.corners(edge),
+        end: points.vertex(graph.head(dart)),
+    }
+}
+
+/// Where `to` lies from `from`, if the two differ in one coordinate.
+pub(crate) fn direction_from(from: Point, to: Point) -> Direction
+    ensures { result ≡ direction_between from to }
+{
+    let along_x = if from.x < to.x {
+        Direction::East
+    } else {
+        Direction::West
+    };
+    let along_y = if from.y < to.y {
+        Direction::North
+    } else {
+        Direction::South
+    };
+    if from.x == to.x { along_y } else { along_x }
+}

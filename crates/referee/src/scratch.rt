@@ -1,0 +1,20 @@
+//! Memory for verdicts, which is used again.
+
+use std::alloc::Global;
+
+/// Buffers that one verdict after another reuses. Their contents between two calls do not matter.
+#[derive(Drop)]
+pub struct Scratch {
+    pub(crate) drawings: drawing_check::Scratch,
+    pub(crate) shapes: ortho_rep::Scratch,
+}
+
+impl Scratch {
+    /// An empty scratch. It allocates nothing.
+    pub fn empty(alloc: Global) -> Scratch {
+        Scratch {
+            drawings: drawing_check::Scratch::empty(alloc),
+            shapes: ortho_rep::Scratch::empty(alloc),
+        }
+    }
+}

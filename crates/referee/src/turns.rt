@@ -1,0 +1,127 @@
+//! The turns of edges, as their corners have them.
+
+ghost use Rattle.std.specs.Prelude.{◌≡◌, ◌≢◌, ◌≤◌, ℕ, ◌<◌, ◌∷◌, ◌++◌, [], OnOk, length, vec_len, All, IfOk, IfSome, IfNone, slice_index_or};
+ghost use Rattle.faces.specs.Planes.{darts};
+ghost use Rattle.ortho_rep.specs.declared.strings.TheConstants.{MAX_TURNS};
+ghost use Rattle.ortho_rep.specs.declared.turn.Turn.{Turn};
+ghost use Rattle.ortho_rep.specs.Turns.{opposite, mirrored};
+ghost use Rattle.ortho_rep.specs.Edges.{is_lesser, edge_number};
+ghost use Rattle.drawing_check.specs.Draws.{turned, IsTurning};
+ghost use Rattle.referee.specs.Routes.{path_of};
+ghost use Rattle.referee.specs.Drawings.{HasPoints};
+
+use crate::fault::Fault;
+use crate::route::{Route, direction_from, route_of};
+use faces::Plane;
+use geometry::Direction;
+use ortho_rep::{Points, Turn};
+use std::alloc::{AllocError, Global};
+
+/// The turns of all darts, where each path turns at each of its corners.
+pub(crate) fn list_turns(
+    alloc: Global,
+    plane: &Plane,
+    points: &Points,
+) -> Result<Vec<Vec<Turn>>, Fault>
+    requires { HasPoints plane.now points.now }
+    ensures count { IfOk result (λ strings. vec_len strings ≡ darts plane.now) }
+    ensures short { IfOk result (λ strings. All (λ string. vec_len string ≤ MAX_TURNS) strings.items) }
+{
+    let graph = plane.graph();
+    let mut strings = Vec::with_capacity(alloc, usize::from(graph.darts()))?;
+    let mut edge = 0;
+    for dart in 0..graph.darts() {
+        let string = string_of(alloc, plane, points, dart, edge, &strings)?;
+        add(&mut strings, string)?;
+        if dart < graph.reverse(dart) {
+            edge += 1;
+        }
+    }
+    Ok(strings)
+}
+
+/// The turns of a dart, where those of all darts before it are listed.
+fn string_of(
+    alloc: Global,
+    plane: &Plane,
+    points: &Points,
+    dart: u16,
+    edge: u16,
+    strings: &[Vec<Turn>],
+) -> Result<Vec<Turn>, Fault>
+    requires inside { dart < darts plane.now }
+    requires whole { HasPoints plane.now points.now }
+    requires number { edge ≡ edge_number plane.now dart }
+    requires count { length strings.now ≡ dart }
+    requires few { All (λ string. vec_len string ≤ MAX_TURNS) strings.now }
+    ensures short { IfOk result (λ string. vec_len string ≤ MAX_TURNS) }
+{
+    let reverse = plane.graph().reverse(dart);
+    if dart < reverse {
+        let route = route_of(plane, points, dart, reverse, edge);
+        return turns_along(alloc, &route, edge);
+    }
+    Ok(mirror(alloc, &strings[usize::from(reverse)])?)
+}
+
+/// The turns at the corners of the path of this edge.
+fn turns_along(alloc: Global, route: &Route<'_>, edge: u16) -> Result<Vec<Turn>, Fault>
+    requires { length route.now.corners.now ≤ MAX_TURNS }
+    ensures turning { IfOk result (λ turns. IsTurning (path_of route.now) turns.items) }
+    ensures short { IfOk result (λ turns. vec_len turns ≤ MAX_TURNS) }
+{
+    let mut turns = Vec::with_capacity(alloc, route.corners.len())?;
+    let mut heading = direction_from(route.start, route.point_at(1));
+    for corner in 0..route.corners.len() {
+        let onward = direction_from(route.point_at(corner + 1), route.point_at(corner + 2));
+        match turn_between(heading, onward) {
+            None => return Err(Fault::NoTurn { edge, corner }),
+            Some(turn) => add(&mut turns, turn)?,
+        }
+        heading = onward;
+    }
+    Ok(turns)
+}
+
+/// The quarter turn from one direction to another, if it is one.
+fn turn_between(heading: Direction, onward: Direction) -> Option<Turn>
+    ensures some { IfSome result (λ turn. onward ≡ turned turn heading) }
+    ensures none { IfNone result ((turn : Turn) → onward ≢ turned turn heading) }
+{
+    if onward == heading.left() {
+        return Some(Turn::Left);
+    }
+    if onward == heading.right() {
+        return Some(Turn::Right);
+    }
+    None
+}
+
+/// These turns, read backwards with left and right exchanged.
+fn mirror(alloc: Global, turns: &[Turn]) -> Result<Vec<Turn>, AllocError>
+    ensures mirrored { IfOk result (λ back. back.items ≡ mirrored turns.now) }
+    ensures count { IfOk result (λ back. vec_len back ≡ length turns.now) }
+{
+    let mut back = Vec::with_capacity(alloc, turns.len())?;
+    for k in 0..turns.len() {
+        add(&mut back, opposite(turns[turns.len() - 1 - k]))?;
+    }
+    Ok(back)
+}
+
+fn opposite(turn: Turn) -> Turn
+    ensures { result ≡ opposite turn }
+{
+    match turn {
+        Turn::Left => Turn::Right,
+        Turn::Right => Turn::Left,
+    }
+}
+
+/// Adds an item to a list.
+fn add<T: Drop>(list: &mut Vec<T>, item: T) -> Result<(), AllocError>
+    ensures { OnOk result (list.new.items ≡ list.old.items ++ item ∷ []) }
+{
+    list.push(item)?;
+    Ok(())
+}
