@@ -1,0 +1,15 @@
+use Rattle.std.proofs.Common.{subst, sym}
+use Rattle.common.specs.declared.choice.Choice.{Choice}
+use Rattle.conditions.specs.Chosen.{IsChosenKeeping}
+use Rattle.conditions.proofs.Greatest.{greatest_moved}
+use Rattle.conditions.proofs.Kept.{whenever}
+use Rattle.conditions.proofs.chosen.chosen_shape.Goals as goal
+
+pub returns-in-First-clause-chosen : goal.returns-in-First-clause-chosen
+returns-in-First-clause-chosen c =
+    let p = c.args.plane.now in
+    let q = c.first_shape.new.plane in
+    let marks = c.args.meant.now.marks.items in
+    let barred = c.args.meant.now.barred.items in
+    whenever c.first_shape.result _
+    (subst (λ (choice : Choice). IsChosenKeeping choice q marks barred) (sym c.in-First.is) (greatest_moved p q barred c.args.meant.now.greatest c.first_shape.ensures.outer_moved c.requires))

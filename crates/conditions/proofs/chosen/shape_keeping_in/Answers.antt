@@ -1,0 +1,19 @@
+use Rattle.conditions.proofs.Kept.{asked_moved}
+use Rattle.conditions.proofs.chosen.shape_keeping_in.Goals as goal
+
+pub returns-in-Err-clause-fault : goal.returns-in-Err-clause-fault
+returns-in-Err-clause-fault c = c.in-Err.ensures.fault c.args.choice
+
+pub returns-in-Ok-chosen_shape-clause-kept : goal.returns-in-Ok-chosen_shape-clause-kept
+returns-in-Ok-chosen_shape-clause-kept c =
+    let meant = c.in-Ok.meant in
+    let found = c.in-Ok-chosen_shape.ensures in
+    record {
+      marks = meant.marks.items;
+      barred = meant.barred.items;
+      asked = asked_moved c.args.plane.now c.chosen_shape.new.plane c.args.conditions.now meant.marks.items meant.barred.items c.chosen_shape.ensures.outer_moved c.in-Ok.ensures.asked;
+      chosen = found.chosen;
+      shape_is = found.shape;
+      least = found.least;
+      proof = found.proof;
+    }

@@ -1,0 +1,23 @@
+use Rattle.std.proofs.Common.{refl, ap, arith, below_more, false}
+use Rattle.std.proofs.lemmas.Bool.{both_ways}
+use Rattle.embedding.specs.Darts.{dart_count}
+use Rattle.conditions.proofs.marks.is_dart.Goals as goal
+
+pub returns-then-has_ends : goal.returns-then-has_ends
+returns-then-has_ends c = (
+  λ _. record {
+    dart = c.loop-dart.dart;
+    inside = omega (arith, c.loop-dart-test.true, c.darts-dart-end.ensures.count, ap dart_count c.graph.ensures.value);
+    joins = c.has_ends.ensures.0 c.if-has_ends.true;
+  },
+  λ _. refl,
+)
+
+pub loop-dart-preserved : goal.loop-dart-preserved
+loop-dart-preserved c = below_more _ _ c.loop-dart.invariant (λ joins. both_ways c.has_ends.result c.if-has_ends.false (c.has_ends.ensures.1 joins))
+
+pub returns : goal.returns
+returns c = (
+  λ e. absurd (both_ways false refl e),
+  λ found. absurd (c.loop-dart.invariant found.dart (omega (arith, found.inside, c.loop-dart-test.false, c.darts-dart-end.ensures.count, ap dart_count c.graph.ensures.value)) found.joins),
+)

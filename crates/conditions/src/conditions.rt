@@ -1,0 +1,21 @@
+//! Edges and faces, named by vertices.
+
+/// A dart by its ends, a vertex and a neighbour of it. Vertices are numbered from 1.
+#[repr(C)]
+#[derive(Clone, Copy, Debug)]
+pub struct DartEnds {
+    /// The vertex that the dart comes from.
+    pub from: u8,
+    /// The vertex that it goes to.
+    pub to: u8,
+}
+
+/// What a layout is to keep.
+#[repr(C)]
+#[derive(Clone, Copy)]
+pub struct Conditions<'a> {
+    /// The edges that stay straight, each by one of its darts.
+    pub straight: &'a [DartEnds],
+    /// The faces that stay inside, each by a dart that has it on its left.
+    pub inner: &'a [DartEnds],
+}
