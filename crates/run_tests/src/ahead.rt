@@ -25,6 +25,9 @@ const IN_ONE: u32 = 383;
 
 const IN_TWO: u32 = 764;
 
+/// At which record the third file waits for the last one: it is read so far only once the first file was read on.
+const FAR: u32 = 900;
+
 /// What is seen of the third and the last file: how many of their records have been begun, and how many had been when the
 /// first file was read on.
 #[derive(Drop)]
@@ -36,7 +39,7 @@ struct Seen {
     ran_out: AtomicBool,
 }
 
-/// Four files of edges. The first is held until the third has been read far, and 0.3 seconds more.
+/// Four files of edges. The first is held until the third has been read far, and then no file is read any more.
 #[derive(Drop)]
 struct Held<'r, R> {
     rt: &'r R,
@@ -58,6 +61,38 @@ impl<R: Wait> Held<'_, R> {
         AtomicU64::new(0).park_timeout(self.rt, 0, Duration::from_millis(10));
     }
 
+    /// Waits until more of the last file is read than while the first was held, and notes where thirty seconds were too few.
+    fn meet(&self) {
+        for _ in 0..3_000 {
+            if self.seen.last.load(Ordering::SeqCst) > AHEAD.saturating_add(2) {
+                return;
+            }
+            self.rest();
+        }
+        self.seen.ran_out.store(true, Ordering::SeqCst);
+    }
+
+    /// Waits until for 0.3 seconds no record of the third file or the last has been begun.
+    fn settle(&self) {
+        let (mut begun, mut rests): (u32, u32) = (0, 0);
+        for _ in 0..3_000 {
+            let (third, last) = (&self.seen.third, &self.seen.last);
+            let now = third
+                .load(Ordering::SeqCst)
+                .saturating_add(last.load(Ordering::SeqCst));
+            rests = if now == begun {
+                rests.saturating_add(1)
+            } else {
+                0
+            };
+            if rests > 30 {
+                return;
+            }
+            begun = now;
+            self.rest();
+        }
+    }
+
     /// Waits until a record behind the first piece of the third file has been begun, and then until no more are, and notes
     /// how many have been, and where thirty seconds were too few.
     fn hold(&self) {
@@ -69,9 +104,7 @@ impl<R: Wait> Held<'_, R> {
         }
         let came = self.seen.third.load(Ordering::SeqCst) > IN_ONE;
         self.seen.ran_out.store(!came, Ordering::SeqCst);
-        for _ in 0..30 {
-            self.rest();
-        }
+        self.settle();
         let (third, last) = (&self.seen.third, &self.seen.last);
         let (third_held, last_held) = (&self.seen.third_held, &self.seen.last_held);
         third_held.store(third.load(Ordering::SeqCst), Ordering::SeqCst);
@@ -99,7 +132,9 @@ impl<R: Wait> HeldTap<'_, R> {
         }
         match self.file {
             2 => {
-                self.of.seen.third.fetch_add(1, Ordering::SeqCst);
+                if self.of.seen.third.fetch_add(1, Ordering::SeqCst) == FAR {
+                    self.of.meet();
+                }
             }
             3 => {
                 self.of.seen.last.fetch_add(1, Ordering::SeqCst);
@@ -178,7 +213,7 @@ fn run<R: AllocGlobal + Threads + Wait + Sync>(
 
 /// While the first file is held, the third, which is the next one that has not ended once the short second one has, is read
 /// until four pieces wait: one of the second file, at most one of the last, and so its second or third one. The last file
-/// pauses as soon as one piece waits. Afterwards all go on.
+/// pauses as soon as one piece waits. Afterwards all go on, the last file beside the third, for which there is room again.
 #[test]
 fn later_files_are_read_until_so_much_waits(rt: HostRuntime) {
     let report = report(rt.alloc()).expect(&rt, "memory");
