@@ -36,8 +36,7 @@ pub(crate) fn sweep(
     ensures size { OnOk result (length cells.new.items ≡ size) }
     ensures swept { OnOk result (IsSwept order.now parts.now outer cells.new.items) }
 {
-    cells.clear();
-    cells.resize(size, BLANK)?;
+    make_blank(cells, size)?;
     sweep_blank(cells.as_mut_slice(), order, parts, outer);
     Ok(())
 }
@@ -69,10 +68,18 @@ pub(crate) fn mark(
     ensures size { OnOk result (length cells.new.items ≡ size) }
     ensures marks { OnOk result (HasMarks order.now parts.now outer cells.new.items) }
 {
-    cells.clear();
-    cells.resize(size, BLANK)?;
+    make_blank(cells, size)?;
     mark_blank(cells.as_mut_slice(), order, parts, outer);
     Ok(())
+}
+
+/// Makes so many blank cells, in place of what the table held.
+fn make_blank(cells: &mut Vec<u16>, size: usize) -> Result<(), AllocError>
+    ensures size { OnOk result (length cells.new.items ≡ size) }
+    ensures blank { OnOk result ((i : ℕ) → i < size → slice_index cells.new.items i ≡ BLANK) }
+{
+    cells.clear();
+    cells.resize(size, BLANK)
 }
 
 /// Writes them into a table that is blank.
@@ -119,8 +126,10 @@ fn mark_part(cells: &mut [u16], order: &CellOrder, part: &Part)
         → cell order.now cells.new (l + 1) c
         ≡ (if passes part.now l c then part.now.behind else cell order.now cells.old (l + 1) c) }
 {
+    // Copies, which no write into a cell can change.
+    let (order, part) = (*order, *part);
     for before in part.from..part.to {
-        put(cells, order, part.line + 1, before + 1, part.behind);
+        put(cells, &order, part.line + 1, before + 1, part.behind);
     }
 }
 
