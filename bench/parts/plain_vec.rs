@@ -220,6 +220,10 @@ pub mod prelude {
 pub fn filled<T: Clone>(t: T, n: usize) -> Result<Vec<T>, AllocError> {
     Ok(Vec(vec![t; n]))
 }
+#[inline]
+pub fn boxed<T>(t: T) -> Result<Box<T>, AllocError> {
+    Ok(Box::new(t))
+}
 #[macro_export]
 macro_rules! prove {
     ($e:expr) => {

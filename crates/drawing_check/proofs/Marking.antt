@@ -1,5 +1,6 @@
 -- What writes leave in a table of cells.
-use Rattle.std.proofs.Common.{◌≡◌, ◌≢◌, ℕ, ◌+◌, ◌-◌, ◌*◌, ◌<◌, ◌≤◌, suc, cond, List, length, get_or, sym, ap, ◌∙◌, subst, ⊎_elim, arith, eqb}
+use Rattle.std.proofs.Common.{◌≡◌, ◌≢◌, ℕ, ◌+◌, ◌-◌, ◌*◌, ◌<◌, ◌≤◌, zero, suc, cond, List, [], ◌∷◌, length, get_or, refl, sym, ap, ◌∙◌, subst, ⊎_elim, arith, eqb}
+use Rattle.std.proofs.lemmas.Grind.{same_number_lists}
 use Rattle.std.proofs.Math.ListN.{set}
 use Rattle.std.proofs.Math.Nat.{suc-mul}
 use Rattle.std.proofs.lemmas.Bool.{cases_Bool, cases_lt, cond-true, cond-false, eq-eqb, ne_eqb, both_ways}
@@ -8,7 +9,7 @@ use Rattle.drawing_check.specs.declared.parts.Part.{Part}
 use Rattle.drawing_check.specs.declared.cells.CellOrder.{CellOrder}
 use Rattle.drawing_check.specs.declared.cells.TheConstants.{BLANK}
 use Rattle.drawing_check.specs.Parts.{passes, face_behind}
-use Rattle.drawing_check.specs.Cells.{stands_at, cell, IsOrder, HaveFaces, IsSwept}
+use Rattle.drawing_check.specs.Cells.{stands_at, cell, IsOrder, HaveFaces, HasMarks, Fills, IsSwept}
 use Rattle.drawing_check.proofs.Swept.{last_or_none, passing_told, passing_from}
 
 pub put_others : (o : CellOrder) (cells : List ℕ) (line place w v : ℕ) → IsOrder o (length cells) → line < o.lines → place < o.places → w ≡ stands_at o line place
@@ -66,27 +67,127 @@ filled_kept step marked filled first onward i lt some =
     at_i ∙ cond-false (eqb (get_or marked i 0) BLANK) (get_or filled j 0) (get_or marked i 0) (ne_eqb (get_or marked i 0) BLANK some))
     (cases_lt i step)
 
-pub swept_blank : (o : CellOrder) (parts : List Part) (outer : ℕ) (old started marked filled : List ℕ) → IsOrder o (length old) → HaveFaces parts → outer ≢ BLANK
+-- a blank table, in which the parts write
+pub blank_marked : (o : CellOrder) (parts : List Part) (outer : ℕ) (old started marked : List ℕ) → IsOrder o (length old)
     → ((i : ℕ) → i < length old → get_or old i 0 ≡ BLANK)
     → ((c : ℕ) → c < o.places → cell o started 0 c ≡ outer)
     → ((l c : ℕ) → l + 1 < o.lines → c < o.places → cell o started (l + 1) c ≡ cell o old (l + 1) c)
     → ((c : ℕ) → c < o.places → cell o marked 0 c ≡ cell o started 0 c)
     → ((l c : ℕ) → l + 1 < o.lines → c < o.places → cell o marked (l + 1) c ≡ face_behind parts l c (cell o started (l + 1) c))
-    → ((i : ℕ) → i < o.line_step → get_or filled i 0 ≡ get_or marked i 0)
-    → ((i : ℕ) → i + o.line_step < length marked → get_or filled (i + o.line_step) 0 ≡ cond (eqb (get_or marked (i + o.line_step) 0) BLANK) (get_or filled i 0) (get_or marked (i + o.line_step) 0))
-    → length marked ≡ length old → IsSwept o parts outer filled
-swept_blank o parts outer old started marked filled is faces some blank start rest start_kept marks first onward size = record {
+    → HasMarks o parts outer marked
+blank_marked o parts outer old started marked is blank start rest start_kept marks = record {
+  start = λ c in_c. start_kept c in_c ∙ start c in_c;
+  behind = λ l c in_l in_c.
+      let is_blank : cell o started (l + 1) c ≡ BLANK = rest l c in_l in_c ∙ blank (stands_at o (l + 1) c) (is.inside (l + 1) c in_l in_c) in
+      marks l c in_l in_c ∙ ap (face_behind parts l c) is_blank;
+}
+
+-- marks that are filled up along lines are swept
+pub swept_from_marks : (o : CellOrder) (parts : List Part) (outer : ℕ) (marked filled : List ℕ) → IsOrder o (length marked) → HaveFaces parts → outer ≢ BLANK
+    → HasMarks o parts outer marked → Fills o.line_step marked filled → IsSwept o parts outer filled
+swept_from_marks o parts outer marked filled is faces some has fills = record {
   start = λ c in_c.
-      let mark : cell o marked 0 c ≡ outer = start_kept c in_c ∙ start c in_c in
-      let inside = is.inside 0 c is.some_line in_c in
-      filled_kept o.line_step marked filled first onward (stands_at o 0 c) (omega arith) (λ e. some (sym mark ∙ e)) ∙ mark;
+      let mark : cell o marked 0 c ≡ outer = has.start c in_c in
+      filled_kept o.line_step marked filled fills.first fills.onward (stands_at o 0 c) (is.inside 0 c is.some_line in_c) (λ e. some (sym mark ∙ e)) ∙ mark;
   onward = λ l c in_l in_c.
       let next = one_line_on o l c in
       let inside = is.inside (l + 1) c in_l in_c in
-      let at = onward (stands_at o l c) (omega arith) in
+      let at = fills.onward (stands_at o l c) (omega arith) in
       let at_next : cell o filled (l + 1) c ≡ cond (eqb (cell o marked (l + 1) c) BLANK) (cell o filled l c) (cell o marked (l + 1) c) =
       subst (λ k. get_or filled k 0 ≡ cond (eqb (get_or marked k 0) BLANK) (cell o filled l c) (get_or marked k 0)) (sym next) at in
-      let is_blank : cell o started (l + 1) c ≡ BLANK = rest l c in_l in_c ∙ blank (stands_at o (l + 1) c) inside in
-      let mark : cell o marked (l + 1) c ≡ face_behind parts l c BLANK = marks l c in_l in_c ∙ ap (face_behind parts l c) is_blank in
-      filled_told parts l c (cell o marked (l + 1) c) (cell o filled l c) (cell o filled (l + 1) c) faces mark at_next;
+      filled_told parts l c (cell o marked (l + 1) c) (cell o filled l c) (cell o filled (l + 1) c) faces (has.behind l c in_l in_c) at_next;
 }
+
+-- ---- the table that marks fill up to, one cell after another
+
+filled_behind : ℕ → List ℕ → List ℕ
+filled_behind before [] = []
+filled_behind before (mark ∷ marks) = cond (eqb mark BLANK) before mark ∷ filled_behind (cond (eqb mark BLANK) before mark) marks
+
+-- the first mark stays, whatever it is
+pub filled_up : List ℕ → List ℕ
+filled_up [] = []
+filled_up (mark ∷ marks) = mark ∷ filled_behind mark marks
+
+behind_size : (before : ℕ) (marks : List ℕ) → length (filled_behind before marks) ≡ length marks
+unfolding filled_behind
+behind_size before [] = refl
+behind_size before (mark ∷ marks) = let rest = behind_size (cond (eqb mark BLANK) before mark) marks in omega arith
+
+pub filled_size : (marks : List ℕ) → length (filled_up marks) ≡ length marks
+unfolding filled_up
+filled_size [] = refl
+filled_size (mark ∷ marks) = let rest = behind_size mark marks in omega arith
+
+behind_at : (before : ℕ) (marks : List ℕ) (i : ℕ) → i < length marks
+    → get_or (filled_behind before marks) i 0 ≡ cond (eqb (get_or marks i 0) BLANK) (get_or (before ∷ filled_behind before marks) i 0) (get_or marks i 0)
+unfolding filled_behind
+behind_at before [] i lt = absurd (omega arith)
+behind_at before (mark ∷ marks) zero lt = refl
+behind_at before (mark ∷ marks) (suc i) lt = behind_at (cond (eqb mark BLANK) before mark) marks i (omega arith)
+
+pub filled_fills : (marks : List ℕ) → Fills 1 marks (filled_up marks)
+unfolding filled_up
+filled_fills [] = record { first = λ i lt. refl; onward = λ i lt. absurd (omega arith) }
+filled_fills (mark ∷ marks) = record {
+  first = λ i lt. let e : 0 ≡ i = omega arith in subst (λ k. get_or (mark ∷ filled_behind mark marks) k 0 ≡ get_or (mark ∷ marks) k 0) e refl;
+  onward = λ i lt.
+      let e : suc i ≡ i + 1 = omega arith in
+      subst
+      (λ k. get_or (mark ∷ filled_behind mark marks) k 0
+      ≡ cond (eqb (get_or (mark ∷ marks) k 0) BLANK) (get_or (mark ∷ filled_behind mark marks) i 0) (get_or (mark ∷ marks) k 0))
+      e (behind_at mark marks i (omega arith));
+}
+
+-- no other table is filled up
+pub fills_once : (marks a b : List ℕ) → length a ≡ length marks → length b ≡ length marks → Fills 1 marks a → Fills 1 marks b → a ≡ b
+fills_once marks a b size_a size_b fills_a fills_b = same_number_lists a b (size_a ∙ sym size_b) (λ i lt. at i (omega arith))
+  where
+    at : (i : ℕ) → i < length marks → get_or a i 0 ≡ get_or b i 0
+    at zero lt = fills_a.first 0 (omega arith) ∙ sym (fills_b.first 0 (omega arith))
+    at (suc i) lt =
+        let before = at i (omega arith) in
+        let e : i + 1 ≡ suc i = omega arith in
+        subst (λ k. get_or a k 0 ≡ get_or b k 0) e
+        (fills_a.onward i (omega arith)
+        ∙ ap (λ v. cond (eqb (get_or marks (i + 1) 0) BLANK) v (get_or marks (i + 1) 0)) before
+        ∙ sym (fills_b.onward i (omega arith)))
+
+-- the first so many cells are filled up
+pub record FillsTo (n : ℕ) (marks cells : List ℕ) : Type 0 where
+  pub first : get_or cells 0 0 ≡ get_or marks 0 0
+  pub onward : (i : ℕ) → i + 1 < n → get_or cells (i + 1) 0 ≡ cond (eqb (get_or marks (i + 1) 0) BLANK) (get_or cells i 0) (get_or marks (i + 1) 0)
+
+pub one_filled : (marks cells : List ℕ) → get_or cells 0 0 ≡ get_or marks 0 0 → FillsTo 1 marks cells
+one_filled marks cells first = record { first = first; onward = λ i lt. absurd (omega arith) }
+
+pub more_filled : (n : ℕ) (marks cells : List ℕ) → 0 < n → FillsTo n marks cells
+    → get_or cells n 0 ≡ cond (eqb (get_or marks n 0) BLANK) (get_or cells (n - 1) 0) (get_or marks n 0) → FillsTo (n + 1) marks cells
+more_filled n marks cells some so_far here = record {
+  first = so_far.first;
+  onward = λ i lt. ⊎_elim
+      (λ before. so_far.onward i before)
+      (λ now.
+      let next : n ≡ i + 1 = omega arith in
+      let last : n - 1 ≡ i = omega arith in
+      subst (λ k. get_or cells k 0 ≡ cond (eqb (get_or marks k 0) BLANK) (get_or cells i 0) (get_or marks k 0)) next
+      (here ∙ ap (λ k. cond (eqb (get_or marks n 0) BLANK) (get_or cells k 0) (get_or marks n 0)) last))
+      (cases_lt (i + 1) n);
+}
+
+pub less_filled : (n : ℕ) (marks cells : List ℕ) → 0 < n → FillsTo (n + 1) marks cells
+    → FillsTo n marks cells × (get_or cells n 0 ≡ cond (eqb (get_or marks n 0) BLANK) (get_or cells (n - 1) 0) (get_or marks n 0))
+less_filled n marks cells some all = (
+  record { first = all.first; onward = λ i lt. all.onward i (omega arith) },
+  let e : (n - 1) + 1 ≡ n = omega arith in
+      subst (λ k. get_or cells k 0 ≡ cond (eqb (get_or marks k 0) BLANK) (get_or cells (n - 1) 0) (get_or marks k 0)) e (all.onward (n - 1) (omega arith)),
+)
+
+pub all_filled : (marks cells : List ℕ) → FillsTo (length marks) marks cells → Fills 1 marks cells
+all_filled marks cells all = record {
+  first = λ i lt. let e : 0 ≡ i = omega arith in subst (λ k. get_or cells k 0 ≡ get_or marks k 0) e all.first;
+  onward = all.onward;
+}
+
+pub filled_all : (marks cells : List ℕ) → Fills 1 marks cells → FillsTo (length marks) marks cells
+filled_all marks cells fills = record { first = fills.first 0 (omega arith); onward = fills.onward }

@@ -1,5 +1,5 @@
 -- The faces of cells, line by line, and in a table. Only private contracts speak of them.
-use Rattle.std.specs.Prelude.{◌≡◌, ◌≢◌, ℕ, zero, suc, ◌+◌, ◌*◌, ◌<◌, ◌≤◌, true, List, slice_index, Contains}
+use Rattle.std.specs.Prelude.{◌≡◌, ◌≢◌, ℕ, zero, suc, ◌+◌, ◌*◌, ◌<◌, ◌≤◌, ◌==◌, if◌then◌else◌, true, List, length, slice_index, Contains}
 use Rattle.drawing_check.specs.declared.parts.Part.{Part}
 use Rattle.drawing_check.specs.declared.cells.CellOrder.{CellOrder}
 use Rattle.drawing_check.specs.declared.cells.TheConstants.{BLANK}
@@ -29,6 +29,17 @@ pub record IsWithin (o : CellOrder) (s : Part) : Type 0 where
 -- a part that passes any place has a face behind it
 abbrev pub HaveFaces : List Part → Type 0
 HaveFaces parts = (s : Part) → Contains parts s → (l c : ℕ) → passes s l c ≡ true → s.behind ≢ BLANK
+
+-- the first line has the outer face, behind each line is what the parts on it tell, and all else is blank
+pub record HasMarks (o : CellOrder) (parts : List Part) (outer : ℕ) (cells : List ℕ) : Type 0 where
+  pub start : (c : ℕ) → c < o.places → cell o cells 0 c ≡ outer
+  pub behind : (l c : ℕ) → l + 1 < o.lines → c < o.places → cell o cells (l + 1) c ≡ face_behind parts l c BLANK
+
+-- cells are the marks, and where those are blank what the cell one step before has
+pub record Fills (step : ℕ) (marks cells : List ℕ) : Type 0 where
+  pub first : (i : ℕ) → i < step → slice_index cells i ≡ slice_index marks i
+  pub onward : (i : ℕ) → i + step < length marks
+      → slice_index cells (i + step) ≡ (if slice_index marks (i + step) == BLANK then slice_index cells i else slice_index marks (i + step))
 
 -- the first line has the outer face, and behind each line is what the parts on it tell
 pub record IsSwept (o : CellOrder) (parts : List Part) (outer : ℕ) (cells : List ℕ) : Type 0 where

@@ -2,7 +2,7 @@
 
 ghost use Rattle.std.specs.Prelude.{◌≡◌, ◌≢◌, ℕ, ◌+◌, ◌-◌, ◌*◌, ◌<◌, ◌≤◌, ◌==◌, ◌↔◌, length, slice_index, if◌then◌else◌, All, IsTrue, OnOk};
 ghost use Rattle.drawing_check.specs.Parts.{passes, face_behind};
-ghost use Rattle.drawing_check.specs.Cells.{cell, IsOrder, IsWithin, HaveFaces, IsSwept, HasSides};
+ghost use Rattle.drawing_check.specs.Cells.{cell, IsOrder, IsWithin, HaveFaces, HasMarks, Fills, IsSwept, HasSides};
 
 use crate::parts::Part;
 use std::alloc::AllocError;
@@ -29,14 +29,14 @@ pub(crate) fn sweep(
     outer: u16,
 ) -> Result<(), AllocError>
     requires order { IsOrder order.now size }
+    requires whole { size ≡ order.now.lines * order.now.line_step }
     requires inside { All (IsWithin order.now) parts.now }
     requires faces { HaveFaces parts.now }
     requires outer { outer ≢ BLANK }
     ensures size { OnOk result (length cells.new.items ≡ size) }
     ensures swept { OnOk result (IsSwept order.now parts.now outer cells.new.items) }
 {
-    cells.clear();
-    cells.resize(size, BLANK)?;
+    make_blank(cells, size)?;
     sweep_blank(cells.as_mut_slice(), order, parts, outer);
     Ok(())
 }
@@ -44,15 +44,53 @@ pub(crate) fn sweep(
 /// The same in a table that is blank.
 fn sweep_blank(cells: &mut [u16], order: &CellOrder, parts: &[Part], outer: u16)
     requires order { IsOrder order.now (length cells.old) }
+    requires whole { length cells.old ≡ order.now.lines * order.now.line_step }
     requires inside { All (IsWithin order.now) parts.now }
     requires faces { HaveFaces parts.now }
     requires outer { outer ≢ BLANK }
     requires blank { (i : ℕ) → i < length cells.old → slice_index cells.old i ≡ BLANK }
     ensures { IsSwept order.now parts.now outer cells.new }
 {
+    mark_blank(cells, order, parts, outer);
+    fill(cells, order.lines, order.line_step);
+}
+
+/// Writes the faces of the first line and those behind parts into a table, in place of what it held. All others are blank.
+pub(crate) fn mark(
+    cells: &mut Vec<u16>,
+    size: usize,
+    order: &CellOrder,
+    parts: &[Part],
+    outer: u16,
+) -> Result<(), AllocError>
+    requires order { IsOrder order.now size }
+    requires inside { All (IsWithin order.now) parts.now }
+    ensures size { OnOk result (length cells.new.items ≡ size) }
+    ensures marks { OnOk result (HasMarks order.now parts.now outer cells.new.items) }
+{
+    make_blank(cells, size)?;
+    mark_blank(cells.as_mut_slice(), order, parts, outer);
+    Ok(())
+}
+
+/// Makes so many blank cells, in place of what the table held.
+fn make_blank(cells: &mut Vec<u16>, size: usize) -> Result<(), AllocError>
+    ensures size { OnOk result (length cells.new.items ≡ size) }
+    ensures blank { OnOk result ((i : ℕ) → i < size → slice_index cells.new.items i ≡ BLANK) }
+{
+    cells.clear();
+    cells.resize(size, BLANK)
+}
+
+/// Writes them into a table that is blank.
+fn mark_blank(cells: &mut [u16], order: &CellOrder, parts: &[Part], outer: u16)
+    requires order { IsOrder order.now (length cells.old) }
+    requires inside { All (IsWithin order.now) parts.now }
+    requires blank { (i : ℕ) → i < length cells.old → slice_index cells.old i ≡ BLANK }
+    ensures { HasMarks order.now parts.now outer cells.new }
+{
     mark_start(cells, order, outer);
     mark_parts(cells, order, parts);
-    fill(cells, order.line_step);
 }
 
 /// Writes the outer face into each cell of the first line.
@@ -88,8 +126,10 @@ fn mark_part(cells: &mut [u16], order: &CellOrder, part: &Part)
         → cell order.now cells.new (l + 1) c
         ≡ (if passes part.now l c then part.now.behind else cell order.now cells.old (l + 1) c) }
 {
+    // Copies, which no write into a cell can change.
+    let (order, part) = (*order, *part);
     for before in part.from..part.to {
-        put(cells, order, part.line + 1, before + 1, part.behind);
+        put(cells, &order, part.line + 1, before + 1, part.behind);
     }
 }
 
@@ -113,19 +153,55 @@ fn face_in(cells: &[u16], order: &CellOrder, line: usize, place: usize) -> u16
     cells[line * order.line_step + place * order.place_step]
 }
 
-/// Writes into each blank cell what the cell one step before it has.
-fn fill(cells: &mut [u16], step: usize)
-    requires { 0 < step }
-    ensures first { (i : ℕ) → i < step → slice_index cells.new i ≡ slice_index cells.old i }
-    ensures onward { (i : ℕ) → i + step < length cells.old
-        → slice_index cells.new (i + step)
-        ≡ (if slice_index cells.old (i + step) == BLANK then slice_index cells.new i else slice_index cells.old (i + step)) }
+/// Writes into each blank cell what the cell one step before it has. The step is the size of a line.
+fn fill(cells: &mut [u16], lines: usize, step: usize)
+    requires some { 0 < step }
+    requires whole { length cells.old ≡ lines * step }
+    ensures { Fills step cells.old cells.new }
 {
-    for i in step..cells.len() {
-        if cells[i] == BLANK {
-            cells[i] = cells[i - step];
+    for line in 1..lines {
+        fill_line(cells, line * step, step);
+    }
+}
+
+/// Writes into each blank cell of the line that begins here what the line before has there.
+///
+/// Both cells are read in any case, so that the compiler can take many at once.
+fn fill_line(cells: &mut [u16], start: usize, step: usize)
+    requires some { 0 < step }
+    requires before { step ≤ start }
+    requires inside { start + step ≤ length cells.old }
+    ensures below { (i : ℕ) → i < start → slice_index cells.new i ≡ slice_index cells.old i }
+    ensures here { (i : ℕ) → start ≤ i + step → i < start
+        → slice_index cells.new (i + step)
+        ≡ (if slice_index cells.old (i + step) == BLANK then slice_index cells.old i else slice_index cells.old (i + step)) }
+    ensures above { (i : ℕ) → start + step ≤ i → slice_index cells.new i ≡ slice_index cells.old i }
+{
+    for i in start..start + step {
+        let before = cells[i - step];
+        let own = cells[i];
+        cells[i] = if own == BLANK { before } else { own };
+    }
+}
+
+/// Whether the cells are the marks, and where those are blank what the cell one before has.
+///
+/// All cells are read in any case, so that the compiler can take many at once.
+pub(crate) fn are_filled(marks: &[u16], cells: &[u16]) -> bool
+    requires some { 0 < length marks.now }
+    requires sizes { length cells.now ≡ length marks.now }
+    ensures { IsTrue result ↔ Fills 1 marks.now cells.now }
+{
+    let mut filled = cells[0] == marks[0];
+    for i in 1..cells.len() {
+        let before = cells[i - 1];
+        let mark = marks[i];
+        let face = if mark == BLANK { before } else { mark };
+        if cells[i] != face {
+            filled = false;
         }
     }
+    filled
 }
 
 /// Whether the faces of all parts stand beside them.

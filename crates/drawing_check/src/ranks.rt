@@ -42,7 +42,7 @@ fn write_ranks(ranks: &mut [usize], lines: &[Part], places: &[Part])
 }
 
 /// The greatest coordinate among the lines of the first parts and the ends of the second.
-fn greatest(lines: &[Part], places: &[Part]) -> usize
+pub(crate) fn greatest(lines: &[Part], places: &[Part]) -> usize
     ensures lines { All (λ s. s.line ≤ result) lines.now }
     ensures places { All (λ s. (s.from ≤ result) × (s.to ≤ result)) places.now }
 {

@@ -1,15 +1,15 @@
 //! Whether the regions into which a drawing cuts the plane are the faces.
 
-ghost use Rattle.std.specs.Prelude.{◌≡◌, ◌≢◌, ◌↔◌, ◌*◌, ◌<◌, length, All, IsTrue, IfOk, OnOk};
+ghost use Rattle.std.specs.Prelude.{◌≡◌, ◌≢◌, ◌↔◌, ◌+◌, ◌*◌, ◌^◌, ◌<◌, length, All, IsTrue, IfOk, OnOk};
 ghost use Rattle.faces.specs.Planes.{darts, vertices};
 ghost use Rattle.drawing_check.specs.declared.cells.TheConstants.{BLANK};
 ghost use Rattle.drawing_check.specs.Regions.{HasRegions};
-ghost use Rattle.drawing_check.specs.Cells.{HaveFaces, IsWithin, IsSwept, HasSides, Agree, by_columns, by_rows};
+ghost use Rattle.drawing_check.specs.Cells.{HaveFaces, IsWithin, HasMarks, Fills, IsSwept, HasSides, Agree, by_columns, by_rows};
 
-use crate::cells::{CellOrder, sides_hold, sweep};
+use crate::cells::{CellOrder, are_filled, mark, sides_hold, sweep};
 use crate::drawing::Drawing;
 use crate::parts::list_parts;
-use crate::ranks::{count_ranks, list_ranks, rank_list};
+use crate::ranks::{count_ranks, greatest, list_ranks, rank_list};
 use crate::scratch::Scratch;
 use faces::Plane;
 use std::alloc::{AllocError, Global};
@@ -58,8 +58,39 @@ pub fn has_regions_in(
     sweeps_agree(scratch, plane.outer())
 }
 
-/// Whether the listed parts tell the same both ways, and the truth beside themselves. They are ranked then.
+/// How many cells a table may have for each upright part, so that coordinates are not ranked.
+const FEW_CELLS: usize = 32;
+
+/// Whether the listed parts tell the same both ways, and the truth beside themselves. They are ranked if that saves much.
 fn sweeps_agree(scratch: &mut Scratch, outer: u16) -> Result<bool, AllocError>
+    requires outer { outer ≢ BLANK }
+    requires uprights { HaveFaces scratch.old.uprights.items }
+    requires levels { HaveFaces scratch.old.levels.items }
+    ensures { IfOk result (λ agree. IsTrue agree ↔ Agree scratch.old.uprights.items scratch.old.levels.items outer) }
+{
+    let east = greatest(&scratch.uprights, &scratch.levels);
+    let north = greatest(&scratch.levels, &scratch.uprights);
+    if are_few(east, north, scratch.uprights.len()) {
+        return tables_agree(scratch, east + 2, north + 2, outer);
+    }
+    ranked_agree(scratch, outer)
+}
+
+/// Whether a table over all coordinates to these has few cells for so many parts.
+fn are_few(east: usize, north: usize, parts: usize) -> bool
+    ensures { IsTrue result → (east + 2 < 2 ^ 64) × (north + 2 < 2 ^ 64) }
+{
+    let (Some(columns), Some(rows)) = (east.checked_add(2), north.checked_add(2)) else {
+        return false;
+    };
+    match columns.checked_mul(rows) {
+        Some(cells) => cells / FEW_CELLS <= parts,
+        None => false,
+    }
+}
+
+/// The same by the ranks of the parts' coordinates.
+fn ranked_agree(scratch: &mut Scratch, outer: u16) -> Result<bool, AllocError>
     requires outer { outer ≢ BLANK }
     requires uprights { HaveFaces scratch.old.uprights.items }
     requires levels { HaveFaces scratch.old.levels.items }
@@ -74,7 +105,9 @@ fn sweeps_agree(scratch: &mut Scratch, outer: u16) -> Result<bool, AllocError>
     tables_agree(scratch, columns, rows, outer)
 }
 
-/// Whether both tables of so many columns and rows are the same, and the faces of all parts stand beside them.
+/// Whether the table that the level parts tell is what the upright ones tell, and the faces of all parts stand beside them.
+///
+/// It has so many columns and rows.
 fn tables_agree(
     scratch: &mut Scratch,
     columns: usize,
@@ -85,16 +118,15 @@ fn tables_agree(
     requires some_rows { 0 < rows }
     requires uprights { All (IsWithin (by_columns columns rows)) scratch.old.uprights.items }
     requires levels { All (IsWithin (by_rows columns rows)) scratch.old.levels.items }
-    requires upright_faces { HaveFaces scratch.old.uprights.items }
-    requires level_faces { HaveFaces scratch.old.levels.items }
+    requires faces { HaveFaces scratch.old.levels.items }
     requires outer { outer ≢ BLANK }
-    ensures size { OnOk result ((length scratch.new.eastward.items ≡ columns * rows) × (length scratch.new.northward.items ≡ columns * rows)) }
-    ensures eastward { OnOk result (IsSwept (by_columns columns rows) scratch.old.uprights.items outer scratch.new.eastward.items) }
-    ensures northward { OnOk result (IsSwept (by_rows columns rows) scratch.old.levels.items outer scratch.new.northward.items) }
+    ensures size { OnOk result ((length scratch.new.marks.items ≡ columns * rows) × (length scratch.new.cells.items ≡ columns * rows)) }
+    ensures marks { OnOk result (HasMarks (by_columns columns rows) scratch.old.uprights.items outer scratch.new.marks.items) }
+    ensures cells { OnOk result (IsSwept (by_rows columns rows) scratch.old.levels.items outer scratch.new.cells.items) }
     ensures agree { IfOk result (λ agree. IsTrue agree
-        ↔ ((scratch.new.eastward.items ≡ scratch.new.northward.items)
-        × All (HasSides (by_columns columns rows) scratch.new.eastward.items) scratch.old.uprights.items
-        × All (HasSides (by_rows columns rows) scratch.new.northward.items) scratch.old.levels.items)) }
+        ↔ (Fills 1 scratch.new.marks.items scratch.new.cells.items
+        × All (HasSides (by_columns columns rows) scratch.new.cells.items) scratch.old.uprights.items
+        × All (HasSides (by_rows columns rows) scratch.new.cells.items) scratch.old.levels.items)) }
 {
     let Some(size) = columns.checked_mul(rows) else {
         return Err(AllocError);
@@ -111,23 +143,17 @@ fn tables_agree(
         line_step: columns,
         place_step: 1,
     };
-    sweep(
-        &mut scratch.eastward,
+    mark(
+        &mut scratch.marks,
         size,
         &by_columns,
         &scratch.uprights,
         outer,
     )?;
-    sweep(
-        &mut scratch.northward,
-        size,
-        &by_rows,
-        &scratch.levels,
-        outer,
-    )?;
+    sweep(&mut scratch.cells, size, &by_rows, &scratch.levels, outer)?;
     Ok(
-        scratch.eastward.as_slice() == scratch.northward.as_slice()
-            && sides_hold(&scratch.eastward, &by_columns, &scratch.uprights)
-            && sides_hold(&scratch.northward, &by_rows, &scratch.levels),
+        are_filled(&scratch.marks, &scratch.cells)
+            && sides_hold(&scratch.cells, &by_columns, &scratch.uprights)
+            && sides_hold(&scratch.cells, &by_rows, &scratch.levels),
     )
 }

@@ -17,9 +17,9 @@ pub struct Scratch {
     /// The ranks of coordinates.
     pub(crate) columns: Vec<usize>,
     pub(crate) rows: Vec<usize>,
-    /// The face of each cell, as the upright parts tell, and as the level ones do.
-    pub(crate) eastward: Vec<u16>,
-    pub(crate) northward: Vec<u16>,
+    /// The faces east of upright parts, and the face of each cell as the level ones tell.
+    pub(crate) marks: Vec<u16>,
+    pub(crate) cells: Vec<u16>,
 }
 
 impl Scratch {
@@ -34,8 +34,8 @@ impl Scratch {
             levels: Vec::new(alloc),
             columns: Vec::new(alloc),
             rows: Vec::new(alloc),
-            eastward: Vec::new(alloc),
-            northward: Vec::new(alloc),
+            marks: Vec::new(alloc),
+            cells: Vec::new(alloc),
         }
     }
 }

@@ -1,59 +1,25 @@
-use Rattle.std.proofs.Common.{◌≡◌, ◌+◌, ℕ, List, ap, ◌∙◌}
-use Rattle.drawing_check.specs.Cells.{by_columns, by_rows}
-use Rattle.drawing_check.specs.Ranks.{last_rank}
-use Rattle.drawing_check.proofs.RankedParts.{ByRank, by_rank, ranked_within, ranked_faces, agreed}
+use Rattle.std.proofs.Common.{◌≤◌, ◌+◌, ℕ, refl, subst, arith, All}
+use Rattle.drawing_check.specs.declared.parts.Part.{Part}
+use Rattle.drawing_check.proofs.RankedParts.{IsBelow, themselves, own_last, by_themselves, all_below, agreed}
 use Rattle.drawing_check.proofs.regions.sweeps_agree.Goals as goal
 
-pub tables_agree-requires-clause-uprights : goal.tables_agree-requires-clause-uprights
-tables_agree-requires-clause-uprights c =
-    ranked_within c.list_ranks.new.ranks.items c.list_ranks-2.new.ranks.items c.args.scratch.now.uprights.items c.rank_list.new.parts.items
-    (by_columns c.count_ranks-columns.result c.count_ranks-rows.result)
-    (by_rank c.list_ranks.new.ranks.items c.list_ranks-2.new.ranks.items c.deref-5.result.now c.deref-6.result.now c.args.scratch.now.uprights.items c.deref.result.now c.deref-4.result.now c.rank_list.new.parts.items
-    c.in_ok-list_ranks.ensures.table c.in_ok-list_ranks-2.ensures.table c.in_ok-list_ranks.ensures.lines c.deref.ensures.value c.in_ok-list_ranks-2.ensures.places c.deref-4.ensures.value
-    c.deref-5.ensures.value c.deref-6.ensures.value c.rank_list.ensures)
-    (c.count_ranks-columns.ensures ∙ ap (λ (ns : List ℕ). last_rank ns + 1) c.deref-9.ensures.value)
-    (c.count_ranks-rows.ensures ∙ ap (λ (ns : List ℕ). last_rank ns + 1) c.deref-10.ensures.value)
-
-pub tables_agree-requires-clause-levels : goal.tables_agree-requires-clause-levels
-tables_agree-requires-clause-levels c =
-    ranked_within c.list_ranks-2.new.ranks.items c.list_ranks.new.ranks.items c.args.scratch.now.levels.items c.rank_list-2.new.parts.items
-    (by_rows c.count_ranks-columns.result c.count_ranks-rows.result)
-    (by_rank c.list_ranks-2.new.ranks.items c.list_ranks.new.ranks.items c.deref-7.result.now c.deref-8.result.now c.args.scratch.now.levels.items c.deref-3.result.now c.deref-2.result.now c.rank_list-2.new.parts.items
-    c.in_ok-list_ranks-2.ensures.table c.in_ok-list_ranks.ensures.table c.in_ok-list_ranks-2.ensures.lines c.deref-3.ensures.value c.in_ok-list_ranks.ensures.places c.deref-2.ensures.value
-    c.deref-7.ensures.value c.deref-8.ensures.value c.rank_list-2.ensures)
-    (c.count_ranks-rows.ensures ∙ ap (λ (ns : List ℕ). last_rank ns + 1) c.deref-10.ensures.value)
-    (c.count_ranks-columns.ensures ∙ ap (λ (ns : List ℕ). last_rank ns + 1) c.deref-9.ensures.value)
-
-pub tables_agree-requires-clause-upright_faces : goal.tables_agree-requires-clause-upright_faces
-tables_agree-requires-clause-upright_faces c =
-    ranked_faces c.list_ranks.new.ranks.items c.list_ranks-2.new.ranks.items c.args.scratch.now.uprights.items c.rank_list.new.parts.items
-    (by_rank c.list_ranks.new.ranks.items c.list_ranks-2.new.ranks.items c.deref-5.result.now c.deref-6.result.now c.args.scratch.now.uprights.items c.deref.result.now c.deref-4.result.now c.rank_list.new.parts.items
-    c.in_ok-list_ranks.ensures.table c.in_ok-list_ranks-2.ensures.table c.in_ok-list_ranks.ensures.lines c.deref.ensures.value c.in_ok-list_ranks-2.ensures.places c.deref-4.ensures.value
-    c.deref-5.ensures.value c.deref-6.ensures.value c.rank_list.ensures)
-    c.requires.uprights
-
-pub tables_agree-requires-clause-level_faces : goal.tables_agree-requires-clause-level_faces
-tables_agree-requires-clause-level_faces c =
-    ranked_faces c.list_ranks-2.new.ranks.items c.list_ranks.new.ranks.items c.args.scratch.now.levels.items c.rank_list-2.new.parts.items
-    (by_rank c.list_ranks-2.new.ranks.items c.list_ranks.new.ranks.items c.deref-7.result.now c.deref-8.result.now c.args.scratch.now.levels.items c.deref-3.result.now c.deref-2.result.now c.rank_list-2.new.parts.items
-    c.in_ok-list_ranks-2.ensures.table c.in_ok-list_ranks.ensures.table c.in_ok-list_ranks-2.ensures.lines c.deref-3.ensures.value c.in_ok-list_ranks.ensures.places c.deref-2.ensures.value
-    c.deref-7.ensures.value c.deref-8.ensures.value c.rank_list-2.ensures)
-    c.requires.levels
-
-pub returns : goal.returns
-returns c =
-    let us : ByRank c.list_ranks.new.ranks.items c.list_ranks-2.new.ranks.items c.args.scratch.now.uprights.items c.rank_list.new.parts.items =
-    by_rank c.list_ranks.new.ranks.items c.list_ranks-2.new.ranks.items c.deref-5.result.now c.deref-6.result.now c.args.scratch.now.uprights.items c.deref.result.now c.deref-4.result.now c.rank_list.new.parts.items
-    c.in_ok-list_ranks.ensures.table c.in_ok-list_ranks-2.ensures.table c.in_ok-list_ranks.ensures.lines c.deref.ensures.value c.in_ok-list_ranks-2.ensures.places c.deref-4.ensures.value
-    c.deref-5.ensures.value c.deref-6.ensures.value c.rank_list.ensures in
-    let ls : ByRank c.list_ranks-2.new.ranks.items c.list_ranks.new.ranks.items c.args.scratch.now.levels.items c.rank_list-2.new.parts.items =
-    by_rank c.list_ranks-2.new.ranks.items c.list_ranks.new.ranks.items c.deref-7.result.now c.deref-8.result.now c.args.scratch.now.levels.items c.deref-3.result.now c.deref-2.result.now c.rank_list-2.new.parts.items
-    c.in_ok-list_ranks-2.ensures.table c.in_ok-list_ranks.ensures.table c.in_ok-list_ranks-2.ensures.lines c.deref-3.ensures.value c.in_ok-list_ranks.ensures.places c.deref-2.ensures.value
-    c.deref-7.ensures.value c.deref-8.ensures.value c.rank_list-2.ensures in
-    let w = c.count_ranks-columns.result in
-    let h = c.count_ranks-rows.result in
-    let is_w : w ≡ last_rank c.list_ranks.new.ranks.items + 1 = c.count_ranks-columns.ensures ∙ ap (λ (ns : List ℕ). last_rank ns + 1) c.deref-9.ensures.value in
-    let is_h : h ≡ last_rank c.list_ranks-2.new.ranks.items + 1 = c.count_ranks-rows.ensures ∙ ap (λ (ns : List ℕ). last_rank ns + 1) c.deref-10.ensures.value in
-    agreed c.list_ranks.new.ranks.items c.list_ranks-2.new.ranks.items c.args.scratch.now.uprights.items c.args.scratch.now.levels.items
-    c.rank_list.new.parts.items c.rank_list-2.new.parts.items w h c.args.outer c.tables_agree.new.scratch.eastward.items c.tables_agree.new.scratch.northward.items c.tables_agree.result us ls is_w is_h
-    c.tables_agree.ensures.size c.tables_agree.ensures.eastward c.tables_agree.ensures.northward c.tables_agree.ensures.agree
+pub returns-then-are_few : goal.returns-then-are_few
+returns-then-are_few c =
+    let m = c.greatest-east.result in
+    let n = c.greatest-north.result in
+    let w : ℕ = m + 2 in
+    let h : ℕ = n + 2 in
+    let us = c.args.scratch.now.uprights.items in
+    let ls = c.args.scratch.now.levels.items in
+    let below_us : All (IsBelow w h) us =
+    all_below m n w h us refl refl
+    (subst (All (λ (s : Part). s.line ≤ m)) c.deref.ensures.value c.greatest-east.ensures.lines)
+    (subst (All (λ (s : Part). (s.from ≤ n) × (s.to ≤ n))) c.deref-4.ensures.value c.greatest-north.ensures.places) in
+    let below_ls : All (IsBelow h w) ls =
+    all_below n m h w ls refl refl
+    (subst (All (λ (s : Part). s.line ≤ n)) c.deref-3.ensures.value c.greatest-north.ensures.lines)
+    (subst (All (λ (s : Part). (s.from ≤ m) × (s.to ≤ m))) c.deref-2.ensures.value c.greatest-east.ensures.places) in
+    agreed (themselves w) (themselves h) us ls us ls w h c.args.outer c.tables_agree.new.scratch.marks.items c.tables_agree.new.scratch.cells.items c.tables_agree.result
+    (by_themselves w h us (omega arith) (omega arith) below_us) (by_themselves h w ls (omega arith) (omega arith) below_ls)
+    (own_last w (omega arith)) (own_last h (omega arith)) (omega arith) c.requires.uprights c.requires.outer
+    c.tables_agree.ensures.size c.tables_agree.ensures.marks c.tables_agree.ensures.cells c.tables_agree.ensures.agree
