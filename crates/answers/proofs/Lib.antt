@@ -1,1 +1,2 @@
 pub mod Lengths
+pub mod Straight

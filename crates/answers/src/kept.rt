@@ -1,18 +1,22 @@
 //! Records that are answered one after another on the caller's thread, in memory that is kept.
 
-ghost use Rattle.std.specs.Prelude.{◌≡◌, IfOk};
+ghost use Rattle.std.specs.Prelude.{◌≡◌, IfOk, IfErr};
 ghost use Rattle.drawing_check.specs.Draws.{Draws};
 ghost use Rattle.drawing_check.specs.Regions.{HasRegions};
-ghost use Rattle.entries.specs.Drawn.{HasPoints};
+ghost use Rattle.entries.specs.declared.cause.Cause.TheVariants.{Wide};
+ghost use Rattle.entries.specs.Drawn.{HasPoints, IsCause};
+ghost use Rattle.answers.specs.Kept.{IsKeptPlane, IsKeptFault, AreDrawnStraight};
 ghost use Rattle.answers.specs.Lengths.{IsNear, IsNoLonger, IsQuick};
 ghost use Rattle.answers.specs.Steps.{IsShaped};
 
 use crate::drawing::{DrawScratch, draw};
 use crate::fault::ShapeFault;
+use crate::kept_plane::{DrawFault, KeptFault, KeptPlane};
 use crate::shaped_plane::ShapedPlane;
-use crate::shaping::ShapeScratch;
+use crate::shaping::{ShapeScratch, with_shape_keeping};
 use crate::stages::{embed, shape};
 use common::{Choice, DrawingKind};
+use conditions::Conditions;
 use drawing_check::Drawing;
 use planar_code::Record;
 use std::alloc::{AllocError, Global};
@@ -88,6 +92,76 @@ impl RecordScratch {
         )? {
             Ok(drawing) => Ok(drawing),
             Err(_) => unreachable!(),
+        }
+    }
+
+    /// The plane of a record with the chosen outer face among those that may be outside, a least shape of those that keep
+    /// edges straight, and prices that prove it.
+    ///
+    /// `First` is the face with the most darts of those that may be outside; `Best` the one with which the fewest bends
+    /// are needed; among equals both are the one with the least number, which has the least dart. Nothing is drawn.
+    ///
+    /// # Errors
+    ///
+    /// `Record` if the record has no plane; `Conditions` if its plane has no such shape.
+    pub fn shape_keeping(
+        &mut self,
+        alloc: Global,
+        rec: &Record,
+        conditions: &Conditions<'_>,
+        choice: Choice,
+    ) -> Result<KeptPlane, KeptFault>
+        ensures kept { IfOk result (IsKeptPlane conditions.now choice rec.now) }
+        ensures fault { IfErr result (IsKeptFault conditions.now choice rec.now) }
+    {
+        let plane = match embed(alloc, &mut self.planes, rec) {
+            Ok(plane) => plane,
+            Err(fault) => return Err(KeptFault::Record(fault)),
+        };
+        match with_shape_keeping(alloc, &mut self.shapes, plane, conditions, choice) {
+            Ok(made) => Ok(made),
+            Err(fault) => Err(KeptFault::Conditions(fault)),
+        }
+    }
+
+    /// Points that draw a shape that keeps conditions, as [`RecordScratch::draw`] draws a least one. An edge without turns
+    /// has no corners.
+    ///
+    /// # Errors
+    ///
+    /// `Wide` if the shape, which may have more bends than a least one, needs points outside the grid; `Memory` if memory
+    /// runs out.
+    pub fn draw_keeping(
+        &mut self,
+        alloc: Global,
+        kept: &KeptPlane,
+        drawing_kind: DrawingKind,
+    ) -> Result<Drawing, DrawFault>
+        ensures points { IfOk result (HasPoints kept.now.plane) }
+        ensures draws { IfOk result (Draws kept.now.plane kept.now.shape) }
+        ensures regions { IfOk result (HasRegions kept.now.plane) }
+        ensures straight { IfOk result (AreDrawnStraight kept.now.plane kept.now.shape) }
+        ensures quick { drawing_kind ≡ DrawingKind.Quick
+            → IfOk result (IsQuick kept.now.plane kept.now.shape) }
+        ensures no_longer { IfOk result (IsNoLonger kept.now.plane kept.now.shape) }
+        ensures near { IfOk result (IsNear kept.now.plane kept.now.shape) }
+        ensures wide { IfErr result (λ fault. fault ≡ DrawFault.Wide → IsCause kept.now.plane kept.now.shape Wide) }
+    {
+        // Only the proof needs this: `graph` says that the plane is one.
+        let _graph = kept.plane.graph();
+        let drawn = draw(
+            alloc,
+            &mut self.drawings,
+            &kept.plane,
+            &kept.shape,
+            &kept.directions,
+            drawing_kind,
+        );
+        match drawn {
+            Ok(Ok(drawing)) => Ok(drawing),
+            // There is no other cause.
+            Ok(Err(_)) => Err(DrawFault::Wide),
+            Err(AllocError) => Err(DrawFault::Memory),
         }
     }
 }

@@ -1,18 +1,22 @@
 //! How a plane gets its least shape and the directions of its darts.
 
-ghost use Rattle.std.specs.Prelude.{◌≡◌, ℕ, List, IfOk, OnOk};
+ghost use Rattle.std.specs.Prelude.{◌≡◌, ℕ, List, IfOk, IfErr, OnOk};
 ghost use Rattle.ortho_rep.specs.Representation.{IsShape, IsLeast};
 ghost use Rattle.ortho_rep.specs.Prices.{IsProof};
 ghost use Rattle.compact.specs.Monotone.{AreDirectionsOf};
+ghost use Rattle.conditions.specs.Chosen.{IsKeepFault};
+ghost use Rattle.answers.specs.Kept.{IsKeptPlane};
 ghost use Rattle.answers.specs.Steps.{IsTracedPlane, IsPlaneOf, IsShaped};
 ghost use Rattle.common.specs.declared.choice.Choice.{Choice};
 
 use crate::fault::ShapeFault;
 use crate::holder::{Holder, Shell};
+use crate::kept_plane::KeptPlane;
 use crate::shaped_plane::{ShapedPlane, SpentShapedPlane};
 use crate::spent::ReturnQueue;
 use common::{Choice, DrawingKind};
 use compact::{DirectionSearch, directions_in};
+use conditions::{Conditions, KeepFault, shape_keeping_in};
 use faces::Plane;
 use ortho_rep::{Prices, Shape, best_shape, least_shape_in};
 use std::alloc::{AllocError, Global};
@@ -156,6 +160,42 @@ pub(crate) fn with_least_shape(
         prices,
         directions,
     })
+}
+
+/// The plane with a least shape of those that keep conditions; its outer face is then the chosen one of those that may be
+/// outside.
+///
+/// # Errors
+///
+/// Those of [`shape_keeping_in`]; the plane is dropped then.
+pub(crate) fn with_shape_keeping(
+    alloc: Global,
+    scratch: &mut ShapeScratch,
+    mut plane: Plane,
+    conditions: &Conditions<'_>,
+    choice: Choice,
+) -> Result<KeptPlane, KeepFault>
+    ensures kept { IfOk result (λ made. (bytes : List ℕ)
+        → IsTracedPlane bytes plane → IsKeptPlane conditions.now choice bytes made) }
+    ensures fault { IfErr result (IsKeepFault conditions.now choice plane) }
+{
+    let shapes = &mut scratch.shapes;
+    let (shape, prices) = match shape_keeping_in(alloc, shapes, &mut plane, conditions, choice) {
+        Ok(found) => found,
+        Err(fault) => return Err(fault),
+    };
+    // Only the proof needs this: `graph` says that the plane still is one.
+    let _graph = plane.graph();
+    let spare = mem::replace(&mut scratch.directions, Vec::new(alloc));
+    match directions_of(alloc, &mut scratch.search, spare, &plane, &shape) {
+        Ok(directions) => Ok(KeptPlane {
+            plane,
+            shape,
+            prices,
+            directions,
+        }),
+        Err(AllocError) => Err(KeepFault::Memory),
+    }
 }
 
 /// A least shape of the plane, whose outer face is then the chosen one, and prices that prove it least.

@@ -1,0 +1,25 @@
+use Rattle.std.proofs.Common.{IfOk, subst}
+use Rattle.entries.specs.Drawn.{IsCause, IsDrawn, IsDrawingOf}
+use Rattle.drawing_laws.proofs.WideOnly.{shown_wide}
+use Rattle.answers.specs.Lengths.{IsQuick}
+use Rattle.answers.proofs.Straight.{drawn_straight}
+use Rattle.answers.proofs.kept.RecordScratch.draw_keeping.Goals as goal
+
+pub returns-in-Ok-Ok-clause-straight : goal.returns-in-Ok-Ok-clause-straight
+returns-in-Ok-Ok-clause-straight c =
+    let plane = c.args.kept.now.plane in
+    let shape = c.args.kept.now.shape in
+    let drawn : IsDrawingOf plane shape c.in-Ok-Ok.drawing = subst (IsDrawn plane shape) c.in-Ok-Ok.field-0-is c.in-Ok-Ok.ensures.drawn in
+    drawn_straight plane shape c.in-Ok-Ok.drawing drawn.draws
+
+pub returns-in-Ok-Ok-clause-quick : goal.returns-in-Ok-Ok-clause-quick
+returns-in-Ok-Ok-clause-quick c asked =
+    subst (λ drawn. IfOk drawn (IsQuick c.args.kept.now.plane c.args.kept.now.shape)) c.in-Ok-Ok.field-0-is (c.in-Ok-Ok.ensures.quick asked)
+
+pub returns-in-Ok-Err-clause-wide : goal.returns-in-Ok-Err-clause-wide
+returns-in-Ok-Err-clause-wide c _ =
+    let plane = c.args.kept.now.plane in
+    let shape = c.args.kept.now.shape in
+    let cause = c.in-Ok-Err.field-0-0 in
+    let is : IsCause plane shape cause = subst (IsDrawn plane shape) c.in-Ok-Err.field-0-is c.in-Ok-Err.ensures.drawn in
+    subst (IsCause plane shape) (shown_wide plane shape is.boxes cause c.graph-graph.ensures.plane is.boxed is.shown) is

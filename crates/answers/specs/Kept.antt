@@ -1,0 +1,45 @@
+-- What is known of a record whose layout keeps conditions.
+use Rattle.std.specs.Prelude.{◌≡◌, ◌⊎◌, ℕ, ◌<◌, true, List, []}
+use Rattle.planar_code.specs.Stream.{lists_of}
+use Rattle.common.specs.declared.choice.Choice.{Choice}
+use Rattle.faces.specs.Planes.{PlaneModel, IsPlane, darts, reverse_dart}
+use Rattle.ortho_rep.specs.Shapes.{ShapeModel, turns_at}
+use Rattle.ortho_rep.specs.Points.{PointsModel, corners_at}
+use Rattle.ortho_rep.specs.Edges.{is_lesser, edge_number}
+use Rattle.conditions.specs.declared.conditions.Conditions.{Conditions}
+use Rattle.conditions.specs.declared.fault.KeepFault.{KeepFault}
+use Rattle.conditions.specs.Asked.{IsAmong}
+use Rattle.conditions.specs.Chosen.{IsKept, IsKeepFault}
+use Rattle.answers.specs.declared.kept_plane.KeptPlane.{KeptPlane}
+use Rattle.answers.specs.declared.kept_plane.KeptFault.{KeptFault}
+use Rattle.answers.specs.declared.kept_plane.KeptFault.TheVariants as fault
+use Rattle.answers.specs.Steps.{IsTracedPlane, IsRefused}
+
+-- the plane of the record's bytes with the chosen outer face among those that may be outside, and a shape of it with the
+-- fewest bends of all that keep the edges straight, as the prices prove
+pub record IsKeptPlane (conditions : Conditions) (choice : Choice) (bytes : List ℕ) (made : KeptPlane) : Type 0 where
+  pub lists : made.plane.lists ≡ lists_of bytes
+  pub rules : IsPlane made.plane
+  pub kept : IsKept conditions choice made.plane made.shape made.prices
+
+-- the plane of the record, with its greatest face as the outer one, shows why no shape keeps the conditions
+pub record IsUnkept (conditions : Conditions) (choice : Choice) (bytes : List ℕ) (fault : KeepFault) : Type 0 where
+  pub plane : PlaneModel
+  pub traced : IsTracedPlane bytes plane
+  pub shown : IsKeepFault conditions choice plane fault
+
+-- what a fault shows of the record
+abbrev pub IsKeptFault : Conditions → Choice → List ℕ → KeptFault → Type 0
+IsKeptFault conditions choice bytes (fault.Record fault) = IsRefused bytes fault
+IsKeptFault conditions choice bytes (fault.Conditions fault) = IsUnkept conditions choice bytes fault
+
+-- an edge without turns has no corners
+abbrev pub AreDrawnStraight : PlaneModel → ShapeModel → PointsModel → Type 0
+AreDrawnStraight plane shape points = (d : ℕ) → d < darts plane → is_lesser plane d ≡ true → turns_at shape d ≡ []
+    → corners_at points (edge_number plane d) ≡ []
+
+-- no edge that is to stay straight has corners
+abbrev pub AreKeptStraight : Conditions → PlaneModel → PointsModel → Type 0
+AreKeptStraight conditions plane points = (d : ℕ) → d < darts plane → is_lesser plane d ≡ true
+    → IsAmong plane conditions.straight.now d ⊎ IsAmong plane conditions.straight.now (reverse_dart plane d)
+    → corners_at points (edge_number plane d) ≡ []

@@ -1,0 +1,41 @@
+//! Planes with a shape that keeps conditions, and why a record has none.
+
+ghost use Rattle.ortho_rep.specs.Representation.{IsShape};
+ghost use Rattle.compact.specs.Monotone.{AreDirectionsOf};
+ghost use Rattle.std.proofs.Props.{props};
+
+use crate::fault::ShapeFault;
+use conditions::KeepFault;
+use faces::Plane;
+use ortho_rep::{Prices, Shape};
+
+/// A plane with an orthogonal representation, and the directions in which its darts arrive at their heads.
+///
+/// Of all representations that keep conditions it has the fewest bends, as the prices prove: `shape_keeping` says so.
+#[derive(Drop)]
+pub struct KeptPlane {
+    pub plane: Plane,
+    pub shape: Shape,
+    pub prices: Prices,
+    pub directions: Vec<u8>,
+    pub ghost shape_is: { IsShape plane shape } by { Prim.hlevel props },
+    pub ghost directed: { AreDirectionsOf plane shape directions.items } by { Prim.hlevel props },
+}
+
+/// Why a record has no shape that keeps conditions.
+#[derive(Clone, Copy, Debug, PartialEq, Eq)]
+pub enum KeptFault {
+    /// It has no plane.
+    Record(ShapeFault),
+    /// Its plane has no such shape.
+    Conditions(KeepFault),
+}
+
+/// Why a shape is not drawn.
+#[derive(Clone, Copy, Debug, PartialEq, Eq)]
+pub enum DrawFault {
+    /// No coordinates in the order of the shape's boxes are in the grid.
+    Wide,
+    /// Memory ran out.
+    Memory,
+}
