@@ -22,23 +22,33 @@ uint32_t planarbend_c_layout(const uint8_t *record, size_t size, uint32_t outer,
 
 /* ---- memory that is kept */
 
-enum { ALIGNMENT = 16, FIRST_ROOM = 16 << 10, MOST_ROOM = (1 << 20) - 256 };
+enum { ALIGNMENT = 16, HEAD = ALIGNMENT, FIRST_ROOM = 16 << 10, MOST_ROOM = (1 << 20) - 256 };
 
-/*
- * Blocks are cut off one after another from one piece of memory. A call gives all of them back before it returns, so each
- * call begins with the whole piece; of blocks given back before, the last one is used again. Where the piece is too small,
- * malloc gives the block, and the next call finds a greater piece.
- */
+#if defined(__GNUC__)
+/* From a shared library too it is found without a call. */
+#define QUICKLY_FOUND __attribute__((tls_model("initial-exec")))
+#else
+#define QUICKLY_FOUND
+#endif
+
 struct planarbend {
     unsigned char *piece;
     size_t room; /* 0 where there is no piece */
-    size_t used;
-    size_t wanted; /* most bytes of the piece that this call could have used */
-    size_t outside;
 };
 
-/* The object of the call that this thread is in, and else null. */
-static _Thread_local planarbend *current;
+/*
+ * The piece of memory of the object that this thread's call has; all null where it has none.
+ *
+ * Blocks are cut off one after another, each behind its size. A call gives all of them back before it returns, so each call
+ * begins with the whole piece; of blocks given back before, the last one is used again. Where the piece is too small, malloc
+ * gives the block, and the next call finds a greater piece.
+ */
+static _Thread_local struct {
+    unsigned char *piece;
+    unsigned char *next;
+    unsigned char *end; /* HEAD + ALIGNMENT bytes before the end of the piece */
+    size_t outside;     /* bytes of blocks that found no room */
+} lent QUICKLY_FOUND;
 
 struct rattle_given {
     bool is_given;
@@ -54,62 +64,49 @@ static struct rattle_given given(void *block) {
     return result;
 }
 
-static size_t rounded(size_t size) {
-    return (size + ALIGNMENT - 1) / ALIGNMENT * ALIGNMENT;
+/* The bytes of a block of this size with its head: a multiple of ALIGNMENT. */
+static size_t whole_of(size_t size) {
+    return (size + HEAD + ALIGNMENT - 1) & ~(size_t)(ALIGNMENT - 1);
 }
 
-static bool is_inside(const planarbend *object, const void *block) {
-    return object != NULL && (uintptr_t)block - (uintptr_t)object->piece < object->room;
+/* Whether a block of this size may begin there. No size is greater than PTRDIFF_MAX. */
+static bool has_room(const unsigned char *start, size_t size) {
+    return (ptrdiff_t)size < lent.end - start;
 }
 
-/* A block of the piece, which keeps its size in front of it; or null, where the piece has no room. */
-static void *block_of(planarbend *object, size_t size) {
-    size_t whole = rounded(size) + ALIGNMENT;
-    if (whole < size || whole > object->room - object->used) {
-        object->outside += whole;
-        return NULL;
-    }
-    unsigned char *at = object->piece + object->used;
-    memcpy(at, &whole, sizeof whole);
-    object->used += whole;
-    if (object->used > object->wanted) object->wanted = object->used;
-    return at + ALIGNMENT;
+static struct rattle_given block_at(unsigned char *start, size_t size) {
+    size_t whole = whole_of(size);
+    memcpy(start, &whole, sizeof whole);
+    lent.next = start + whole;
+    struct rattle_given result = {true, start + HEAD};
+    return result;
 }
 
-static size_t whole_size(const void *block) {
+static struct rattle_given block_outside(size_t size) {
+    lent.outside += size + HEAD + ALIGNMENT;
+    return given(malloc(size > 0 ? size : 1));
+}
+
+static bool is_inside(const void *block) {
+    return (uintptr_t)block - (uintptr_t)lent.piece < (uintptr_t)lent.next - (uintptr_t)lent.piece;
+}
+
+/* Whether no block lies behind this one, which begins there with its head. */
+static bool is_last(const unsigned char *start) {
     size_t whole;
-    memcpy(&whole, (const unsigned char *)block - ALIGNMENT, sizeof whole);
-    return whole;
-}
-
-static bool is_last(const planarbend *object, const void *block) {
-    const unsigned char *start = (const unsigned char *)block - ALIGNMENT;
-    return start + whole_size(block) == object->piece + object->used;
+    memcpy(&whole, start, sizeof whole);
+    return start + whole == lent.next;
 }
 
 struct rattle_given rattle_alloc(size_t size, size_t alignment) {
     (void)alignment; /* at most 16 */
-    if (current != NULL) {
-        void *block = block_of(current, size);
-        if (block != NULL) return given(block);
-    }
-    return given(malloc(size > 0 ? size : 1));
-}
-
-/* Makes the last block so large where it stands; false where there is no room. */
-static bool resized(planarbend *object, void *block, size_t size) {
-    size_t whole = whole_size(block), other = rounded(size) + ALIGNMENT;
-    size_t start = object->used - whole;
-    if (other < size || other > object->room - start) return false;
-    memcpy((unsigned char *)block - ALIGNMENT, &other, sizeof other);
-    object->used = start + other;
-    if (object->used > object->wanted) object->wanted = object->used;
-    return true;
+    return has_room(lent.next, size) ? block_at(lent.next, size) : block_outside(size);
 }
 
 struct rattle_given rattle_realloc(void *block, size_t kept, size_t size, size_t alignment) {
-    if (!is_inside(current, block)) return given(realloc(block, size > 0 ? size : 1));
-    if (is_last(current, block) && resized(current, block, size)) return given(block);
+    if (!is_inside(block)) return given(realloc(block, size > 0 ? size : 1));
+    unsigned char *start = (unsigned char *)block - HEAD;
+    if (is_last(start) && has_room(start, size)) return block_at(start, size);
     struct rattle_given other = rattle_alloc(size, alignment);
     if (other.is_given) {
         memcpy(other.block, block, kept);
@@ -119,17 +116,28 @@ struct rattle_given rattle_realloc(void *block, size_t kept, size_t size, size_t
 }
 
 void rattle_dealloc(void *block) {
-    if (!is_inside(current, block)) {
+    if (!is_inside(block)) {
         free(block);
         return;
     }
-    if (is_last(current, block)) current->used -= whole_size(block);
+    unsigned char *start = (unsigned char *)block - HEAD;
+    if (is_last(start)) lent.next = start;
 }
 
-/* After a call: where the piece was too small for it, a piece that is not. Where there is no memory for one, none. */
-static void grow(planarbend *object) {
-    size_t room = object->wanted + object->outside;
-    if (object->outside == 0 || object->room == MOST_ROOM) return;
+/* Lends the memory of an object, if there is one, to the calls of this thread. */
+static void lend(const planarbend *object) {
+    bool has_piece = object != NULL && object->room > 0;
+    lent.piece = lent.next = lent.end = has_piece ? object->piece : NULL;
+    if (has_piece) lent.end += object->room - HEAD - ALIGNMENT;
+    lent.outside = 0;
+}
+
+/* Ends that. Where the piece was too small, the object has a greater one then; where there is no memory for one, none. */
+static void take_back(planarbend *object) {
+    size_t outside = lent.outside;
+    lend(NULL);
+    if (object == NULL || outside == 0 || object->room == MOST_ROOM) return;
+    size_t room = object->room + outside;
     room = room > MOST_ROOM / 2 ? MOST_ROOM : room < FIRST_ROOM ? FIRST_ROOM : 2 * room;
     free(object->piece);
     object->piece = malloc(room);
@@ -168,16 +176,14 @@ int planarbend_layout(planarbend *object, const uint8_t *record, size_t size, in
                       planarbend_counts *counts, const planarbend_lists *lists) {
     static const uint8_t nothing = 0;
     planarbend_counts unwanted;
-    planarbend_lists lent;
-    memset(&lent, 0, sizeof lent);
-    if (lists != NULL) lent = *lists;
-    if (outer < 0 || drawing < 0 || (record == NULL && size > 0) || !without_nulls(&lent)) return PLANARBEND_ARGUMENT;
-    if (object != NULL) object->used = object->wanted = object->outside = 0;
-    current = object;
+    planarbend_lists own;
+    memset(&own, 0, sizeof own);
+    if (lists != NULL) own = *lists;
+    if (outer < 0 || drawing < 0 || (record == NULL && size > 0) || !without_nulls(&own)) return PLANARBEND_ARGUMENT;
+    lend(object);
     uint32_t result = planarbend_c_layout(
-        record == NULL ? &nothing : record, size, (uint32_t)outer, (uint32_t)drawing, counts == NULL ? &unwanted : counts, &lent);
-    current = NULL;
-    if (object != NULL) grow(object);
+        record == NULL ? &nothing : record, size, (uint32_t)outer, (uint32_t)drawing, counts == NULL ? &unwanted : counts, &own);
+    take_back(object);
     return (int)result;
 }
 

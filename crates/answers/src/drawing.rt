@@ -2,11 +2,11 @@
 
 ghost use Rattle.std.specs.Prelude.{◌≡◌, ◌≤◌, ◌*◌, length, IfOk, IfSome};
 ghost use Rattle.faces.specs.Planes.{darts, vertices};
-ghost use Rattle.ortho_rep.specs.Representation.{IsShape};
+ghost use Rattle.ortho_rep.specs.Representation.{IsLeast, IsShape};
 ghost use Rattle.compact.specs.Monotone.{AreDirectionsOf};
 ghost use Rattle.drawing_check.specs.Draws.{Draws};
 ghost use Rattle.drawing_check.specs.Regions.{HasRegions};
-ghost use Rattle.entries.specs.Drawn.{HasPoints, IsDrawn};
+ghost use Rattle.entries.specs.Drawn.{HasPoints, IsDrawingOf, IsDrawn};
 ghost use Rattle.drawing_laws.specs.Least.{AreBelow};
 ghost use Rattle.answers.specs.Lengths.{IsNear, IsNoLonger, IsQuick, edge_length};
 
@@ -150,6 +150,36 @@ pub(crate) fn draw(
         Err((CheckFault::WrongTurn, _)) => Ok(Err(Cause::WrongTurn)),
         Err((CheckFault::Meet, _)) => Ok(Err(Cause::Meet)),
         Err((CheckFault::Memory, _)) => Err(AllocError),
+    }
+}
+
+/// The points of a quick drawing of a least shape, whose darts arrive in these directions: the least ones of its boxes.
+///
+/// That they draw it is proved, so they are not checked.
+pub(crate) fn least_points(
+    alloc: Global,
+    scratch: &mut DrawScratch,
+    plane: &Plane,
+    shape: &Shape,
+    directions: &[u8],
+) -> Result<Points, AllocError>
+    requires shape { IsShape plane.now shape.now }
+    requires least { IsLeast plane.now shape.now }
+    requires directions { AreDirectionsOf plane.now shape.now directions.now }
+    ensures drawn { IfOk result (IsDrawingOf plane.now shape.now) }
+    ensures quick { IfOk result (IsQuick plane.now shape.now) }
+    ensures near { IfOk result (IsNear plane.now shape.now) }
+{
+    // Only the proof needs this: `graph` says that the plane is one.
+    let _graph = plane.graph();
+    let boxes = dissect_along(alloc, &mut scratch.boxes, plane, shape, directions)?;
+    match compact_in(alloc, &mut scratch.points, &boxes) {
+        Ok(points) => {
+            boxes.give_back(&mut scratch.boxes);
+            Ok(points)
+        }
+        Err(CompactFault::Wide) => unreachable!(),
+        Err(CompactFault::Memory) => Err(AllocError),
     }
 }
 

@@ -9,7 +9,7 @@ ghost use Rattle.answers.specs.Kept.{IsKeptPlane, IsKeptFault, AreDrawnStraight}
 ghost use Rattle.answers.specs.Lengths.{IsNear, IsNoLonger, IsQuick};
 ghost use Rattle.answers.specs.Steps.{IsShaped};
 
-use crate::drawing::{DrawScratch, draw};
+use crate::drawing::{DrawScratch, draw, least_points};
 use crate::fault::ShapeFault;
 use crate::kept_plane::{DrawFault, KeptFault, KeptPlane};
 use crate::shaped_plane::ShapedPlane;
@@ -18,6 +18,7 @@ use crate::stages::{embed, shape};
 use common::{Choice, DrawingKind};
 use conditions::Conditions;
 use drawing_check::Drawing;
+use ortho_rep::Points;
 use planar_code::Record;
 use std::alloc::{AllocError, Global};
 
@@ -93,6 +94,33 @@ impl RecordScratch {
             Ok(drawing) => Ok(drawing),
             Err(_) => unreachable!(),
         }
+    }
+
+    /// The points of a quick drawing of the plane, as `draw` gives them. That they draw its shape is proved, and here
+    /// nothing checks them.
+    ///
+    /// # Errors
+    ///
+    /// `AllocError` where there is no memory for them or on the way to them.
+    pub fn quick_points(
+        &mut self,
+        alloc: Global,
+        shaped_plane: &ShapedPlane,
+    ) -> Result<Points, AllocError>
+        ensures points { IfOk result (HasPoints shaped_plane.now.plane) }
+        ensures draws { IfOk result (Draws shaped_plane.now.plane shaped_plane.now.shape) }
+        ensures regions { IfOk result (HasRegions shaped_plane.now.plane) }
+        ensures quick { IfOk result (IsQuick shaped_plane.now.plane shaped_plane.now.shape) }
+        ensures no_longer { IfOk result (IsNoLonger shaped_plane.now.plane shaped_plane.now.shape) }
+        ensures near { IfOk result (IsNear shaped_plane.now.plane shaped_plane.now.shape) }
+    {
+        least_points(
+            alloc,
+            &mut self.drawings,
+            &shaped_plane.plane,
+            &shaped_plane.shape,
+            &shaped_plane.directions,
+        )
     }
 
     /// The plane of a record with the chosen outer face among those that may be outside, a least shape of those that keep

@@ -44,7 +44,7 @@ fn corners_of(layout: &Layout) -> Option<u32>
     ensures { IfSome result (λ count. count ≡ corners_drawn layout.now.drawing) }
 {
     match &layout.drawing {
-        Some(drawing) => corner_count(layout.shaped_plane.plane.graph().edges(), drawing.points()),
+        Some(points) => corner_count(layout.shaped_plane.plane.graph().edges(), points),
         None => Some(0),
     }
 }

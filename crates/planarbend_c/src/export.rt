@@ -89,8 +89,7 @@ fn write(layout: &Layout, counts: Counts, lists: &mut Lists<'_>)
     put_turns(lists.turns, plane, &shaped_plane.shape);
     put_vertex_prices(lists.vertex_prices, plane, &shaped_plane.prices);
     put_face_prices(lists.face_prices, plane, &shaped_plane.prices);
-    if let Some(drawing) = &layout.drawing {
-        let points = drawing.points();
+    if let Some(points) = &layout.drawing {
         let edges = plane.graph().edges();
         put_points(lists.points, points.vertices());
         put_corner_starts(lists.corner_starts, edges, points);

@@ -8,8 +8,8 @@ ghost use Rattle.planarbend_c.specs.Faults.{IsFault};
 
 use answers::{RecordScratch, ShapeFault, ShapedPlane};
 use common::{Choice, DrawingKind};
-use drawing_check::Drawing;
 use embedding::Rule;
+use ortho_rep::Points;
 use planar_code::{ParseFault, Record};
 use std::alloc::{AllocError, Global};
 
@@ -17,7 +17,7 @@ use std::alloc::{AllocError, Global};
 #[derive(Drop)]
 pub(crate) struct Layout {
     pub shaped_plane: ShapedPlane,
-    pub drawing: Option<Drawing>,
+    pub drawing: Option<Points>,
 }
 
 /// Why bytes are not laid out.
@@ -94,16 +94,20 @@ fn drawn(
     scratch: &mut RecordScratch,
     shaped_plane: &ShapedPlane,
     kind: Option<DrawingKind>,
-) -> Result<Option<Drawing>, Fault>
+) -> Result<Option<Points>, Fault>
     ensures drawn { IfOk result (IsDrawnIfAsked shaped_plane.now.plane shaped_plane.now.shape) }
     ensures asked { IfOk result (λ drawing. is_some drawing ≡ is_some kind) }
     ensures fault { IfErr result (λ fault. fault ≡ Fault.Memory) }
 {
-    let Some(kind) = kind else {
-        return Ok(None);
-    };
-    match scratch.draw(alloc, shaped_plane, kind) {
-        Ok(drawing) => Ok(Some(drawing)),
-        Err(AllocError) => Err(Fault::Memory),
+    match kind {
+        None => Ok(None),
+        Some(DrawingKind::Quick) => match scratch.quick_points(alloc, shaped_plane) {
+            Ok(points) => Ok(Some(points)),
+            Err(AllocError) => Err(Fault::Memory),
+        },
+        Some(DrawingKind::Short) => match scratch.draw(alloc, shaped_plane, DrawingKind::Short) {
+            Ok(drawing) => Ok(Some(drawing.into_points())),
+            Err(AllocError) => Err(Fault::Memory),
+        },
     }
 }
