@@ -20,10 +20,12 @@ pub fn neighbours_of(boxes: &Boxes, around: Vec<u32>) -> Result<Vec<u32>, AllocE
     ensures count { IfOk result (λ around. length around.items ≡ 4 * boxes.now.vertices) }
 {
     let mut around = filled(around, 4 * boxes.vertices() as usize, NO_VERTEX)?;
-    for dart in 0..boxes.darts() {
-        let from = boxes.head(boxes.reverse(dart));
-        let way = boxes.direction(dart).quarters();
-        around[4 * from as usize + usize::from(way)] = boxes.head(dart);
+    let heads = boxes.heads();
+    let reverse_darts = boxes.reverse_darts();
+    let directions = boxes.directions();
+    for dart in 0..boxes.darts() as usize {
+        let from = heads[reverse_darts[dart] as usize];
+        around[4 * from as usize + usize::from(directions[dart])] = heads[dart];
     }
     Ok(around)
 }

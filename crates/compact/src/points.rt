@@ -90,7 +90,7 @@ pub fn compact(alloc: Global, boxes: &Boxes) -> Result<Points, CompactFault>
 ///
 /// # Errors
 ///
-/// `Wide` and `Memory` as `compact`; the buffers of the scratch are then gone.
+/// `Wide` and `Memory` as `compact`; buffers of the scratch are then gone.
 pub fn compact_in(
     alloc: Global,
     scratch: &mut Scratch,
@@ -99,20 +99,18 @@ pub fn compact_in(
     ensures least { IfOk result (AreLeastPoints boxes.now) }
     ensures fault { IfErr result (IsCompactFault boxes.now) }
 {
-    let Scratch {
-        around,
-        x,
-        y,
-        mut by_axis,
-        mut constraints,
-        points,
-        corners,
-        starts,
-    } = mem::replace(scratch, Scratch::empty(alloc));
+    let around = mem::replace(&mut scratch.around, Vec::new(alloc));
+    let x = mem::replace(&mut scratch.x, Vec::new(alloc));
+    let y = mem::replace(&mut scratch.y, Vec::new(alloc));
+    let points = mem::replace(&mut scratch.points, Vec::new(alloc));
+    let corners = mem::replace(&mut scratch.corners, Vec::new(alloc));
+    let starts = mem::replace(&mut scratch.starts, Vec::new(alloc));
     let Ok(around) = neighbours_of(boxes, around) else {
         return Err(CompactFault::Memory);
     };
-    let (x, y) = match least_coordinates(boxes, &around, x, y, &mut by_axis, &mut constraints) {
+    let by_axis = &mut scratch.by_axis;
+    let constraints = &mut scratch.constraints;
+    let (x, y) = match least_coordinates(boxes, &around, x, y, by_axis, constraints) {
         Ok(found) => found,
         Err(fault) => return Err(fault),
     };
@@ -129,8 +127,6 @@ pub fn compact_in(
     scratch.around = around;
     scratch.x = x;
     scratch.y = y;
-    scratch.by_axis = by_axis;
-    scratch.constraints = constraints;
     scratch.corners = corners;
     scratch.starts = starts;
     Ok(points)
