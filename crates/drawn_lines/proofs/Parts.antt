@@ -1,13 +1,15 @@
 -- Lists of values beside lists of what they say.
 use Rattle.std.proofs.Common.{◌≡◌, ℕ, zero, suc, ◌+◌, ◌<◌, List, [], ◌∷◌, ◌++◌, length, map, take, get_or, All, Some, Result, Ok, Err, IfErr, refl, subst, sym, ap, ◌∙◌, arith}
 use Rattle.std.proofs.lemmas.List.{length-map, map-append, map_more}
-use Rattle.serde_json.specs.Data.{Data, array}
+use Rattle.serde_json.specs.Data.{Data, string, array}
 use Rattle.serde_json.specs.View.{view, items_of}
 use Rattle.serde_json.specs.declared.value.Value.{Value}
+use Rattle.ortho_rep.specs.declared.turn.Turn.{Turn}
+use Rattle.ortho_rep.specs.declared.turn.Turn.TheVariants.{Left}
 use Rattle.ortho_rep.specs.declared.points.Point.{Point}
 use Rattle.serde_json.specs.Read.{read}
 use Rattle.ortho_rep.specs.Points.{PointsModel}
-use Rattle.drawn_lines.specs.Said.{natural, array_of, point_data, Says, SaysPoints}
+use Rattle.drawn_lines.specs.Said.{natural, array_of, point_data, Says, SaysPoints, letter_of}
 
 same_items : (ds es : List Data) → items_of ds ≡ items_of es → ds ≡ es
 same_items [] [] e = refl
@@ -68,3 +70,18 @@ line_says line value points is says =
     let same : says.value ≡ value = cc in
     let P : Data → Type 0 = λ d. SaysPoints d points in
     subst P same says.said
+
+letter_is : (letters : List ℕ) (turns : List Turn) (i : ℕ) (n : ℕ) (t : Turn) → letters ≡ map letter_of turns → i < length letters → get_or letters i n ≡ letter_of (get_or turns i t)
+letter_is [] turns i n t e below = absurd (omega arith)
+letter_is (x ∷ xs) [] i n t e below = absurd (omega (arith, ap length e))
+letter_is (x ∷ xs) (b ∷ bs) zero n t e below = cc
+letter_is (x ∷ xs) (b ∷ bs) (suc i) n t e below =
+    let rest : xs ≡ map letter_of bs = cc in
+    letter_is xs bs i n t rest (omega arith)
+
+-- letters of which one is that of no turn are those of no turns
+pub no_turns : (letters : List ℕ) (i : ℕ) → i < length letters → ((turn : Turn) → get_or letters i 0 ≡ letter_of turn → ⊥) → (turns : List Turn) → letters ≡ map letter_of turns → ⊥
+no_turns letters i below none turns said = none (get_or turns i Left) (letter_is letters turns i 0 Left said below)
+
+pub same_texts : (d : Data) (xs ys : List ℕ) → d ≡ string xs → d ≡ string ys → xs ≡ ys
+same_texts d xs ys a b = cc

@@ -1,9 +1,11 @@
 -- The points that a JSON value says: each point is an array of its two coordinates.
 use Rattle.std.specs.Prelude.{◌≡◌, ℕ, ◌^◌, ◌<◌, List, [], ◌∷◌, map, codes, Some, All, IsUtf8}
-use Rattle.serde_json.specs.Data.{Data, number, unsigned, array}
+use Rattle.serde_json.specs.Data.{Data, number, unsigned, string, array}
 use Rattle.serde_json.specs.Find.{get}
 use Rattle.serde_json.specs.Read.{read}
 use Rattle.serde_json.specs.View.{items_of}
+use Rattle.ortho_rep.specs.declared.turn.Turn.{Turn}
+use Rattle.ortho_rep.specs.declared.turn.Turn.TheVariants.{Left, Right}
 use Rattle.ortho_rep.specs.declared.points.Point.{Point}
 use Rattle.ortho_rep.specs.Points.{PointsModel}
 
@@ -45,3 +47,14 @@ IsShort point = (point.x < 2 ^ 32) × (point.y < 2 ^ 32)
 pub record AreShort (points : PointsModel) : Type 0 where
   pub vertices : All IsShort points.vertices
   pub corners : All (All IsShort) points.corners
+
+-- ---- what is claimed of the points
+
+-- L for a left turn, R for a right turn
+abbrev pub letter_of : Turn → ℕ
+letter_of Left = 76
+letter_of Right = 82
+
+-- the turns of a dart in walking order
+abbrev pub turns_data : List Turn → Data
+turns_data turns = string (map letter_of turns)

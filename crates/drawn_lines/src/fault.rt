@@ -14,9 +14,16 @@ pub enum LineFault {
     /// The value has no field `points` with lists of points in `vertices` and `corners`.
     #[error("no points")]
     Points,
-    /// A coordinate is no integer from 0 to 4,294,967,295.
-    #[error("a coordinate is no integer from 0 to 4294967295")]
+    /// A number is no integer of its range: 0 to 4,294,967,295 for coordinates and bends, to 65,535 for a face, to 255 for
+    /// angles.
+    #[error("a number is no integer of its range")]
     Number,
+    /// `angles` is no list.
+    #[error("angles are no list")]
+    Angles,
+    /// `turns` is no list of texts of the letters L and R.
+    #[error("turns are no list of texts of L and R")]
+    Turns,
     /// Memory ran out.
     #[error("out of memory")]
     Memory,

@@ -1,6 +1,6 @@
 //! Parts of a JSON value: numbers and lists.
-ghost use Rattle.std.specs.Prelude.{◌≡◌, ◌≢◌, ◌^◌, ◌<◌, ℕ, IfOk, IfErr, Some, None, map};
-ghost use Rattle.serde_json.specs.Data.{Items, array};
+ghost use Rattle.std.specs.Prelude.{◌≡◌, ◌≢◌, ◌^◌, ◌<◌, ◌≤◌, ℕ, List, option_map, IfOk, IfErr, Some, None, map};
+ghost use Rattle.serde_json.specs.Data.{Items, array, string};
 ghost use Rattle.serde_json.specs.Find.{get};
 ghost use Rattle.serde_json.specs.View.{view, items_of};
 ghost use Rattle.drawn_lines.specs.Said.{natural};
@@ -21,15 +21,44 @@ pub(crate) fn coordinate_in(value: &Value) -> Result<u32, LineFault>
     }
 }
 
-/// The elements of the list that a value is.
-pub(crate) fn list_in(value: &Value) -> Result<&[Value], LineFault>
+/// The natural number, at most `most`, that a value is.
+pub(crate) fn number_in(value: &Value, most: u64) -> Result<u64, LineFault>
+    ensures ok { IfOk result (λ n. view value.now ≡ natural n) }
+    ensures within { IfOk result (λ n. n ≤ most) }
+    ensures none { IfErr result (λ _. (n : ℕ) → n ≤ most → view value.now ≢ natural n) }
+{
+    match value.as_u64() {
+        Some(number) if number <= most => Ok(number),
+        _ => Err(LineFault::Number),
+    }
+}
+
+/// The text that a value is; otherwise this fault.
+pub(crate) fn text_in(value: &Value, otherwise: LineFault) -> Result<&str, LineFault>
+    ensures ok { IfOk result (λ text. view value.now ≡ string text.now) }
+    ensures none { IfErr result (λ _. (text : List ℕ) → view value.now ≢ string text) }
+{
+    match value.as_str() {
+        Some(text) => Ok(text),
+        None => Err(otherwise),
+    }
+}
+
+/// The field of this name that a value has, if any.
+pub(crate) fn claim_in<'v>(value: &'v Value, name: &str) -> Option<&'v Value>
+    ensures { option_map (λ field. view field.now) result ≡ get name.now (view value.now) }
+{
+    value.get(name)
+}
+
+/// The elements of the list that a value is; otherwise this fault.
+pub(crate) fn list_in(value: &Value, otherwise: LineFault) -> Result<&[Value], LineFault>
     ensures ok { IfOk result (λ values. view value.now ≡ array (items_of (map view values.now))) }
     ensures none { IfErr result (λ _. (items : Items) → view value.now ≢ array items) }
-    ensures kind { IfErr result (λ fault. fault ≢ Memory) }
 {
     match value.as_array() {
         Some(values) => Ok(values.as_slice()),
-        None => Err(LineFault::Points),
+        None => Err(otherwise),
     }
 }
 

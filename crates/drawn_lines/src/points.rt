@@ -64,7 +64,7 @@ fn corner_lists(alloc: Global, value: &Value) -> Result<Vec<Vec<Point>>, LineFau
         → (lists : List (List Point)) → All (All IsShort) lists → view value.now ≢ lists_data lists) }
 {
     let mut lists = Vec::new(alloc);
-    let elements = list_in(value)?;
+    let elements = list_in(value, LineFault::Points)?;
     for element in elements {
         let points = match point_list(alloc, element) {
             Ok(points) => points,
@@ -82,7 +82,7 @@ fn point_list(alloc: Global, value: &Value) -> Result<Vec<Point>, LineFault>
         → (points : List Point) → All IsShort points → view value.now ≢ list_data points) }
 {
     let mut points = Vec::new(alloc);
-    let elements = list_in(value)?;
+    let elements = list_in(value, LineFault::Points)?;
     for element in elements {
         let point = match point_in(element) {
             Ok(point) => point,
@@ -98,7 +98,7 @@ fn point_in(value: &Value) -> Result<Point, LineFault>
     ensures ok { IfOk result (λ point. view value.now ≡ point_data point) }
     ensures none { IfErr result (λ _. (point : Point) → IsShort point → view value.now ≢ point_data point) }
 {
-    let coordinates = list_in(value)?;
+    let coordinates = list_in(value, LineFault::Points)?;
     if coordinates.len() != 2 {
         return Err(LineFault::Points);
     }

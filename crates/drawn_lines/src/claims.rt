@@ -1,0 +1,171 @@
+//! What a line claims of its points. A claim that is not made is `None`.
+ghost use Rattle.std.specs.Prelude.{◌≡◌, ◌≢◌, ◌^◌, ◌<◌, ◌≤◌, ℕ, List, IfOk, IfErr, IfNone, IfSome, All, None, Some, option_map, codes, map};
+ghost use Rattle.serde_json.specs.Find.{get};
+ghost use Rattle.serde_json.specs.View.{view};
+ghost use Rattle.ortho_rep.specs.declared.turn.Turn.{Turn};
+ghost use Rattle.ortho_rep.specs.Storage.{lists_in};
+ghost use Rattle.drawn_lines.specs.Said.{natural, array_of, letter_of, turns_data};
+ghost use Rattle.drawn_lines.specs.declared.fault.LineFault.TheVariants.{Memory};
+
+use crate::fault::LineFault;
+use crate::numbers::{claim_in, list_in, number_in, text_in};
+use ortho_rep::Turn;
+use serde_json::Value;
+use std::alloc::Global;
+
+/// The number of bends that a value claims, in the field `bends`.
+///
+/// # Errors
+///
+/// The field is no integer from 0 to 4,294,967,295.
+pub fn bends_in(value: &Value) -> Result<Option<u32>, LineFault>
+    ensures ok { IfOk result (λ said. get (codes "bends") (view value.now) ≡ option_map natural said) }
+    ensures none { IfErr result (λ _. (n : ℕ) → n < 2 ^ 32 → get (codes "bends") (view value.now) ≢ Some (natural n)) }
+    ensures made { IfErr result (λ _. get (codes "bends") (view value.now) ≢ None) }
+{
+    match claim_in(value, "bends") {
+        Some(field) => match number_in(field, 4_294_967_295) {
+            Ok(number) => Ok(Some(number as u32)),
+            Err(fault) => Err(fault),
+        },
+        None => Ok(None),
+    }
+}
+
+/// The outer face that a value claims, in the field `outer`.
+///
+/// # Errors
+///
+/// The field is no integer from 0 to 65,535.
+pub fn outer_in(value: &Value) -> Result<Option<u16>, LineFault>
+    ensures ok { IfOk result (λ said. get (codes "outer") (view value.now) ≡ option_map natural said) }
+    ensures none { IfErr result (λ _. (n : ℕ) → n < 2 ^ 16 → get (codes "outer") (view value.now) ≢ Some (natural n)) }
+    ensures made { IfErr result (λ _. get (codes "outer") (view value.now) ≢ None) }
+{
+    match claim_in(value, "outer") {
+        Some(field) => match number_in(field, 65_535) {
+            Ok(number) => Ok(Some(number as u16)),
+            Err(fault) => Err(fault),
+        },
+        None => Ok(None),
+    }
+}
+
+/// The angles that a value claims, in the field `angles`.
+///
+/// # Errors
+///
+/// `Memory` if memory runs out. Otherwise the field is no list of integers from 0 to 255.
+pub fn angles_in(alloc: Global, value: &Value) -> Result<Option<Vec<u8>>, LineFault>
+    ensures ok { IfOk result (λ said. get (codes "angles") (view value.now)
+        ≡ option_map (λ angles. array_of natural angles.items) said) }
+    ensures none { IfErr result (λ fault. fault ≢ Memory → (angles : List ℕ) → All (λ angle. angle ≤ 255) angles
+        → get (codes "angles") (view value.now) ≢ Some (array_of natural angles)) }
+    ensures made { IfErr result (λ fault. fault ≢ Memory → get (codes "angles") (view value.now) ≢ None) }
+{
+    match claim_in(value, "angles") {
+        Some(field) => match angle_list(alloc, field) {
+            Ok(angles) => Ok(Some(angles)),
+            Err(fault) => Err(fault),
+        },
+        None => Ok(None),
+    }
+}
+
+/// The angles that a value is.
+fn angle_list(alloc: Global, value: &Value) -> Result<Vec<u8>, LineFault>
+    ensures ok { IfOk result (λ angles. view value.now ≡ array_of natural angles.items) }
+    ensures none { IfErr result (λ fault. fault ≢ Memory
+        → (angles : List ℕ) → All (λ angle. angle ≤ 255) angles → view value.now ≢ array_of natural angles) }
+{
+    let mut angles = Vec::new(alloc);
+    let elements = list_in(value, LineFault::Angles)?;
+    for element in elements {
+        let angle = match number_in(element, 255) {
+            Ok(angle) => angle,
+            Err(fault) => return Err(fault),
+        };
+        angles.push(angle as u8)?;
+    }
+    Ok(angles)
+}
+
+/// The turns that a value claims, in the field `turns`.
+///
+/// # Errors
+///
+/// `Memory` if memory runs out. Otherwise the field is no list of texts of the letters L and R.
+pub fn turns_in(alloc: Global, value: &Value) -> Result<Option<Vec<Vec<Turn>>>, LineFault>
+    ensures ok { IfOk result (λ said. get (codes "turns") (view value.now)
+        ≡ option_map (λ strings. array_of turns_data (lists_in strings.items)) said) }
+    ensures none { IfErr result (λ fault. fault ≢ Memory → (strings : List (List Turn))
+        → get (codes "turns") (view value.now) ≢ Some (array_of turns_data strings)) }
+    ensures made { IfErr result (λ fault. fault ≢ Memory → get (codes "turns") (view value.now) ≢ None) }
+{
+    match claim_in(value, "turns") {
+        Some(field) => match string_list(alloc, field) {
+            Ok(strings) => Ok(Some(strings)),
+            Err(fault) => Err(fault),
+        },
+        None => Ok(None),
+    }
+}
+
+/// The strings of turns that a value is.
+fn string_list(alloc: Global, value: &Value) -> Result<Vec<Vec<Turn>>, LineFault>
+    ensures ok { IfOk result (λ strings. view value.now ≡ array_of turns_data (lists_in strings.items)) }
+    ensures none { IfErr result (λ fault. fault ≢ Memory
+        → (strings : List (List Turn)) → view value.now ≢ array_of turns_data strings) }
+{
+    let mut strings = Vec::new(alloc);
+    let elements = list_in(value, LineFault::Turns)?;
+    for element in elements {
+        let turns = match turns_of(alloc, element) {
+            Ok(turns) => turns,
+            Err(fault) => return Err(fault),
+        };
+        strings.push(turns)?;
+    }
+    Ok(strings)
+}
+
+/// The turns that a value is.
+fn turns_of(alloc: Global, value: &Value) -> Result<Vec<Turn>, LineFault>
+    ensures ok { IfOk result (λ turns. view value.now ≡ turns_data turns.items) }
+    ensures none { IfErr result (λ fault. fault ≢ Memory
+        → (turns : List Turn) → view value.now ≢ turns_data turns) }
+{
+    let text = text_in(value, LineFault::Turns)?;
+    match letters_of(alloc, text.as_bytes()) {
+        Ok(turns) => Ok(turns),
+        Err(fault) => Err(fault),
+    }
+}
+
+/// The turns of these letters.
+fn letters_of(alloc: Global, letters: &[u8]) -> Result<Vec<Turn>, LineFault>
+    ensures ok { IfOk result (λ turns. letters.now ≡ map letter_of turns.items) }
+    ensures none { IfErr result (λ fault. fault ≢ Memory → (turns : List Turn) → letters.now ≢ map letter_of turns) }
+{
+    let mut turns = Vec::new(alloc);
+    for letter in letters {
+        let turn = match turn_of(*letter) {
+            Some(turn) => turn,
+            None => return Err(LineFault::Turns),
+        };
+        turns.push(turn)?;
+    }
+    Ok(turns)
+}
+
+/// The turn of a letter.
+fn turn_of(letter: u8) -> Option<Turn>
+    ensures some { IfSome result (λ turn. letter ≡ letter_of turn) }
+    ensures none { IfNone result ((turn : Turn) → letter ≢ letter_of turn) }
+{
+    match letter {
+        b'L' => Some(Turn::Left),
+        b'R' => Some(Turn::Right),
+        _ => None,
+    }
+}

@@ -1,0 +1,5 @@
+//! Tests of what lines say of points.
+#![tactic(auto)]
+
+#[cfg(test)]
+mod lines;
