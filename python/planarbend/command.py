@@ -7,9 +7,10 @@ import sys
 
 from planarbend.draw import DrawError, Options, draw
 from planarbend.drawn import Drawing
+from planarbend.engine import Engine, ProcessEngine, default_engine
 from planarbend.graph import Graph, Kind, split
-from planarbend.programs import PlanarbendError
-from planarbend.picture import CONVERTED, NoConverter, svg, write_picture
+from planarbend.programs import SCRIPT, PlanarbendError
+from planarbend.picture import CONVERTED, NoConverter, look_at_output, svg, write_picture
 from planarbend.readers import FORMS, ReadError, read
 
 ABOUT = "Draws a graph along horizontal and vertical lines with few bends and few crossings, which are right angles."
@@ -104,15 +105,28 @@ def write(drawing: Drawing, path: str, scale: float) -> None:
         write_picture(svg(drawing), path, scale)
 
 
+def engine_of() -> Engine:
+    """What lays out graphs. Where that is the script of a checkout in which nothing is built, standard error says why it is
+    slow."""
+    engine = default_engine()
+    if isinstance(engine, ProcessEngine) and engine.program == SCRIPT:
+        print("planarbend-draw: planarbend is not built here, so a trial run of about a minute answers each of many calls;"
+              f" {SCRIPT} --build builds it", file=sys.stderr)
+    return engine
+
+
 def run() -> int:
     """Run the command: its status."""
     words = command_line()
     try:
+        if words.output != "-":
+            look_at_output(words.output)
         graph = read_file(words.graph, words.format)
         if words.split:
             graph = split(graph, to_split(graph, words.split))
         outer = named(graph, words.outer) if words.outer else ()
-        write(draw(graph, Options(outer, words.compact, words.effort, words.seed)), words.output, words.scale)
+        drawing = draw(graph, Options(outer, words.compact, words.effort, words.seed), engine_of())
+        write(drawing, words.output, words.scale)
     except (ReadError, DrawError, PlanarbendError, NoConverter) as fault:
         print(f"planarbend-draw: {fault}", file=sys.stderr)
     except ModuleNotFoundError as error:
