@@ -3,6 +3,7 @@ from __future__ import annotations
 
 import argparse
 import os
+import re
 import sys
 
 from planarbend.draw import DrawError, Options, draw
@@ -24,8 +25,8 @@ GRAPH is a list of connections, one or more a line (`antenna -- tuner -> mixer`,
 node-link JSON, graph6; or a netlist or board of KiCad. Its content shows which, or --format names it.
 
 DOT is read by Graphviz (Debian: graphviz), GraphML, GML and graph6 by networkx (python3-networkx); PNG and PDF are made by
-rsvg-convert (librsvg2-bin). The program planarbend is the one that PLANARBEND names, that of this checkout, or the one on
-the path.
+rsvg-convert (librsvg2-bin). libplanarbend, of this checkout or the system, lays out; or the program planarbend: the one that
+PLANARBEND names, that of this checkout, or the one on the path.
 
 status: 0; 1 if the graph cannot be read or drawn, which standard error says, with nothing written; 2 if the command line
 is refused
@@ -42,6 +43,8 @@ def command_line() -> argparse.Namespace:
                              " with its crossings as planar_code (.pc); or - for SVG on standard output")
     parser.add_argument("--format", choices=FORMS, help="the format of GRAPH (default: by its content)")
     parser.add_argument("--outer", metavar="NAMES", help="put these vertices on the outer face; commas separate names")
+    parser.add_argument("--straight", metavar="NAME--NAME", action="append", default=[],
+                        help="draw the edges between these two vertices without bends; may be repeated; needs libplanarbend")
     parser.add_argument("--split", metavar="NETS|DEGREE",
                         help="draw these vertices, or nets of more connections than DEGREE, as a flag at each connection")
     parser.add_argument("--compact", action="store_true", help="smaller drawing with more bends")
@@ -69,6 +72,20 @@ def named(graph: Graph, names: str) -> list[int]:
         if len(at) != 1:
             raise DrawError(f"{len(at)} vertices are named {name}" if at else f"no vertex is named {name}")
         found.append(at[0])
+    return found
+
+
+def between(graph: Graph, names: str) -> list[int]:
+    """The edges between two vertices whose names stand with `--` between them. A `DrawError` if there are none."""
+    known = {name for vertex in graph.vertices for name in (vertex.name, vertex.label)}
+    cuts = [(names[:match.start()].strip(), names[match.end():].strip()) for match in re.finditer("--", names)]
+    pair = next((cut for cut in cuts if known.issuperset(cut)), None)
+    if pair is None:
+        raise DrawError(f"no two vertices are named {names} (--straight wants NAME--NAME)")
+    ends = {vertex for name in pair for vertex in named(graph, name)}
+    found = [number for number, edge in enumerate(graph.edges) if {edge.tail, edge.head} == ends]
+    if not found:
+        raise DrawError(f"no edge joins {pair[0]} and {pair[1]}")
     return found
 
 
@@ -125,7 +142,8 @@ def run() -> int:
         if words.split:
             graph = split(graph, to_split(graph, words.split))
         outer = named(graph, words.outer) if words.outer else ()
-        drawing = draw(graph, Options(outer, words.compact, words.effort, words.seed), engine_of())
+        straight = [edge for names in words.straight for edge in between(graph, names)]
+        drawing = draw(graph, Options(outer, words.compact, words.effort, words.seed, straight), engine_of())
         write(drawing, words.output, words.scale)
     except (ReadError, DrawError, PlanarbendError, NoConverter) as fault:
         print(f"planarbend-draw: {fault}", file=sys.stderr)
