@@ -8,8 +8,9 @@ from collections.abc import Iterable, Iterator, Sequence
 from dataclasses import dataclass, field, replace
 
 from planarbend.embeddings import Price, climbed
-from planarbend.engine import Answer, Engine, GridPoint
+from planarbend.engine import Answer, Engine, GridPoint, NotKept
 from planarbend.expand import LEAST_CAGE, MOST_CONNECTIONS, Expansion, expand, size_of
+from planarbend.keeping import conditions_of, keeper_of
 from planarbend.mend import Loose, loosened, ways_round_cage, ways_round_spine
 from planarbend.numbering import Form, contracted, numbered, outer_forms
 from planarbend.planar_code import MOST_VERTICES
@@ -17,6 +18,7 @@ from planarbend.planarize import Planarization
 
 MOST_FACES = 24  # outer faces that are tried
 MOST_TURNS = 8  # spines that are tried in place of a cage
+MOST_KEPT = 3  # plans whose boxes are kept rectangles
 MOST_REPAIRS = 3
 MOST_MENDS = 4  # rounds in which edges are let bend in place of boxes
 MOST_MENDED = 4  # shapes from which each round goes on
@@ -35,6 +37,10 @@ class TooLarge(Exception):
 
 class NoSuchFace(Exception):
     """No face has all the vertices on it that the outer face must have."""
+
+
+class NoStraightEdges(Exception):
+    """No drawing was found in which all edges that must be straight are."""
 
 
 @dataclass(slots=True)
@@ -179,11 +185,15 @@ class Search:
         Of the random numberings.
     outer : sequence of int
         Vertices that must lie on the outer face.
+    straight : sequence of int
+        Edges that must be straight, which only an engine that keeps conditions can see to.
     """
 
-    def __init__(self, planar: Planarization, engine: Engine, effort: int, seed: int, outer: Sequence[int] = ()) -> None:
-        self.planar, self.engine, self.effort, self.outer = planar, engine, effort, outer
-        self.random = random.Random(seed)
+    def __init__(self, planar: Planarization, engine: Engine, effort: int, seed: int, outer: Sequence[int] = (),
+                 straight: Sequence[int] = ()) -> None:
+        self.planar, self.engine, self.effort, self.outer, self.straight = planar, engine, effort, outer, straight
+        self.keeper = keeper_of(engine)
+        self.seed, self.random = seed, random.Random(seed)
         self.degree = [len(darts) for darts in planar.rotation[:planar.vertex_count]]
         self.large = [vertex for vertex, count in enumerate(self.degree) if count > MOST_CONNECTIONS]
 
@@ -216,17 +226,37 @@ class Search:
             expansion = self.expanded(plan)
             if expansion is not None:
                 tried += [(expansion, plan, form) for form in self.numberings(expansion)]
-        answers = self.engine.lay([form.lists for _, _, form in tried], "best")
+        return self.laid(tried, "best")
+
+    def laid(self, tried: Sequence[tuple[Expansion, Plan, Form]], outer: str) -> list[Found]:
+        """The shapes of forms of plans: of all, unless some edges must be straight."""
+        if self.straight:
+            return self.kept(tried, outer)
+        answers = self.engine.lay([form.lists for _, _, form in tried], outer)
         return [Found(shape_of(expansion, form, answer), plan)
                 for (expansion, plan, form), answer in zip(tried, answers)]
 
-    def numberings(self, expansion: Expansion) -> Iterator[Form]:
-        """An expansion under several numberings."""
+    def kept(self, tried: Sequence[tuple[Expansion, Plan, Form]], outer: str) -> list[Found]:
+        """Those shapes of forms of plans in which boxes are rectangles and edges straight that must be."""
+        assert self.keeper is not None, "the engine keeps conditions"
+        found = []
+        for expansion, plan, form in tried:
+            kept = conditions_of(expansion, form, self.straight, boxes=True, has_outer=outer == "first")
+            try:
+                shape = shape_of(expansion, form, self.keeper.lay_keeping(form.lists, outer, kept))
+            except NotKept:
+                continue
+            if all(len(shape.lines[edge]) == 2 for edge in self.straight):
+                found.append(Found(shape, plan))
+        return found
+
+    def numberings(self, expansion: Expansion, dice: random.Random | None = None) -> Iterator[Form]:
+        """An expansion under several numberings: by the search's own random source, or by another one."""
         around, runs = contracted(expansion)
         order = list(around)
         yield numbered(around, order, runs)
         for _ in range(NUMBERINGS * self.effort):
-            self.random.shuffle(order)
+            (dice or self.random).shuffle(order)
             yield numbered(around, order, runs)
 
     def turned_out(self, plan: Plan) -> list[Found]:
@@ -235,8 +265,7 @@ class Search:
         if expansion is None:
             return []
         forms = list(itertools.islice(outer_forms(expansion, self.outer), MOST_FACES))
-        answers = self.engine.lay([form.lists for form in forms], "first")
-        return [Found(shape_of(expansion, form, answer), plan) for form, answer in zip(forms, answers)]
+        return self.laid([(expansion, plan, form) for form in forms], "first")
 
     def look(self, plan: Plan) -> list[Found]:
         """The shapes of a plan, with `outer` on the outer face if there are such vertices."""
@@ -246,12 +275,16 @@ class Search:
         """Shapes of this embedding."""
         look, first = self.look, self.first_plan(False)
         pool = look(first)
+        if not pool and self.straight:
+            pool = look(first.caged(vertex for vertex in range(self.planar.vertex_count) if self.can_be_cage(vertex, first)))
         if not pool:
             first = self.first_plan(True)
             pool = look(first)
         if not pool:
             if self.outer and self.shapes_of([first]):
                 raise NoSuchFace
+            if self.straight and self.expanded(first) is not None:
+                raise NoStraightEdges
             raise TooLarge(len(expand(self.planar, (), {vertex: 0 for vertex in self.large}).around))
         best = min(pool, key=Found.price)
         small = [vertex for vertex in range(self.planar.vertex_count) if self.can_be_cage(vertex, first)]
@@ -272,7 +305,7 @@ class Search:
                            rounds=ROUNDS * self.effort, width=WIDTH)
         if other is self.planar:
             return []
-        search = Search(other, self.engine, self.effort, 0)
+        search = Search(other, self.engine, self.effort, 0, (), self.straight)
         pool = search.shapes_of([replace(best.plan, loose=())])
         if pool and min(pool, key=Found.price).shape.broken:
             search.repair(pool)
@@ -281,20 +314,21 @@ class Search:
     def prices(self, planars: Sequence[Planarization], plan: Plan) -> list[Price]:
         """What a plan comes to in each of several embeddings."""
         expansions = [expand(planar, plan.cages, dict(plan.spines)) for planar in planars]  # with other pieces
-        forms = [next(self.numberings(expansion)) for expansion in expansions]
-        fitting = [place for place, form in enumerate(forms) if len(form.lists) <= MOST_VERTICES]
-        prices: list[Price] = [(sys.maxsize,)] * len(planars)
-        for place, answer in zip(fitting, self.engine.lay([forms[place].lists for place in fitting], "best")):
-            prices[place] = Found(shape_of(expansions[place], forms[place], answer), plan).price()
-        return prices
+        tried = [(expansion, plan, next(self.numberings(expansion))) for expansion in expansions]
+        fitting = [one for one in tried if len(one[2].lists) <= MOST_VERTICES]
+        found = {id(one.shape.expansion): one.price() for one in self.laid(fitting, "best")}
+        return [found.get(id(expansion), (sys.maxsize,)) for expansion in expansions]
 
     def can_be_cage(self, vertex: int, plan: Plan) -> bool:
         """Whether a vertex of degree 3 or 4 is a point so far."""
         return LEAST_CAGE <= self.degree[vertex] <= MOST_CONNECTIONS and vertex not in plan.cages
 
     def repair(self, pool: list[Found]) -> None:
-        """Where a box is no rectangle: edges that bend in its place, then other outer faces, at last spines."""
+        """Where a box is no rectangle: the engine keeps it one, or edges bend in its place; then other outer faces, at last
+        spines."""
+        kept = self.kept_boxes(pool) if self.keeper is not None else []
         self.mend(pool)
+        pool += kept
         if not min(pool, key=Found.price).shape.broken:
             return
         if not self.outer:
@@ -318,6 +352,19 @@ class Search:
             current = min(tried, key=Found.price)
         if not self.outer:
             pool += self.shapes_of([self.first_plan(True)])
+
+    def kept_boxes(self, pool: list[Found]) -> list[Found]:
+        """Shapes with the fewest bends in which all boxes are rectangles, by the best plans so far."""
+        plans = dict.fromkeys(replace(found.plan, loose=()) for found in sorted(pool, key=Found.price))
+        found: list[Found] = []
+        dice = random.Random(self.seed)  # of its own, so that what follows is as it is without these shapes
+        for plan in itertools.islice(plans, MOST_KEPT):
+            expansion = self.expanded(plan)
+            if expansion is not None:
+                forms = outer_forms(expansion, self.outer) if self.outer else self.numberings(expansion, dice)
+                tried = [(expansion, plan, form) for form in itertools.islice(forms, MOST_FACES)]
+                found += self.kept(tried, "first" if self.outer else "best")
+        return found
 
     def mend(self, pool: list[Found]) -> None:
         """Where a box is no rectangle: edges that may bend in its place, from a few of the best shapes on."""
@@ -380,7 +427,7 @@ class Search:
 
 
 def choose(planar: Planarization, engine: Engine, *, compact: bool = False, effort: int = 1, seed: int = 0,
-           outer: Sequence[int] = ()) -> list[Shape]:
+           outer: Sequence[int] = (), straight: Sequence[int] = ()) -> list[Shape]:
     """Some good shapes of an embedded component, that with the fewest bends first.
 
     Raises
@@ -389,8 +436,10 @@ def choose(planar: Planarization, engine: Engine, *, compact: bool = False, effo
         If it takes too many vertices, also with spines.
     NoSuchFace
         If no face has all of `outer` on it.
+    NoStraightEdges
+        If no shape was found in which all of `straight` are straight.
     """
-    search = Search(planar, engine, effort, seed, outer)
+    search = Search(planar, engine, effort, seed, outer, straight)
     pool = search.run()
     if not outer:
         pool += search.elsewhere(min(pool, key=Found.price))

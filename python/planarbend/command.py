@@ -3,13 +3,15 @@ from __future__ import annotations
 
 import argparse
 import os
+import re
 import sys
 
 from planarbend.draw import DrawError, Options, draw
 from planarbend.drawn import Drawing
+from planarbend.engine import Engine, ProcessEngine, default_engine
 from planarbend.graph import Graph, Kind, split
-from planarbend.programs import PlanarbendError
-from planarbend.picture import CONVERTED, NoConverter, svg, write_picture
+from planarbend.programs import SCRIPT, PlanarbendError
+from planarbend.picture import CONVERTED, NoConverter, look_at_output, svg, write_picture
 from planarbend.readers import FORMS, ReadError, read
 
 ABOUT = "Draws a graph along horizontal and vertical lines with few bends and few crossings, which are right angles."
@@ -22,9 +24,9 @@ examples:
 GRAPH is a list of connections, one or more a line (`antenna -- tuner -> mixer`, or two words); DOT, GraphML, GML,
 node-link JSON, graph6; or a netlist or board of KiCad. Its content shows which, or --format names it.
 
-DOT is read by Graphviz. networkx (Debian: python3-networkx) reads GraphML, GML and graph6, and finds out which graphs are
-planar: without it some planar graphs are drawn, and no others. PNG and PDF are made by rsvg-convert (Debian:
-librsvg2-bin). The program planarbend is the one that PLANARBEND names, that of this checkout, or the one on the path.
+DOT is read by Graphviz (Debian: graphviz), GraphML, GML and graph6 by networkx (python3-networkx); PNG and PDF are made by
+rsvg-convert (librsvg2-bin). libplanarbend, of this checkout or the system, lays out; or the program planarbend: the one that
+PLANARBEND names, that of this checkout, or the one on the path.
 
 status: 0; 1 if the graph cannot be read or drawn, which standard error says, with nothing written; 2 if the command line
 is refused
@@ -41,6 +43,8 @@ def command_line() -> argparse.Namespace:
                              " with its crossings as planar_code (.pc); or - for SVG on standard output")
     parser.add_argument("--format", choices=FORMS, help="the format of GRAPH (default: by its content)")
     parser.add_argument("--outer", metavar="NAMES", help="put these vertices on the outer face; commas separate names")
+    parser.add_argument("--straight", metavar="NAME--NAME", action="append", default=[],
+                        help="draw the edges between these two vertices without bends; may be repeated; needs libplanarbend")
     parser.add_argument("--split", metavar="NETS|DEGREE",
                         help="draw these vertices, or nets of more connections than DEGREE, as a flag at each connection")
     parser.add_argument("--compact", action="store_true", help="smaller drawing with more bends")
@@ -68,6 +72,20 @@ def named(graph: Graph, names: str) -> list[int]:
         if len(at) != 1:
             raise DrawError(f"{len(at)} vertices are named {name}" if at else f"no vertex is named {name}")
         found.append(at[0])
+    return found
+
+
+def between(graph: Graph, names: str) -> list[int]:
+    """The edges between two vertices whose names stand with `--` between them. A `DrawError` if there are none."""
+    known = {name for vertex in graph.vertices for name in (vertex.name, vertex.label)}
+    cuts = [(names[:match.start()].strip(), names[match.end():].strip()) for match in re.finditer("--", names)]
+    pair = next((cut for cut in cuts if known.issuperset(cut)), None)
+    if pair is None:
+        raise DrawError(f"no two vertices are named {names} (--straight wants NAME--NAME)")
+    ends = {vertex for name in pair for vertex in named(graph, name)}
+    found = [number for number, edge in enumerate(graph.edges) if {edge.tail, edge.head} == ends]
+    if not found:
+        raise DrawError(f"no edge joins {pair[0]} and {pair[1]}")
     return found
 
 
@@ -104,15 +122,29 @@ def write(drawing: Drawing, path: str, scale: float) -> None:
         write_picture(svg(drawing), path, scale)
 
 
+def engine_of() -> Engine:
+    """What lays out graphs. Where that is the script of a checkout in which nothing is built, standard error says why it is
+    slow."""
+    engine = default_engine()
+    if isinstance(engine, ProcessEngine) and engine.program == SCRIPT:
+        print("planarbend-draw: planarbend is not built here, so a trial run of about a minute answers each of many calls;"
+              f" {SCRIPT} --build builds it", file=sys.stderr)
+    return engine
+
+
 def run() -> int:
     """Run the command: its status."""
     words = command_line()
     try:
+        if words.output != "-":
+            look_at_output(words.output)
         graph = read_file(words.graph, words.format)
         if words.split:
             graph = split(graph, to_split(graph, words.split))
         outer = named(graph, words.outer) if words.outer else ()
-        write(draw(graph, Options(outer, words.compact, words.effort, words.seed)), words.output, words.scale)
+        straight = [edge for names in words.straight for edge in between(graph, names)]
+        drawing = draw(graph, Options(outer, words.compact, words.effort, words.seed, straight), engine_of())
+        write(drawing, words.output, words.scale)
     except (ReadError, DrawError, PlanarbendError, NoConverter) as fault:
         print(f"planarbend-draw: {fault}", file=sys.stderr)
     except ModuleNotFoundError as error:

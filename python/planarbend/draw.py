@@ -7,11 +7,12 @@ import random
 from collections.abc import Sequence
 from dataclasses import dataclass
 
-from planarbend.choose import NoSuchFace, Shape, TooLarge, choose
+from planarbend.choose import NoStraightEdges, NoSuchFace, Shape, TooLarge, choose
 from planarbend.drawn import Box, Crossing, Drawing, Point
 from planarbend.engine import Engine, default_engine
 from planarbend.expand import Expansion
 from planarbend.graph import Edge, Graph
+from planarbend.keeping import keeper_of
 from planarbend.programs import PlanarbendError
 from planarbend.planar_code import MOST_VERTICES, Lists
 from planarbend.planarize import Planarization, TooManyCrossings, planarize
@@ -29,6 +30,10 @@ class DrawError(Exception):
     """Why a graph cannot be drawn."""
 
 
+class NotStraight(DrawError):
+    """No drawing was found in which all edges are straight that must be; another embedding may have one."""
+
+
 @dataclass(frozen=True, slots=True)
 class Options:
     """How to draw.
@@ -43,12 +48,15 @@ class Options:
         How long to look for fewer crossings and bends.
     seed : int
         Of the random choices.
+    straight : sequence of int
+        Edges that must not bend; for these the library is needed, the program does not do.
     """
 
     outer: Sequence[int] = ()
     compact: bool = False
     effort: int = 1
     seed: int = 0
+    straight: Sequence[int] = ()
 
 
 @dataclass(slots=True)
@@ -64,6 +72,14 @@ class Part:
     width: float
     height: float
     planar: Planarization | None
+
+
+@dataclass(frozen=True, slots=True)
+class Wanted:
+    """The vertices of a component that must lie on its outer face, and those of its edges without loops that must not bend."""
+
+    outer: Sequence[int]
+    straight: Sequence[int]
 
 
 def components_of(graph: Graph) -> list[tuple[list[int], list[int]]]:
@@ -104,13 +120,26 @@ def draw(graph: Graph, options: Options = Options(), engine: Engine | None = Non
     Raises
     ------
     DrawError
-        If a component would need more than 255 vertices, or the vertices of `outer` lie in several components.
+        If a component would need more than 255 vertices, the vertices of `outer` lie in several components, or no drawing
+        was found in which the edges of `straight` are straight.
     PlanarbendError
         If the program is missing or fails.
     """
     engine = engine or default_engine()
+    look_at_straight(graph, options, engine)
     parts = [part_of(graph, vertices, edges, options, engine) for vertices, edges in components_of(graph)]
     return side_by_side(graph, parts)
+
+
+def look_at_straight(graph: Graph, options: Options, engine: Engine) -> None:
+    """Refuses straight edges where the engine cannot keep them, and loops among them."""
+    if options.straight and keeper_of(engine) is None:
+        raise DrawError("straight edges need the library libplanarbend of this version: `./planarbend --build` builds it, and"
+                        " PLANARBEND must not be set")
+    for number in options.straight:
+        edge = graph.edges[number]
+        if edge.tail == edge.head:
+            raise DrawError(f"a loop cannot be straight: {graph.vertices[edge.tail].name}")
 
 
 def part_of(graph: Graph, vertices: list[int], edges: list[int], options: Options, engine: Engine) -> Part:
@@ -125,16 +154,17 @@ def part_of(graph: Graph, vertices: list[int], edges: list[int], options: Option
     if not plain:
         return in_pixels(settled(lone(len(pairs)), inner), vertices, edges)
     together = [number[vertex] for vertex in options.outer if vertex in number]
+    straight = [at for at, place in enumerate(plain) if edges[place] in options.straight]
     ends = [pairs[place] for place in plain]
     best = None
     for attempt in range(MOST_EMBEDDINGS):
         try:
             planar = embedded(len(vertices), ends, options, together, attempt)
-            shapes = shapes_of_planar(planar, inner, together, options, engine)
-        except DrawError:
-            if best is None:
+            shapes = shapes_of_planar(planar, inner, Wanted(together, straight), options, engine)
+        except DrawError as fault:
+            if best is None and not (isinstance(fault, NotStraight) and attempt + 1 < MOST_EMBEDDINGS):
                 raise
-            continue  # an earlier embedding could be drawn
+            continue  # an earlier embedding could be drawn, or a later one may be
         for shape in shapes:
             sheet = settled(with_loops(shape, plain, len(pairs)), inner)
             price = (len(shape.broken), price_of(sheet, len(pairs), COMPACT_WEIGHT if options.compact else BEND_WEIGHT))
@@ -223,17 +253,21 @@ def lone(loops: int) -> Shape:
     return Shape(Expansion([[]], [[0]], chains, set(), set()), [(0, 0)], [[] for _ in range(loops)], [(0, 0, 0, 0)], [], 0)
 
 
-def shapes_of_planar(planar: Planarization, graph: Graph, outer: Sequence[int], options: Options,
-                     engine: Engine) -> list[Shape]:
+def shapes_of_planar(planar: Planarization, graph: Graph, wanted: Wanted, options: Options, engine: Engine) -> list[Shape]:
     """Good shapes of an embedded component."""
     try:
-        return choose(planar, engine, compact=options.compact, effort=options.effort, seed=options.seed, outer=outer)
+        return choose(planar, engine, compact=options.compact, effort=options.effort, seed=options.seed, outer=wanted.outer,
+                      straight=wanted.straight)
     except TooLarge as fault:
         raise DrawError(f"a component has {len(graph.vertices)} vertices, {len(graph.edges)} edges and {planar.crossings}"
                         f" crossings, which takes {fault} vertices of degree 4; the limit is {MOST_VERTICES}") from None
     except NoSuchFace:
-        names = ", ".join(graph.vertices[vertex].name for vertex in outer)
+        names = ", ".join(graph.vertices[vertex].name for vertex in wanted.outer)
         raise DrawError(f"no embedding was found with these vertices on one face: {names}") from None
+    except NoStraightEdges:
+        ends = [(edge.tail, edge.head) for edge in graph.edges if edge.tail != edge.head]
+        names = ", ".join("--".join(graph.vertices[end].name for end in ends[number]) for number in wanted.straight)
+        raise NotStraight(f"no drawing was found in which these edges are straight: {names}") from None
 
 
 def crossings_of(shape: Shape) -> list[tuple[int, tuple[int, int]]]:

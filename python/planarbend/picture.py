@@ -1,6 +1,7 @@
 """A drawing as SVG, and by rsvg-convert as PNG or PDF."""
 from __future__ import annotations
 
+import errno
 import math
 import os
 
@@ -99,6 +100,26 @@ def net_label_elements(drawing: Drawing) -> list[str]:
     return [*found, "</g>"] if len(found) > 1 else []
 
 
+def look_at_output(path: str) -> None:
+    """Find out before a graph is drawn what would keep its picture from being written.
+
+    Raises
+    ------
+    NoConverter
+        If PNG or PDF is wanted and rsvg-convert is missing.
+    OSError
+        If the file's folder is missing.
+    """
+    folder = os.path.dirname(os.path.abspath(path))
+    if not os.path.isdir(folder):
+        raise FileNotFoundError(errno.ENOENT, "no such folder", folder)
+    if os.path.splitext(path)[1] in CONVERTED:
+        import shutil  # which takes long to load
+
+        if not shutil.which("rsvg-convert"):
+            raise NoConverter(f"{path}: needs rsvg-convert (Debian: librsvg2-bin)")
+
+
 def write_picture(text: str, path: str, scale: float = 1.0) -> None:
     """Write an SVG text as what the file's name says; the file gets its name once it is whole.
 
@@ -107,13 +128,11 @@ def write_picture(text: str, path: str, scale: float = 1.0) -> None:
     NoConverter
         If PNG or PDF is wanted and rsvg-convert is missing or fails.
     """
-    import shutil  # this, and the next two, take long to load
-    import subprocess
+    import subprocess  # this, and the next one, take long to load
     import tempfile
 
+    look_at_output(path)
     kind = CONVERTED.get(os.path.splitext(path)[1])
-    if kind and not shutil.which("rsvg-convert"):
-        raise NoConverter(f"{path}: needs rsvg-convert (Debian: librsvg2-bin)")
     with tempfile.TemporaryDirectory(dir=os.path.dirname(os.path.abspath(path))) as folder:
         drawn = os.path.join(folder, "picture.svg")
         with open(drawn, "w", encoding="utf-8") as out:

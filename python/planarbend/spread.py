@@ -487,10 +487,13 @@ class Solver:
 
     def range(self, number: int, but: Sequence[int] = ()) -> tuple[float, float]:
         """The least and the greatest place that others leave a coordinate."""
-        low = max((self.value[other] + distance for other, distance in self.before[number] if other not in but),
-                  default=-math.inf)
-        high = min((self.value[other] - distance for other, distance in self.after[number] if other not in but),
-                   default=math.inf)
+        value, low, high = self.value, -math.inf, math.inf
+        for other, distance in self.before[number]:
+            if value[other] + distance > low and other not in but:
+                low = value[other] + distance
+        for other, distance in self.after[number]:
+            if value[other] - distance < high and other not in but:
+                high = value[other] - distance
         return low, high
 
     def move(self, number: int, ends: list[int]) -> None:

@@ -1,0 +1,143 @@
+"""What a layout has to keep: the pieces of boxes and of straight edges, the insides of cages, and what is said where it cannot."""
+from __future__ import annotations
+
+import json
+import random
+import unittest
+
+import support
+from drawing_checker import check
+from planarbend import library
+from planarbend.choose import Search
+from planarbend.draw import DrawError, Options, draw
+from planarbend.engine import Answer, Conditions, NotKept, ProcessEngine, keeps_conditions
+from planarbend.expand import expand
+from planarbend.graph import Edge, Graph, Vertex
+from planarbend.keeping import conditions_of
+from planarbend.numbering import contracted, numbered, outer_forms
+from planarbend.planar_code import Lists, Plane
+from planarbend.planarize import planarize
+
+HUBS = [(hub, leaf) for hub in (0, 1) for leaf in range(2, 9)]  # two vertices of degree 7
+
+
+def keeper() -> library.LibraryEngine:
+    """The library as it is built or installed, if it keeps conditions."""
+    if library.path() is None:
+        raise unittest.SkipTest("libplanarbend is missing (planarbend --build)")
+    engine = library.LibraryEngine()
+    if not keeps_conditions(engine):
+        raise unittest.SkipTest("libplanarbend is older than the package (planarbend --build)")
+    return engine
+
+
+def graph_of(count: int, edges: list[tuple[int, int]]) -> Graph:
+    """A graph with these edges, whose vertices are named by their numbers."""
+    return Graph([Vertex(str(number), str(number)) for number in range(count)], [Edge(*edge) for edge in edges])
+
+
+class Refuser:
+    """An engine that keeps no condition."""
+
+    keeps = True
+
+    def lay(self, graphs: list[Lists], outer: str) -> list[Answer]:
+        raise AssertionError("a straight edge was forgotten")
+
+    def lay_keeping(self, lists: Lists, outer: str, conditions: Conditions) -> Answer:
+        assert conditions.straight
+        raise NotKept("noshape")
+
+
+class Named(unittest.TestCase):
+    """Conditions name edges and faces of the lists."""
+
+    def test_cages_and_spines(self) -> None:
+        planar = planarize(9, HUBS)
+        for cages, spines in (((0, 1), {}), ((0,), {1: 2}), ((), {0: 0, 1: 3})):
+            expansion = expand(planar, cages, spines)
+            around, runs = contracted(expansion)
+            order = list(around)
+            random.Random(1).shuffle(order)
+            for form in (numbered(around, order, runs), *outer_forms(expansion)):
+                kept = conditions_of(expansion, form, (), boxes=True, has_outer=False)
+                plane = Plane(form.lists)
+                home = {node: vertex for vertex, nodes in enumerate(expansion.homes) for node in nodes}
+                with self.subTest(cages=cages, spines=spines):
+                    self.assertEqual(len(kept.straight), 7 * len(cages) + sum(
+                        len(expansion.homes[vertex]) - 1 for vertex in spines))
+                    self.assertLessEqual(set(kept.straight), set(plane.darts))
+                    self.assertEqual(len(kept.inner), len(cages))
+                    for dart, vertex in zip(kept.inner, cages):
+                        walk = plane.walks[plane.face[plane.darts.index(dart)]]
+                        met = [form.order[plane.darts[place][0] - 1] for place in walk]
+                        self.assertEqual({home[node] for node in met}, {vertex})
+                        self.assertEqual(len(met), 7)
+                    self.assertEqual(conditions_of(expansion, form, (), boxes=True, has_outer=True).inner, ())
+
+    def test_edges_along_which_nodes_are_left_out(self) -> None:
+        edges = [(hub, 2 + leaf) for leaf in range(100) for hub in (0, 1)]
+        expansion = expand(planarize(102, edges), (0, 1), {})
+        around, runs = contracted(expansion)
+        form = numbered(around, list(around), runs)
+        kept = conditions_of(expansion, form, range(len(edges)), boxes=False, has_outer=False)
+        self.assertLessEqual(set(kept.straight), set(Plane(form.lists).darts))
+        self.assertEqual(len(kept.straight), 200 - 45)
+
+
+class Refused(unittest.TestCase):
+    def test_what_is_said(self) -> None:
+        triangle = graph_of(3, [(0, 1), (1, 2), (2, 0), (0, 0)])
+        with self.assertRaisesRegex(DrawError, "no drawing was found in which these edges are straight: 0--1, 2--0"):
+            draw(triangle, Options(straight=(0, 2)), Refuser())
+        with self.assertRaisesRegex(DrawError, "a loop cannot be straight: 0"):
+            draw(triangle, Options(straight=(3,)), Refuser())
+        with self.assertRaisesRegex(DrawError, "need the library libplanarbend .*planarbend --build"):
+            draw(triangle, Options(straight=(0,)), ProcessEngine())
+
+    def test_names(self) -> None:
+        for words, said in (("a--c", "no edge joins a and c"), ("a--d", "no two vertices are named a--d"),
+                            ("a", "no two vertices are named a"), ("a--b", "need the library")):
+            ran = support.ran(["draw", "--straight", words, "-", "-o", "-"], "a -- b -- c\n")
+            with self.subTest(words):
+                self.assertEqual(ran.returncode, 1)
+                self.assertIn(said, ran.stderr.decode())
+
+
+class Kept(unittest.TestCase):
+    def test_boxes_above_degree_4_are_rectangles_without_repair(self) -> None:
+        engine, tried = keeper(), 0
+        for seed in range(1, 24):
+            dice = random.Random(seed)
+            count = dice.randrange(8, 22)
+            edges = [(dice.randrange(min(vertex, 4)), vertex) for vertex in range(1, count)]
+            edges += [tuple(dice.sample(range(count), 2)) for _ in range(dice.randrange(count // 2, 2 * count))]
+            search = Search(planarize(count, edges), engine, 1, 0)
+            pool = search.shapes_of([search.first_plan(False)])
+            for found in search.kept_boxes(pool):
+                tried += 1
+                with self.subTest(seed=seed):
+                    self.assertEqual(found.shape.broken, [])
+        self.assertGreater(tried, 100)
+
+    def test_straight_edges(self) -> None:
+        """Three edges of a tree within each of some random graphs."""
+        engine = keeper()
+        for seed in range(12):
+            dice = random.Random(seed)
+            count = dice.randrange(5, 16)
+            edges = [(dice.randrange(vertex), vertex) for vertex in range(1, count)]
+            edges += [(dice.randrange(count), dice.randrange(count)) for _ in range(dice.randrange(count))]
+            straight = sorted(number for number in dice.sample(range(count - 1), 3))  # edges of a tree
+            drawing = json.loads(draw(graph_of(count, edges), Options(straight=straight), engine).json())
+            with self.subTest(seed=seed):
+                check(drawing, edges, [str(number) for number in range(count)])
+                self.assertEqual([len(drawing["edges"][number]["points"]) for number in straight], [2, 2, 2])
+
+    def test_a_triangle_of_points_cannot_be_straight(self) -> None:
+        with self.assertRaisesRegex(DrawError, "straight: 0--1, 1--2, 2--0"):
+            draw(graph_of(3, [(0, 1), (1, 2), (2, 0)]), Options(straight=(0, 1, 2)), keeper())
+
+
+if __name__ == "__main__":
+    unittest.main()
