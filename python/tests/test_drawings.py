@@ -75,6 +75,7 @@ class Twenty(unittest.TestCase):
         self.assertLess(small, plain)
 
 
+@support.needs_networkx
 class Kinds(unittest.TestCase):
     def test_small_graphs(self) -> None:
         """Every multigraph of up to three vertices and three edges, loops among them, once each."""
@@ -127,6 +128,7 @@ def star_and_rim(count: int) -> list[tuple[int, int]]:
     return [(0, leaf) for leaf in range(1, count + 1)] + [(leaf, leaf % count + 1) for leaf in range(1, count + 1)]
 
 
+@support.needs_networkx
 class Limits(unittest.TestCase):
     def test_255_and_256_vertices(self) -> None:
         ladder = [(place, place + 1) for place in range(254)]

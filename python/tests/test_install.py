@@ -32,6 +32,8 @@ class Install(unittest.TestCase):
             for command in ([binaries / "planarbend-draw"], [binaries / "python3", "-m", "planarbend", "draw"]):
                 ran = subprocess.run([*command, "edge.txt", "-o", "edge.svg"], cwd=folder, capture_output=True, text=True,
                                      env=environment(), check=False)
+                if ran.returncode and "networkx" in ran.stderr:
+                    self.skipTest("networkx is missing (Debian: python3-networkx)")
                 self.assertEqual(ran.returncode, 0, ran.stderr)
                 self.assertTrue((Path(folder) / "edge.svg").read_text().startswith("<svg"))
             where = subprocess.run([binaries / "python3", "-c", "import planarbend; print(planarbend.__file__)"], cwd=folder,
