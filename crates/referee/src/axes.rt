@@ -1,6 +1,6 @@
 //! Whether the parts of paths are parallel to an axis.
 
-ghost use Rattle.std.specs.Prelude.{◌↔◌, IsTrue, OnOk};
+ghost use Rattle.std.specs.Prelude.{◌↔◌, IsTrue, OnOk, OnErr};
 ghost use Rattle.drawing_check.specs.Draws.{IsAxis, IsOnAxes, AreOnAxes};
 ghost use Rattle.drawing_check.specs.Paths.{paths};
 ghost use Rattle.referee.specs.Routes.{path_of};
@@ -14,7 +14,8 @@ use ortho_rep::{Point, Points};
 /// That each part of each path is parallel to an axis.
 pub(crate) fn check_axes(plane: &Plane, points: &Points) -> Result<(), Fault>
     requires { HasPoints plane.now points.now }
-    ensures { OnOk result (AreOnAxes (paths plane.now points.now)) }
+    ensures on_axes { OnOk result (AreOnAxes (paths plane.now points.now)) }
+    ensures refused { OnErr result (¬ AreOnAxes (paths plane.now points.now)) }
 {
     let graph = plane.graph();
     let mut edge = 0;
@@ -31,7 +32,8 @@ pub(crate) fn check_axes(plane: &Plane, points: &Points) -> Result<(), Fault>
 
 /// That each part of the path of this edge is parallel to an axis.
 fn check_route(route: &Route<'_>, edge: u16) -> Result<(), Fault>
-    ensures { OnOk result (IsOnAxes (path_of route.now)) }
+    ensures on_axes { OnOk result (IsOnAxes (path_of route.now)) }
+    ensures refused { OnErr result (¬ IsOnAxes (path_of route.now)) }
 {
     for part in 0..route.corners.len() + 1 {
         if !is_axis(route.point_at(part), route.point_at(part + 1)) {

@@ -1,6 +1,6 @@
 //! How many points and corners there are.
 
-ghost use Rattle.std.specs.Prelude.{OnOk};
+ghost use Rattle.std.specs.Prelude.{OnOk, OnErr};
 ghost use Rattle.referee.specs.Drawings.{HasPoints};
 
 use crate::fault::Fault;
@@ -9,7 +9,8 @@ use ortho_rep::{MAX_TURNS, Points};
 
 /// That there is a point for each vertex, and for each edge a list of few enough corners.
 pub(crate) fn check_counts(plane: &Plane, points: &Points) -> Result<(), Fault>
-    ensures { OnOk result (HasPoints plane.now points.now) }
+    ensures whole { OnOk result (HasPoints plane.now points.now) }
+    ensures refused { OnErr result (¬ HasPoints plane.now points.now) }
 {
     let graph = plane.graph();
     if points.vertex_count() != usize::from(graph.vertices()) {

@@ -1,7 +1,7 @@
 //! Whether points lie in the grid.
 
-ghost use Rattle.std.specs.Prelude.{OnOk};
-ghost use Rattle.drawing_check.specs.Draws.{AreInGrid};
+ghost use Rattle.std.specs.Prelude.{◌↔◌, IsTrue, All, OnOk, OnErr};
+ghost use Rattle.drawing_check.specs.Draws.{IsInGrid, AreInGrid};
 ghost use Rattle.referee.specs.Drawings.{HasPoints};
 
 use crate::fault::Fault;
@@ -11,6 +11,8 @@ use ortho_rep::{MAX_COORDINATE, Point, Points};
 /// That all points lie in the grid: those of vertices first, then the corners, edge by edge.
 pub(crate) fn check_grid(plane: &Plane, points: &Points) -> Result<(), Fault>
     requires { HasPoints plane.now points.now }
+    ensures inside { OnOk result (AreInGrid points.now) }
+    ensures refused { OnErr result (¬ AreInGrid points.now) }
 {
     check_vertices(plane, points)?;
     check_corners(plane, points)
@@ -18,6 +20,8 @@ pub(crate) fn check_grid(plane: &Plane, points: &Points) -> Result<(), Fault>
 
 fn check_vertices(plane: &Plane, points: &Points) -> Result<(), Fault>
     requires { HasPoints plane.now points.now }
+    ensures inside { OnOk result (All IsInGrid points.now.vertices) }
+    ensures refused { OnErr result (¬ All IsInGrid points.now.vertices) }
 {
     for place in 0..plane.graph().vertices() {
         let vertex = place + 1;
@@ -30,17 +34,29 @@ fn check_vertices(plane: &Plane, points: &Points) -> Result<(), Fault>
 
 fn check_corners(plane: &Plane, points: &Points) -> Result<(), Fault>
     requires { HasPoints plane.now points.now }
+    ensures inside { OnOk result (All (All IsInGrid) points.now.corners) }
+    ensures refused { OnErr result (¬ All (All IsInGrid) points.now.corners) }
 {
     for edge in 0..plane.graph().edges() {
-        for (corner, point) in points.corners(edge).iter().enumerate() {
-            if !is_in_grid(*point) {
-                return Err(Fault::CornerOutOfGrid { edge, corner });
-            }
+        check_edge(points.corners(edge), edge)?;
+    }
+    Ok(())
+}
+
+fn check_edge(corners: &[Point], edge: u16) -> Result<(), Fault>
+    ensures inside { OnOk result (All IsInGrid corners.now) }
+    ensures refused { OnErr result (¬ All IsInGrid corners.now) }
+{
+    for (corner, point) in corners.iter().enumerate() {
+        if !is_in_grid(*point) {
+            return Err(Fault::CornerOutOfGrid { edge, corner });
         }
     }
     Ok(())
 }
 
-fn is_in_grid(point: Point) -> bool {
+fn is_in_grid(point: Point) -> bool
+    ensures { IsTrue result ↔ IsInGrid point }
+{
     point.x <= MAX_COORDINATE && point.y <= MAX_COORDINATE
 }

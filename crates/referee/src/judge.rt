@@ -1,8 +1,8 @@
 //! The verdict on points: whether they draw an embedding.
 
-ghost use Rattle.std.specs.Prelude.{◌≡◌, IfOk};
+ghost use Rattle.std.specs.Prelude.{◌≡◌, ◌≢◌, IfOk, IfErr};
 ghost use Rattle.faces.specs.Planes.{with_outer};
-ghost use Rattle.referee.specs.Drawings.{IsDrawnBy};
+ghost use Rattle.referee.specs.Drawings.{IsDrawnBy, IsDrawn};
 
 use crate::axes::check_axes;
 use crate::counts::check_counts;
@@ -40,8 +40,11 @@ pub fn judge_in(
 ) -> Result<Judged, Fault>
     ensures same_plane { plane.new ≡ with_outer plane.old plane.new.outer }
     ensures drawn { IfOk result (λ judged. IsDrawnBy plane.new judged.drawing judged.shape) }
+    ensures refused { IfErr result (λ fault. fault ≢ Fault.Memory → ¬ IsDrawn plane.old points) }
     ensures same_points { IfOk result (λ judged. judged.drawing ≡ points) }
 {
+    // Only the proof needs this: `graph` says where darts end.
+    let _graph = plane.graph();
     check_counts(plane, &points)?;
     check_grid(plane, &points)?;
     check_axes(plane, &points)?;
@@ -54,7 +57,16 @@ pub fn judge_in(
     }
     match check_in(alloc, &mut scratch.drawings, plane, &shape, points) {
         Ok(drawing) => Ok(Judged { shape, drawing }),
-        Err((CheckFault::Memory, _)) => Err(Fault::Memory),
-        Err(_) => Err(Fault::Meet),
+        Err((fault, _)) => Err(meeting(fault)),
+    }
+}
+
+/// A meeting, but for want of memory: nothing else is left where the shape is that of the points.
+fn meeting(fault: CheckFault) -> Fault
+    ensures { result ≢ Fault.Memory → fault ≢ CheckFault.Memory }
+{
+    match fault {
+        CheckFault::Memory => Fault::Memory,
+        _ => Fault::Meet,
     }
 }

@@ -1,6 +1,6 @@
 //! The outer face of a drawing: the one that turns once to the right.
 
-ghost use Rattle.std.specs.Prelude.{◌≡◌, ◌≤◌, ◌<◌, ℕ, IfOk, length, replicate, slice_index, pos, ◌-ℤ◌};
+ghost use Rattle.std.specs.Prelude.{◌≡◌, ◌≢◌, ◌≤◌, ◌<◌, ◌↔◌, ℕ, IsTrue, IfOk, OnErr, negsuc, length, replicate, slice_index, pos, ◌-ℤ◌};
 ghost use Rattle.ortho_rep.specs.Shapes.{angle_at, turns_at};
 ghost use Rattle.ortho_rep.specs.Representation.{HasDarts, turning_around};
 
@@ -11,7 +11,9 @@ use ortho_rep::{Shape, count_lefts};
 /// The first face that turns once to the right.
 pub(crate) fn find_outer(plane: &Plane, shape: &Shape) -> Result<u16, Fault>
     requires { HasDarts plane.now shape.now }
-    ensures { IfOk result (λ outer. outer < plane.now.faces) }
+    ensures named { IfOk result (λ outer. outer < plane.now.faces) }
+    ensures turns { IfOk result (λ outer. turning_around plane.now (angle_at shape.now) (turns_at shape.now) outer ≡ negsuc 3) }
+    ensures none { OnErr result ((f : ℕ) → f < plane.now.faces → turning_around plane.now (angle_at shape.now) (turns_at shape.now) f ≢ negsuc 3) }
 {
     let faces = plane.face_count();
     let mut left_sums = [0; MAX_FACES];
@@ -19,13 +21,18 @@ pub(crate) fn find_outer(plane: &Plane, shape: &Shape) -> Result<u16, Fault>
     add_turns(plane, shape, &mut left_sums, &mut right_sums);
     for face in 0..faces {
         let place = usize::from(face);
-        let lefts = left_sums[place];
-        let rights = right_sums[place];
-        if rights >= 4 && rights - 4 == lefts {
+        if turns_right(left_sums[place], right_sums[place]) {
             return Ok(face);
         }
     }
     Err(Fault::Outer)
+}
+
+/// Whether so many turns to the left, and so many to the right, are one turn to the right.
+fn turns_right(lefts: u64, rights: u64) -> bool
+    ensures { IsTrue result ↔ ((pos lefts -ℤ pos rights) ≡ negsuc 3) }
+{
+    rights >= 4 && rights - 4 == lefts
 }
 
 /// Sums round each face what its darts turn to the left, and what they turn to the right.

@@ -1,14 +1,17 @@
 //! The shape that points have: the turns at corners and the angles at vertices.
 
-ghost use Rattle.std.specs.Prelude.{◌≡◌, ◌≤◌, ◌<◌, length, vec_len, IfOk};
+ghost use Rattle.std.specs.Prelude.{◌≡◌, ◌≢◌, ◌≤◌, ◌<◌, ℕ, length, slice_index, vec_len, IfOk, IfErr};
 ghost use Rattle.geometry.specs.Directions.{left_quarters};
-ghost use Rattle.faces.specs.Planes.{darts};
-ghost use Rattle.ortho_rep.specs.Representation.{HasDarts};
+ghost use Rattle.faces.specs.Planes.{darts, next, reverse_dart};
+ghost use Rattle.ortho_rep.specs.Shapes.{ShapeModel};
+ghost use Rattle.drawing_check.specs.Draws.{TurnAsSaid};
+ghost use Rattle.drawing_check.specs.Routes.{direction_at};
 ghost use Rattle.referee.specs.Drawings.{HasPoints};
+ghost use Rattle.referee.specs.Taken.{IsTaken};
 
 use crate::directions::list_directions;
 use crate::fault::Fault;
-use crate::turns::list_turns;
+use crate::turns::{add, list_turns};
 use embedding::MAX_DARTS;
 use faces::Plane;
 use geometry::Direction;
@@ -18,7 +21,8 @@ use std::alloc::{AllocError, Global};
 /// The shape of these points, where each path turns at each of its corners.
 pub(crate) fn shape_of(alloc: Global, plane: &Plane, points: &Points) -> Result<Shape, Fault>
     requires { HasPoints plane.now points.now }
-    ensures { IfOk result (HasDarts plane.now) }
+    ensures taken { IfOk result (IsTaken plane.now points.now) }
+    ensures refused { IfErr result (λ fault. fault ≢ Fault.Memory → (shape : ShapeModel) → ¬ TurnAsSaid plane.now shape points.now) }
 {
     // Only the proof needs this: `graph` says how many darts there are at most.
     let _graph = plane.graph();
@@ -36,14 +40,17 @@ fn list_angles(
     directions: &[Direction],
 ) -> Result<Vec<u8>, AllocError>
     requires { darts plane.now ≤ length directions.now }
-    ensures { IfOk result (λ angles. length angles.items ≡ darts plane.now) }
+    ensures count { IfOk result (λ angles. length angles.items ≡ darts plane.now) }
+    ensures some { IfOk result (λ angles. (d : ℕ) → d < darts plane.now → 1 ≤ slice_index angles.items d) }
+    ensures few { IfOk result (λ angles. (d : ℕ) → d < darts plane.now → slice_index angles.items d ≤ 4) }
+    ensures heads { IfOk result (λ angles. (d : ℕ) → d < darts plane.now → direction_at directions.now (reverse_dart plane.now d) ≡ left_quarters (slice_index angles.items d) (direction_at directions.now (next plane.now d))) }
 {
     let graph = plane.graph();
     let mut angles = Vec::with_capacity(alloc, usize::from(graph.darts()))?;
     for dart in 0..graph.darts() {
         let back = directions[usize::from(graph.reverse(dart))];
         let onward = directions[usize::from(plane.next(dart))];
-        angles.push(angle_between(onward, back))?;
+        add(&mut angles, angle_between(onward, back))?;
     }
     Ok(angles)
 }

@@ -1,12 +1,15 @@
 //! The turns of edges, as their corners have them.
 
-ghost use Rattle.std.specs.Prelude.{◌≡◌, ◌≢◌, ◌≤◌, ℕ, ◌<◌, ◌∷◌, ◌++◌, [], OnOk, length, vec_len, All, IfOk, IfSome, IfNone, slice_index_or};
-ghost use Rattle.faces.specs.Planes.{darts};
+ghost use Rattle.std.specs.Prelude.{◌≡◌, ◌≢◌, ◌≤◌, ℕ, ◌<◌, ◌∷◌, ◌++◌, [], List, OnOk, IsTrue, false, length, vec_len, All, IfOk, IfErr, IfSome, IfNone, slice_index_or};
+ghost use Rattle.faces.specs.Planes.{darts, reverse_dart};
 ghost use Rattle.ortho_rep.specs.declared.strings.TheConstants.{MAX_TURNS};
 ghost use Rattle.ortho_rep.specs.declared.turn.Turn.{Turn};
 ghost use Rattle.ortho_rep.specs.Turns.{opposite, mirrored};
+ghost use Rattle.ortho_rep.specs.Storage.{lists_in};
+ghost use Rattle.ortho_rep.specs.Shapes.{ShapeModel};
 ghost use Rattle.ortho_rep.specs.Edges.{is_lesser, edge_number};
-ghost use Rattle.drawing_check.specs.Draws.{turned, IsTurning};
+ghost use Rattle.drawing_check.specs.Draws.{turned, IsTurning, TurnAsSaid};
+ghost use Rattle.drawing_check.specs.Paths.{path_along};
 ghost use Rattle.referee.specs.Routes.{path_of};
 ghost use Rattle.referee.specs.Drawings.{HasPoints};
 
@@ -26,6 +29,11 @@ pub(crate) fn list_turns(
     requires { HasPoints plane.now points.now }
     ensures count { IfOk result (λ strings. vec_len strings ≡ darts plane.now) }
     ensures short { IfOk result (λ strings. All (λ string. vec_len string ≤ MAX_TURNS) strings.items) }
+    ensures turning { IfOk result (λ strings. (d : ℕ) → d < darts plane.now → IsTrue (is_lesser plane.now d)
+        → IsTurning (path_along plane.now points.now d) (slice_index_or (lists_in strings.items) d [])) }
+    ensures mirrored { IfOk result (λ strings. (d : ℕ) → d < darts plane.now
+        → slice_index_or (lists_in strings.items) (reverse_dart plane.now d) [] ≡ mirrored (slice_index_or (lists_in strings.items) d [])) }
+    ensures refused { IfErr result (λ fault. fault ≢ Fault.Memory → (shape : ShapeModel) → ¬ TurnAsSaid plane.now shape points.now) }
 {
     let graph = plane.graph();
     let mut strings = Vec::with_capacity(alloc, usize::from(graph.darts()))?;
@@ -55,13 +63,20 @@ fn string_of(
     requires count { length strings.now ≡ dart }
     requires few { All (λ string. vec_len string ≤ MAX_TURNS) strings.now }
     ensures short { IfOk result (λ string. vec_len string ≤ MAX_TURNS) }
+    ensures turning { IfOk result (λ string. IsTrue (is_lesser plane.now dart)
+        → IsTurning (path_along plane.now points.now dart) string.items) }
+    ensures mirrored { IfOk result (λ string. is_lesser plane.now dart ≡ false
+        → string.items ≡ mirrored (slice_index_or (lists_in strings.now) (reverse_dart plane.now dart) [])) }
+    ensures refused { IfErr result (λ fault. fault ≢ Fault.Memory → (shape : ShapeModel) → ¬ TurnAsSaid plane.now shape points.now) }
 {
     let reverse = plane.graph().reverse(dart);
     if dart < reverse {
         let route = route_of(plane, points, dart, reverse, edge);
-        return turns_along(alloc, &route, edge);
+        let turns = turns_along(alloc, &route, edge)?;
+        return Ok(turns);
     }
-    Ok(mirror(alloc, &strings[usize::from(reverse)])?)
+    let string = mirror(alloc, strings[usize::from(reverse)].as_slice())?;
+    Ok(string)
 }
 
 /// The turns at the corners of the path of this edge.
@@ -69,6 +84,7 @@ fn turns_along(alloc: Global, route: &Route<'_>, edge: u16) -> Result<Vec<Turn>,
     requires { length route.now.corners.now ≤ MAX_TURNS }
     ensures turning { IfOk result (λ turns. IsTurning (path_of route.now) turns.items) }
     ensures short { IfOk result (λ turns. vec_len turns ≤ MAX_TURNS) }
+    ensures refused { IfErr result (λ fault. fault ≢ Fault.Memory → (turns : List Turn) → ¬ IsTurning (path_of route.now) turns) }
 {
     let mut turns = Vec::with_capacity(alloc, route.corners.len())?;
     let mut heading = direction_from(route.start, route.point_at(1));
@@ -119,7 +135,7 @@ fn opposite(turn: Turn) -> Turn
 }
 
 /// Adds an item to a list.
-fn add<T: Drop>(list: &mut Vec<T>, item: T) -> Result<(), AllocError>
+pub(crate) fn add<T: Drop>(list: &mut Vec<T>, item: T) -> Result<(), AllocError>
     ensures { OnOk result (list.new.items ≡ list.old.items ++ item ∷ []) }
 {
     list.push(item)?;

@@ -1,5 +1,6 @@
-use Rattle.std.proofs.Common.{◌≡◌, ◌<◌, ℕ, List, true, false, subst, arith}
+use Rattle.std.proofs.Common.{◌≡◌, ◌<◌, ℕ, List, true, false, sym, subst, arith}
 use Rattle.std.proofs.lemmas.Bool.{both_ways, lt-ltb, le-ltb}
+use Rattle.std.proofs.lemmas.Result.{err_from_is_err_and}
 use Rattle.faces.specs.Planes.{darts, reverse_dart}
 use Rattle.ortho_rep.specs.declared.points.Point.{Point}
 use Rattle.ortho_rep.specs.Edges.{is_lesser}
@@ -29,7 +30,7 @@ loop-dart-preserved c =
           let lesser : is_lesser p dart ≡ true = lt-ltb dart (reverse_dart p dart) (omega (arith, reverse_dart_is, w.if-dart-reverse.true)) in
           record {
             number = omega (arith, w.edge-is, number_of_lesser p dart lesser, so_far.number);
-            on_axes = each_more straight p dart so_far.on_axes (λ _. subst IsOnAxes w.route_of-route.ensures.path w.in_ok-check_route.ensures);
+            on_axes = each_more straight p dart so_far.on_axes (λ _. subst IsOnAxes w.route_of-route.ensures.path w.in_ok-check_route.ensures.on_axes);
           }
       | else-dart-reverse w ↦
           let greater : is_lesser p dart ≡ false = le-ltb dart (reverse_dart p dart) (omega (arith, reverse_dart_is, w.if-dart-reverse.false)) in
@@ -39,8 +40,21 @@ loop-dart-preserved c =
           }
     ]
 
-pub returns : goal.returns
-returns c =
+pub returns-clause-on_axes : goal.returns-clause-on_axes
+returns-clause-on_axes c =
     let p = c.args.plane.now in
     let count : c.darts-dart-end.result ≡ darts p = rw c.graph-graph.ensures.value at c.darts-dart-end.ensures.count in
     (axes_each p c.args.points.now).1 (λ d lt less. c.loop-dart.invariant.on_axes d (omega (arith, count)) less)
+
+pub returns-in_err-check_route-clause-refused : goal.returns-in_err-check_route-clause-refused
+returns-in_err-check_route-clause-refused c =
+    let p = c.args.plane.now in
+    let points = c.args.points.now in
+    let dart = c.loop-dart.dart in
+    let reverse_dart_is : c.reverse-reverse.result ≡ reverse_dart p dart = rw c.graph-graph.ensures.value at c.reverse-reverse.ensures.value in
+    let count : c.darts-dart-end.result ≡ darts p = rw c.graph-graph.ensures.value at c.darts-dart-end.ensures.count in
+    let inside : dart < darts p = omega (arith, count) in
+    let lesser : is_lesser p dart ≡ true = lt-ltb dart (reverse_dart p dart) (omega (arith, reverse_dart_is, c.if-dart-reverse.true)) in
+    let q = err_from_is_err_and c.from_residual.result c.from_residual.ensures.1 in
+    rw q.1 (λ all. c.in_err-check_route.ensures.refused
+    (subst IsOnAxes (sym c.route_of-route.ensures.path) ((axes_each p points).0 all dart inside lesser)))

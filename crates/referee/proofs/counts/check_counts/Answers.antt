@@ -6,8 +6,8 @@ use Rattle.embedding.specs.Darts.{dart_count}
 use Rattle.faces.specs.Planes.{darts, vertices}
 use Rattle.referee.proofs.counts.check_counts.Goals as goal
 
-pub returns : goal.returns
-returns c =
+pub returns-clause-whole : goal.returns-clause-whole
+returns-clause-whole c =
     let p = c.args.plane.now in
     let corners : List (List Point) = c.args.points.now.corners in
     let total : 2 * length corners ≡ darts p = omega (arith, ap dart_count c.graph-graph.ensures.value) in

@@ -36,3 +36,12 @@ loop-corner-preserved c =
       heading = onward;
       each = turn_more path c.loop-corner.turns.items c.add.new.list.items c.loop-corner.corner c.in-Some.turn c.loop-corner.heading c.direction_from-onward.result added old.count old.heading onward c.in-Some.ensures.some old.each;
     }
+
+pub returns-in-None-clause-refused : goal.returns-in-None-clause-refused
+returns-in-None-clause-refused c = λ _ turns is.
+    let path = path_of c.args.route.now in
+    let k : ℕ = c.loop-corner.corner in
+    let onward = onward_is path k c.point_at-in-loop-corner.result c.point_at-in-loop-corner-2.result c.direction_from-onward.result c.point_at-in-loop-corner.ensures c.point_at-in-loop-corner-2.ensures c.direction_from-onward.ensures in
+    let inside : k < length turns = omega (arith, is.corners, length-append c.args.route.now.corners.now (c.args.route.now.end ∷ [])) in
+    c.in-None.ensures.none (get_or turns k Left)
+    (onward ∙ is.each k inside ∙ ap (turned (get_or turns k Left)) (sym c.loop-corner.invariant.heading))
