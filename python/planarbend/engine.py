@@ -31,6 +31,37 @@ class Answer:
     corners: list[list[GridPoint]]
 
 
+@dataclass(frozen=True, slots=True)
+class Conditions:
+    """What a layout is to keep. Vertices are counted from 1.
+
+    Attributes
+    ----------
+    straight : sequence of (u, v)
+        Edges that stay straight, each by its ends.
+    inner : sequence of (u, v)
+        Faces that are not the outer one, each by a dart from u to v that has it on its left.
+    """
+
+    straight: Sequence[tuple[int, int]] = ()
+    inner: Sequence[tuple[int, int]] = ()
+
+
+class NotKept(PlanarbendError):
+    """No layout keeps the conditions.
+
+    Attributes
+    ----------
+    word : str
+        "noshape" (no shape does), "noedge" (two vertices are no neighbours), "noouter" (all faces are to be inner) or
+        "wide" (the drawing does not fit the grid).
+    """
+
+    def __init__(self, word: str) -> None:
+        super().__init__(f"planarbend has no layout that keeps the conditions: {word}")
+        self.word = word
+
+
 class Engine(Protocol):
     """Lays out embedded graphs with the fewest bends."""
 
@@ -93,3 +124,8 @@ def default_engine() -> Engine:
     if library.is_wanted():
         return library.LibraryEngine()
     return ProcessEngine()
+
+
+def keeps_conditions(engine: Engine) -> bool:
+    """Whether an engine can be asked for layouts that keep conditions, by `lay_keeping`: the library can."""
+    return bool(getattr(engine, "keeps", False))

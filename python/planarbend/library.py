@@ -13,7 +13,7 @@ import os
 from collections.abc import Iterable, Iterator, Sequence
 from typing import TYPE_CHECKING, Any
 
-from planarbend.engine import Answer
+from planarbend.engine import Answer, Conditions, NotKept
 from planarbend.planar_code import Lists, record_of
 from planarbend.programs import ROOT, NoProgram, PlanarbendError
 
@@ -23,7 +23,7 @@ if TYPE_CHECKING:
 MOST_VERTICES, MOST_EDGES, MOST_FACES, MOST_BENDS = 255, 510, 257, 1534
 OUTER = {"first": 0, "best": 1}
 DRAWING = {"none": 0, "quick": 1, "short": 2}
-OK, FIRST_RULE, LAST_RULE, NOT_A_RECORD, MEMORY = 0, 1, 8, 9, 10
+OK, FIRST_RULE, LAST_RULE, NOT_A_RECORD, MEMORY, NO_SHAPE, WIDE = 0, 1, 8, 9, 10, 13, 16
 NAME = "libplanarbend.so.1"
 PLACES = [os.path.join(ROOT, "out", NAME), os.path.join(os.path.dirname(ROOT), NAME)]  # as it is built, and as it is installed
 
@@ -53,6 +53,16 @@ class Room(ctypes.Structure):
 
     _fields_ = [field for name in ("angles", "turns", "vertex_prices", "face_prices", "points", "corner_starts", "corners")
                 for field in ((name, ctypes.c_void_p), (f"{name}_room", ctypes.c_size_t))]
+
+
+class Kept(ctypes.Structure):
+    """`planarbend_conditions` of planarbend.h; a dart is two bytes."""
+
+    _fields_ = [("straight", ctypes.c_char_p), ("straight_count", ctypes.c_size_t),
+                ("inner", ctypes.c_char_p), ("inner_count", ctypes.c_size_t)]
+
+
+Darts = Iterable[tuple[int, int]]
 
 
 def path() -> str | None:
@@ -104,6 +114,10 @@ class Library:
         self._layout = self._library.planarbend_layout
         self._layout.argtypes = [ctypes.c_void_p, ctypes.c_char_p, ctypes.c_size_t, ctypes.c_int, ctypes.c_int,
                                  ctypes.c_void_p, ctypes.c_void_p]
+        self._keeping = getattr(self._library, "planarbend_layout_keeping", None)
+        self.keeps = self._keeping is not None  # an older library has no such call
+        if self._keeping is not None:
+            self._keeping.argtypes = [*self._layout.argtypes[:5], ctypes.c_void_p, *self._layout.argtypes[5:]]
         self._counts, self._buffer = Counts(), Buffer()
         self._lists = self._library.planarbend_lists_of(ctypes.byref(self._buffer))
         self._addresses = ctypes.addressof(self._counts), ctypes.addressof(self._lists)
@@ -158,7 +172,19 @@ class Library:
         if result == MEMORY:
             raise MemoryError("planarbend_layout")
 
-    def line(self, record: bytes, outer: str = "first", drawing: str = "short") -> dict[str, Any]:
+    def _called(self, record: bytes, outer: str, drawing: str, straight: Darts, inner: Darts) -> int:
+        """The result of a call, with conditions where there are any."""
+        kept = [b"".join(map(bytes, darts)) for darts in (straight, inner)]
+        given = self._object, record, len(record), OUTER[outer], DRAWING[drawing]
+        if not any(kept):
+            return int(self._layout(*given, *self._addresses))
+        if self._keeping is None:
+            raise PlanarbendError("this libplanarbend keeps no conditions: it is older than the package")
+        conditions = Kept(kept[0], len(kept[0]) // 2, kept[1], len(kept[1]) // 2)
+        return int(self._keeping(*given, ctypes.addressof(conditions), *self._addresses))
+
+    def line(self, record: bytes, outer: str = "first", drawing: str = "short", straight: Darts = (),
+             inner: Darts = ()) -> dict[str, Any]:
         """What `planarbend layout --json` says of a record, but for "file" and "graph".
 
         Parameters
@@ -169,15 +195,18 @@ class Library:
             The outer face.
         drawing : {"none", "quick", "short"}
             The drawing. With "none", "points" is None and "drawn" is "no".
+        straight, inner : iterables of (u, v), optional
+            See `planarbend.engine.Conditions`. Where they cannot be kept, "status" is "noshape", "noedge", "noouter" or
+            "wide", and there is nothing else.
 
         Raises
         ------
         ValueError
             The bytes are not one record.
         """
-        result = self._layout(self._object, record, len(record), OUTER[outer], DRAWING[drawing], *self._addresses)
-        if result == MEMORY:
-            return {"status": "memory"}
+        result = self._called(record, outer, drawing, straight, inner)
+        if result == MEMORY or NO_SHAPE <= result <= WIDE:
+            return {"status": self.word(result)}
         if result != OK:
             self._look_at(result)
             return {"rule": self.word(result), "status": "refused"}
@@ -197,15 +226,19 @@ class Library:
             "turns": ["L" * left + "R" * right for left, right in zip(turns[::2], turns[1::2])],
         }
 
-    def answer(self, record: bytes, outer: str) -> Answer:
+    def answer(self, record: bytes, outer: str, straight: Darts = (), inner: Darts = ()) -> Answer:
         """The bends and the points of a record, as drawing wants them.
 
         Raises
         ------
+        NotKept
+            The conditions cannot be kept.
         PlanarbendError
             The record is refused, or memory ran out.
         """
-        result = self._layout(self._object, record, len(record), OUTER[outer], DRAWING["short"], *self._addresses)
+        result = self._called(record, outer, "short", straight, inner)
+        if NO_SHAPE <= result <= WIDE:
+            raise NotKept(self.word(result))
         if result != OK:
             raise PlanarbendError(f"planarbend does not draw a graph: {self.word(result)}")
         counts, buffer = self._counts, self._buffer
@@ -237,6 +270,17 @@ class LibraryEngine:
 
     def __init__(self, library: Library | None = None) -> None:
         self.library = library or Library()
+        self.keeps = self.library.keeps
+
+    def lay_keeping(self, lists: Lists, outer: str, conditions: Conditions) -> Answer:
+        """Lay out one graph so that conditions are kept.
+
+        Raises
+        ------
+        NotKept
+            They cannot be.
+        """
+        return self.library.answer(record_of(lists), outer, conditions.straight, conditions.inner)
 
     def lay(self, graphs: Sequence[Lists], outer: str) -> list[Answer]:
         """See `Engine`."""

@@ -3,22 +3,16 @@
 ghost use Rattle.std.specs.Prelude.{◌≡◌, IfOk, IfErr, is_some};
 ghost use Rattle.answers.specs.Steps.{IsPlaneOf};
 ghost use Rattle.planar_code.specs.Stream.{IsRecord};
-ghost use Rattle.planarbend_c.specs.Found.{IsDrawnIfAsked};
+ghost use Rattle.planarbend_c.specs.Found.{IsDrawnIfAsked, IsFound, finding_of};
 ghost use Rattle.planarbend_c.specs.Faults.{IsFault};
 
+use crate::laid::Layout;
 use answers::{RecordScratch, ShapeFault, ShapedPlane};
 use common::{Choice, DrawingKind};
 use drawing_check::Drawing;
 use embedding::Rule;
 use planar_code::{ParseFault, Record};
 use std::alloc::{AllocError, Global};
-
-/// The plane of a record with a least shape and prices, and a drawing where one was asked for.
-#[derive(Drop)]
-pub(crate) struct Layout {
-    pub shaped_plane: ShapedPlane,
-    pub drawing: Option<Drawing>,
-}
 
 /// Why bytes are not laid out.
 #[derive(Clone, Copy)]
@@ -38,9 +32,7 @@ pub(crate) fn lay_out(
     choice: Choice,
     kind: Option<DrawingKind>,
 ) -> Result<Layout, Fault>
-    ensures plane { IfOk result (λ layout. IsPlaneOf choice bytes.now layout.shaped_plane.plane) }
-    ensures drawn { IfOk result (λ layout.
-        IsDrawnIfAsked layout.shaped_plane.plane layout.shaped_plane.shape layout.drawing) }
+    ensures found { IfOk result (λ layout. IsFound choice bytes.now (finding_of layout)) }
     ensures asked { IfOk result (λ layout. is_some layout.drawing ≡ is_some kind) }
     ensures is_record { IfOk result (λ _. IsRecord bytes.now) }
     ensures fault { IfErr result (IsFault bytes.now) }
@@ -49,14 +41,22 @@ pub(crate) fn lay_out(
     let mut scratch = RecordScratch::empty(alloc);
     let shaped_plane = shaped(alloc, &mut scratch, &rec, choice, kind)?;
     let drawing = drawn(alloc, &mut scratch, &shaped_plane, kind)?;
+    let ShapedPlane {
+        plane,
+        shape,
+        prices,
+        directions: _,
+    } = shaped_plane;
     Ok(Layout {
-        shaped_plane,
+        plane,
+        shape,
+        prices,
         drawing,
     })
 }
 
 /// The record that the bytes are.
-fn parsed(alloc: Global, bytes: &[u8]) -> Result<Record, Fault>
+pub(crate) fn parsed(alloc: Global, bytes: &[u8]) -> Result<Record, Fault>
     ensures same { IfOk result (λ rec. rec ≡ bytes.now) }
     ensures is_record { IfOk result (λ _. IsRecord bytes.now) }
     ensures fault { IfErr result (IsFault bytes.now) }

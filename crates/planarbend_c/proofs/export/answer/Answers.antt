@@ -1,7 +1,7 @@
 use Rattle.std.proofs.Common.{◌∙◌, inl, inr, subst, sym}
 use Rattle.planarbend_c.specs.Faults.{IsFault}
 use Rattle.planarbend_c.specs.Held.{contents}
-use Rattle.planarbend_c.specs.Found.{finding_of}
+use Rattle.planarbend_c.specs.Found.{IsFound, finding_of}
 use Rattle.planarbend_c.proofs.Told.{answer_of, told}
 use Rattle.planarbend_c.proofs.export.answer.Goals as goal
 
@@ -12,15 +12,15 @@ pub returns-in_default-drawing_of : goal.returns-in_default-drawing_of
 returns-in_default-drawing_of c = inr (sym c.drawing_of.ensures ∙ c.in_default-drawing_of.is)
 
 pub tell-requires : goal.tell-requires
-tell-requires c = c.in-Ok.ensures.drawn
+tell-requires c = c.in-Ok.ensures.found.drawn
 
 pub returns-in-Ok : goal.returns-in-Ok
 returns-in-Ok c =
     let layout = c.in-Ok.layout in
     let found = c.in-Ok.ensures in
-    told c.args.bytes.now c.args.outer c.args.drawing (finding_of layout) c.tell.new.counts (contents c.tell.new.lists) c.tell.result
-    (answer_of c.args.bytes.now c.args.outer c.args.drawing c.in-Some.choice c.in-Some-drawing_of.kind layout
-    (sym c.choice_of.ensures ∙ c.in-Some.is) (sym c.drawing_of.ensures ∙ c.in-Some-drawing_of.is) found.is_record found.plane found.drawn
+    told IsFound (λ _. ⊥) c.args.bytes.now c.args.outer c.args.drawing (finding_of layout) c.tell.new.counts (contents c.tell.new.lists) c.tell.result
+    (answer_of IsFound c.args.bytes.now c.args.outer c.args.drawing c.in-Some.choice c.in-Some-drawing_of.kind (finding_of layout)
+    (sym c.choice_of.ensures ∙ c.in-Some.is) (sym c.drawing_of.ensures ∙ c.in-Some-drawing_of.is) found.is_record found.found
     found.asked)
     c.tell.ensures
 

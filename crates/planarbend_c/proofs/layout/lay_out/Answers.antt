@@ -4,11 +4,8 @@ use Rattle.answers.specs.Steps.{IsPlaneOf}
 use Rattle.planarbend_c.specs.Faults.{IsFault}
 use Rattle.planarbend_c.proofs.layout.lay_out.Goals as goal
 
-pub returns-in_err-rec-clause-plane : goal.returns-in_err-rec-clause-plane
-returns-in_err-rec-clause-plane c = let p = err_from_is_err_and c.from_residual.result c.from_residual.ensures.1 in rw p.1 tt
-
-pub returns-in_err-rec-clause-drawn : goal.returns-in_err-rec-clause-drawn
-returns-in_err-rec-clause-drawn c = let p = err_from_is_err_and c.from_residual.result c.from_residual.ensures.1 in rw p.1 tt
+pub returns-in_err-rec-clause-found : goal.returns-in_err-rec-clause-found
+returns-in_err-rec-clause-found c = let p = err_from_is_err_and c.from_residual.result c.from_residual.ensures.1 in rw p.1 tt
 
 pub returns-in_err-rec-clause-asked : goal.returns-in_err-rec-clause-asked
 returns-in_err-rec-clause-asked c = let p = err_from_is_err_and c.from_residual.result c.from_residual.ensures.1 in rw p.1 tt
@@ -21,11 +18,8 @@ returns-in_err-rec-clause-fault c =
     let p = err_from_is_err_and c.from_residual.result c.from_residual.ensures.1 in
     rw (p.1, p.2) c.in_err-rec.ensures.fault
 
-pub returns-in_err-shaped_plane-clause-plane : goal.returns-in_err-shaped_plane-clause-plane
-returns-in_err-shaped_plane-clause-plane c = let p = err_from_is_err_and c.from_residual-in_err-shaped_plane.result c.from_residual-in_err-shaped_plane.ensures.1 in rw p.1 tt
-
-pub returns-in_err-shaped_plane-clause-drawn : goal.returns-in_err-shaped_plane-clause-drawn
-returns-in_err-shaped_plane-clause-drawn c = let p = err_from_is_err_and c.from_residual-in_err-shaped_plane.result c.from_residual-in_err-shaped_plane.ensures.1 in rw p.1 tt
+pub returns-in_err-shaped_plane-clause-found : goal.returns-in_err-shaped_plane-clause-found
+returns-in_err-shaped_plane-clause-found c = let p = err_from_is_err_and c.from_residual-in_err-shaped_plane.result c.from_residual-in_err-shaped_plane.ensures.1 in rw p.1 tt
 
 pub returns-in_err-shaped_plane-clause-asked : goal.returns-in_err-shaped_plane-clause-asked
 returns-in_err-shaped_plane-clause-asked c = let p = err_from_is_err_and c.from_residual-in_err-shaped_plane.result c.from_residual-in_err-shaped_plane.ensures.1 in rw p.1 tt
@@ -38,11 +32,8 @@ returns-in_err-shaped_plane-clause-fault c =
     let p = err_from_is_err_and c.from_residual-in_err-shaped_plane.result c.from_residual-in_err-shaped_plane.ensures.1 in
     rw (p.1, p.2) (subst (λ (b : List ℕ). IsFault b c.in_err-shaped_plane.field-0.0) c.in_ok-rec.ensures.same c.in_err-shaped_plane.ensures.fault)
 
-pub returns-in_err-drawing-clause-plane : goal.returns-in_err-drawing-clause-plane
-returns-in_err-drawing-clause-plane c = let p = err_from_is_err_and c.from_residual-in_err-drawing.result c.from_residual-in_err-drawing.ensures.1 in rw p.1 tt
-
-pub returns-in_err-drawing-clause-drawn : goal.returns-in_err-drawing-clause-drawn
-returns-in_err-drawing-clause-drawn c = let p = err_from_is_err_and c.from_residual-in_err-drawing.result c.from_residual-in_err-drawing.ensures.1 in rw p.1 tt
+pub returns-in_err-drawing-clause-found : goal.returns-in_err-drawing-clause-found
+returns-in_err-drawing-clause-found c = let p = err_from_is_err_and c.from_residual-in_err-drawing.result c.from_residual-in_err-drawing.ensures.1 in rw p.1 tt
 
 pub returns-in_err-drawing-clause-asked : goal.returns-in_err-drawing-clause-asked
 returns-in_err-drawing-clause-asked c = let p = err_from_is_err_and c.from_residual-in_err-drawing.result c.from_residual-in_err-drawing.ensures.1 in rw p.1 tt
@@ -55,12 +46,19 @@ returns-in_err-drawing-clause-fault c =
     let p = err_from_is_err_and c.from_residual-in_err-drawing.result c.from_residual-in_err-drawing.ensures.1 in
     rw (p.1, p.2) (subst (IsFault c.args.bytes.now) (sym c.in_err-drawing.ensures.fault) tt)
 
-pub returns-clause-plane : goal.returns-clause-plane
-returns-clause-plane c =
-    subst (λ (b : List ℕ). IsPlaneOf c.args.choice b c.in_ok-shaped_plane.shaped_plane.plane) c.in_ok-rec.ensures.same c.in_ok-shaped_plane.ensures.plane
-
-pub returns-clause-drawn : goal.returns-clause-drawn
-returns-clause-drawn c = c.in_ok-drawing.ensures.drawn
+pub returns-clause-found : goal.returns-clause-found
+returns-clause-found c =
+    let shaped = c.in_ok-shaped_plane.shaped_plane in
+    let kept : IsPlaneOf c.args.choice c.args.bytes.now shaped.plane = subst (λ (b : List ℕ). IsPlaneOf c.args.choice b shaped.plane) c.in_ok-rec.ensures.same c.in_ok-shaped_plane.ensures.plane in
+    record {
+      lists = kept.lists;
+      rules = kept.rules;
+      chosen = kept.chosen;
+      shape_is = shaped.shape_is;
+      least = shaped.least;
+      proof = shaped.proof;
+      drawn = c.in_ok-drawing.ensures.drawn;
+    }
 
 pub returns-clause-asked : goal.returns-clause-asked
 returns-clause-asked c = c.in_ok-drawing.ensures.asked
