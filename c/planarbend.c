@@ -16,9 +16,18 @@ void *planarbend_test_realloc(void *block, size_t size);
 #define realloc planarbend_test_realloc
 #endif
 
-/* The proved call. A list of room 0 is left out; no pointer is null. */
+/* What the second call is asked for. */
+struct request {
+    uint32_t outer;
+    uint32_t drawing;
+    planarbend_conditions conditions;
+};
+
+/* The proved calls. A list of room 0 is left out; no pointer is null. */
 uint32_t planarbend_c_layout(const uint8_t *record, size_t size, uint32_t outer, uint32_t drawing,
                              planarbend_counts *counts, planarbend_lists *lists);
+uint32_t planarbend_c_layout_keeping(const uint8_t *record, size_t size, const struct request *request,
+                                     planarbend_counts *counts, planarbend_lists *lists);
 
 /* ---- memory that is kept */
 
@@ -172,19 +181,45 @@ static bool without_nulls(planarbend_lists *lists) {
         && WITHOUT_NULL(lists->corners, lists->corners_room, nothing);
 }
 
-int planarbend_layout(planarbend *object, const uint8_t *record, size_t size, int outer, int drawing,
-                      planarbend_counts *counts, const planarbend_lists *lists) {
+/* Whether a list of darts may be read; one without darts gets a pointer that is not null. */
+static bool without_null(const planarbend_dart **darts, size_t count) {
+    static const planarbend_dart none;
+    if (count == 0) *darts = &none;
+    return *darts != NULL;
+}
+
+/* Both calls: `request` is null where there are no conditions. */
+static int called(planarbend *object, const uint8_t *record, size_t size, int outer, int drawing,
+                  const struct request *request, planarbend_counts *counts, const planarbend_lists *lists) {
     static const uint8_t nothing = 0;
     planarbend_counts unwanted;
     planarbend_lists own;
     memset(&own, 0, sizeof own);
     if (lists != NULL) own = *lists;
     if (outer < 0 || drawing < 0 || (record == NULL && size > 0) || !without_nulls(&own)) return PLANARBEND_ARGUMENT;
+    if (record == NULL) record = &nothing;
+    if (counts == NULL) counts = &unwanted;
     lend(object);
-    uint32_t result = planarbend_c_layout(
-        record == NULL ? &nothing : record, size, (uint32_t)outer, (uint32_t)drawing, counts == NULL ? &unwanted : counts, &own);
+    uint32_t result = request == NULL
+        ? planarbend_c_layout(record, size, (uint32_t)outer, (uint32_t)drawing, counts, &own)
+        : planarbend_c_layout_keeping(record, size, request, counts, &own);
     take_back(object);
     return (int)result;
+}
+
+int planarbend_layout(planarbend *object, const uint8_t *record, size_t size, int outer, int drawing,
+                      planarbend_counts *counts, const planarbend_lists *lists) {
+    return called(object, record, size, outer, drawing, NULL, counts, lists);
+}
+
+int planarbend_layout_keeping(planarbend *object, const uint8_t *record, size_t size, int outer, int drawing,
+                              const planarbend_conditions *conditions, planarbend_counts *counts,
+                              const planarbend_lists *lists) {
+    if (conditions == NULL) return called(object, record, size, outer, drawing, NULL, counts, lists);
+    struct request request = {(uint32_t)outer, (uint32_t)drawing, *conditions};
+    if (!without_null(&request.conditions.straight, request.conditions.straight_count)
+        || !without_null(&request.conditions.inner, request.conditions.inner_count)) return PLANARBEND_ARGUMENT;
+    return called(object, record, size, outer, drawing, &request, counts, lists);
 }
 
 planarbend_lists planarbend_lists_of(planarbend_buffer *buffer) {
@@ -204,8 +239,9 @@ planarbend_lists planarbend_lists_of(planarbend_buffer *buffer) {
 
 const char *planarbend_word(int result) {
     static const char *const words[] = {"ok",     "range",        "loop",  "multi",  "asymmetric", "edgeless", "degree",
-                                        "disconnected", "genus", "record", "memory", "room",     "argument"};
-    return result < 0 || result > PLANARBEND_ARGUMENT ? NULL : words[result];
+                                        "disconnected", "genus", "record", "memory", "room",     "argument",
+                                        "noshape", "noedge",  "noouter", "wide"};
+    return result < 0 || result > PLANARBEND_WIDE ? NULL : words[result];
 }
 
 const char *planarbend_version(void) {

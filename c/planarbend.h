@@ -52,7 +52,16 @@ enum {
     /* Some list is too short. The counts are written, and tell what each needs; no list is written. */
     PLANARBEND_ROOM = 11,
     /* No such outer face or drawing, or a null pointer where none may be. */
-    PLANARBEND_ARGUMENT = 12
+    PLANARBEND_ARGUMENT = 12,
+    /* The next four come of conditions alone. With the outer face asked for (PLANARBEND_OUTER_BEST: with any that may be
+       outside) no shape keeps these edges straight. */
+    PLANARBEND_NO_SHAPE = 13,
+    /* Two vertices that name an edge or a face are no neighbours. */
+    PLANARBEND_NO_EDGE = 14,
+    /* Each face is to stay inside. */
+    PLANARBEND_NO_OUTER = 15,
+    /* There is a shape, but with its bends no drawing in the order of its boxes fits coordinates of 16 bits. */
+    PLANARBEND_WIDE = 16
 };
 
 /* Which face is the outer one. */
@@ -67,6 +76,22 @@ enum {
     PLANARBEND_DRAWING_QUICK = 1, /* the one that is found first */
     PLANARBEND_DRAWING_SHORT = 2  /* one with shorter edges */
 };
+
+/* A dart: the edge between two neighbours, from one of them to the other. Vertices are numbered from 1. */
+typedef struct planarbend_dart {
+    uint8_t from;
+    uint8_t to;
+} planarbend_dart;
+
+/* What a layout is to keep. A pointer may be null where its count is 0. */
+typedef struct planarbend_conditions {
+    /* Edges that stay straight, each by one of its two darts. */
+    const planarbend_dart *straight;
+    size_t straight_count;
+    /* Faces that are not the outer one, each by a dart that has it on its left. */
+    const planarbend_dart *inner;
+    size_t inner_count;
+} planarbend_conditions;
 
 /* How many there are. `outer_face` is the number of the outer face. */
 typedef struct planarbend_counts {
@@ -156,8 +181,17 @@ int planarbend_layout(planarbend *object, const uint8_t *record, size_t size, in
                       planarbend_counts *counts, const planarbend_lists *lists);
 
 /*
+ * The same with conditions: the outer face is chosen among those that may be outside, and the shape has the fewest bends
+ * of all that keep the edges straight, as the prices prove; prices say nothing of crossing such an edge. There may be more
+ * than PLANARBEND_MAX_BENDS bends. A short drawing is made of the shape as it is. `conditions` may be null: there are none.
+ */
+int planarbend_layout_keeping(planarbend *object, const uint8_t *record, size_t size, int outer, int drawing,
+                              const planarbend_conditions *conditions, planarbend_counts *counts,
+                              const planarbend_lists *lists);
+
+/*
  * The word of a result: "ok", the word of a rule as reports have it ("range" to "genus"), "record", "memory", "room",
- * "argument"; null for any other number. The text is the library's and lasts.
+ * "argument", "noshape", "noedge", "noouter", "wide"; null for any other number. The text is the library's and lasts.
  */
 const char *planarbend_word(int result);
 

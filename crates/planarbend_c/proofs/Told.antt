@@ -3,24 +3,26 @@ use Rattle.std.proofs.Common.{◌≡◌, ℕ, List, Option, Some, is_some}
 use Rattle.planar_code.specs.Stream.{IsRecord}
 use Rattle.common.specs.declared.choice.Choice.{Choice}
 use Rattle.common.specs.declared.drawing_kind.DrawingKind.{DrawingKind}
-use Rattle.answers.specs.Steps.{IsPlaneOf}
 use Rattle.planarbend_c.specs.declared.counts.Counts.{Counts}
-use Rattle.planarbend_c.specs.declared.layout.Layout.{Layout}
+use Rattle.planarbend_c.specs.declared.keeping.KeepingFault.{KeepingFault}
 use Rattle.planarbend_c.specs.declared.outcome.Outcome.{Outcome}
-use Rattle.planarbend_c.specs.declared.outcome.Outcome.TheVariants.{Laid, Refused, NotARecord, Memory, Room, Argument}
+use Rattle.planarbend_c.specs.declared.outcome.Outcome.TheVariants.{Laid, Refused, NotARecord, Memory, Room, Argument, NoShape, NoEdge, NoOuter, Wide}
+use Rattle.planarbend_c.specs.declared.keeping.KeepingFault.TheVariants as keeping
+use Rattle.planarbend_c.specs.declared.layout.Fault.{Fault}
+use Rattle.planarbend_c.specs.declared.layout.Fault.TheVariants as fault
+use Rattle.planarbend_c.specs.declared.request.Request.{Request}
+use Rattle.planarbend_c.specs.Faults.{IsFault, IsKeepingFault}
 use Rattle.planarbend_c.specs.Requests.{choice_in, drawing_in}
 use Rattle.planarbend_c.specs.Held.{ListsModel}
-use Rattle.planarbend_c.specs.Found.{Finding, IsDrawnIfAsked, finding_of}
-use Rattle.planarbend_c.specs.Outcomes.{IsAnswer, IsOutcome, IsTold}
+use Rattle.planarbend_c.specs.Found.{Finding}
+use Rattle.planarbend_c.specs.Outcomes.{IsAnswerOf, IsOutcome, IsOutcomeKeeping, IsOutcomeOf, IsTold, outcome_of, refusal_of}
 
--- what a layout holds is an answer
-pub answer_of : (bytes : List ℕ) (outer drawing : ℕ) (choice : Choice) (kind : Option DrawingKind) (layout : Layout)
-    → choice_in outer ≡ Some choice → drawing_in drawing ≡ Some kind → IsRecord bytes
-    → IsPlaneOf choice bytes layout.shaped_plane.plane
-    → IsDrawnIfAsked layout.shaped_plane.plane layout.shaped_plane.shape layout.drawing
-    → is_some layout.drawing ≡ is_some kind
-    → IsAnswer bytes outer drawing (finding_of layout)
-answer_of bytes outer drawing choice kind layout choice_asked kind_asked is_record plane drawn asked =
+-- what is found is an answer
+pub answer_of : (Is : Choice → List ℕ → Finding → Type 0) (bytes : List ℕ) (outer drawing : ℕ) (choice : Choice) (kind : Option DrawingKind) (found : Finding)
+    → choice_in outer ≡ Some choice → drawing_in drawing ≡ Some kind → IsRecord bytes → Is choice bytes found
+    → is_some found.points ≡ is_some kind
+    → IsAnswerOf Is bytes outer drawing found
+answer_of Is bytes outer drawing choice kind found choice_asked kind_asked is_record is_found asked =
     record {
       choice = choice;
       choice_asked = choice_asked;
@@ -28,25 +30,40 @@ answer_of bytes outer drawing choice kind layout choice_asked kind_asked is_reco
       kind_asked = kind_asked;
       points_asked = asked;
       is_record = is_record;
-      is_found = record {
-        lists = plane.lists;
-        rules = plane.rules;
-        chosen = plane.chosen;
-        shape_is = layout.shaped_plane.shape_is;
-        least = layout.shaped_plane.least;
-        proof = layout.shaped_plane.proof;
-        drawn = drawn;
-      };
+      is_found = is_found;
     }
 
 -- what is told of an answer is what comes of the call
-pub told : (bytes : List ℕ) (outer drawing : ℕ) (found : Finding) (counts : Counts) (lists : ListsModel) (outcome : Outcome)
-    → IsAnswer bytes outer drawing found → IsTold found counts lists outcome → IsOutcome bytes outer drawing counts lists outcome
-told bytes outer drawing found counts lists Laid answer is =
+pub told : (Is : Choice → List ℕ → Finding → Type 0) (Unkept : KeepingFault → Type 0) (bytes : List ℕ) (outer drawing : ℕ) (found : Finding) (counts : Counts) (lists : ListsModel) (outcome : Outcome)
+    → IsAnswerOf Is bytes outer drawing found → IsTold found counts lists outcome → IsOutcomeOf Is Unkept bytes outer drawing counts lists outcome
+told Is Unkept bytes outer drawing found counts lists Laid answer is =
     record { found = found; answer = answer; counted = is.0; held = is.1 }
-told bytes outer drawing found counts lists Room answer is =
+told Is Unkept bytes outer drawing found counts lists Room answer is =
     record { found = found; answer = answer; counted = is.0; short = is.1 }
-told bytes outer drawing found counts lists Memory answer is = tt
-told bytes outer drawing found counts lists (Refused rule) answer is = absurd is
-told bytes outer drawing found counts lists NotARecord answer is = absurd is
-told bytes outer drawing found counts lists Argument answer is = absurd is
+told Is Unkept bytes outer drawing found counts lists Memory answer is = tt
+told Is Unkept bytes outer drawing found counts lists (Refused rule) answer is = absurd is
+told Is Unkept bytes outer drawing found counts lists NotARecord answer is = absurd is
+told Is Unkept bytes outer drawing found counts lists Argument answer is = absurd is
+told Is Unkept bytes outer drawing found counts lists NoShape answer is = absurd is
+told Is Unkept bytes outer drawing found counts lists NoEdge answer is = absurd is
+told Is Unkept bytes outer drawing found counts lists NoOuter answer is = absurd is
+told Is Unkept bytes outer drawing found counts lists Wide answer is = absurd is
+
+-- a refusal is what comes of the call
+pub refused_told : (bytes : List ℕ) (outer drawing : ℕ) (counts : Counts) (lists : ListsModel) (it : Fault)
+    → IsFault bytes it → IsOutcome bytes outer drawing counts lists (refusal_of it)
+refused_told bytes outer drawing counts lists (fault.Rule rule) shown = shown
+refused_told bytes outer drawing counts lists fault.NotARecord shown = shown
+refused_told bytes outer drawing counts lists fault.Memory shown = tt
+
+-- the same where conditions are to be kept
+pub unlaid_told : (request : Request) (choice : Choice) (bytes : List ℕ) (counts : Counts) (lists : ListsModel) (it : KeepingFault)
+    → choice_in request.outer ≡ Some choice → IsKeepingFault request.conditions choice bytes it
+    → IsOutcomeKeeping request bytes counts lists (outcome_of it)
+unlaid_told request choice bytes counts lists (keeping.Record (fault.Rule rule)) asked shown = shown
+unlaid_told request choice bytes counts lists (keeping.Record fault.NotARecord) asked shown = shown
+unlaid_told request choice bytes counts lists (keeping.Record fault.Memory) asked shown = tt
+unlaid_told request choice bytes counts lists keeping.NoShape asked shown = record { choice = choice; choice_asked = asked; shown = shown }
+unlaid_told request choice bytes counts lists keeping.NoEdge asked shown = record { choice = choice; choice_asked = asked; shown = shown }
+unlaid_told request choice bytes counts lists keeping.NoOuter asked shown = record { choice = choice; choice_asked = asked; shown = shown }
+unlaid_told request choice bytes counts lists keeping.Wide asked shown = record { choice = choice; choice_asked = asked; shown = shown }

@@ -2,7 +2,7 @@
 use Rattle.std.specs.Prelude.{ℕ}
 use Rattle.embedding.specs.Rules.{rule_number}
 use Rattle.planarbend_c.specs.declared.outcome.Outcome.{Outcome}
-use Rattle.planarbend_c.specs.declared.outcome.Outcome.TheVariants.{Laid, Refused, NotARecord, Memory, Room, Argument}
+use Rattle.planarbend_c.specs.declared.outcome.Outcome.TheVariants.{Laid, Refused, NotARecord, Memory, Room, Argument, NoShape, NoEdge, NoOuter, Wide}
 
 abbrev pub code_of : Outcome → ℕ
 code_of Laid = 0
@@ -12,3 +12,7 @@ code_of NotARecord = 9
 code_of Memory = 10
 code_of Room = 11
 code_of Argument = 12
+code_of NoShape = 13
+code_of NoEdge = 14
+code_of NoOuter = 15
+code_of Wide = 16

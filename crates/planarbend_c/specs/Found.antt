@@ -15,9 +15,12 @@ use Rattle.ortho_rep.specs.Best.{IsChosen}
 use Rattle.drawing_check.specs.Draws.{Draws}
 use Rattle.drawing_check.specs.Regions.{HasRegions}
 use Rattle.entries.specs.Drawn.{HasPoints}
+use Rattle.conditions.specs.declared.conditions.Conditions.{Conditions}
+use Rattle.conditions.specs.Chosen.{IsKept}
+use Rattle.answers.specs.Kept.{AreDrawnStraight}
 use Rattle.answers.specs.Lengths.{IsNear, IsNoLonger}
 use Rattle.planarbend_c.specs.declared.counts.Counts.{Counts}
-use Rattle.planarbend_c.specs.declared.layout.Layout.{Layout}
+use Rattle.planarbend_c.specs.declared.laid.Layout.{Layout}
 use Rattle.planarbend_c.specs.declared.lists.DartTurns.{DartTurns}
 use Rattle.planarbend_c.specs.declared.lists.GridPoint.{GridPoint}
 use Rattle.planarbend_c.specs.Held.{ListsModel, HasRoom, Holds}
@@ -47,14 +50,12 @@ pub record Finding : Type 0 where
   pub prices : PricesModel
   pub points : Option PointsModel
 
+abbrev pub finding : PlaneModel → ShapeModel → PricesModel → Option PointsModel → Finding
+finding plane shape prices points = record { plane = plane; shape = shape; prices = prices; points = points }
+
 -- what a layout holds
 abbrev pub finding_of : Layout → Finding
-finding_of layout = record {
-  plane = layout.shaped_plane.plane;
-  shape = layout.shaped_plane.shape;
-  prices = layout.shaped_plane.prices;
-  points = layout.drawing;
-}
+finding_of layout = finding layout.plane layout.shape layout.prices layout.drawing
 
 -- it is of a record of these bytes under a choice of the outer face
 pub record IsFound (choice : Choice) (bytes : List ℕ) (found : Finding) : Type 0 where
@@ -72,6 +73,22 @@ pub record IsFound (choice : Choice) (bytes : List ℕ) (found : Finding) : Type
   pub proof : IsProof found.plane found.shape found.prices
   -- the points draw the shape
   pub drawn : IsDrawnIfAsked found.plane found.shape found.points
+
+-- an edge without turns has no corners, where a drawing is asked for
+abbrev pub AreStraightIfAsked : PlaneModel → ShapeModel → Option PointsModel → Type 0
+AreStraightIfAsked plane shape None = ⊤
+AreStraightIfAsked plane shape (Some points) = AreDrawnStraight plane shape points
+
+-- it is of a record of these bytes under a choice of the outer face and conditions
+pub record IsFoundKeeping (conditions : Conditions) (choice : Choice) (bytes : List ℕ) (found : Finding) : Type 0 where
+  pub lists : found.plane.lists ≡ lists_of bytes
+  pub rules : IsPlane found.plane
+  -- the outer face is the chosen one of those that may be outside, and the shape has the fewest bends of all that keep
+  -- the edges straight, as the prices prove
+  pub kept : IsKept conditions choice found.plane found.shape found.prices
+  -- the points draw the shape
+  pub drawn : IsDrawnIfAsked found.plane found.shape found.points
+  pub straight : AreStraightIfAsked found.plane found.shape found.points
 
 -- ---- how it is told
 

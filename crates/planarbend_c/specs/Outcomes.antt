@@ -4,15 +4,23 @@ use Rattle.planar_code.specs.Stream.{IsRecord, lists_of}
 use Rattle.embedding.specs.Rules.{FirstBroken}
 use Rattle.common.specs.declared.choice.Choice.{Choice}
 use Rattle.common.specs.declared.drawing_kind.DrawingKind.{DrawingKind}
+use Rattle.conditions.specs.declared.conditions.Conditions.{Conditions}
+use Rattle.planarbend_c.specs.declared.request.Request.{Request}
+use Rattle.planarbend_c.specs.declared.keeping.KeepingFault.{KeepingFault}
+use Rattle.planarbend_c.specs.declared.keeping.KeepingFault.TheVariants as keeping
+use Rattle.planarbend_c.specs.declared.layout.Fault.{Fault}
+use Rattle.planarbend_c.specs.declared.layout.Fault.TheVariants as fault
+use Rattle.planarbend_c.specs.Faults.{IsKeepingFault}
 use Rattle.planarbend_c.specs.declared.counts.Counts.{Counts}
 use Rattle.planarbend_c.specs.declared.outcome.Outcome.{Outcome}
-use Rattle.planarbend_c.specs.declared.outcome.Outcome.TheVariants.{Laid, Refused, NotARecord, Memory, Room, Argument}
+use Rattle.planarbend_c.specs.declared.outcome.Outcome.TheVariants.{Laid, Refused, NotARecord, Memory, Room, Argument, NoShape, NoEdge, NoOuter, Wide}
 use Rattle.planarbend_c.specs.Requests.{choice_in, drawing_in}
 use Rattle.planarbend_c.specs.Held.{ListsModel}
-use Rattle.planarbend_c.specs.Found.{Finding, IsFound, AreCounts, HoldFinding, HaveRoom}
+use Rattle.planarbend_c.specs.Found.{Finding, IsFound, IsFoundKeeping, AreCounts, HoldFinding, HaveRoom}
 
--- the bytes are a record, of which this is found under what the numbers of an outer face and of a drawing ask for
-pub record IsAnswer (bytes : List ℕ) (outer drawing : ℕ) (found : Finding) : Type 0 where
+-- the bytes are a record, of which something is found under what the numbers of an outer face and of a drawing ask for:
+-- `Is` says what
+pub record IsAnswerOf (Is : Choice → List ℕ → Finding → Type 0) (bytes : List ℕ) (outer drawing : ℕ) (found : Finding) : Type 0 where
   pub choice : Choice
   pub choice_asked : choice_in outer ≡ Some choice
   pub kind : Option DrawingKind
@@ -20,19 +28,19 @@ pub record IsAnswer (bytes : List ℕ) (outer drawing : ℕ) (found : Finding) :
   -- there are points exactly where a drawing is asked for
   pub points_asked : is_some found.points ≡ is_some kind
   pub is_record : IsRecord bytes
-  pub is_found : IsFound choice bytes found
+  pub is_found : Is choice bytes found
 
 -- what is found of the record stands in the counts and in the lists
-pub record IsLaidOut (bytes : List ℕ) (outer drawing : ℕ) (counts : Counts) (lists : ListsModel) : Type 0 where
+pub record IsLaidOut (Is : Choice → List ℕ → Finding → Type 0) (bytes : List ℕ) (outer drawing : ℕ) (counts : Counts) (lists : ListsModel) : Type 0 where
   pub found : Finding
-  pub answer : IsAnswer bytes outer drawing found
+  pub answer : IsAnswerOf Is bytes outer drawing found
   pub counted : AreCounts found counts
   pub held : HoldFinding found lists
 
 -- what is found stands in the counts, and some list has room for less
-pub record LacksRoom (bytes : List ℕ) (outer drawing : ℕ) (counts : Counts) (lists : ListsModel) : Type 0 where
+pub record LacksRoom (Is : Choice → List ℕ → Finding → Type 0) (bytes : List ℕ) (outer drawing : ℕ) (counts : Counts) (lists : ListsModel) : Type 0 where
   pub found : Finding
-  pub answer : IsAnswer bytes outer drawing found
+  pub answer : IsAnswerOf Is bytes outer drawing found
   pub counted : AreCounts found counts
   pub short : ¬ HaveRoom (is_some found.points) counts lists
 
@@ -40,16 +48,49 @@ pub record LacksRoom (bytes : List ℕ) (outer drawing : ℕ) (counts : Counts) 
 abbrev pub AsksNothing : ℕ → ℕ → Type 0
 AsksNothing outer drawing = (choice_in outer ≡ None) ⊎ (drawing_in drawing ≡ None)
 
--- what an outcome shows
-abbrev pub IsOutcome : List ℕ → ℕ → ℕ → Counts → ListsModel → Outcome → Type 0
-IsOutcome bytes outer drawing counts lists Laid = IsLaidOut bytes outer drawing counts lists
+-- what an outcome shows, where `Unkept` says what is shown where conditions are not kept
+abbrev pub IsOutcomeOf : (Choice → List ℕ → Finding → Type 0) → (KeepingFault → Type 0) → List ℕ → ℕ → ℕ → Counts → ListsModel → Outcome → Type 0
+IsOutcomeOf Is Unkept bytes outer drawing counts lists Laid = IsLaidOut Is bytes outer drawing counts lists
 -- the rule is broken, and none before it
-IsOutcome bytes outer drawing counts lists (Refused rule) = IsRecord bytes × FirstBroken (lists_of bytes) rule
-IsOutcome bytes outer drawing counts lists NotARecord = ¬ IsRecord bytes
+IsOutcomeOf Is Unkept bytes outer drawing counts lists (Refused rule) = IsRecord bytes × FirstBroken (lists_of bytes) rule
+IsOutcomeOf Is Unkept bytes outer drawing counts lists NotARecord = ¬ IsRecord bytes
 -- nothing is said
-IsOutcome bytes outer drawing counts lists Memory = ⊤
-IsOutcome bytes outer drawing counts lists Room = LacksRoom bytes outer drawing counts lists
-IsOutcome bytes outer drawing counts lists Argument = AsksNothing outer drawing
+IsOutcomeOf Is Unkept bytes outer drawing counts lists Memory = ⊤
+IsOutcomeOf Is Unkept bytes outer drawing counts lists Room = LacksRoom Is bytes outer drawing counts lists
+IsOutcomeOf Is Unkept bytes outer drawing counts lists Argument = AsksNothing outer drawing
+IsOutcomeOf Is Unkept bytes outer drawing counts lists NoShape = Unkept keeping.NoShape
+IsOutcomeOf Is Unkept bytes outer drawing counts lists NoEdge = Unkept keeping.NoEdge
+IsOutcomeOf Is Unkept bytes outer drawing counts lists NoOuter = Unkept keeping.NoOuter
+IsOutcomeOf Is Unkept bytes outer drawing counts lists Wide = Unkept keeping.Wide
+
+-- without conditions the last four do not come
+abbrev pub IsOutcome : List ℕ → ℕ → ℕ → Counts → ListsModel → Outcome → Type 0
+IsOutcome bytes outer drawing counts lists outcome = IsOutcomeOf IsFound (λ _. ⊥) bytes outer drawing counts lists outcome
+
+-- a choice that is asked for, and what is shown under it
+pub record IsUnlaid (request : Request) (bytes : List ℕ) (fault : KeepingFault) : Type 0 where
+  pub choice : Choice
+  pub choice_asked : choice_in request.outer ≡ Some choice
+  pub shown : IsKeepingFault request.conditions choice bytes fault
+
+-- with conditions
+abbrev pub IsOutcomeKeeping : Request → List ℕ → Counts → ListsModel → Outcome → Type 0
+IsOutcomeKeeping request bytes counts lists outcome =
+    IsOutcomeOf (IsFoundKeeping request.conditions) (IsUnlaid request bytes) bytes request.outer request.drawing counts lists outcome
+
+-- what comes of the call where bytes are not laid out
+abbrev pub refusal_of : Fault → Outcome
+refusal_of (fault.Rule rule) = Refused rule
+refusal_of fault.NotARecord = NotARecord
+refusal_of fault.Memory = Memory
+
+-- the same where conditions are to be kept
+abbrev pub outcome_of : KeepingFault → Outcome
+outcome_of (keeping.Record fault) = refusal_of fault
+outcome_of keeping.NoShape = NoShape
+outcome_of keeping.NoEdge = NoEdge
+outcome_of keeping.NoOuter = NoOuter
+outcome_of keeping.Wide = Wide
 
 -- what an outcome shows of a finding that is told to C
 abbrev pub IsTold : Finding → Counts → ListsModel → Outcome → Type 0
@@ -60,3 +101,7 @@ IsTold found counts lists Memory = ⊤
 IsTold found counts lists (Refused rule) = ⊥
 IsTold found counts lists NotARecord = ⊥
 IsTold found counts lists Argument = ⊥
+IsTold found counts lists NoShape = ⊥
+IsTold found counts lists NoEdge = ⊥
+IsTold found counts lists NoOuter = ⊥
+IsTold found counts lists Wide = ⊥

@@ -1,18 +1,20 @@
-//! The call that C makes.
+//! The calls that C makes.
 
 ghost use Rattle.std.specs.Prelude.{◌≡◌, is_some};
 ghost use Rattle.planarbend_c.specs.declared.outcome.Outcome.{Outcome};
 ghost use Rattle.planarbend_c.specs.Codes.{code_of};
 ghost use Rattle.planarbend_c.specs.Held.{contents};
 ghost use Rattle.planarbend_c.specs.Found.{AreCounts, HaveRoom, HoldFinding, IsDrawnIfAsked, finding_of};
-ghost use Rattle.planarbend_c.specs.Outcomes.{IsOutcome, IsTold};
+ghost use Rattle.planarbend_c.specs.Outcomes.{IsOutcome, IsOutcomeKeeping, IsTold, outcome_of, refusal_of};
 
 use crate::counts::{Counts, counts_of};
-use crate::layout::{Fault, Layout, lay_out};
+use crate::keeping::{KeepingFault, lay_out_keeping};
+use crate::laid::Layout;
+use crate::layout::{Fault, lay_out};
 use crate::lists::Lists;
 use crate::outcome::Outcome;
 use crate::points::{put_corner_starts, put_corners, put_points};
-use crate::request::{choice_of, drawing_of};
+use crate::request::{Request, choice_of, drawing_of};
 use crate::shapes::{put_angles, put_face_prices, put_turns, put_vertex_prices};
 use std::alloc::Global;
 
@@ -35,6 +37,45 @@ pub extern "C" fn planarbend_c_layout(
     answer(alloc, bytes, outer, drawing, counts, lists).code()
 }
 
+/// Lays out the record that the bytes are as it is asked for, and gives the number of what comes of it.
+///
+/// What is written is as for [`planarbend_c_layout`]; the shape has the fewest bends of all that keep the conditions.
+#[unsafe(no_mangle)]
+pub extern "C" fn planarbend_c_layout_keeping(
+    alloc: Global,
+    bytes: &[u8],
+    request: &Request<'_>,
+    counts: &mut Counts,
+    lists: &mut Lists<'_>,
+) -> u32
+    ensures { (outcome : Outcome) × (result ≡ code_of outcome)
+        × IsOutcomeKeeping request.now bytes.now counts.new (contents lists.new) outcome }
+{
+    answer_keeping(alloc, bytes, request, counts, lists).code()
+}
+
+/// Lays the record out as it is asked for, and says what comes of it.
+fn answer_keeping(
+    alloc: Global,
+    bytes: &[u8],
+    request: &Request<'_>,
+    counts: &mut Counts,
+    lists: &mut Lists<'_>,
+) -> Outcome
+    ensures { IsOutcomeKeeping request.now bytes.now counts.new (contents lists.new) result }
+{
+    let Some(choice) = choice_of(request.outer) else {
+        return Outcome::Argument;
+    };
+    let Some(kind) = drawing_of(request.drawing) else {
+        return Outcome::Argument;
+    };
+    match lay_out_keeping(alloc, bytes, choice, kind, &request.conditions) {
+        Ok(layout) => tell(&layout, counts, lists),
+        Err(fault) => unlaid(fault),
+    }
+}
+
 /// Lays the record out, and says what comes of it.
 fn answer(
     alloc: Global,
@@ -54,15 +95,37 @@ fn answer(
     };
     match lay_out(alloc, bytes, choice, kind) {
         Ok(layout) => tell(&layout, counts, lists),
-        Err(Fault::Rule(rule)) => Outcome::Refused(rule),
-        Err(Fault::NotARecord) => Outcome::NotARecord,
-        Err(Fault::Memory) => Outcome::Memory,
+        Err(fault) => refused(fault),
+    }
+}
+
+/// What comes of a call where conditions are not kept for this reason.
+fn unlaid(fault: KeepingFault) -> Outcome
+    ensures { result ≡ outcome_of fault }
+{
+    match fault {
+        KeepingFault::Record(fault) => refused(fault),
+        KeepingFault::NoShape => Outcome::NoShape,
+        KeepingFault::NoEdge => Outcome::NoEdge,
+        KeepingFault::NoOuter => Outcome::NoOuter,
+        KeepingFault::Wide => Outcome::Wide,
+    }
+}
+
+/// What comes of a call where bytes are not laid out for this reason.
+fn refused(fault: Fault) -> Outcome
+    ensures { result ≡ refusal_of fault }
+{
+    match fault {
+        Fault::Rule(rule) => Outcome::Refused(rule),
+        Fault::NotARecord => Outcome::NotARecord,
+        Fault::Memory => Outcome::Memory,
     }
 }
 
 /// Writes the counts of a layout, and the lists where each has room.
 fn tell(layout: &Layout, counts: &mut Counts, lists: &mut Lists<'_>) -> Outcome
-    requires { IsDrawnIfAsked layout.now.shaped_plane.plane layout.now.shaped_plane.shape layout.now.drawing }
+    requires { IsDrawnIfAsked layout.now.plane layout.now.shape layout.now.drawing }
     ensures { IsTold (finding_of layout.now) counts.new (contents lists.new) result }
 {
     let Some(found) = counts_of(layout) else {
@@ -78,17 +141,16 @@ fn tell(layout: &Layout, counts: &mut Counts, lists: &mut Lists<'_>) -> Outcome
 
 /// Writes the lists of a layout with these counts, but for those that are left out.
 fn write(layout: &Layout, counts: Counts, lists: &mut Lists<'_>)
-    requires drawn { IsDrawnIfAsked layout.now.shaped_plane.plane layout.now.shaped_plane.shape layout.now.drawing }
+    requires drawn { IsDrawnIfAsked layout.now.plane layout.now.shape layout.now.drawing }
     requires counted { AreCounts (finding_of layout.now) counts }
     requires room { HaveRoom (is_some layout.now.drawing) counts (contents lists.old) }
     ensures { HoldFinding (finding_of layout.now) (contents lists.new) }
 {
-    let shaped_plane = &layout.shaped_plane;
-    let plane = &shaped_plane.plane;
-    put_angles(lists.angles, plane, &shaped_plane.shape);
-    put_turns(lists.turns, plane, &shaped_plane.shape);
-    put_vertex_prices(lists.vertex_prices, plane, &shaped_plane.prices);
-    put_face_prices(lists.face_prices, plane, &shaped_plane.prices);
+    let plane = &layout.plane;
+    put_angles(lists.angles, plane, &layout.shape);
+    put_turns(lists.turns, plane, &layout.shape);
+    put_vertex_prices(lists.vertex_prices, plane, &layout.prices);
+    put_face_prices(lists.face_prices, plane, &layout.prices);
     if let Some(points) = &layout.drawing {
         let edges = plane.graph().edges();
         put_points(lists.points, points.vertices());

@@ -3,22 +3,16 @@
 ghost use Rattle.std.specs.Prelude.{◌≡◌, IfOk, IfErr, is_some};
 ghost use Rattle.answers.specs.Steps.{IsPlaneOf};
 ghost use Rattle.planar_code.specs.Stream.{IsRecord};
-ghost use Rattle.planarbend_c.specs.Found.{IsDrawnIfAsked};
+ghost use Rattle.planarbend_c.specs.Found.{IsDrawnIfAsked, IsFound, finding, finding_of};
 ghost use Rattle.planarbend_c.specs.Faults.{IsFault};
 
+use crate::laid::Layout;
 use answers::{RecordScratch, ShapeFault, ShapedPlane};
 use common::{Choice, DrawingKind};
 use embedding::Rule;
 use ortho_rep::Points;
 use planar_code::{ParseFault, Record};
 use std::alloc::{AllocError, Global};
-
-/// The plane of a record with a least shape and prices, and a drawing where one was asked for.
-#[derive(Drop)]
-pub(crate) struct Layout {
-    pub shaped_plane: ShapedPlane,
-    pub drawing: Option<Points>,
-}
 
 /// Why bytes are not laid out.
 #[derive(Clone, Copy)]
@@ -38,25 +32,53 @@ pub(crate) fn lay_out(
     choice: Choice,
     kind: Option<DrawingKind>,
 ) -> Result<Layout, Fault>
-    ensures plane { IfOk result (λ layout. IsPlaneOf choice bytes.now layout.shaped_plane.plane) }
-    ensures drawn { IfOk result (λ layout.
-        IsDrawnIfAsked layout.shaped_plane.plane layout.shaped_plane.shape layout.drawing) }
+    ensures found { IfOk result (λ layout. IsFound choice bytes.now (finding_of layout)) }
     ensures asked { IfOk result (λ layout. is_some layout.drawing ≡ is_some kind) }
     ensures is_record { IfOk result (λ _. IsRecord bytes.now) }
     ensures fault { IfErr result (IsFault bytes.now) }
 {
     let rec = parsed(alloc, bytes)?;
     let mut scratch = RecordScratch::empty(alloc);
-    let shaped_plane = shaped(alloc, &mut scratch, &rec, choice, kind)?;
-    let drawing = drawn(alloc, &mut scratch, &shaped_plane, kind)?;
-    Ok(Layout {
-        shaped_plane,
+    laid_record(alloc, &mut scratch, &rec, choice, kind)
+}
+
+/// The layout of a record, with this drawing or none.
+fn laid_record(
+    alloc: Global,
+    scratch: &mut RecordScratch,
+    rec: &Record,
+    choice: Choice,
+    kind: Option<DrawingKind>,
+) -> Result<Layout, Fault>
+    ensures found { IfOk result (λ layout. IsFound choice rec.now (finding_of layout)) }
+    ensures asked { IfOk result (λ layout. is_some layout.drawing ≡ is_some kind) }
+    ensures fault { IfErr result (IsFault rec.now) }
+{
+    let shaped_plane = shaped(alloc, scratch, rec, choice, kind)?;
+    let drawing = drawn(alloc, scratch, &shaped_plane, kind)?;
+    Ok(laid_shape(shaped_plane, drawing))
+}
+
+/// A shaped plane as a layout, with this drawing or none.
+fn laid_shape(shaped_plane: ShapedPlane, drawing: Option<Points>) -> Layout
+    ensures { finding_of result ≡ finding shaped_plane.plane shaped_plane.shape shaped_plane.prices drawing }
+{
+    let ShapedPlane {
+        plane,
+        shape,
+        prices,
+        directions: _,
+    } = shaped_plane;
+    Layout {
+        plane,
+        shape,
+        prices,
         drawing,
-    })
+    }
 }
 
 /// The record that the bytes are.
-fn parsed(alloc: Global, bytes: &[u8]) -> Result<Record, Fault>
+pub(crate) fn parsed(alloc: Global, bytes: &[u8]) -> Result<Record, Fault>
     ensures same { IfOk result (λ rec. rec ≡ bytes.now) }
     ensures is_record { IfOk result (λ _. IsRecord bytes.now) }
     ensures fault { IfErr result (IsFault bytes.now) }

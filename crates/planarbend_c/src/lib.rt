@@ -4,6 +4,8 @@
 
 mod counts;
 mod export;
+mod keeping;
+mod laid;
 mod layout;
 mod lists;
 mod outcome;
@@ -12,5 +14,6 @@ mod request;
 mod shapes;
 
 pub use counts::Counts;
-pub use export::planarbend_c_layout;
+pub use export::{planarbend_c_layout, planarbend_c_layout_keeping};
 pub use lists::{DartTurns, GridPoint, Lists};
+pub use request::Request;

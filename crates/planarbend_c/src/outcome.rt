@@ -21,6 +21,14 @@ pub(crate) enum Outcome {
     Room,
     /// No such outer face or drawing can be asked for.
     Argument,
+    /// No shape with the outer face that was asked for keeps the edges straight.
+    NoShape,
+    /// Two vertices that are named are no neighbours.
+    NoEdge,
+    /// All faces are to stay inside.
+    NoOuter,
+    /// No drawing of the shape in the order of its boxes is in the grid.
+    Wide,
 }
 
 impl Outcome {
@@ -35,6 +43,10 @@ impl Outcome {
             Outcome::Memory => 10,
             Outcome::Room => 11,
             Outcome::Argument => 12,
+            Outcome::NoShape => 13,
+            Outcome::NoEdge => 14,
+            Outcome::NoOuter => 15,
+            Outcome::Wide => 16,
         }
     }
 }

@@ -4,6 +4,16 @@ ghost use Rattle.std.specs.Prelude.{◌≡◌};
 ghost use Rattle.planarbend_c.specs.Requests.{choice_in, drawing_in};
 
 use common::{Choice, DrawingKind};
+use conditions::Conditions;
+
+/// What is asked for: numbers of an outer face and a drawing, and what is to be kept.
+#[repr(C)]
+#[derive(Clone, Copy)]
+pub struct Request<'a> {
+    pub outer: u32,
+    pub drawing: u32,
+    pub conditions: Conditions<'a>,
+}
 
 /// Which face is the outer one: 0 the greatest, 1 the one with which the fewest bends are needed.
 pub(crate) fn choice_of(outer: u32) -> Option<Choice>

@@ -1,8 +1,7 @@
-use Rattle.std.proofs.Common.{◌∙◌, inl, inr, subst, sym}
-use Rattle.planarbend_c.specs.Faults.{IsFault}
+use Rattle.std.proofs.Common.{◌∙◌, inl, inr, sym}
 use Rattle.planarbend_c.specs.Held.{contents}
-use Rattle.planarbend_c.specs.Found.{finding_of}
-use Rattle.planarbend_c.proofs.Told.{answer_of, told}
+use Rattle.planarbend_c.specs.Found.{IsFound, finding_of}
+use Rattle.planarbend_c.proofs.Told.{answer_of, refused_told, told}
 use Rattle.planarbend_c.proofs.export.answer.Goals as goal
 
 pub returns-in_default : goal.returns-in_default
@@ -12,20 +11,18 @@ pub returns-in_default-drawing_of : goal.returns-in_default-drawing_of
 returns-in_default-drawing_of c = inr (sym c.drawing_of.ensures ∙ c.in_default-drawing_of.is)
 
 pub tell-requires : goal.tell-requires
-tell-requires c = c.in-Ok.ensures.drawn
+tell-requires c = c.in-Ok.ensures.found.drawn
 
 pub returns-in-Ok : goal.returns-in-Ok
 returns-in-Ok c =
     let layout = c.in-Ok.layout in
     let found = c.in-Ok.ensures in
-    told c.args.bytes.now c.args.outer c.args.drawing (finding_of layout) c.tell.new.counts (contents c.tell.new.lists) c.tell.result
-    (answer_of c.args.bytes.now c.args.outer c.args.drawing c.in-Some.choice c.in-Some-drawing_of.kind layout
-    (sym c.choice_of.ensures ∙ c.in-Some.is) (sym c.drawing_of.ensures ∙ c.in-Some-drawing_of.is) found.is_record found.plane found.drawn
+    told IsFound (λ _. ⊥) c.args.bytes.now c.args.outer c.args.drawing (finding_of layout) c.tell.new.counts (contents c.tell.new.lists) c.tell.result
+    (answer_of IsFound c.args.bytes.now c.args.outer c.args.drawing c.in-Some.choice c.in-Some-drawing_of.kind (finding_of layout)
+    (sym c.choice_of.ensures ∙ c.in-Some.is) (sym c.drawing_of.ensures ∙ c.in-Some-drawing_of.is) found.is_record found.found
     found.asked)
     c.tell.ensures
 
-pub returns-in-Err-Rule : goal.returns-in-Err-Rule
-returns-in-Err-Rule c = subst (IsFault c.args.bytes.now) c.in-Err-Rule.field-0-is c.in-Err-Rule.ensures.fault
-
-pub returns-in-Err-NotARecord : goal.returns-in-Err-NotARecord
-returns-in-Err-NotARecord c = subst (IsFault c.args.bytes.now) c.in-Err-NotARecord.field-0-is c.in-Err-NotARecord.ensures.fault
+pub returns-in-Err : goal.returns-in-Err
+returns-in-Err c =
+    rw c.refused.ensures (refused_told c.args.bytes.now c.args.outer c.args.drawing c.args.counts.now (contents c.args.lists.now) c.in-Err.fault c.in-Err.ensures.fault)

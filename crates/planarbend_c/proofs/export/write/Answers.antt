@@ -13,15 +13,15 @@ put_corner_starts-requires-clause-few c =
 
 pub put_points-requires-clause-grid : goal.put_points-requires-clause-grid
 put_points-requires-clause-grid c =
-    let plane = c.args.layout.now.shaped_plane.plane in
-    let shape = c.args.layout.now.shaped_plane.shape in
+    let plane = c.args.layout.now.plane in
+    let shape = c.args.layout.now.shape in
     let drawing : IsDrawing plane shape c.in-Some.points = subst (IsDrawnIfAsked plane shape) c.in-Some.is c.requires.drawn in
     subst (λ (ps : List Point). All IsInGrid ps) (sym c.vertices.ensures) drawing.draws.grid.ends
 
 pub put_corners-requires-clause-grid : goal.put_corners-requires-clause-grid
 put_corners-requires-clause-grid c =
-    let plane = c.args.layout.now.shaped_plane.plane in
-    let shape = c.args.layout.now.shaped_plane.shape in
+    let plane = c.args.layout.now.plane in
+    let shape = c.args.layout.now.shape in
     let drawing : IsDrawing plane shape c.in-Some.points = subst (IsDrawnIfAsked plane shape) c.in-Some.is c.requires.drawn in
     drawing.draws.grid.bends
 

@@ -1,14 +1,13 @@
-use Rattle.std.proofs.Common.{ℕ, List, subst, sym}
-use Rattle.std.proofs.lemmas.Result.{err_from_is_err_and}
-use Rattle.answers.specs.Steps.{IsPlaneOf}
+use Rattle.std.proofs.Common.{◌≡◌, ℕ, List, IfErr, IfOk, is_some, subst}
+use Rattle.std.proofs.lemmas.Result.{IfOk-weaker, err_from_is_err_and}
+use Rattle.planar_code.specs.Stream.{IsRecord}
+use Rattle.planarbend_c.specs.declared.laid.Layout.{Layout}
 use Rattle.planarbend_c.specs.Faults.{IsFault}
+use Rattle.planarbend_c.specs.Found.{IsFound, finding_of}
 use Rattle.planarbend_c.proofs.layout.lay_out.Goals as goal
 
-pub returns-in_err-rec-clause-plane : goal.returns-in_err-rec-clause-plane
-returns-in_err-rec-clause-plane c = let p = err_from_is_err_and c.from_residual.result c.from_residual.ensures.1 in rw p.1 tt
-
-pub returns-in_err-rec-clause-drawn : goal.returns-in_err-rec-clause-drawn
-returns-in_err-rec-clause-drawn c = let p = err_from_is_err_and c.from_residual.result c.from_residual.ensures.1 in rw p.1 tt
+pub returns-in_err-rec-clause-found : goal.returns-in_err-rec-clause-found
+returns-in_err-rec-clause-found c = let p = err_from_is_err_and c.from_residual.result c.from_residual.ensures.1 in rw p.1 tt
 
 pub returns-in_err-rec-clause-asked : goal.returns-in_err-rec-clause-asked
 returns-in_err-rec-clause-asked c = let p = err_from_is_err_and c.from_residual.result c.from_residual.ensures.1 in rw p.1 tt
@@ -21,49 +20,19 @@ returns-in_err-rec-clause-fault c =
     let p = err_from_is_err_and c.from_residual.result c.from_residual.ensures.1 in
     rw (p.1, p.2) c.in_err-rec.ensures.fault
 
-pub returns-in_err-shaped_plane-clause-plane : goal.returns-in_err-shaped_plane-clause-plane
-returns-in_err-shaped_plane-clause-plane c = let p = err_from_is_err_and c.from_residual-in_err-shaped_plane.result c.from_residual-in_err-shaped_plane.ensures.1 in rw p.1 tt
-
-pub returns-in_err-shaped_plane-clause-drawn : goal.returns-in_err-shaped_plane-clause-drawn
-returns-in_err-shaped_plane-clause-drawn c = let p = err_from_is_err_and c.from_residual-in_err-shaped_plane.result c.from_residual-in_err-shaped_plane.ensures.1 in rw p.1 tt
-
-pub returns-in_err-shaped_plane-clause-asked : goal.returns-in_err-shaped_plane-clause-asked
-returns-in_err-shaped_plane-clause-asked c = let p = err_from_is_err_and c.from_residual-in_err-shaped_plane.result c.from_residual-in_err-shaped_plane.ensures.1 in rw p.1 tt
-
-pub returns-in_err-shaped_plane-clause-is_record : goal.returns-in_err-shaped_plane-clause-is_record
-returns-in_err-shaped_plane-clause-is_record c = let p = err_from_is_err_and c.from_residual-in_err-shaped_plane.result c.from_residual-in_err-shaped_plane.ensures.1 in rw p.1 tt
-
-pub returns-in_err-shaped_plane-clause-fault : goal.returns-in_err-shaped_plane-clause-fault
-returns-in_err-shaped_plane-clause-fault c =
-    let p = err_from_is_err_and c.from_residual-in_err-shaped_plane.result c.from_residual-in_err-shaped_plane.ensures.1 in
-    rw (p.1, p.2) (subst (λ (b : List ℕ). IsFault b c.in_err-shaped_plane.field-0.0) c.in_ok-rec.ensures.same c.in_err-shaped_plane.ensures.fault)
-
-pub returns-in_err-drawing-clause-plane : goal.returns-in_err-drawing-clause-plane
-returns-in_err-drawing-clause-plane c = let p = err_from_is_err_and c.from_residual-in_err-drawing.result c.from_residual-in_err-drawing.ensures.1 in rw p.1 tt
-
-pub returns-in_err-drawing-clause-drawn : goal.returns-in_err-drawing-clause-drawn
-returns-in_err-drawing-clause-drawn c = let p = err_from_is_err_and c.from_residual-in_err-drawing.result c.from_residual-in_err-drawing.ensures.1 in rw p.1 tt
-
-pub returns-in_err-drawing-clause-asked : goal.returns-in_err-drawing-clause-asked
-returns-in_err-drawing-clause-asked c = let p = err_from_is_err_and c.from_residual-in_err-drawing.result c.from_residual-in_err-drawing.ensures.1 in rw p.1 tt
-
-pub returns-in_err-drawing-clause-is_record : goal.returns-in_err-drawing-clause-is_record
-returns-in_err-drawing-clause-is_record c = let p = err_from_is_err_and c.from_residual-in_err-drawing.result c.from_residual-in_err-drawing.ensures.1 in rw p.1 tt
-
-pub returns-in_err-drawing-clause-fault : goal.returns-in_err-drawing-clause-fault
-returns-in_err-drawing-clause-fault c =
-    let p = err_from_is_err_and c.from_residual-in_err-drawing.result c.from_residual-in_err-drawing.ensures.1 in
-    rw (p.1, p.2) (subst (IsFault c.args.bytes.now) (sym c.in_err-drawing.ensures.fault) tt)
-
-pub returns-clause-plane : goal.returns-clause-plane
-returns-clause-plane c =
-    subst (λ (b : List ℕ). IsPlaneOf c.args.choice b c.in_ok-shaped_plane.shaped_plane.plane) c.in_ok-rec.ensures.same c.in_ok-shaped_plane.ensures.plane
-
-pub returns-clause-drawn : goal.returns-clause-drawn
-returns-clause-drawn c = c.in_ok-drawing.ensures.drawn
+pub returns-clause-found : goal.returns-clause-found
+returns-clause-found c =
+    subst (λ (b : List ℕ). IfOk c.laid_record.result (λ (layout : Layout). IsFound c.args.choice b (finding_of layout))) c.in_ok-rec.ensures.same
+    c.laid_record.ensures.found
 
 pub returns-clause-asked : goal.returns-clause-asked
-returns-clause-asked c = c.in_ok-drawing.ensures.asked
+returns-clause-asked c = c.laid_record.ensures.asked
 
 pub returns-clause-is_record : goal.returns-clause-is_record
-returns-clause-is_record c = c.in_ok-rec.ensures.is_record
+returns-clause-is_record c =
+    IfOk-weaker c.laid_record.result (λ (layout : Layout). is_some layout.drawing ≡ is_some c.args.kind) (λ (layout : Layout). IsRecord c.args.bytes.now)
+    (λ layout known. c.in_ok-rec.ensures.is_record) c.laid_record.ensures.asked
+
+pub returns-clause-fault : goal.returns-clause-fault
+returns-clause-fault c =
+    subst (λ (b : List ℕ). IfErr c.laid_record.result (IsFault b)) c.in_ok-rec.ensures.same c.laid_record.ensures.fault

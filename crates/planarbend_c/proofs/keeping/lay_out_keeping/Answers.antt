@@ -1,0 +1,25 @@
+use Rattle.std.proofs.Common.{◌≡◌, ℕ, List, IfErr, IfOk, is_some, subst, sym}
+use Rattle.std.proofs.lemmas.Result.{IfOk-weaker}
+use Rattle.planar_code.specs.Stream.{IsRecord}
+use Rattle.planarbend_c.specs.declared.laid.Layout.{Layout}
+use Rattle.planarbend_c.specs.Faults.{IsKeepingFault}
+use Rattle.planarbend_c.specs.Found.{IsFoundKeeping, finding_of}
+use Rattle.planarbend_c.proofs.keeping.lay_out_keeping.Goals as goal
+
+pub laid_keeping-requires : goal.laid_keeping-requires
+laid_keeping-requires c = subst IsRecord (sym c.in-Ok.ensures.same) c.in-Ok.ensures.is_record
+
+pub returns-clause-found : goal.returns-clause-found
+returns-clause-found c =
+    subst (λ (b : List ℕ). IfOk c.laid_keeping.result (λ (layout : Layout). IsFoundKeeping c.args.conditions.now c.args.choice b (finding_of layout)))
+    c.in-Ok.ensures.same c.laid_keeping.ensures.found
+
+pub returns-clause-is_record : goal.returns-clause-is_record
+returns-clause-is_record c =
+    IfOk-weaker c.laid_keeping.result (λ (layout : Layout). is_some layout.drawing ≡ is_some c.args.kind) (λ (layout : Layout). IsRecord c.args.bytes.now)
+    (λ layout known. c.in-Ok.ensures.is_record) c.laid_keeping.ensures.asked
+
+pub returns-clause-fault : goal.returns-clause-fault
+returns-clause-fault c =
+    subst (λ (b : List ℕ). IfErr c.laid_keeping.result (IsKeepingFault c.args.conditions.now c.args.choice b)) c.in-Ok.ensures.same
+    c.laid_keeping.ensures.fault
