@@ -17,7 +17,7 @@ loop-element-preserved c =
     let below : c.loop-element.element-index < length c.in_ok-elements.elements.now = omega arith in
     let fits : SFits w32 c.in-Ok.price = search rules in
     let pushed : c.push.new.self.items ≡ c.loop-element.prices.items ++ c.in-Ok.price ∷ [] =
-        c.in_ok-push.ensures.items ∙ ap (λ (z : ℤ). c.loop-element.prices.items ++ z ∷ []) (to_z-of_z w32 c.in-Ok.price fits) in
+    c.in_ok-push.ensures.items ∙ ap (λ (z : ℤ). c.loop-element.prices.items ++ z ∷ []) (to_z-of_z w32 c.in-Ok.price fits) in
     one_more_integer c.in_ok-elements.elements.now c.loop-element.element-index c.element-item.result c.loop-element.prices.items c.in-Ok.price
     below c.element-item.is c.loop-element.invariant c.in-Ok.ensures.ok
     ∙ ap (λ (zs : List ℤ). map Some zs) (sym pushed)
