@@ -1,15 +1,16 @@
 //! What a line claims of its points. A claim that is not made is `None`.
-ghost use Rattle.std.specs.Prelude.{◌≡◌, ◌≢◌, ◌^◌, ◌<◌, ◌≤◌, ℕ, List, IfOk, IfErr, IfNone, IfSome, All, None, Some, option_map, codes, map};
+ghost use Rattle.std.specs.Prelude.{◌≡◌, ◌≢◌, ◌^◌, ◌<◌, ◌≤◌, ℕ, ℤ, List, IfOk, IfErr, IfNone, IfSome, All, MatchOption, None, Some, option_map, codes, map};
 ghost use Rattle.serde_json.specs.Find.{get};
 ghost use Rattle.serde_json.specs.View.{view};
 ghost use Rattle.ortho_rep.specs.declared.turn.Turn.{Turn};
+ghost use Rattle.ortho_rep.specs.Prices.{PricesModel};
 ghost use Rattle.ortho_rep.specs.Storage.{lists_in};
-ghost use Rattle.drawn_lines.specs.Said.{natural, array_of, letter_of, turns_data};
+ghost use Rattle.drawn_lines.specs.Said.{natural, array_of, letter_of, turns_data, IsOf32Bits, AreOf32Bits, AreIntegers, HasIntegers, HasPriceLists, SaysPrices};
 ghost use Rattle.drawn_lines.specs.declared.fault.LineFault.TheVariants.{Memory};
 
 use crate::fault::LineFault;
-use crate::numbers::{claim_in, list_in, number_in, text_in};
-use ortho_rep::Turn;
+use crate::numbers::{claim_in, integer_in, list_in, number_in, text_in};
+use ortho_rep::{Prices, Turn};
 use serde_json::Value;
 use std::alloc::Global;
 
@@ -88,6 +89,71 @@ fn angle_list(alloc: Global, value: &Value) -> Result<Vec<u8>, LineFault>
         angles.push(angle as u8)?;
     }
     Ok(angles)
+}
+
+/// The prices that a value claims, in the field `prices`.
+///
+/// # Errors
+///
+/// `Memory` if memory runs out. Otherwise the field has no lists of integers of 32 bits in `vertices` and `faces`.
+pub fn prices_in(alloc: Global, value: &Value) -> Result<Option<Prices>, LineFault>
+    ensures ok { IfOk result (λ said. MatchOption said (get (codes "prices") (view value.now) ≡ None)
+        (SaysPrices (view value.now))) }
+    ensures none { IfErr result (λ fault. fault ≢ Memory
+        → (prices : PricesModel) → AreOf32Bits prices → SaysPrices (view value.now) prices → ⊥) }
+    ensures made { IfErr result (λ fault. fault ≢ Memory → get (codes "prices") (view value.now) ≢ None) }
+{
+    match claim_in(value, "prices") {
+        Some(field) => match two_price_lists(alloc, field) {
+            Ok(prices) => Ok(Some(prices)),
+            Err(fault) => Err(fault),
+        },
+        None => Ok(None),
+    }
+}
+
+/// The prices that a value has in `vertices` and `faces`.
+fn two_price_lists(alloc: Global, field: &Value) -> Result<Prices, LineFault>
+    ensures ok { IfOk result (HasPriceLists (view field.now)) }
+    ensures none { IfErr result (λ fault. fault ≢ Memory
+        → (prices : PricesModel) → AreOf32Bits prices → HasPriceLists (view field.now) prices → ⊥) }
+{
+    let vertices = prices_at(alloc, field, "vertices")?;
+    let faces = match prices_at(alloc, field, "faces") {
+        Ok(faces) => faces,
+        Err(fault) => return Err(fault),
+    };
+    Ok(Prices::new(vertices, faces))
+}
+
+/// The prices that a value has in the field of this name.
+fn prices_at(alloc: Global, value: &Value, name: &str) -> Result<Vec<i32>, LineFault>
+    ensures ok { IfOk result (λ prices. HasIntegers name.now (view value.now) prices.items) }
+    ensures none { IfErr result (λ fault. fault ≢ Memory
+        → (prices : List ℤ) → All IsOf32Bits prices → HasIntegers name.now (view value.now) prices → ⊥) }
+{
+    match claim_in(value, name) {
+        Some(list) => price_list(alloc, list),
+        None => Err(LineFault::Prices),
+    }
+}
+
+/// The prices that a value is.
+fn price_list(alloc: Global, value: &Value) -> Result<Vec<i32>, LineFault>
+    ensures ok { IfOk result (λ prices. AreIntegers (view value.now) prices.items) }
+    ensures none { IfErr result (λ fault. fault ≢ Memory
+        → (prices : List ℤ) → All IsOf32Bits prices → AreIntegers (view value.now) prices → ⊥) }
+{
+    let mut prices = Vec::new(alloc);
+    let elements = list_in(value, LineFault::Prices)?;
+    for element in elements {
+        let price = match integer_in(element) {
+            Ok(price) => price,
+            Err(fault) => return Err(fault),
+        };
+        prices.push(price)?;
+    }
+    Ok(prices)
 }
 
 /// The turns that a value claims, in the field `turns`.

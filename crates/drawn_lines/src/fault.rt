@@ -15,7 +15,7 @@ pub enum LineFault {
     #[error("no points")]
     Points,
     /// A number is no integer of its range: 0 to 4,294,967,295 for coordinates and bends, to 65,535 for a face, to 255 for
-    /// angles.
+    /// angles, 32 bits with sign for prices.
     #[error("a number is no integer of its range")]
     Number,
     /// `angles` is no list.
@@ -24,6 +24,9 @@ pub enum LineFault {
     /// `turns` is no list of texts of the letters L and R.
     #[error("turns are no list of texts of L and R")]
     Turns,
+    /// `prices` has no lists in `vertices` and `faces`.
+    #[error("prices are no lists")]
+    Prices,
     /// Memory ran out.
     #[error("out of memory")]
     Memory,

@@ -7,6 +7,6 @@ mod fault;
 mod numbers;
 mod points;
 
-pub use claims::{angles_in, bends_in, outer_in, turns_in};
+pub use claims::{angles_in, bends_in, outer_in, prices_in, turns_in};
 pub use fault::LineFault;
 pub use points::{points_in, points_of_line};

@@ -1,9 +1,9 @@
 //! Parts of a JSON value: numbers and lists.
-ghost use Rattle.std.specs.Prelude.{◌≡◌, ◌≢◌, ◌^◌, ◌<◌, ◌≤◌, ℕ, List, option_map, IfOk, IfErr, Some, None, map};
+ghost use Rattle.std.specs.Prelude.{◌≡◌, ◌≢◌, ◌^◌, ◌<◌, ◌≤◌, ℕ, ℤ, List, option_map, IfOk, IfErr, Some, None, map};
 ghost use Rattle.serde_json.specs.Data.{Items, array, string};
 ghost use Rattle.serde_json.specs.Find.{get};
 ghost use Rattle.serde_json.specs.View.{view, items_of};
-ghost use Rattle.drawn_lines.specs.Said.{natural};
+ghost use Rattle.drawn_lines.specs.Said.{natural, integer_of, IsOf32Bits};
 ghost use Rattle.drawn_lines.specs.declared.fault.LineFault.TheVariants.{Memory};
 
 use crate::fault::LineFault;
@@ -29,6 +29,17 @@ pub(crate) fn number_in(value: &Value, most: u64) -> Result<u64, LineFault>
 {
     match value.as_u64() {
         Some(number) if number <= most => Ok(number),
+        _ => Err(LineFault::Number),
+    }
+}
+
+/// The integer of 32 bits that a value is.
+pub(crate) fn integer_in(value: &Value) -> Result<i32, LineFault>
+    ensures ok { IfOk result (λ z. integer_of (view value.now) ≡ Some z) }
+    ensures none { IfErr result (λ _. (z : ℤ) → IsOf32Bits z → integer_of (view value.now) ≢ Some z) }
+{
+    match value.as_i64() {
+        Some(number) if -2_147_483_648 <= number && number <= 2_147_483_647 => Ok(number as i32),
         _ => Err(LineFault::Number),
     }
 }

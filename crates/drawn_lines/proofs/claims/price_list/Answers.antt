@@ -1,0 +1,23 @@
+use Rattle.std.proofs.Common.{rules, ◌≡◌, ◌<◌, ℤ, List, [], ◌∷◌, ◌++◌, length, arith, map, Some, sym, ap, ◌∙◌, w32}
+use Rattle.std.proofs.lemmas.Int.{to_z-of_z}
+use mir.Val.{SFits}
+use Rattle.serde_json.specs.View.{view}
+use Rattle.drawn_lines.specs.Said.{IsOf32Bits}
+use Rattle.drawn_lines.proofs.Prices.{says_no_integers, one_more_integer}
+use Rattle.drawn_lines.proofs.claims.price_list.Goals as goal
+
+pub returns-in-Err-clause-none : goal.returns-in-Err-clause-none
+returns-in-Err-clause-none c = λ memory prices short said.
+    let below : c.loop-element.element-index < length c.in_ok-elements.elements.now = omega arith in
+    says_no_integers IsOf32Bits c.in_ok-elements.elements.now (view c.args.value.now) c.loop-element.element-index c.element-item.result
+    c.in_ok-elements.ensures.ok below c.element-item.is c.in-Err.ensures.none prices short said
+
+pub loop-element-preserved : goal.loop-element-preserved
+loop-element-preserved c =
+    let below : c.loop-element.element-index < length c.in_ok-elements.elements.now = omega arith in
+    let fits : SFits w32 c.in-Ok.price = search rules in
+    let pushed : c.push.new.self.items ≡ c.loop-element.prices.items ++ c.in-Ok.price ∷ [] =
+    c.in_ok-push.ensures.items ∙ ap (λ (z : ℤ). c.loop-element.prices.items ++ z ∷ []) (to_z-of_z w32 c.in-Ok.price fits) in
+    one_more_integer c.in_ok-elements.elements.now c.loop-element.element-index c.element-item.result c.loop-element.prices.items c.in-Ok.price
+    below c.element-item.is c.loop-element.invariant c.in-Ok.ensures.ok
+    ∙ ap (λ (zs : List ℤ). map Some zs) (sym pushed)

@@ -1,0 +1,10 @@
+use Rattle.serde_json.specs.View.{view}
+use Rattle.drawn_lines.proofs.Parts.{weaker}
+use Rattle.drawn_lines.proofs.Prices.{list_named}
+use Rattle.drawn_lines.proofs.claims.prices_at.Goals as goal
+
+pub returns-in-Some-clause-none : goal.returns-in-Some-clause-none
+returns-in-Some-clause-none c = weaker c.price_list.result
+    (λ fault none memory prices short has. none memory prices short
+    (list_named c.args.name.now (view c.args.value.now) (view c.in-Some.list.now) prices c.in-Some.ensures has))
+    c.price_list.ensures.none
