@@ -1,7 +1,7 @@
 -- The network of a plane has a flow: each vertex sends its supply into one corner, and what faces have over can
 -- cross to what they want, since any two faces are joined by crossings.
 use Rattle.std.proofs.Common.{◌≡◌, ◌≢◌, ℕ, zero, suc, ◌+◌, ◌-◌, ◌*◌, ◌<◌, ◌≤◌, ◌==◌, if◌then◌else◌, ◌∙◌, Bool, true, false, arith, subst, sym, ap, refl, inl, inr, cond, eqb, ltb}
-use Rattle.std.specs.Prelude.{nat_lt, ℤ, pos, negsuc, ◌+ℤ◌, ◌-ℤ◌, ◌<ℤ◌}
+use Rattle.std.specs.Prelude.{List, nat_lt, ℤ, pos, negsuc, ◌+ℤ◌, ◌-ℤ◌, ◌<ℤ◌}
 use Rattle.std.proofs.lemmas.Bool.{cases_eq, cases_lt, cases_Bool, eq-eqb, eqb-true, ne_eqb, cond-true, cond-false, lt-ltb, le-ltb}
 use Rattle.std.proofs.lemmas.Int.{ints}
 use Rattle.common.specs.Sums.{sum_below, total_below}
@@ -16,7 +16,7 @@ use Rattle.networks.specs.Flow.{Flow, IsWithinCap, outflow, inflow, net_outflow}
 use Rattle.min_cost_flow.specs.Excess.{IsWithinCaps}
 use Rattle.min_cost_flow.specs.Existence.{HasUnlimitedPaths, SuppliesSumToZero}
 use Rattle.min_cost_flow.proofs.Existence.{flow_where_joined, excess_leaves}
-use Rattle.flow_network.specs.FaceNet.{IsFaceNet, vertex_degree}
+use Rattle.flow_network.specs.FaceNet.{IsFaceNet, IsKeepingNet, vertex_degree}
 use Rattle.flow_network.proofs.VertexDegrees.{vertex_has_dart, arrivals_most}
 
 -- the last number below n that passes, where one does
@@ -204,7 +204,7 @@ start_joined p net plane is = record {
         elim (cases_lt w (vertices p)) [ inl below ↦ absurd (uneven (vertex_even p net plane is w below)) | inr face ↦ face ]
 
 -- as much is supplied as is wanted, by Euler's formula
-pub supplies_sum_to_zero : (p : PlaneModel) (net : NetworkModel) → IsPlane p → IsFaceNet p net → SuppliesSumToZero net
+pub supplies_sum_to_zero : {marks : List Bool} (p : PlaneModel) (net : NetworkModel) → IsPlane p → IsKeepingNet p marks net → SuppliesSumToZero net
 supplies_sum_to_zero p net plane is =
     let n : ℕ = vertices p in
     let m : ℕ = p.faces in

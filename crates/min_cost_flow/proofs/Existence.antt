@@ -323,6 +323,24 @@ as_much net x e ends flat lv =
     let cross : sum_below n ls ≡ sum_below n ns = all_leave net x ends in
     omega arith
 
+ups_none : (n : ℕ) (e : ℕ → ℤ) → ((v : ℕ) → v < n → e v ≤ℤ pos 0) → sum_below n (λ v. up (e v)) ≡ 0
+ups_none zero e none = refl
+ups_none (suc n) e none = omega (arith, ups_none n e (λ v b. none v (omega arith)), no_up (e n) (none n (omega arith)))
+  where
+    no_up : (z : ℤ) → z ≤ℤ pos 0 → up z ≡ 0
+    no_up (pos n) h = omega (arith, ints)
+    no_up (negsuc n) h = refl
+
+not_under : (z : ℤ) → pos 0 ≤ℤ z → z <ℤ pos 0 → ⊥
+not_under z a b = omega (arith, ints)
+
+-- so where nothing is left over, nothing is wanting
+pub nothing_wanting : (net : NetworkModel) (x : ℕ → ℕ) (e : ℕ → ℤ) (u : ℕ) → HasEnds net → SuppliesSumToZero net → HasExcess net x e → ((v : ℕ) → v < node_count net → e v ≤ℤ pos 0) → u < node_count net → e u <ℤ pos 0 → ⊥
+nothing_wanting net x e u ends flat lv none inside under =
+    let n = node_count net in
+    let downs : sum_below n (λ v. down (e v)) ≡ 0 = omega (arith, as_much net x e ends flat lv, ups_none n e none) in
+    not_under (e u) (nothing_under n e downs u inside) under
+
 -- amounts x within the capacities leave the excess e; supplies sum to 0, and no set that no arc of no
 -- limit leaves has something left over and not all that is wanting: then there is a flow
 pub flow_where_joined : (net : NetworkModel) (x : ℕ → ℕ) (e : ℕ → ℤ) → HasEnds net → SuppliesSumToZero net → IsWithinCaps net x → HasExcess net x e → HasUnlimitedPaths net e → (y : ℕ → ℕ) × Flow net y

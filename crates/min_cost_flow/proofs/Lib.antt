@@ -1,5 +1,6 @@
 pub mod Duality
 pub mod Cut
+pub mod OverfullSets
 pub mod Changes
 pub mod Rounds
 pub mod Spreading

@@ -15,7 +15,7 @@ use Rattle.networks.specs.declared.arc.Cap.{Cap}
 use Rattle.networks.specs.declared.arc.Cap.TheVariants.{AtMost, Any}
 use Rattle.networks.specs.declared.residual.ResidualArc.{ResidualArc}
 use Rattle.networks.specs.Networks.{NetworkModel, node_count, arc_count, arc_at, HasUnitCosts, IsNetwork}
-use Rattle.networks.specs.Flow.{IsUnsaturated, IsResidual, HasPotentials, HasNoFlow, start_of, end_of, unit_cost, reduced_cost}
+use Rattle.networks.specs.Flow.{IsUnsaturated, IsResidual, HasPotentials, start_of, end_of, unit_cost, reduced_cost}
 use Rattle.min_cost_flow.specs.Round.{IsRound}
 use Rattle.networks.specs.declared.residual.Residual.{Residual}
 use Rattle.networks.specs.Flow.{at_nodes}
@@ -25,7 +25,8 @@ use Rattle.min_cost_flow.specs.SolverState.{IsReadyIn, CanAugmentIn, IsCleared}
 use Rattle.networks.specs.ResidualArcs.{end_at, cost_at, reverse_at, capacity_at, StartsAt, number_of, units_of, HasResidualArcs, AreResidualArcs, carried}
 use Rattle.networks.specs.Search.{far, IsArcCost, HasResidualCapacity, IsGraph, AreFeasiblePotentials, IsNear, IsReached, IsHit, IsNearest, AreFeasible, IsRemaining, IsPut, IsWithinFar, out_degree, looked, place_at, labels, predecessors, orders, places}
 use Rattle.min_cost_flow.specs.Path.{HasTightPath}
-use Rattle.min_cost_flow.proofs.Cut.{no_flow_out}
+use Rattle.min_cost_flow.specs.Overfull.{IsOverfull}
+use Rattle.min_cost_flow.proofs.OverfullSets.{overfull_where_closed}
 use Rattle.networks.proofs.Ends.{start_in, end_in}
 use Rattle.min_cost_flow.proofs.Reverses.{other_way, start_is}
 use Rattle.networks.proofs.Signs.{plain_lt, fits_within, label_fits}
@@ -319,7 +320,7 @@ in_reach ps q pv n h small le low (a, b) d = omega (arith, ints)
 in_reach_step : (ps q pe c : ℤ) (n h : ℕ) → n ≤ MAX_NODES → h ≤ n → ps ≤ℤ pos (2 * n) → IsNear ps h q → pos 0 ≤ℤ (pe +ℤ pos (2 * n)) → c ≤ℤ pos 1 → (q +ℤ c -ℤ pe) <ℤ far
 in_reach_step ps q pe c n h small le low (a, b) d o = omega (arith, ints)
 
-pub nothing_found : (net : NetworkModel) (first : List ℕ) (reverse : ℕ → ℕ) (forward : List ℕ) (capacity : ℕ → ℕ) (arcs : List ResidualArc) (p e : ℕ → ℤ) (s : ℕ) (q : ℕ → ℤ) (predecessor order place : ℕ → ℕ) (scanned ordered reached : ℕ) (radius bound : ℤ) → IsNetwork net → HasResidualArcs net first reverse forward → AreResidualArcs net reverse forward capacity arcs → IsRound net (carried reverse forward capacity) p e → IsReached (node_count net) first arcs p e s q predecessor order place scanned ordered reached radius → AreFeasible (node_count net) first arcs p q place bound scanned → IsRemaining (node_count net) p q place scanned bound → bound ≡ far → pos 0 <ℤ e s → HasNoFlow net
+pub nothing_found : (net : NetworkModel) (first : List ℕ) (reverse : ℕ → ℕ) (forward : List ℕ) (capacity : ℕ → ℕ) (arcs : List ResidualArc) (p e : ℕ → ℤ) (s : ℕ) (q : ℕ → ℤ) (predecessor order place : ℕ → ℕ) (scanned ordered reached : ℕ) (radius bound : ℤ) → IsNetwork net → HasResidualArcs net first reverse forward → AreResidualArcs net reverse forward capacity arcs → IsRound net (carried reverse forward capacity) p e → IsReached (node_count net) first arcs p e s q predecessor order place scanned ordered reached radius → AreFeasible (node_count net) first arcs p q place bound scanned → IsRemaining (node_count net) p q place scanned bound → bound ≡ far → pos 0 <ℤ e s → IsOverfull net (λ v. lt_z (q v) far)
 nothing_found net first reverse forward capacity arcs p e s q predecessor order place scanned ordered reached radius bound k l fl rd r sv remaining none over =
     let n = node_count net in
     let le : scanned ≤ n = omega (arith, r.counts) in
@@ -329,7 +330,7 @@ nothing_found net first reverse forward capacity arcs p e s q predecessor order 
       | inl h ↦ h
       | inr h ↦ absurd (not_less (q v -ℤ p v) far (in_reach (p s) (q v) (p v) n scanned k.small.0 le low (r.near v b m) (rd.low v b).0) (subst (λ (z : ℤ). z ≤ℤ (q v -ℤ p v)) none (remaining v b m h)))
     ] in
-    no_flow_out net (carried reverse forward capacity) e in_set s k.ends rd.leaves
+    overfull_where_closed net (carried reverse forward capacity) e in_set s k.ends rd.leaves
     (record {
       stays = λ i back b res so.
           let u = start_of net i back in

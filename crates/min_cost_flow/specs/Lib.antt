@@ -4,3 +4,4 @@ pub mod Path
 pub mod Round
 pub mod Existence
 pub mod SolverState
+pub mod Overfull

@@ -7,6 +7,7 @@
 
 mod augment;
 mod laws;
+mod overfull;
 mod resume;
 mod scratch;
 mod solved;
@@ -16,6 +17,7 @@ mod warm_start;
 
 pub use laws::{no_path_shows_no_flow, potentials_show_least_cost, unlimited_arcs_give_a_flow};
 pub use networks::{Arc, Cap, NetFault, Network};
+pub use overfull::{overfull_in, overfull_shows_no_flow};
 pub use scratch::Scratch;
 pub use solved::Solved;
 pub use solver::{SolveFault, solve, solve_in};

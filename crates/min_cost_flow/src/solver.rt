@@ -12,6 +12,8 @@ ghost use Rattle.networks.specs.Networks.{NetworkModel, arc_count, node_count, I
 ghost use Rattle.networks.specs.Flow.{amounts, at_nodes, HasNoFlow, Solves};
 ghost use Rattle.networks.specs.ResidualArcs.{reverse_at, capacity_at, carried, end_at};
 ghost use Rattle.networks.specs.Search.{far, labels, orders, label_at, IsPut, IsWithinFar, place_at};
+ghost use Rattle.min_cost_flow.specs.Existence.{SuppliesSumToZero};
+ghost use Rattle.min_cost_flow.specs.Overfull.{IsOverfull, HasStopped, was_reached};
 ghost use Rattle.min_cost_flow.specs.Round.{carrying, supply_sum, IsRoundDone, HasSupply, AreInBounds};
 ghost use Rattle.min_cost_flow.specs.SolverState.{excess_at, potential_at, flow_in, IsSized, IsReady, IsBetweenSearches, IsVerdict, HasSentFrom, IsAugmented, CanUpdate, HasReachedOrder, CanRead, IsCleared, IsReadyIn, CanAugmentIn};
 
@@ -97,6 +99,8 @@ impl Solver {
         requires { IsSized network.now self.old }
         ensures done { result ≡ true → IsRoundDone network.now (flow_in self.new) (potential_at self.new) self.new.searches self.new.looks }
         ensures answer { IsVerdict network.now self.new result }
+        ensures visits { length self.new.visits.items ≡ node_count network.now }
+        ensures overfull { result ≡ false → SuppliesSumToZero network.now → IsOverfull network.now (was_reached self.new.visits.items) }
     {
         self.initialise(network);
         for root in 0..self.nodes.excess.len() {
@@ -126,7 +130,7 @@ impl Solver {
         requires between_searches { (net : NetworkModel) × IsBetweenSearches net self.old }
         requires root { root < length self.old.nodes.excess.items }
         ensures sent { result ≡ true → (net : NetworkModel) → IsBetweenSearches net self.old → HasSentFrom net self.old self.new root }
-        ensures no_flow { result ≡ false → (net : NetworkModel) → IsBetweenSearches net self.old → HasNoFlow net }
+        ensures stopped { result ≡ false → (net : NetworkModel) → IsBetweenSearches net self.old → HasStopped net self.new.visits.items }
     {
         'units: while self.nodes.excess[root] > 0 {
             if !self.augment_once(root) {
@@ -145,7 +149,7 @@ impl Solver {
         requires remaining { pos 0 <ℤ excess_at self.old root }
         requires few { self.old.looks < 2 ^ 61 }
         ensures augmented { result ≡ true → (net : NetworkModel) → IsReady net self.old → IsAugmented net self.old self.new }
-        ensures no_flow { result ≡ false → (net : NetworkModel) → IsReady net self.old → HasNoFlow net }
+        ensures stopped { result ≡ false → (net : NetworkModel) → IsReady net self.old → HasStopped net self.new.visits.items }
         ensures looks { self.new.looks ≤ self.old.looks + length self.old.residual.arcs.items }
         ensures searches { self.new.searches ≡ self.old.searches }
     {
@@ -166,7 +170,8 @@ impl Solver {
 
 /// Searches for a shortest path from a node with an excess to the nearest one with a deficit, and
 /// updates the potentials. It gives back the last residual arc of the path; each node before has the one by which it
-/// was reached. `None` where there is no such path.
+/// was reached. `None` where there is no such path; the nodes that were reached keep their labels then, and supply more
+/// than can leave them.
 pub(crate) fn find_path(
     residual: &Residual,
     nodes: &mut Nodes,
@@ -180,7 +185,7 @@ pub(crate) fn find_path(
     requires few { looks.old < 2 ^ 61 }
     ensures found { IfSome result (λ found. (net : NetworkModel) → IsReadyIn net residual.now nodes.old.potential.items nodes.old.excess.items visits.old → CanAugmentIn net residual.now nodes.new.potential.items nodes.new.excess.items visits.new found root) }
     ensures short { IfSome result (λ found. looks.old + place_at visits.new (end_at residual.now.arcs.items (reverse_at residual.now.capacities.items found)) + 1 ≤ looks.new) }
-    ensures no_flow { IfNone result ((net : NetworkModel) → IsReadyIn net residual.now nodes.old.potential.items nodes.old.excess.items visits.old → HasNoFlow net) }
+    ensures stopped { IfNone result ((net : NetworkModel) → IsReadyIn net residual.now nodes.old.potential.items nodes.old.excess.items visits.old → HasStopped net visits.new) }
     ensures excess { nodes.new.excess ≡ nodes.old.excess }
     ensures looks { looks.new ≤ looks.old + length residual.now.arcs.items }
 {

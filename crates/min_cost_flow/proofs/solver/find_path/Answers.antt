@@ -1,5 +1,5 @@
-use Rattle.std.proofs.Common.{rules, ◌≡◌, ◌≤◌, ◌<◌, ℕ, length, arith, sym, ◌∙◌, ap, subst}
-use Rattle.std.specs.Prelude.{◌<ℤ◌}
+use Rattle.std.proofs.Common.{rules, List, ◌≡◌, ◌≤◌, ◌<◌, ℕ, length, arith, sym, ◌∙◌, ap, subst}
+use Rattle.std.specs.Prelude.{◌<ℤ◌, int_lt}
 use Rattle.std.proofs.lemmas.List.{with_items_is}
 use mir.Syntax.{w32}
 use mir.Val.{SFits, of_z}
@@ -9,6 +9,8 @@ use Rattle.networks.specs.ResidualArcs.{reverse_at}
 use Rattle.networks.specs.Search.{far, labels, predecessors, orders, places, IsGraph, AreFeasiblePotentials, IsReached, IsNearest, AreFeasible, IsRemaining}
 use Rattle.networks.proofs.Signs.{same_from_bits}
 use Rattle.networks.proofs.Reaching.{strictly, reached_fits}
+use Rattle.min_cost_flow.specs.Overfull.{IsOverfull, HasStopped}
+use Rattle.networks.specs.declared.state.Visit.{Visit}
 use Rattle.min_cost_flow.proofs.Solving.{is_graph, is_priced, can_augment, nothing_found, path_looks, short_path, label_bounds}
 use Rattle.min_cost_flow.proofs.solver.find_path.Goals as goal
 
@@ -35,8 +37,8 @@ run-search-requires-clause-unlabelled c =
       root = c.requires.remaining;
     })
 
-pub returns-then-search-clause-no_flow : goal.returns-then-search-clause-no_flow
-returns-then-search-clause-no_flow c net r =
+pub returns-then-search-clause-stopped : goal.returns-then-search-clause-stopped
+returns-then-search-clause-stopped c net r =
     let f = c.run-search.ensures in
     let h = f.search in
     let t = c.run-search.result in
@@ -57,7 +59,11 @@ returns-then-search-clause-no_flow c net r =
     let re = subst (λ (k : ℕ). IsReached k first arcs p x c.args.root (labels t) (predecessors t) (orders t) (places t) t.scanned t.ordered t.reached t.radius) n re0 in
     let sv = subst (λ (k : ℕ). AreFeasible k first arcs p (labels t) (places t) t.bound t.scanned) n sv0 in
     let remaining = subst (λ (k : ℕ). IsRemaining k p (labels t) (places t) t.scanned t.bound) n remaining0 in
-    nothing_found _ _ _ _ _ _ _ _ _ _ _ _ _ _ _ _ _ _ r.network r.residual.arcs_built r.residual.filled r.round re sv remaining bound c.requires.remaining
+    let short : IsOverfull net (λ v. int_lt (labels t v) far) = nothing_found _ _ _ _ _ _ _ _ _ _ _ _ _ _ _ _ _ _ r.network r.residual.arcs_built r.residual.filled r.round re sv remaining bound c.requires.remaining in
+    let size0 : length t.visits.now ≡ length pot = rw c.deref-3.ensures.value at h.size in
+    let stopped : HasStopped net t.visits.now = record { labels = size0 ∙ n; overfull = short } in
+    let also : (vs : List Visit) → vs ≡ t.visits.now → HasStopped net vs = λ vs same. subst (λ (us : List Visit). HasStopped net us) (sym same) stopped in
+    also _ (search (rules, f.list))
 
 pub update_potentials-requires : goal.update_potentials-requires
 update_potentials-requires c =

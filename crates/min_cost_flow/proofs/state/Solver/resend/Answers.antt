@@ -8,6 +8,7 @@ use Rattle.min_cost_flow.specs.SolverState.{excess_at}
 use Rattle.min_cost_flow.proofs.Comparisons.{is_more, is_no_more, not_true, not_false}
 use Rattle.min_cost_flow.proofs.Rounds.{no_flow_wanting, nothing_remaining}
 use Rattle.min_cost_flow.proofs.Moved.{over_none}
+use Rattle.min_cost_flow.proofs.OverfullSets.{overfull_has_no_flow}
 use Rattle.min_cost_flow.proofs.state.Solver.resend.Goals as goal
 
 pub units-init : goal.units-init
@@ -49,7 +50,7 @@ units-preserved c =
     }
 
 pub returns-then-not-augment_once : goal.returns-then-not-augment_once
-returns-then-not-augment_once c net h = record { all_sent = λ e. cc; no_flow = λ _. c.augment_once.ensures.no_flow c.if-not-augment_once.true net ((c.units.invariant.ready net h)) }
+returns-then-not-augment_once c net h = record { all_sent = λ e. cc; no_flow = λ _. let r = c.units.invariant.ready net h in overfull_has_no_flow net _ r.network.ends (c.augment_once.ensures.stopped c.if-not-augment_once.true net r).overfull }
 
 pub returns : goal.returns
 returns c net h =

@@ -62,7 +62,7 @@ units-preserved c =
 pub returns-then-not-augment_once : goal.returns-then-not-augment_once
 returns-then-not-augment_once c = record {
   sent = λ h. cc;
-  no_flow = λ _ net u. c.augment_once.ensures.no_flow c.if-not-augment_once.true net (c.units.invariant.between_searches net u).ready;
+  stopped = λ _ net u. c.augment_once.ensures.stopped c.if-not-augment_once.true net (c.units.invariant.between_searches net u).ready;
 }
 
 pub returns : goal.returns
@@ -76,5 +76,5 @@ returns c =
         here = subst (λ (z : ℤ). z ≤ℤ pos 0) at (is_no_more _ _ f c.units-test.false);
         done = i.done net u;
       };
-      no_flow = λ h. cc;
+      stopped = λ h. cc;
     }

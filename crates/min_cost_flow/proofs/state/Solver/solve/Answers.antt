@@ -5,6 +5,8 @@ use Rattle.networks.specs.Networks.{node_count}
 use Rattle.min_cost_flow.specs.SolverState.{excess_at}
 use Rattle.min_cost_flow.proofs.Comparisons.{not_true, not_false}
 use Rattle.min_cost_flow.proofs.Rounds.{done_at, no_flow_wanting, nothing_remaining}
+use Rattle.min_cost_flow.proofs.Existence.{nothing_wanting}
+use Rattle.min_cost_flow.proofs.OverfullSets.{overfull_has_no_flow}
 use Rattle.min_cost_flow.proofs.state.Solver.solve.Goals as goal
 
 pub loop-root-init : goal.loop-root-init
@@ -36,7 +38,14 @@ loop-root-preserved c =
 pub returns-then-not-send_all_from : goal.returns-then-not-send_all_from
 returns-then-not-send_all_from c = record {
   done = λ h. cc;
-  answer = record { all_sent = λ h. cc; no_flow = λ _. c.send_all_from.ensures.no_flow c.if-not-send_all_from.true c.args.network.now c.loop-root.invariant.between_searches };
+  answer = record {
+    all_sent = λ h. cc;
+    no_flow = λ _.
+        let b = c.loop-root.invariant.between_searches in
+        overfull_has_no_flow c.args.network.now _ b.ready.network.ends (c.send_all_from.ensures.stopped c.if-not-send_all_from.true c.args.network.now b).overfull;
+  };
+  visits = (c.send_all_from.ensures.stopped c.if-not-send_all_from.true c.args.network.now c.loop-root.invariant.between_searches).labels;
+  overfull = λ _ _. (c.send_all_from.ensures.stopped c.if-not-send_all_from.true c.args.network.now c.loop-root.invariant.between_searches).overfull;
 }
 
 pub returns : goal.returns
@@ -53,4 +62,6 @@ returns c =
         all_sent = λ e. let over = rw d at (c.has_deficit.ensures.none (not_true _ e)) in record { ready = r; sent = λ v b. nothing_remaining _ (all v b) (over v (omega (arith, r.excesses))) };
         no_flow = λ e. let (u, b, under) = rw d at (c.has_deficit.ensures.some (not_false _ e)) in no_flow_wanting net _ (excess_at c.loop-root.self) u r.network.ends r.round.leaves all (omega (arith, r.excesses)) under;
       };
+      visits = r.labels;
+      overfull = λ e flat. let (u, b, under) = rw d at (c.has_deficit.ensures.some (not_false _ e)) in absurd (nothing_wanting net _ (excess_at c.loop-root.self) u r.network.ends flat r.round.leaves all (omega (arith, r.excesses)) under);
     }
