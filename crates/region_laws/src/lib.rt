@@ -1,0 +1,7 @@
+//! Laws of the regions of drawings.
+#![tactic(auto)]
+
+/// Nothing yet.
+pub fn nothing()
+    ensures { Unit {0} }
+{}
