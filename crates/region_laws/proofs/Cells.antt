@@ -1,12 +1,12 @@
 -- Where the levels are right on the left of each step, each cell has a face, and the faces are a map of the regions.
-use Rattle.std.proofs.Common.{◌≡◌, ◌≢◌, ◌≤◌, ◌<◌, ◌⊎◌, ℕ, zero, suc, ◌+◌, ◌-◌, Bool, true, false, eqb, refl, sym, ap, ◌∙◌, subst, inl, inr, arith}
+use Rattle.std.proofs.Common.{◌≡◌, ◌<◌, ◌⊎◌, ℕ, zero, suc, ◌+◌, ◌-◌, eqb, refl, sym, ap, ◌∙◌, subst, inl, inr, arith}
 use Rattle.std.specs.Prelude.{ℤ, pos, ◌+ℤ◌, ◌-ℤ◌}
 use Rattle.std.proofs.lemmas.Bool.{cases_eq, eq-eqb, ne_eqb}
 use Rattle.std.proofs.lemmas.Int.{ints}
 use Rattle.geometry.specs.declared.direction.Direction.{Direction}
 use Rattle.geometry.specs.declared.direction.Direction.TheVariants.{East, North, West, South}
 use Rattle.geometry.specs.Directions.{opposite_of}
-use Rattle.region_laws.proofs.Weights.{bit, IsStep, passed, north_told}
+use Rattle.region_laws.proofs.Weights.{bit, IsStep}
 use Rattle.region_laws.proofs.Ways.{Ways, Leaves, AreWays}
 use Rattle.region_laws.proofs.Levels.{level, left_level, norths, easts, level-east, level-north, level-west, level-south, north_free, east_free, all_right}
 
@@ -207,11 +207,11 @@ module _ (w : Ways) (are : AreWays w) (outer : ℕ) where
       let step : IsStep North (w.x d i) (w.y d i) (w.x d (i + 1)) (w.y d (i + 1)) =
       subst (λ (q : Direction). IsStep q (w.x d i) (w.y d i) (w.x d (i + 1)) (w.y d (i + 1))) ends.goes (are.goes d i ends.dart_in ends.step_in) in
       let right : AllRight = λ f e k e_in k_in.
-          all_right w are outer f d i ends.dart_in ends.step_in
-          (ap (left_level w outer f (w.x d i) (w.y d i)) ends.goes
-          ∙ ap (λ (j : ℕ). level w outer f (w.x d i) j) (sym step.1 ∙ ends.at_y)
-          ∙ ap (λ (j : ℕ). level w outer f j y) (sym step.0 ∙ ends.at_x)
-          ∙ open_row f x y none ∙ ap (λ (j : ℕ). bit (eqb j f)) (sym is)) e k e_in k_in in
+      all_right w are outer f d i ends.dart_in ends.step_in
+      (ap (left_level w outer f (w.x d i) (w.y d i)) ends.goes
+      ∙ ap (λ (j : ℕ). level w outer f (w.x d i) j) (sym step.1 ∙ ends.at_y)
+      ∙ ap (λ (j : ℕ). level w outer f j y) (sym step.0 ∙ ends.at_x)
+      ∙ open_row f x y none ∙ ap (λ (j : ℕ). bit (eqb j f)) (sym is)) e k e_in k_in in
       (λ u v. (cell_face right u v).0, step_map right)
 
   -- no step goes north at all
@@ -219,7 +219,7 @@ module _ (w : Ways) (are : AreWays w) (outer : ℕ) where
   map_from_level d d_in none is =
       let flat : (f x y : ℕ) → level w outer f x y ≡ bit (eqb outer f) = λ f x y. open_row f x y (λ x' less e k. none x' y e k) in
       let right : AllRight = λ f e k e_in k_in.
-          all_right w are outer f d 0 d_in (are.some d d_in) (each f (flat f) (w.x d 0) (w.y d 0) (w.way d 0) ∙ ap (λ (j : ℕ). bit (eqb j f)) (sym is)) e k e_in k_in in
+      all_right w are outer f d 0 d_in (are.some d d_in) (each f (flat f) (w.x d 0) (w.y d 0) (w.way d 0) ∙ ap (λ (j : ℕ). bit (eqb j f)) (sym is)) e k e_in k_in in
       (λ u v. (cell_face right u v).0, step_map right)
     where
       each : (f : ℕ) → ((x y : ℕ) → level w outer f x y ≡ bit (eqb outer f)) → (x y : ℕ) (q : Direction) → left_level w outer f x y q ≡ bit (eqb outer f)

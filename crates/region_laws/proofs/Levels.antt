@@ -1,9 +1,9 @@
 -- For each face a number for each cell: 1 in the face and 0 in the others, as is to be shown. It changes across an edge as the faces do.
-use Rattle.std.proofs.Common.{◌≡◌, ◌≢◌, ◌≤◌, ◌<◌, ◌⊎◌, ℕ, zero, suc, ◌+◌, ◌-◌, Bool, true, false, cond, eqb, ltb, refl, sym, ap, ◌∙◌, subst, inl, inr, arith}
+use Rattle.std.proofs.Common.{◌≡◌, ◌≤◌, ◌<◌, ◌⊎◌, ℕ, zero, suc, ◌+◌, ◌-◌, Bool, true, false, cond, eqb, ltb, refl, sym, ap, ◌∙◌, subst, inl, inr, arith}
 use Rattle.std.specs.Prelude.{ℤ, pos, negsuc, ◌+ℤ◌, ◌-ℤ◌}
 use Rattle.std.specs.Ordering.{int_eq}
 use Rattle.std.proofs.lemmas.Bool.Decides.{Decides-int_eq}
-use Rattle.std.proofs.lemmas.Bool.{cases_eq, cases_lt, eq-eqb, ne_eqb, lt-ltb, le-ltb}
+use Rattle.std.proofs.lemmas.Bool.{le-ltb}
 use Rattle.std.proofs.lemmas.Int.{ints}
 use Rattle.common.specs.Sums.{sum_below, total_below}
 use Rattle.common.proofs.Sums.{total_below-same, total_below-add, total_below-pos}
@@ -12,7 +12,7 @@ use Rattle.geometry.specs.declared.direction.Direction.TheVariants.{East, North,
 use Rattle.geometry.specs.Directions.{opposite_of, left_of, left_quarters}
 use Rattle.region_laws.proofs.Totals.{total-none, total-one, total-two, total-minus, total-steps, moved_same}
 use Rattle.region_laws.proofs.Weights.{bit, only, only-add, only-minus, only-none, rise, west_of, passed, near, west_of-east, west_of-north, IsStep, step_axis, rise_up, rise_down, north_told, east_told}
-use Rattle.region_laws.proofs.Ways.{Ways, Leaves, IsFree, AreWays, opposite_twice, same_end, turned_end, turned}
+use Rattle.region_laws.proofs.Ways.{Ways, Leaves, IsFree, AreWays, same_end, turned_end, turned}
 
 -- the sum of g over the steps of the darts of face f
 abbrev pub face_sum : Ways → ℕ → (ℕ → ℕ → ℤ) → ℤ
@@ -123,14 +123,14 @@ closes w are f x y =
     let at : ℕ → ℕ → ℤ = λ d i. near (w.x d i) (w.y d i) x y in
     let each : (d : ℕ) → d < w.darts → only (eqb (w.face d) f) (total_below (w.steps d) (λ i. at d i -ℤ at d (i + 1))) ≡ pos (h d) -ℤ pos (h (w.next d)) =
     λ d d_in.
-        ap (only (eqb (w.face d) f)) (total-steps (w.steps d) (at d))
-        ∙ only-minus (eqb (w.face d) f) (at d 0) (at d (w.steps d))
-        ∙ ap (λ (z : ℤ). z -ℤ only (eqb (w.face d) f) (at d (w.steps d))) (counted (eqb (w.face d) f) (eqb (w.y d 0) y) (ltb (w.x d 0) x))
-        ∙ ap (λ (z : ℤ). pos (h d) -ℤ z)
-        (ap (λ (k : ℕ). only (eqb k f) (at d (w.steps d))) (sym (are.stays d d_in))
-        ∙ ap (λ (k : ℕ). only (eqb (w.face (w.next d)) f) (near k (w.y d (w.steps d)) x y)) (sym (are.next_x d d_in))
-        ∙ ap (λ (k : ℕ). only (eqb (w.face (w.next d)) f) (near (w.x (w.next d) 0) k x y)) (sym (are.next_y d d_in))
-        ∙ counted (eqb (w.face (w.next d)) f) (eqb (w.y (w.next d) 0) y) (ltb (w.x (w.next d) 0) x)) in
+    ap (only (eqb (w.face d) f)) (total-steps (w.steps d) (at d))
+    ∙ only-minus (eqb (w.face d) f) (at d 0) (at d (w.steps d))
+    ∙ ap (λ (z : ℤ). z -ℤ only (eqb (w.face d) f) (at d (w.steps d))) (counted (eqb (w.face d) f) (eqb (w.y d 0) y) (ltb (w.x d 0) x))
+    ∙ ap (λ (z : ℤ). pos (h d) -ℤ z)
+    (ap (λ (k : ℕ). only (eqb k f) (at d (w.steps d))) (sym (are.stays d d_in))
+    ∙ ap (λ (k : ℕ). only (eqb (w.face (w.next d)) f) (near k (w.y d (w.steps d)) x y)) (sym (are.next_x d d_in))
+    ∙ ap (λ (k : ℕ). only (eqb (w.face (w.next d)) f) (near (w.x (w.next d) 0) k x y)) (sym (are.next_y d d_in))
+    ∙ counted (eqb (w.face (w.next d)) f) (eqb (w.y (w.next d) 0) y) (ltb (w.x (w.next d) 0) x)) in
     total_below-same w.darts (λ d. only (eqb (w.face d) f) (total_below (w.steps d) (λ i. at d i -ℤ at d (i + 1)))) (λ d. pos (h d) -ℤ pos (h (w.next d))) each
     ∙ total-minus w.darts (λ d. pos (h d)) (λ d. pos (h (w.next d)))
     ∙ ap (λ (z : ℤ). z -ℤ total_below w.darts (λ d. pos (h (w.next d)))) (total_below-pos w.darts h)
@@ -184,9 +184,9 @@ unfolding level
 level-south w outer f x =
     less (bit (eqb outer f)) (wests w f x 0) (sum-none w f (λ d i. west_of (w.x d i) (w.y d i) (w.y d (i + 1)) x 0)
     (λ d i d_in i_in.
-        ap (λ (b : Bool). only (ltb (w.x d i) x) (bit b -ℤ bit (ltb (w.y d (i + 1)) 0))) (le-ltb (w.y d i) 0 (omega arith))
-        ∙ ap (λ (b : Bool). only (ltb (w.x d i) x) (pos 0 -ℤ bit b)) (le-ltb (w.y d (i + 1)) 0 (omega arith))
-        ∙ only-none (ltb (w.x d i) x)))
+    ap (λ (b : Bool). only (ltb (w.x d i) x) (bit b -ℤ bit (ltb (w.y d (i + 1)) 0))) (le-ltb (w.y d i) 0 (omega arith))
+    ∙ ap (λ (b : Bool). only (ltb (w.x d i) x) (pos 0 -ℤ bit b)) (le-ltb (w.y d (i + 1)) 0 (omega arith))
+    ∙ only-none (ltb (w.x d i) x)))
   where
     less : (o a : ℤ) → a ≡ pos 0 → o -ℤ a ≡ o
     less o a e = omega (arith, ints)

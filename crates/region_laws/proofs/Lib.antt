@@ -4,3 +4,8 @@ pub mod Ways
 pub mod Levels
 pub mod Cells
 pub mod Slots
+pub mod Units
+pub mod Distinct
+pub mod Drawn
+pub mod Passing
+pub mod ByOneDart

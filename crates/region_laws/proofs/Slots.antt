@@ -1,11 +1,11 @@
 -- The quarters round a vertex: each belongs to one of the darts that arrive there.
-use Rattle.std.proofs.Common.{◌≡◌, ◌≢◌, ◌≤◌, ◌<◌, ◌⊎◌, ℕ, zero, suc, ◌+◌, ◌-◌, Bool, true, false, cond, eqb, refl, sym, ap, ◌∙◌, subst, inl, inr, arith}
-use Rattle.std.proofs.lemmas.Bool.{cases_eq, eq-eqb, ne_eqb, cond-true, cond-false}
+use Rattle.std.proofs.Common.{◌≡◌, ◌≤◌, ◌<◌, ℕ, zero, suc, ◌+◌, ◌-◌, Bool, true, false, cond, eqb, refl, sym, ap, ◌∙◌, subst, inl, inr, arith}
+use Rattle.std.proofs.lemmas.Bool.{cases_eq, eq-eqb, cond-true}
 use Rattle.common.specs.Sums.{sum_below}
-use Rattle.common.proofs.Sums.{sum_below-same, sum_below-add, sum_below-member, sum_below-le}
+use Rattle.common.proofs.Sums.{sum_below-same, sum_below-add, sum_below-member}
 use Rattle.geometry.specs.declared.direction.Direction.{Direction}
 use Rattle.geometry.specs.declared.direction.Direction.TheVariants.{East, North, West, South}
-use Rattle.geometry.specs.Directions.{opposite_of, left_of, right_of, quarters, left_quarters}
+use Rattle.geometry.specs.Directions.{left_of, right_of, quarters, left_quarters}
 use Rattle.geometry.proofs.Quarters.{quarters_of_lefts}
 
 pub left_right : (q : Direction) → left_of (right_of q) ≡ q

@@ -1,10 +1,10 @@
 -- Sums in which at most two summands are not 0, sums of differences, and sums that a map reorders.
-use Rattle.std.proofs.Common.{◌≡◌, ◌≤◌, ◌<◌, ℕ, zero, suc, ◌+◌, ◌-◌, ◌*◌, Bool, true, false, cond, eqb, refl, sym, ap, ◌∙◌, subst, inl, inr, arith}
+use Rattle.std.proofs.Common.{◌≡◌, ◌≤◌, ◌<◌, ℕ, zero, suc, ◌+◌, ◌-◌, ◌*◌, cond, eqb, refl, sym, ap, ◌∙◌, inl, inr, arith}
 use Rattle.std.specs.Prelude.{ℤ, pos, ◌+ℤ◌, ◌-ℤ◌}
 use Rattle.std.proofs.lemmas.Bool.{cases_eq, eq-eqb, ne_eqb, cond-true, cond-false}
 use Rattle.std.proofs.lemmas.Int.{ints}
 use Rattle.common.specs.Sums.{sum_below, total_below}
-use Rattle.common.proofs.Sums.{sum_below-same, sum_below-le, sum_below-add, sum_below-one, sum_below-some, sum_below-constant, exchanged, total_below-add}
+use Rattle.common.proofs.Sums.{sum_below-same, sum_below-le, sum_below-add, sum_below-one, sum_below-some, exchanged}
 use Rattle.embedding.specs.Darts.{IsOneToOne}
 
 -- ---- few summands that are not 0

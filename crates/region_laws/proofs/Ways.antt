@@ -1,5 +1,5 @@
 -- Darts that are walked in steps of length 1 along the axes, and where these steps meet.
-use Rattle.std.proofs.Common.{◌≡◌, ◌≢◌, ◌≤◌, ◌<◌, ◌⊎◌, ℕ, zero, suc, ◌+◌, ◌-◌, Bool, true, refl, sym, ap, ◌∙◌, subst, inl, inr, arith}
+use Rattle.std.proofs.Common.{◌≡◌, ◌≢◌, ◌<◌, ℕ, suc, ◌+◌, ◌-◌, Bool, true, refl, sym, ap, ◌∙◌, subst, arith}
 use Rattle.embedding.specs.Darts.{IsOneToOne}
 use Rattle.geometry.specs.declared.direction.Direction.{Direction}
 use Rattle.geometry.specs.declared.direction.Direction.TheVariants.{East, North, West, South}

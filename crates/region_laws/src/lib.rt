@@ -1,7 +1,7 @@
-//! Laws of the regions of drawings.
+//! Points that draw a shape have its faces as regions, if the outer face lies outside at one place: a law, as the contract
+//! of a function that does nothing.
 #![tactic(auto)]
 
-/// Nothing yet.
-pub fn nothing()
-    ensures { Unit {0} }
-{}
+mod outside;
+
+pub use outside::regions_are_told_at_one_place;
