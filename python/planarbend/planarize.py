@@ -13,6 +13,7 @@ from dataclasses import dataclass
 from typing import Any
 
 from .core import Core, core_of
+from .easy import easily_embedded
 from .reinsert import FIXED, Reinsertion
 from .rotation import NONE, Rotation
 
@@ -28,8 +29,6 @@ HOPELESS = 6
 """How many times the allowed crossings a first embedding may have: improving it divides them by three at most."""
 MOST_TESTS = 100
 """Number of planarity tests for one first embedding."""
-EASY = 25_000
-"""Number of darts to pass for an embedding without a planarity test: some of the time that loading networkx takes."""
 
 
 @dataclass(frozen=True, slots=True)
@@ -192,51 +191,6 @@ def _planar(vertex_count: int, ends: Iterable[tuple[int, int]]) -> list[list[int
     if embedding is None:
         return None
     return [list(embedding.neighbors_cw_order(vertex)) if embedding.degree(vertex) else [] for vertex in range(vertex_count)]
-
-
-def easily_embedded(vertex_count: int, ends: Iterable[tuple[int, int]]) -> list[list[int]] | None:
-    """For each vertex its neighbours, clockwise, in an embedding that is found without a planarity test.
-
-    Vertices are put in one by one, each where it crosses least, in several orders. `None` if no order does without a
-    crossing.
-    """
-    pairs = sorted({(min(pair), max(pair)) for pair in ends if pair[0] != pair[1]})
-    if len(pairs) > max(1, 3 * vertex_count - 6):
-        return None
-    dice, work = random.Random(0), 0
-    while work <= EASY:
-        search = Reinsertion(Rotation(vertex_count, pairs), [1] * len(pairs), dice)
-        if _put_in(search, EASY - work):
-            rotation = search.rotation
-            return [[rotation.origin[dart ^ 1] for dart in rotation.around(vertex)][::-1] for vertex in range(vertex_count)]
-        work += max(search.work, len(pairs))
-    return None
-
-
-def _put_in(search: Reinsertion, most_work: int) -> bool:
-    """Puts all vertices in, that one first which has most neighbours there; whether no edge crosses another.
-
-    Ends with the first crossing, or after this much work.
-    """
-    rotation, chance = search.rotation, search.dice.random
-    placed = [0] * rotation.vertex_count  # neighbours that are in
-    waiting = dict.fromkeys(range(rotation.vertex_count))
-    while waiting:
-        vertex = max(waiting, key=lambda vertex: (placed[vertex], len(search.at[vertex]), chance()))
-        del waiting[vertex]
-        edges = []
-        for edge in search.at[vertex]:
-            other = sum(rotation.ends[edge]) - vertex
-            placed[other] += 1
-            if other not in waiting:
-                edges.append(edge)
-        if edges and rotation.leaving[sum(rotation.ends[edges[0]]) - vertex] == NONE:  # the second vertex of a part
-            rotation.insert(edges[0], NONE, (), NONE)
-        elif edges:
-            search.put_vertex(vertex, edges)
-        if search.cost or search.work > most_work:
-            return False
-    return True
 
 
 def _blocks(vertex_count: int, ends: Sequence[tuple[int, int]]) -> list[list[int]]:

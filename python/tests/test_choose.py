@@ -19,7 +19,8 @@ from planarbend.graph import Edge, Graph, Kind, Vertex
 from planarbend.mend import corners_of, ways_round_cage
 from planarbend.nets import dots_of, pieces_of
 from planarbend.numbering import contracted, numbered
-from planarbend.planarize import easily_embedded, planarize
+from planarbend.easy import easily_embedded
+from planarbend.planarize import planarize
 
 # From (0, 0) to the right and round, y downwards: a square of side 4 from which the quarter at the lower left is cut away.
 STEP = [[(0, 0), (4, 0)], [(4, 0), (4, 4)], [(4, 4), (2, 4)], [(2, 4), (2, 2), (0, 2)], [(0, 2), (0, 0)]]
