@@ -222,7 +222,7 @@ class Search:
         """The shapes of plans with their best outer faces, each under several numberings: of several least shapes another
         one is then found."""
         tried: list[tuple[Expansion, Plan, Form]] = []
-        for plan in dict.fromkeys(plans):
+        for plan in plans:
             expansion = self.expanded(plan)
             if expansion is not None:
                 tried += [(expansion, plan, form) for form in self.numberings(expansion)]
@@ -267,9 +267,10 @@ class Search:
         forms = list(itertools.islice(outer_forms(expansion, self.outer), MOST_FACES))
         return self.laid([(expansion, plan, form) for form in forms], "first")
 
-    def look(self, plan: Plan) -> list[Found]:
-        """The shapes of a plan, with `outer` on the outer face if there are such vertices."""
-        return self.turned_out(plan) if self.outer else self.shapes_of([plan])
+    def look(self, *plans: Plan) -> list[Found]:
+        """The shapes of plans, with `outer` on the outer face if there are such vertices. One call for several plans starts
+        the program once."""
+        return [found for plan in plans for found in self.turned_out(plan)] if self.outer else self.shapes_of(plans)
 
     def run(self) -> list[Found]:
         """Shapes of this embedding."""
@@ -288,8 +289,7 @@ class Search:
             raise TooLarge(len(expand(self.planar, (), {vertex: 0 for vertex in self.large}).around))
         best = min(pool, key=Found.price)
         small = [vertex for vertex in range(self.planar.vertex_count) if self.can_be_cage(vertex, first)]
-        pool += look(first.caged(small))
-        pool += look(first.caged(self.small_at_bends(best)))
+        pool += look(first.caged(small), first.caged(self.small_at_bends(best)))
         best = min(pool, key=Found.price)
         needless = [vertex for vertex in best.plan.cages - first.cages if best.is_point(vertex)]
         pool += look(best.plan.uncaged(needless))
@@ -372,7 +372,7 @@ class Search:
         for _ in range(MOST_MENDS):
             plans = [plan for found in beam for plan in self.mended(found) if plan not in tried]
             tried |= set(plans)
-            found = [found for plan in dict.fromkeys(plans) for found in self.look(plan)]
+            found = self.look(*dict.fromkeys(plans))
             pool += found
             beam = sorted([*beam, *found], key=Found.price)[:MOST_MENDED]
             if not beam[0].shape.broken:

@@ -35,9 +35,21 @@ is refused
 ENDINGS = (".svg", ".json", ".pc", *CONVERTED)
 
 
+class Help(argparse.RawDescriptionHelpFormatter):
+    """Help as wide as COLUMNS says, or the terminal. argparse would load half of what Python compresses files with to look."""
+
+    def __init__(self, prog: str) -> None:
+        columns = os.environ.get("COLUMNS", "")
+        try:
+            width = int(columns) if columns.isdecimal() else os.get_terminal_size().columns
+        except OSError:
+            width = 80
+        super().__init__(prog, width=(width or 80) - 2)
+
+
 def command_line() -> argparse.Namespace:
     """The arguments."""
-    parser = argparse.ArgumentParser(description=ABOUT, epilog=TEXT, formatter_class=argparse.RawDescriptionHelpFormatter)
+    parser = argparse.ArgumentParser(description=ABOUT, epilog=TEXT, formatter_class=Help)
     parser.add_argument("graph", metavar="GRAPH", help="the file, or - for standard input")
     parser.add_argument("-o", "--output", metavar="OUT", required=True,
                         help="a picture (.svg, .png, .pdf); the drawing's points for other programs (.json); the embedding"
