@@ -6,8 +6,8 @@ import random
 import sys
 from collections.abc import Iterable, Iterator, Sequence
 from dataclasses import dataclass, field, replace
+from typing import TYPE_CHECKING
 
-from planarbend.embeddings import Price, climbed
 from planarbend.engine import Answer, Engine, GridPoint, NotKept
 from planarbend.expand import LEAST_CAGE, MOST_CONNECTIONS, Expansion, expand, size_of
 from planarbend.keeping import conditions_of, keeper_of
@@ -15,6 +15,9 @@ from planarbend.mend import Loose, loosened, ways_round_cage, ways_round_spine
 from planarbend.numbering import Form, contracted, numbered, outer_forms
 from planarbend.planar_code import MOST_VERTICES
 from planarbend.planarize import Planarization
+
+if TYPE_CHECKING:
+    from planarbend.embeddings import Price
 
 MOST_FACES = 24  # outer faces that are tried
 MOST_TURNS = 8  # spines that are tried in place of a cage
@@ -301,6 +304,8 @@ class Search:
         """Shapes of another embedding, by the plan of the best one so far; none where a few moves find nothing better."""
         if not any(best.price()[:2]) and len(best.shape.expansion.around) < LARGE:
             return []
+        from planarbend.embeddings import climbed  # which takes a while to load
+
         other, _ = climbed(self.planar, lambda planars: self.prices(planars, best.plan), self.random,
                            rounds=ROUNDS * self.effort, width=WIDTH)
         if other is self.planar:

@@ -10,12 +10,14 @@ import random
 import sys
 from collections.abc import Iterable, Sequence
 from dataclasses import dataclass
-from typing import Any
+from typing import TYPE_CHECKING, Any
 
-from .core import Core, core_of
 from .easy import easily_embedded
 from .reinsert import FIXED, Reinsertion
-from .rotation import NONE, Rotation
+from .rotation import Rotation
+
+if TYPE_CHECKING:
+    from .core import Core
 
 STARTS = 8
 """Number of first embeddings that are improved, for each unit of effort."""
@@ -123,6 +125,8 @@ def planarize(vertex_count: int, edges: Sequence[tuple[int, int]], *, effort: in
     around = easily_embedded(count, ends) or _planar(count, ends)
     if around is not None:
         return _read(vertex_count, count, ends, around)[0]
+    from .core import core_of  # which takes a while to load
+
     crossed: list[list[int]] = [[] for _ in ends]
     made = 0
     for block in _blocks(count, ends):
