@@ -25,7 +25,7 @@ GRAPH is a list of connections, one or more a line (`antenna -- tuner -> mixer`,
 node-link JSON, graph6; or a netlist or board of KiCad. Its content shows which, or --format names it.
 
 DOT is read by Graphviz (Debian: graphviz). networkx (python3-networkx) reads GraphML, GML and graph6, and finds out which
-graphs are planar: without it some planar graphs are drawn, and no others. PNG and PDF are made by rsvg-convert
+graphs are planar: without it most planar graphs are drawn, and few others. PNG and PDF are made by rsvg-convert
 (librsvg2-bin). libplanarbend, of this checkout or the system, lays out; or the program planarbend: the one that PLANARBEND
 names, that of this checkout, or the one on the path.
 

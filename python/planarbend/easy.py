@@ -1,9 +1,10 @@
 """An embedding of a planar graph without a planarity test, where vertices can be put in one by one.
 
 First all vertices of degree 1 and 2 are folded away. Of those next to the part that is in, the vertex with most neighbours
-there comes first. It goes into a face that has them all, of several the longest, since small faces are mostly finished.
-Where no face has them all, some vertex before was put on the wrong side: then all is done again, with other choices among
-equals and with shorter faces now and then. At last what was folded is put back, one vertex after another.
+there comes first. It goes into a face that has them all, of several into that on which most vertices wait for neighbours,
+since others are mostly finished. Where no face has them all, some vertex before was put on the wrong side: then all is done
+again, with other choices among equals and with such faces less preferred now and then. At last what was folded is put
+back, one vertex after another.
 
 It is no test: where no attempt succeeds, the graph may be planar all the same.
 """
@@ -14,7 +15,7 @@ from collections.abc import Iterable, Sequence
 
 from .rotation import NONE, Rotation
 
-ATTEMPTS = 12
+ATTEMPTS = 24
 """Number of orders that are tried."""
 
 
@@ -36,7 +37,7 @@ def easily_embedded(vertex_count: int, ends: Iterable[tuple[int, int]]) -> list[
         return None
     dice = random.Random(0)
     for attempt in range(ATTEMPTS):
-        made = _Attempt(Rotation(len(kept), pairs), dice, attempt % 2 == 1)
+        made = _Attempt(Rotation(len(kept), pairs), dice, attempt % 3 == 2)
         if made.succeeds():
             around: list[list[int]] = [[] for _ in range(vertex_count)]
             for place, vertex in enumerate(kept):
@@ -104,7 +105,7 @@ class _Attempt:
     dice
         The source of random choices.
     is_random
-        Whether a shorter face may come before a longer one.
+        Whether a face on which fewer vertices wait may be chosen.
     """
 
     def __init__(self, rotation: Rotation, dice: random.Random, is_random: bool) -> None:
@@ -113,6 +114,7 @@ class _Attempt:
         for edge, (tail, head) in enumerate(rotation.ends):
             self.at[tail].append(edge)
             self.at[head].append(edge)
+        self.missing = [len(edges) for edges in self.at]  # edges of each vertex that are not in
 
     def succeeds(self) -> bool:
         """Puts all vertices in; whether that is done without a crossing."""
@@ -138,6 +140,7 @@ class _Attempt:
         others = [sum(rotation.ends[edge]) - vertex for edge in edges]
         if rotation.leaving[others[0]] == NONE:  # the second vertex of a part
             rotation.insert(edges[0], NONE, (), NONE)
+            self._count(edges)
             return True
         faces = set.intersection(*({rotation.face[dart] for dart in rotation.around(other)} for other in others))
         if not faces:
@@ -152,16 +155,24 @@ class _Attempt:
             else:
                 rotation.insert(edge, there, (), corner)
             here = {rotation.face[dart]: dart for dart in rotation.around(vertex)}
+        self._count(edges)
         return True
+
+    def _count(self, edges: Sequence[int]) -> None:
+        """Counts edges that were put in."""
+        for edge in edges:
+            for vertex in self.rotation.ends[edge]:
+                self.missing[vertex] -= 1
 
     def _chosen(self, faces: Sequence[int]) -> int:
         """A face to put a vertex into."""
         if len(faces) == 1:
             return faces[0]
-        lengths = [sum(1 for _ in self.rotation.along(self.rotation.corner[face])) for face in faces]
+        rotation, missing = self.rotation, self.missing
+        waiting = [sum(missing[rotation.origin[dart]] > 0 for dart in rotation.along(rotation.corner[face])) for face in faces]
         if self.is_random:
-            return max((length * self.dice.random(), face) for length, face in zip(lengths, faces))[1]
-        return max(zip(lengths, faces))[1]
+            return max((count * self.dice.random(), face) for count, face in zip(waiting, faces))[1]
+        return max(zip(waiting, faces))[1]
 
     def _one_of(self, darts: Sequence[int]) -> int:
         """One of some darts, at random."""
