@@ -9,3 +9,4 @@ pub mod Distinct
 pub mod Drawn
 pub mod Passing
 pub mod ByOneDart
+pub mod WestParts

@@ -261,10 +261,10 @@ module _ (path : List Point) (axes : IsOnAxes path) where
 
 -- ---- darts
 
-path_of_lesser : (p : PlaneModel) (points : PointsModel) (d : ℕ) → is_lesser p d ≡ true → dart_path p points d ≡ path_along p points d
+pub path_of_lesser : (p : PlaneModel) (points : PointsModel) (d : ℕ) → is_lesser p d ≡ true → dart_path p points d ≡ path_along p points d
 path_of_lesser p points d less = cond-true (is_lesser p d) (path_along p points d) (reverse (path_along p points (reverse_dart p d))) less
 
-path_of_greater : (p : PlaneModel) (points : PointsModel) (d : ℕ) → is_lesser p d ≡ false → dart_path p points d ≡ reverse (path_along p points (reverse_dart p d))
+pub path_of_greater : (p : PlaneModel) (points : PointsModel) (d : ℕ) → is_lesser p d ≡ false → dart_path p points d ≡ reverse (path_along p points (reverse_dart p d))
 path_of_greater p points d greater = cond-false (is_lesser p d) (path_along p points d) (reverse (path_along p points (reverse_dart p d))) greater
 
 module _ (p : PlaneModel) (shape : ShapeModel) (points : PointsModel) (plane : IsPlane p) (is : IsShape p shape) (whole : length points.vertices ≡ vertices p)
