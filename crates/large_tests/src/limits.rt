@@ -85,9 +85,17 @@ const OF_OCTAHEDRA: [&str; 2] = [
 fn draws_thousands_of_graphs(rt: HostRuntime) -> Result<(), Fail> {
     let [report, json] = OF_OCTAHEDRA;
     let words = ["layout", "--outer=best", "-"];
-    same(&rt, run(&rt, &words, (OCTAHEDRON, 2_100), report)?, (0, 2_100, 2));
+    same(
+        &rt,
+        run(&rt, &words, (OCTAHEDRON, 2_100), report)?,
+        (0, 2_100, 2),
+    );
     let words = ["layout", "--json", "-"];
-    same(&rt, run(&rt, &words, (OCTAHEDRON, 2_100), json)?, (0, 2_100, 1));
+    same(
+        &rt,
+        run(&rt, &words, (OCTAHEDRON, 2_100), json)?,
+        (0, 2_100, 1),
+    );
     Ok(())
 }
 

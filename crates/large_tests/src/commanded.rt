@@ -1,16 +1,16 @@
 //! Runs of the whole command on a standard input that is made while it is read.
 
-use commands::{Console, FilesAndInput, SystemFiles, command};
 use crate::compared::same;
 use crate::lines::Lines;
 use crate::sources::Copies;
-use std::thread;
+use commands::{Console, FilesAndInput, SystemFiles, command};
 use std::alloc::{AllocError, Global};
 use std::process::Abort;
 use std::rt::Files;
 use std::sync::Wait;
 use std::sync::atomic::{AtomicBool, AtomicU32, Ordering};
 use std::test::Fail;
+use std::thread;
 use std::thread::Threads;
 use streams::IoSink;
 

@@ -1,4 +1,4 @@
-//! How long a run over files takes, on one thread and over lanes.
+//! How long whole runs over files in memory take, on one thread and over lanes.
 
 ghost use Rattle.std.specs.Prelude.{◌≤◌};
 
@@ -20,21 +20,21 @@ pub fn time_plain<R: Files + Print + AllocGlobal + Clock>(rt: &R, names: &[Strin
     tell(rt, &batch, start)
 }
 
-/// The same of a run over lanes. The first two words say how many lanes there are, and how many messages
-/// wait between two threads at most, from 1 to 64.
+/// The same for a run over lanes. The first two arguments are the number of lanes and the room of a link, 1 to 64
+/// messages.
 pub fn time_lanes<R: Files + Print + AllocGlobal + Clock + Threads + Wait + Sync>(
     rt: &R,
     words: &[String],
 ) -> Result<()> {
     let [lanes, capacity, names @ ..] = words else {
-        bail!("after `lanes` come two numbers and files");
+        bail!("numbers of lanes and messages are missing");
     };
     let lanes = lanes.parse()?;
     let capacity = capacity.parse::<u32>()?.clamp(1, MAX_CAPACITY);
     time_over(rt, names, lanes, capacity)
 }
 
-/// The same of so many lanes, and messages between two threads.
+/// The same with these numbers of lanes and of messages that a link holds.
 fn time_over<R: Files + Print + AllocGlobal + Clock + Threads + Wait + Sync>(
     rt: &R,
     names: &[String],
@@ -69,7 +69,7 @@ fn tell<R: Print + Clock>(rt: &R, batch: &Batch, start: Instant) -> Result<()> {
 }
 
 /// How many records a batch has.
-pub fn graphs_of(batch: &Batch) -> usize {
+fn graphs_of(batch: &Batch) -> usize {
     let mut graphs: usize = 0;
     for file in 0..batch.files() {
         graphs = graphs.saturating_add(batch.book(file).entries().len());
