@@ -260,10 +260,13 @@ def peak_of(process: int) -> int:
 
 def generated(folder: str, kind: str, vertices: int | str, count: int, seed: int | str) -> str:
     """A file of this many random graphs of a kind."""
-    path = os.path.join(folder, f"{kind}{vertices}_{seed}.pc")
-    words = [sys.executable, os.path.join(OUTSIDE, "generate.py"), kind, str(vertices), str(count), str(seed)]
+    return written(os.path.join(folder, f"{kind}{vertices}_{seed}.pc"), kind, str(vertices), str(count), str(seed))
+
+
+def written(path: str, *words: str) -> str:
+    """This file, written by bench/outside/generate.py with these arguments."""
     with open(path, "wb") as out:
-        subprocess.run(words, check=True, stdout=out)
+        subprocess.run([sys.executable, os.path.join(OUTSIDE, "generate.py"), *words], check=True, stdout=out)
     return path
 
 
