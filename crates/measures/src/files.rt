@@ -1,7 +1,6 @@
 //! Files, and the records and planes of their graphs.
 
 use anyhow::{Context, Result, bail};
-use collector::MemOpener;
 use embedding::Graph;
 use faces::{Plane, TraceFault};
 use planar_code::{Framer, Record};
@@ -9,20 +8,8 @@ use std::alloc::Global;
 use std::fs;
 use std::rt::Files;
 
-/// How many bytes a read gives at most.
-const MOST: usize = 65_536;
-
-/// These files, read into memory.
-pub fn read_files<R: Files + AllocGlobal>(rt: &R, names: &[String]) -> Result<MemOpener> {
-    let mut files = Vec::with_capacity(rt.alloc(), names.len())?;
-    for name in names {
-        files.push(read_file(rt, name.as_str())?)?;
-    }
-    Ok(MemOpener::new(files, MOST))
-}
-
 /// The bytes of a file.
-fn read_file<R: Files + AllocGlobal>(rt: &R, name: &str) -> Result<Vec<u8>> {
+pub fn read_file<R: Files + AllocGlobal>(rt: &R, name: &str) -> Result<Vec<u8>> {
     fs::read(rt, name).context(format_args!("{name}"))
 }
 

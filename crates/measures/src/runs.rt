@@ -2,14 +2,26 @@
 
 ghost use Rattle.std.specs.Prelude.{◌≤◌};
 
-use crate::files::read_files;
+use crate::files::read_file;
 use anyhow::{Result, bail};
-use collector::{Batch, Choice, OpenGate, run_batch, run_plain};
+use collector::{Batch, Choice, MemOpener, OpenGate, run_batch, run_plain};
 use std::rt::{Clock, Files};
 use std::sync::Wait;
 use std::thread::Threads;
 use std::time::Instant;
 use streams::MAX_CAPACITY;
+
+/// How many bytes a read gives at most.
+const MOST: usize = 65_536;
+
+/// These files, read into memory.
+fn read_files<R: Files + AllocGlobal>(rt: &R, names: &[String]) -> Result<MemOpener> {
+    let mut files = Vec::with_capacity(rt.alloc(), names.len())?;
+    for name in names {
+        files.push(read_file(rt, name.as_str())?)?;
+    }
+    Ok(MemOpener::new(files, MOST))
+}
 
 /// Prints how many graphs these files have, and the nanoseconds of a run over them on this thread.
 pub fn time_plain<R: Files + Print + AllocGlobal + Clock>(rt: &R, names: &[String]) -> Result<()> {

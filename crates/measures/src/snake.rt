@@ -122,9 +122,11 @@ fn check_time<R: Clock + AllocGlobal>(
     shape: &Shape,
     places: &[Point],
 ) -> Option<Duration> {
+    if !is_shape(plane, shape) {
+        return None;
+    }
     let points = edge_points(rt.alloc(), places)?;
-    if !is_shape(plane, shape)
-        || points.vertex_count() != usize::from(plane.graph().vertices())
+    if points.vertex_count() != usize::from(plane.graph().vertices())
         || points.edge_count() != usize::from(plane.graph().edges())
     {
         return None;
