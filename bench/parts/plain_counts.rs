@@ -1,6 +1,5 @@
 //! Goes with the graphs of a file from bytes to checked drawings, under the choice `first` or `best` of the outer
-//! face, or after `short` to short drawings, as those of JSON lines, and after `untested` to these without the check of
-//! their regions; for `bench/instructions` and `bench/regions`.
+//! face, or after `short` to short drawings, as those of JSON lines; for `bench/instructions`.
 use plain_vec::alloc::Global;
 use std::hint::black_box;
 
@@ -17,8 +16,7 @@ fn main() {
         points: compact::Scratch::empty(Global),
         compaction: visibility::Scratch::empty(Global),
         check: drawing_check::Scratch::empty(Global),
-        is_short: choice == "short" || choice == "untested",
-        is_tested: choice == "short",
+        is_short: choice == "short",
     };
     let mut search = Some(dissect::DirectionSearch::empty(Global));
     for record in &records {
@@ -45,7 +43,6 @@ struct Room {
     compaction: visibility::Scratch,
     check: drawing_check::Scratch,
     is_short: bool,
-    is_tested: bool,
 }
 
 impl Room {
@@ -67,13 +64,8 @@ impl Room {
             let shorter = visibility::compact_by_visibility_in(Global, &mut self.compaction, plane, &points);
             points = shorter.expect("memory").unwrap_or(points);
         }
-        let drawing = drawing_check::check_in(Global, &mut self.check, plane, shape, points)
+        drawing_check::check_in(Global, &mut self.check, plane, shape, points)
             .ok()
-            .expect("a drawing");
-        if self.is_tested {
-            let regions = drawing_check::has_regions_in(&mut self.check, plane, &drawing);
-            assert!(regions.expect("memory"));
-        }
-        drawing
+            .expect("a drawing")
     }
 }

@@ -1,20 +1,15 @@
-//! How long the best outer face takes. `best_parts ROUNDS FILE..` prints for each file how many graphs it
-//! has, the fewest bends with the greatest outer faces and with the best ones, and the nanoseconds that one
-//! least shape, the best shape, and a least shape anew for each face took, each graph by the least of so
-//! many rounds.
-#![tactic(auto)]
+//! How long the best outer face takes.
 
-use anyhow::{Context, Result, bail, ensure};
-use embedding::Graph;
-use faces::{Plane, TraceFault};
+use crate::files::{plane_of, records_of};
+use anyhow::{Result, ensure};
+use faces::Plane;
 use ortho_rep::{best_shape, certify, is_shape, least_shape};
-use planar_code::{Framer, Record};
-use std::env;
-use std::fs;
+use planar_code::Record;
 use std::rt::{Clock, Files};
 use std::time::{Duration, Instant};
 
-/// What was seen of a graph or of a file.
+/// What was seen of a graph or of a file: how long a least shape, the best shape, and a least shape anew for each outer
+/// face took, and the fewest bends with the outer face as it is and with the best one.
 #[derive(Clone, Copy)]
 struct Seen {
     least: Duration,
@@ -55,51 +50,38 @@ impl Seen {
     }
 }
 
-fn main(rt: HostRuntime) -> Result<()> {
-    let words = env::args(&rt)?.skip(1).collect::<Vec<String>>(rt.alloc())?;
-    let [rounds, names @ ..] = words.as_slice() else {
-        bail!("a number of rounds and files are wanted");
-    };
-    let rounds = rounds.parse::<u32>()?;
-    for name in names {
-        tell(&rt, name, rounds)?;
-    }
-    Ok(())
-}
-
-/// Prints the line of a file.
-fn tell<R: Files + Print + AllocGlobal + Clock>(rt: &R, name: &str, rounds: u32) -> Result<()> {
-    let bytes = fs::read(rt, name).context(format_args!("{name}"))?;
-    let alloc = rt.alloc();
-    let mut framer = Framer::new(alloc)?;
-    let mut records = Vec::new(alloc);
-    let fed = framer.feed(alloc, bytes.as_slice(), &mut records);
-    ensure!(fed.is_ok(), "{name}: not the header and records");
+/// Prints how many graphs and bends a file has, and how long its shapes took, each graph by the least of these rounds.
+pub fn tell_best<R: Files + Print + AllocGlobal + Clock>(
+    rt: &R,
+    rounds: u32,
+    name: &str,
+) -> Result<()> {
+    let records = records_of(rt, name)?;
     let mut sum = Seen::NOTHING;
     for record in &records {
-        sum = sum.plus(seen_of(rt, record, rounds)?);
+        sum = sum.plus(seen_of(rt, rounds, record)?);
     }
-    println!(rt;
-        "graphs={} first_bends={} best_bends={} least={} best={} anew={}",
-        records.len(),
-        sum.first_bends,
-        sum.best_bends,
-        sum.least.as_nanos(),
-        sum.best.as_nanos(),
-        sum.anew.as_nanos()
+    let graphs = records.len();
+    print!(rt;
+        "graphs={graphs} first_bends={} best_bends={}",
+        sum.first_bends, sum.best_bends
     )?;
+    if rounds > 0 {
+        let (least, best, anew) = (sum.least, sum.best, sum.anew);
+        print!(rt;
+            " least={} best={} anew={}",
+            least.as_nanos(),
+            best.as_nanos(),
+            anew.as_nanos()
+        )?;
+    }
+    println!(rt; "")?;
     Ok(())
 }
 
-/// What is seen of a graph in so many rounds.
-fn seen_of<R: AllocGlobal + Clock>(rt: &R, record: &Record, rounds: u32) -> Result<Seen> {
-    let Ok(graph) = Graph::read(rt.alloc(), record) else {
-        bail!("a graph was refused");
-    };
-    let mut plane = match Plane::trace(rt.alloc(), graph) {
-        Ok(plane) => plane,
-        Err(TraceFault::Genus(_) | TraceFault::Memory(_)) => bail!("a graph was refused"),
-    };
+/// What is seen of a graph in these rounds.
+fn seen_of<R: AllocGlobal + Clock>(rt: &R, rounds: u32, record: &Record) -> Result<Seen> {
+    let mut plane = plane_of(rt.alloc(), record)?;
     let mut seen = round(rt, &mut plane)?;
     for _ in 1..rounds {
         seen = seen.least(round(rt, &mut plane)?);
@@ -107,7 +89,7 @@ fn seen_of<R: AllocGlobal + Clock>(rt: &R, record: &Record, rounds: u32) -> Resu
     Ok(seen)
 }
 
-/// Turns a face out, where there is one of this number.
+/// Makes a face the outer one, if there is one of this number.
 fn set_outer(plane: &mut Plane, face: u16) {
     if face < plane.face_count() {
         plane.set_outer(face);

@@ -5,7 +5,9 @@ ghost use Rattle.std.specs.Prelude.{false, None};
 ghost use Rattle.lanes.specs.Opening.{Silent};
 
 use crate::compared::same;
-use collector::{Choice, DrawingKind, Form, Gate, IoSink, OpenFault, Opener, Stage, Style, Tap, TapFault};
+use collector::{
+    Choice, DrawingKind, Form, Gate, IoSink, OpenFault, Opener, Stage, Style, Tap, TapFault,
+};
 use commands::{TextFault, write_batch};
 use std::alloc::Global;
 use std::io::Write;

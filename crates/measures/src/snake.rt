@@ -1,32 +1,38 @@
-//! What the check of a drawing costs. `check_cost PARTS RUNS` draws one edge along a snake of about
-//! so many parts, checks it so many times, and prints the number of parts and the least time of
-//! a check in nanoseconds.
-#![tactic(auto)]
+//! How long the check of a drawing takes, by the number of its parts.
 
+use anyhow::{Context, Result};
 use drawing_check::check;
 use embedding::Graph;
 use faces::Plane;
 use ortho_rep::{Point, Points, Shape, Turn, is_shape};
 use planar_code::{Framer, HEADER};
 use std::alloc::{AllocError, Global};
-use std::env;
-use std::io;
 use std::rt::Clock;
-use std::time::Instant;
+use std::time::{Duration, Instant};
+
+/// Draws one edge along a snake of about `parts` parts, and prints the least time of a check, in nanoseconds; no time
+/// with 0 rounds.
+pub fn tell_snake<R: Print + Clock + AllocGlobal>(rt: &R, rounds: u32, parts: u32) -> Result<()> {
+    let least = least_time(rt, rounds, parts).context("no drawing")?;
+    print!(rt; "parts={parts}")?;
+    if rounds > 0 {
+        print!(rt; " check={}", least.as_nanos())?;
+    }
+    println!(rt; "")?;
+    Ok(())
+}
 
 /// The plane of one edge.
 fn edge_plane(alloc: Global) -> Option<Plane> {
     let mut framer = Framer::new(alloc).ok()?;
     let mut records = Vec::new(alloc);
     framer.feed(alloc, &HEADER, &mut records).ok()?;
-    framer
-        .feed(alloc, &[2, 2, 0, 1, 0], &mut records)
-        .ok()?;
+    framer.feed(alloc, &[2, 2, 0, 1, 0], &mut records).ok()?;
     let graph = Graph::read(alloc, &records.pop()?).ok()?;
     Plane::trace(alloc, graph).ok()
 }
 
-/// A snake of about so many parts, that fills strips of 50,000 rows one after another.
+/// A snake of about `parts` parts, which fills strips of 50,000 rows one after another.
 fn snake(alloc: Global, parts: u32) -> Result<Vec<Point>, AllocError> {
     let strips = parts / 100_000 + 1;
     let rows = parts / (2 * strips) / 2 * 2 + 1;
@@ -97,43 +103,37 @@ fn edge_points(alloc: Global, points: &[Point]) -> Option<Points> {
     Some(Points::new([*start, *end].to_vec(alloc).ok()?, lists))
 }
 
-/// The least time of a check, in nanoseconds; nothing where some check does not draw.
-fn least_time(rt: &(impl Clock + Alloc<A = Global>), parts: u32, runs: u32) -> Option<u128> {
-    let alloc = rt.alloc();
-    let plane = edge_plane(alloc)?;
-    let places = snake(alloc, parts).ok()?;
-    let shape = edge_shape(alloc, &places)?;
-    if !is_shape(&plane, &shape) {
+/// The least time of a check in these rounds, or in one; `None` if it does not draw the edge.
+fn least_time<R: Clock + AllocGlobal>(rt: &R, rounds: u32, parts: u32) -> Option<Duration> {
+    let plane = edge_plane(rt.alloc())?;
+    let places = snake(rt.alloc(), parts).ok()?;
+    let shape = edge_shape(rt.alloc(), &places)?;
+    let mut least = check_time(rt, &plane, &shape, &places)?;
+    for _ in 1..rounds {
+        least = least.min(check_time(rt, &plane, &shape, &places)?);
+    }
+    Some(least)
+}
+
+/// How long one check takes of a drawing of an edge along these points.
+fn check_time<R: Clock + AllocGlobal>(
+    rt: &R,
+    plane: &Plane,
+    shape: &Shape,
+    places: &[Point],
+) -> Option<Duration> {
+    if !is_shape(plane, shape) {
         return None;
     }
-    let mut least = None;
-    for _ in 0..runs {
-        let points = edge_points(alloc, &places)?;
-        if points.vertex_count() != usize::from(plane.graph().vertices())
-            || points.edge_count() != usize::from(plane.graph().edges())
-        {
-            return None;
-        }
-        let start = Instant::now(rt).ok()?;
-        let drawing = check(alloc, &plane, &shape, points);
-        let time = start.elapsed(rt).ok()?.as_nanos();
-        drawing.ok()?;
-        least = Some(least.map_or(time, |best: u128| best.min(time)));
+    let points = edge_points(rt.alloc(), places)?;
+    if points.vertex_count() != usize::from(plane.graph().vertices())
+        || points.edge_count() != usize::from(plane.graph().edges())
+    {
+        return None;
     }
-    least
-}
-
-fn number(text: Option<String>) -> u32 {
-    text.and_then(|text| text.parse().ok()).unwrap_or(1)
-}
-
-fn main(rt: HostRuntime) -> io::Result<()> {
-    let mut words = env::args(&rt)?;
-    let _program = words.next();
-    let parts = number(words.next());
-    let runs = number(words.next());
-    match least_time(&rt, parts, runs) {
-        Some(time) => println!(rt; "{parts} {time}"),
-        None => println!(rt; "no drawing"),
-    }
+    let start = Instant::now(rt).ok()?;
+    let drawing = check(rt.alloc(), plane, shape, points);
+    let time = start.elapsed(rt).ok()?;
+    drawing.ok()?;
+    Some(time)
 }

@@ -3,13 +3,14 @@
 //! the seed: none from the time.
 ghost use Rattle.std.specs.Prelude.{◌<◌, ◌≤◌};
 
-use crate::run_times::graphs_of;
+use crate::files::read_file;
 use crate::runs::{report_of, report_over};
-use crate::stages::records_of;
 use anyhow::{Context, Result, bail, ensure};
-use collector::{Choice, DrawingKind, Form, Gate, IoSink, MAX_LANES, MemOpener, Stage, Style, run_plain};
+use collector::{
+    Choice, DrawingKind, Form, Gate, IoSink, MAX_LANES, MemOpener, Stage, Style, run_plain,
+};
 use commands::write_batch;
-use planar_code::{HEADER, Record};
+use planar_code::{Ending, HEADER, Record, split};
 use std::alloc::Global;
 use std::rt::{Clock, Files};
 use std::sync::Wait;
@@ -88,33 +89,14 @@ impl<R: Clock + Sync> Gate for Holding<'_, R> {
     }
 }
 
-/// What the rounds ran over.
-#[derive(Clone, Copy)]
-struct Tally {
-    files: u64,
-    graphs: usize,
-    threads: u64,
-}
-
-impl Tally {
-    /// The sum, as far as the numbers go.
-    fn plus(self, other: Tally) -> Tally {
-        Tally {
-            files: self.files.saturating_add(other.files),
-            graphs: self.graphs.saturating_add(other.graphs),
-            threads: self.threads.saturating_add(other.threads),
-        }
-    }
-}
-
-/// The first two words are a seed and how many rounds there are. The files behind them have the graphs of
-/// which the rounds' files are made.
+/// Runs rounds over random files. The arguments are a seed, the number of rounds, and files of the graphs of which the
+/// rounds' files are made.
 pub fn run_random<R: Files + Print + AllocGlobal + Clock + Threads + Wait + Sync>(
     rt: &R,
     words: &[String],
 ) -> Result<()> {
     let [seed, rounds, names @ ..] = words else {
-        bail!("after `stress` come a seed, a number of rounds, and files");
+        bail!("a seed and a number of rounds are missing");
     };
     let records = all_records(rt, names)?;
     run_rounds(rt, seed.parse()?, rounds.parse()?, records.as_slice())
@@ -122,36 +104,32 @@ pub fn run_random<R: Files + Print + AllocGlobal + Clock + Threads + Wait + Sync
 
 /// The records of all these files.
 fn all_records<R: Files + AllocGlobal>(rt: &R, names: &[String]) -> Result<Vec<Record>> {
-    let mut records = Vec::new(rt.alloc());
+    let mut all = Vec::new(rt.alloc());
     for name in names {
-        records.append(&mut records_of(rt, name)?)?;
+        let bytes = read_file(rt, name.as_str())?;
+        let (mut records, ending) = split(rt.alloc(), bytes.as_slice())?;
+        ensure!(
+            ending == Ending::Complete,
+            "{name}: not the header and records"
+        );
+        all.append(&mut records)?;
     }
-    Ok(records)
+    Ok(all)
 }
 
-/// Runs the rounds, each with a generator of its own, and prints what they ran over.
+/// Runs the rounds, each with a generator of its own, and prints that all reports were alike.
 fn run_rounds<R: Print + AllocGlobal + Clock + Threads + Wait + Sync>(
     rt: &R,
     seed: u64,
     rounds: u64,
     records: &[Record],
 ) -> Result<()> {
-    let mut sum = Tally {
-        files: 0,
-        graphs: 0,
-        threads: 0,
-    };
     for round in 0..rounds {
         let seed = seed.wrapping_add(round);
-        let found = run_round(rt, &Numbers::of(seed), records);
-        sum = sum.plus(found.context(format_args!("seed {seed}"))?);
+        let done = run_round(rt, &Numbers::of(seed), records);
+        done.context(format_args!("seed {seed}"))?;
     }
-    tell(rt, rounds, sum)
-}
-
-fn tell<R: Print>(rt: &R, rounds: u64, sum: Tally) -> Result<()> {
-    let (files, graphs, threads) = (sum.files, sum.graphs, sum.threads);
-    println!(rt; "rounds={rounds} files={files} graphs={graphs} threads={threads}")?;
+    println!(rt; "{rounds} rounds over random files: the same reports over lanes")?;
     Ok(())
 }
 
@@ -160,34 +138,19 @@ fn run_round<R: AllocGlobal + Clock + Threads + Wait + Sync>(
     rt: &R,
     numbers: &Numbers,
     records: &[Record],
-) -> Result<Tally> {
+) -> Result<()> {
     let alloc = rt.alloc();
     let opener = random_files(alloc, numbers, records)?;
     // Files past those in memory do not open.
     let files = numbers.up_to(9);
     let choice = random_choice(numbers);
-    let (graphs, report) = plain_run(alloc, &opener, files, choice)?;
+    let report = report_of(alloc, &run_plain(alloc, &opener, files, choice)?)?;
     let lanes = numbers.up_to(MAX_LANES - 1) + 1;
     let found = random_run(rt, numbers, &opener, files, lanes, choice)?;
     ensure!(found == report, "another report over {lanes} lanes");
     let text = random_text(rt, numbers, &opener, files, lanes, choice)?;
     ensure!(text == report, "another text over {lanes} lanes");
-    Ok(Tally {
-        files: u64::from(files),
-        graphs,
-        threads: u64::from(8 * lanes),
-    })
-}
-
-/// How many records a run on one thread finds, and its report.
-fn plain_run(
-    alloc: Global,
-    opener: &MemOpener,
-    files: u32,
-    choice: Choice,
-) -> Result<(usize, Vec<u8>)> {
-    let batch = run_plain(alloc, opener, files, choice)?;
-    Ok((graphs_of(&batch), report_of(alloc, &batch)?))
+    Ok(())
 }
 
 /// The report of a run over lanes, with random room between two threads, which are held up at random.

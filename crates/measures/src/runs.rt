@@ -1,15 +1,27 @@
-//! How long a run over files takes, on one thread and over lanes.
+//! How long whole runs over files in memory take, on one thread and over lanes.
 
 ghost use Rattle.std.specs.Prelude.{◌≤◌};
 
-use crate::files::read_files;
+use crate::files::read_file;
 use anyhow::{Result, bail};
-use collector::{Batch, Choice, OpenGate, run_batch, run_plain};
+use collector::{Batch, Choice, MemOpener, OpenGate, run_batch, run_plain};
 use std::rt::{Clock, Files};
 use std::sync::Wait;
 use std::thread::Threads;
 use std::time::Instant;
 use streams::MAX_CAPACITY;
+
+/// How many bytes a read gives at most.
+const MOST: usize = 65_536;
+
+/// These files, read into memory.
+fn read_files<R: Files + AllocGlobal>(rt: &R, names: &[String]) -> Result<MemOpener> {
+    let mut files = Vec::with_capacity(rt.alloc(), names.len())?;
+    for name in names {
+        files.push(read_file(rt, name.as_str())?)?;
+    }
+    Ok(MemOpener::new(files, MOST))
+}
 
 /// Prints how many graphs these files have, and the nanoseconds of a run over them on this thread.
 pub fn time_plain<R: Files + Print + AllocGlobal + Clock>(rt: &R, names: &[String]) -> Result<()> {
@@ -20,21 +32,21 @@ pub fn time_plain<R: Files + Print + AllocGlobal + Clock>(rt: &R, names: &[Strin
     tell(rt, &batch, start)
 }
 
-/// The same of a run over lanes. The first two words say how many lanes there are, and how many messages
-/// wait between two threads at most, from 1 to 64.
+/// The same for a run over lanes. The first two arguments are the number of lanes and the room of a link, 1 to 64
+/// messages.
 pub fn time_lanes<R: Files + Print + AllocGlobal + Clock + Threads + Wait + Sync>(
     rt: &R,
     words: &[String],
 ) -> Result<()> {
     let [lanes, capacity, names @ ..] = words else {
-        bail!("after `lanes` come two numbers and files");
+        bail!("numbers of lanes and messages are missing");
     };
     let lanes = lanes.parse()?;
     let capacity = capacity.parse::<u32>()?.clamp(1, MAX_CAPACITY);
     time_over(rt, names, lanes, capacity)
 }
 
-/// The same of so many lanes, and messages between two threads.
+/// The same with these numbers of lanes and of messages that a link holds.
 fn time_over<R: Files + Print + AllocGlobal + Clock + Threads + Wait + Sync>(
     rt: &R,
     names: &[String],
@@ -69,7 +81,7 @@ fn tell<R: Print + Clock>(rt: &R, batch: &Batch, start: Instant) -> Result<()> {
 }
 
 /// How many records a batch has.
-pub fn graphs_of(batch: &Batch) -> usize {
+fn graphs_of(batch: &Batch) -> usize {
     let mut graphs: usize = 0;
     for file in 0..batch.files() {
         graphs = graphs.saturating_add(batch.book(file).entries().len());
