@@ -1,0 +1,94 @@
+//! The cut of a plane with edges that stay straight: what the solver reaches from an excess in the plane's network, where
+//! nothing crosses these edges (Gale 1957, Tamassia 1987).
+
+ghost use Rattle.std.specs.Prelude.{◌≡◌, ◌+◌, ◌-◌, ◌<◌, ◌≤◌, ℕ, Bool, List, true, false, IfOk, IfSome, IfNone, length};
+ghost use Rattle.faces.specs.Planes.{PlaneModel, IsPlane, darts, vertices, head, face_at};
+ghost use Rattle.flow_network.specs.Straight.{is_marked};
+ghost use Rattle.min_cost_flow.specs.Overfull.{is_in};
+ghost use Rattle.ortho_rep.specs.declared.turn.Turn.{Turn};
+ghost use Rattle.ortho_rep.specs.Representation.{Rep};
+ghost use Rattle.ortho_rep.specs.Keeping.{Keeps, HasNoneKeeping};
+ghost use Rattle.cuts.specs.Cut.{ShowsNone, HasFacesIn, HasFaceOut};
+
+use crate::cut::Cut;
+use common::emptied;
+use faces::Plane;
+use flow_network::{FaceNet, has_mark};
+use min_cost_flow::overfull_in;
+use std::alloc::{AllocError, Global};
+
+/// Why no representation keeps the edges of marked darts straight: a set of vertices and faces that turn more than can
+/// leave them. `None` if a representation keeps them.
+///
+/// An edge is to stay straight if one of its two darts is marked; darts past the end of the list are not marked.
+///
+/// # Errors
+///
+/// `AllocError` if there is no memory for the network, its flow or the set.
+pub fn cut_keeping(
+    alloc: Global,
+    plane: &Plane,
+    straight: &[bool],
+) -> Result<Option<Cut>, AllocError>
+    ensures shown { IfOk result (λ found. IfSome found (λ cut. ShowsNone plane.now straight.now cut.vertices.items cut.faces.items)) }
+    ensures none { IfOk result (λ found. IfNone found ((a : ℕ → ℕ) × (s : ℕ → List Turn) × Rep plane.now a s × Keeps plane.now straight.now s)) }
+{
+    // Only the proof needs this: `graph` says that the plane is one.
+    let _graph = plane.graph();
+    let mut lists = flow_network::Scratch::empty(alloc);
+    let net = FaceNet::build_keeping_in(alloc, &mut lists, plane, straight)?;
+    let mut solver = min_cost_flow::Scratch::empty(alloc);
+    let Some(nodes) = overfull_in(alloc, &mut solver, net.network())? else {
+        return Ok(None);
+    };
+    let faces = faces_of(alloc, plane, &nodes)?;
+    let vertices = vertices_of(alloc, plane, &faces)?;
+    Ok(Some(Cut { vertices, faces }))
+}
+
+/// The marks of the faces among those of all nodes.
+fn faces_of(alloc: Global, plane: &Plane, nodes: &[bool]) -> Result<Vec<bool>, AllocError>
+    requires { length nodes.now ≡ vertices plane.now + plane.now.faces }
+    ensures size { IfOk result (λ faces. length faces.items ≡ plane.now.faces) }
+    ensures each { IfOk result (λ faces. (f : ℕ) → f < plane.now.faces → is_marked faces.items f ≡ is_in nodes.now (vertices plane.now + f)) }
+{
+    let first = usize::from(plane.graph().vertices());
+    let mut faces = emptied(Vec::new(alloc), usize::from(plane.face_count()))?;
+    for face in 0..plane.face_count() {
+        faces.push(nodes[first + usize::from(face)])?;
+    }
+    Ok(faces)
+}
+
+/// A mark for each vertex that has all its faces among these.
+fn vertices_of(alloc: Global, plane: &Plane, faces: &[bool]) -> Result<Vec<bool>, AllocError>
+    ensures size { IfOk result (λ marks. length marks.items ≡ vertices plane.now) }
+    ensures inside { IfOk result (λ marks. (k : ℕ) → is_marked marks.items k ≡ true → HasFacesIn plane.now faces.now (k + 1)) }
+    ensures outside { IfOk result (λ marks. (k : ℕ) → k < vertices plane.now → is_marked marks.items k ≡ false → HasFaceOut plane.now faces.now (k + 1)) }
+{
+    let vertices = plane.graph().vertices();
+    let mut marks = emptied(Vec::new(alloc), usize::from(vertices))?;
+    for place in 0..vertices {
+        marks.push(has_faces_in(plane, faces, place + 1))?;
+    }
+    Ok(marks)
+}
+
+/// Whether all faces of a vertex are marked.
+fn has_faces_in(plane: &Plane, faces: &[bool], vertex: u8) -> bool
+    ensures inside { result ≡ true → HasFacesIn plane.now faces.now vertex }
+    ensures outside { result ≡ false → HasFaceOut plane.now faces.now vertex }
+{
+    let graph = plane.graph();
+    for dart in 0..graph.darts() {
+        if graph.head(dart) == vertex && !has_mark(faces, plane.face_of(dart)) {
+            return false;
+        }
+    }
+    true
+}
+
+/// Vertices and faces that turn more than can leave them show that no representation keeps the edges straight.
+pub fn cut_shows_none()
+    ensures { (p : PlaneModel) (marks vertices faces : List Bool) → IsPlane p → ShowsNone p marks vertices faces → HasNoneKeeping p marks }
+{}
