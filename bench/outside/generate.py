@@ -1,60 +1,80 @@
 #!/usr/bin/env python3
-"""Prints a planar_code file of random graphs, by a seed.
+"""Prints a planar_code file of graphs of degree at most 4.
 
-KIND is `cubic` (duals of random triangulations), `medial` (medial graphs of random triangulations, so
-4-regular), `grid` (connected parts of a square grid), `tree` (random trees of degree at most 4) or `mixed` (one of the
-first three, of any size up to VERTICES, with a random share of the edges left out that are not needed to connect it).
-VERTICES is met as nearly as the kind allows: an even number for cubic, a multiple of 3 for medial.
+  generate.py KIND VERTICES COUNT SEED    random graphs: VERTICES is met as nearly as the kind allows
+    cubic     duals of random triangulations; an even number of vertices
+    medial    medial graphs of random triangulations, so 4-regular; a multiple of 3
+    grid      connected parts of a square grid
+    tree      random trees
+    mixed     one of the first three, of any size up to VERTICES, without a random share of the edges that are not
+              needed to connect it
+  generate.py KIND                        fixed graphs
+    copies    twelve copies of a tree and of a path, in turn (crates/corpus/data/copies.pc). The tree has ten vertices,
+              none of degree 2; the path has forty. Both can be drawn without a bend and with edges of length 1, the
+              path without a turn, so they are 9 and 39 long. The quick drawings of both are longer.
+    prism     the medial graph of a prism over a cycle of 85 vertices (crates/corpus/data/prism85.pc): its vertices are
+              the 255 edges of the prism, and two are joined if one follows the other round a face. They are numbered
+              by a breadth-first search from the first.
+    growing   graphs that grow by an edge each to that one, from one edge to 510: of every order from 2 to 255 and every
+              number of faces from 1 to 257. Each has its first edges, by their greater ends and then their lesser
+              ones, and keeps the order of neighbours. The program `corpus` makes them too.
+    families  graphs whose fewest bends are known (crates/corpus/data/families.pc). Paths of 2 to 40 vertices, cycles of
+              4 to 40 and of 255, stars of 2 to 4 leaves and grids of 2 to 6 by 2 to 6 vertices need no bend; a triangle
+              needs 1, K4 and each prism over a cycle of 3 to 12 need 4, the octahedron, which is the antiprism over a
+              triangle, needs 12, and an antiprism over a cycle of k = 4 to 12 needs 2k + 4. --report prints instead the
+              report that `planarbend layout` must give for it.
 
 Needs Python's standard library alone, and takes a few milliseconds a graph of 250 vertices.
 """
+from __future__ import annotations
+
 import argparse
+import math
 import os
 import random
 import sys
+from collections.abc import Callable, Iterator
 
 sys.dont_write_bytecode = True
 sys.path.insert(0, os.path.join(os.path.dirname(os.path.abspath(__file__)), "../../python"))
 from planarbend.planar_code import HEADER, record_of
+from planarbend.reports import End, File, Graph
 
 MOST_DEGREE = 4
+COPIES, PATH = 12, 40
+TREE = [[2, 3, 4], [1, 5, 6], [1, 7, 8], [1, 9, 10], [2], [2], [3], [3], [4], [4]]
+SIDES = 85
+
+Rotation = dict[int, list[int]]  # the neighbours of each vertex, clockwise, from 0
+Lists = list[list[int]]  # the same, in order
+Dart = tuple[int, int]
+Placed = tuple[list[tuple[float, float]], list[Dart]]  # the places of vertices, and edges
 
 
-def triangulation(corners, rng):
-    """Rotations (clockwise neighbours by vertex, from 0) of a random triangulation of the sphere."""
+def triangulation(corners: int, rng: random.Random) -> Rotation:
+    """A random triangulation of the sphere."""
     # Each face (a, b, c) is walked with itself on one side: in each corner b, a follows c in b's rotation.
     rotation = {0: [1, 2], 1: [2, 0], 2: [0, 1]}
     faces = [(0, 1, 2), (0, 2, 1)]
-
-    def put_between(v, before, new):
-        """Puts `new` into v's rotation right behind `before`."""
-        at = rotation[v].index(before)
-        rotation[v].insert(at + 1, new)
-
     for new in range(3, corners):
         at = rng.randrange(len(faces))
         a, b, c = faces[at]
         for v, before in ((a, c), (b, a), (c, b)):
-            put_between(v, before, new)
+            rotation[v].insert(rotation[v].index(before) + 1, new)
         rotation[new] = [a, c, b]
         faces[at] = (a, b, new)
         faces += [(b, c, new), (c, a, new)]
     return rotation
 
 
-def number_darts(rotation):
-    """Darts as pairs, with reverse by pair and the cyclically next entry."""
-    after = {}
-    for v, around in rotation.items():
-        for at, w in enumerate(around):
-            after[(v, w)] = (v, around[(at + 1) % len(around)])
-    return after
+def darts_after(rotation: Rotation) -> dict[Dart, Dart]:
+    """The dart after each one round its tail."""
+    return {(v, w): (v, around[(at + 1) % len(around)]) for v, around in rotation.items() for at, w in enumerate(around)}
 
 
-def face_of(rotation):
-    """The face of each dart, faces numbered from 0, and each face's darts in the order of its walk."""
-    after = number_darts(rotation)
-    face, walks = {}, []
+def dual(rotation: Rotation) -> Rotation:
+    """The dual graph, its vertices numbered as the faces are met."""
+    after, face, walks = darts_after(rotation), {}, []
     for dart in after:
         if dart in face:
             continue
@@ -64,48 +84,37 @@ def face_of(rotation):
             walk.append(at)
             at = after[(at[1], at[0])]
         walks.append(walk)
-    return face, walks
-
-
-def dual(rotation):
-    face, walks = face_of(rotation)
     return {f: [face[(b, a)] for a, b in reversed(walk)] for f, walk in enumerate(walks)}
 
 
-def medial(rotation):
-    after = number_darts(rotation)
+def medial(rotation: Rotation) -> Rotation:
+    """The medial graph, its vertices in the order of the lesser darts."""
+    after = darts_after(rotation)
     before = {d: e for e, d in after.items()}
-    number = {}
-    for a, b in after:
-        if a < b:
-            number[(a, b)] = number[(b, a)] = len(number) // 2
-    result = {}
-    for a, b in after:
-        if a < b:
-            # Round the edge: the neighbours in clockwise order at both ends.
-            result[number[(a, b)]] = [
-                number[before[(a, b)]], number[after[(a, b)]],
-                number[before[(b, a)]], number[after[(b, a)]],
-            ]
-    return result
+    edges = [(a, b) for a, b in after if a < b]
+    number = {dart: at for at, (a, b) in enumerate(edges) for dart in ((a, b), (b, a))}
+    return {at: [number[other] for other in (before[(a, b)], after[(a, b)], before[(b, a)], after[(b, a)])]
+            for at, (a, b) in enumerate(edges)}
 
 
-def grid(vertices, rng):
+def grid_part(vertices: int, rng: random.Random) -> Rotation:
+    """A connected part of a square grid."""
+    clockwise = ((0, 1), (1, 0), (0, -1), (-1, 0))
     cells, edge = {(0, 0)}, [(0, 0)]
     while len(cells) < vertices:
         x, y = rng.choice(edge)
-        dx, dy = rng.choice(((0, 1), (1, 0), (0, -1), (-1, 0)))
+        dx, dy = rng.choice(clockwise)
         if (x + dx, y + dy) not in cells:
             cells.add((x + dx, y + dy))
             edge.append((x + dx, y + dy))
     number = {cell: at for at, cell in enumerate(sorted(cells))}
-    clockwise = ((0, 1), (1, 0), (0, -1), (-1, 0))
     return {number[(x, y)]: [number[(x + dx, y + dy)] for dx, dy in clockwise if (x + dx, y + dy) in cells]
             for x, y in cells}
 
 
-def tree(vertices, rng):
-    rotation = {0: []}
+def tree(vertices: int, rng: random.Random) -> Rotation:
+    """A random tree."""
+    rotation: Rotation = {0: []}
     for new in range(1, vertices):
         while True:
             at = rng.randrange(new)
@@ -116,13 +125,13 @@ def tree(vertices, rng):
     return rotation
 
 
-def thinned(rotation, rng):
+def thinned(rotation: Rotation, rng: random.Random) -> Rotation:
     """The same without a random share of the edges, and still connected."""
     edges = [(v, w) for v, around in rotation.items() for w in around if v < w]
     rng.shuffle(edges)
     part, kept, share = {v: v for v in rotation}, set(), rng.random()
 
-    def root(v):
+    def root(v: int) -> int:
         while part[v] != v:
             v = part[v]
         return v
@@ -135,44 +144,175 @@ def thinned(rotation, rng):
     return {v: [w for w in around if (v, w) in kept] for v, around in rotation.items()}
 
 
-def mixed(vertices, rng):
+def mixed(vertices: int, rng: random.Random) -> Rotation:
     size = rng.randint(6, vertices)
-    return thinned(KINDS[rng.choice(("cubic", "medial", "grid"))](size, rng), rng)
+    return thinned(RANDOM[rng.choice(("cubic", "medial", "grid"))](size, rng), rng)
 
 
-def relabelled(rotation, rng):
+RANDOM: dict[str, Callable[[int, random.Random], Rotation]] = {
+    "cubic": lambda vertices, rng: dual(triangulation(vertices // 2 + 2, rng)),
+    "medial": lambda vertices, rng: medial(triangulation(vertices // 3 + 2, rng)),
+    "grid": grid_part, "tree": tree, "mixed": mixed}
+
+
+def relabelled(rotation: Rotation, rng: random.Random) -> Lists:
+    """The lists of neighbours, from 1, of the vertices in a random order."""
     names = list(rotation)
     rng.shuffle(names)
     place = {v: at for at, v in enumerate(names)}
     return [[place[w] + 1 for w in rotation[v]] for v in names]
 
 
-KINDS = {
-    "cubic": lambda vertices, rng: dual(triangulation(vertices // 2 + 2, rng)),
-    "medial": lambda vertices, rng: medial(triangulation(vertices // 3 + 2, rng)),
-    "grid": grid,
-    "tree": tree,
-    "mixed": mixed,
-}
+def random_graphs(kind: str, vertices: int, count: int, seed: int) -> Iterator[Lists]:
+    """Random graphs of a kind, without parallel edges and loops."""
+    rng, made = random.Random(seed), 0
+    while made < count:
+        lists = relabelled(RANDOM[kind](vertices, rng), rng)
+        if all(len(set(around)) == len(around) and at + 1 not in around for at, around in enumerate(lists)):
+            yield lists
+            made += 1
 
 
-def main():
+def path_lists(vertices: int) -> Lists:
+    return [[other for other in (vertex - 1, vertex + 1) if 1 <= other <= vertices] for vertex in range(1, vertices + 1)]
+
+
+def medial_of_prism() -> Lists:
+    """The last of the growing graphs, from 0."""
+    rotation = {i: [(i + 1) % SIDES, SIDES + i, (i - 1) % SIDES] for i in range(SIDES)}
+    rotation |= {SIDES + i: [SIDES + (i + 1) % SIDES, SIDES + (i - 1) % SIDES, i] for i in range(SIDES)}
+    return by_breadth(around_edges(rotation))
+
+
+def around_edges(rotation: Rotation) -> Lists:
+    """The medial graph of the mirror image of a graph."""
+    edges = [(u, v) for u, around in rotation.items() for v in around if u < v]
+    number = {dart: at for at, (u, v) in enumerate(edges) for dart in ((u, v), (v, u))}
+
+    def after(dart: Dart) -> Dart:
+        around = rotation[dart[1]]
+        return dart[1], around[(around.index(dart[0]) + 1) % len(around)]
+
+    before = {after(dart): dart for dart in number}
+    return [[number[other] for other in (after((u, v)), before[u, v], after((v, u)), before[v, u])] for u, v in edges]
+
+
+def by_breadth(lists: Lists) -> Lists:
+    """The same graph, its vertices numbered by a breadth-first search."""
+    order, seen = [0], {0}
+    for vertex in order:
+        found = [other for other in lists[vertex] if other not in seen]
+        order += found
+        seen.update(found)
+    place = {vertex: number for number, vertex in enumerate(order)}
+    return [[place[other] for other in lists[vertex]] for vertex in order]
+
+
+def growing(lists: Lists) -> Iterator[Lists]:
+    """The graphs of the first edges, of one, two and so on up to all."""
+    for last in range(1, len(lists)):
+        for most in sorted(other for other in lists[last] if other < last):
+            yield [[other for other in around if max(vertex, other) < last
+                    or max(vertex, other) == last and min(vertex, other) <= most]
+                   for vertex, around in enumerate(lists[:last + 1])]
+
+
+def circle(count: int, radius: float, turn: float) -> list[tuple[float, float]]:
+    """Places on a circle."""
+    return [(radius * math.cos(2 * math.pi * (i + turn) / count), radius * math.sin(2 * math.pi * (i + turn) / count))
+            for i in range(count)]
+
+
+def ring(first: int, count: int) -> list[Dart]:
+    """The edges of a cycle through consecutive vertices."""
+    return [(first + i, first + (i + 1) % count) for i in range(count)]
+
+
+def path(n: int) -> Placed:
+    return [(i, 0) for i in range(n)], [(i, i + 1) for i in range(n - 1)]
+
+
+def cycle(n: int) -> Placed:
+    return circle(n, 1, 0), ring(0, n)
+
+
+def star(leaves: int) -> Placed:
+    return [(0, 0)] + circle(leaves, 1, 0), [(0, i + 1) for i in range(leaves)]
+
+
+def grid(a: int, b: int) -> Placed:
+    edges = [(x * b + y, x * b + y + 1) for x in range(a) for y in range(b - 1)]
+    return [(x, y) for x in range(a) for y in range(b)], edges + [(x * b + y, x * b + y + b) for x in range(a - 1) for y in range(b)]
+
+
+def prism(k: int) -> Placed:
+    return circle(k, 2, 0) + circle(k, 1, 0), ring(0, k) + ring(k, k) + [(i, k + i) for i in range(k)]
+
+
+def antiprism(k: int) -> Placed:
+    spokes = [(i, k + i) for i in range(k)] + [((i + 1) % k, k + i) for i in range(k)]
+    return circle(k, 3, 0) + circle(k, 1, 0.5), ring(0, k) + ring(k, k) + spokes
+
+
+def families() -> list[tuple[Placed, int]]:
+    """Each graph with its fewest bends."""
+    found = [(path(n), 0) for n in range(2, 41)]
+    found += [(cycle(3), 1)] + [(cycle(n), 0) for n in range(4, 41)]
+    found += [(star(leaves), 0) for leaves in range(2, 5)]
+    found += [(grid(a, b), 0) for a in range(2, 7) for b in range(2, 7)]
+    found += [(prism(k), 4) for k in range(3, 13)]
+    found += [(antiprism(3), 12)] + [(antiprism(k), 2 * k + 4) for k in range(4, 13)]
+    k4: Placed = ([(0, 0)] + circle(3, 1, 0), ring(1, 3) + [(0, 1), (0, 2), (0, 3)])
+    return found + [(k4, 4), (cycle(255), 0)]
+
+
+def drawn(graph: Placed) -> Lists:
+    """The lists of neighbours, from 1, clockwise by where they lie."""
+    places, edges = graph
+    around: Lists = [[] for _ in places]
+    for v, w in edges:
+        around[v].append(w)
+        around[w].append(v)
+    for (x, y), others in zip(places, around):
+        others.sort(key=lambda w: -math.atan2(places[w][1] - y, places[w][0] - x))
+    return [[w + 1 for w in others] for others in around]
+
+
+def report() -> Iterator[object]:
+    """The lines of the report on the families."""
+    graphs = families()
+    yield File(1)
+    for number, ((places, edges), bends) in enumerate(graphs, 1):
+        yield Graph(number, (len(places), len(edges), len(edges) - len(places) + 2), bends, "yes")
+    yield End("complete", len(graphs))
+
+
+def one_more(graphs: Iterator[Lists]) -> Iterator[Lists]:
+    """The same, counted from 1."""
+    return ([[other + 1 for other in around] for around in lists] for lists in graphs)
+
+
+FIXED: dict[str, Callable[[], Iterator[Lists]]] = {
+    "copies": lambda: iter([TREE, path_lists(PATH)] * COPIES),
+    "prism": lambda: one_more(iter([medial_of_prism()])),
+    "growing": lambda: one_more(growing(medial_of_prism())),
+    "families": lambda: (drawn(graph) for graph, _ in families())}
+
+
+def main() -> None:
     parser = argparse.ArgumentParser(description=__doc__, formatter_class=argparse.RawDescriptionHelpFormatter)
-    parser.add_argument("kind", metavar="KIND", choices=KINDS, help=", ".join(KINDS))
-    for name in ("vertices", "count", "seed"):
-        parser.add_argument(name, metavar=name.upper(), type=int)
+    parser.add_argument("kind", metavar="KIND", choices=[*RANDOM, *FIXED], help=", ".join([*RANDOM, *FIXED]))
+    parser.add_argument("numbers", metavar="NUMBER", type=int, nargs="*", help="of random graphs: VERTICES COUNT SEED")
+    parser.add_argument("--report", action="store_true", help="of families: print the report instead")
     told = parser.parse_args()
-    rng = random.Random(told.seed)
-    out = sys.stdout.buffer
-    out.write(HEADER)
-    made = 0
-    while made < told.count:
-        rotation = KINDS[told.kind](told.vertices, rng)
-        lists = relabelled(rotation, rng)
-        if any(len(set(around)) < len(around) or at + 1 in around for at, around in enumerate(lists)):
-            continue
-        out.write(record_of(lists))
-        made += 1
+    if len(told.numbers) != (3 if told.kind in RANDOM else 0):
+        parser.error("VERTICES, COUNT and SEED go with random graphs")
+    if told.report:
+        print(*report(), sep="\n")
+        return
+    graphs = random_graphs(told.kind, *told.numbers) if told.kind in RANDOM else FIXED[told.kind]()
+    sys.stdout.buffer.write(HEADER)
+    sys.stdout.buffer.writelines(map(record_of, graphs))
 
 
 if __name__ == "__main__":

@@ -6,8 +6,8 @@ import random
 import sys
 from collections.abc import Iterable, Iterator, Sequence
 from dataclasses import dataclass, field, replace
+from typing import TYPE_CHECKING
 
-from planarbend.embeddings import Price, climbed
 from planarbend.engine import Answer, Engine, GridPoint, NotKept
 from planarbend.expand import LEAST_CAGE, MOST_CONNECTIONS, Expansion, expand, size_of
 from planarbend.keeping import conditions_of, keeper_of
@@ -15,6 +15,9 @@ from planarbend.mend import Loose, loosened, ways_round_cage, ways_round_spine
 from planarbend.numbering import Form, contracted, numbered, outer_forms
 from planarbend.planar_code import MOST_VERTICES
 from planarbend.planarize import Planarization
+
+if TYPE_CHECKING:
+    from planarbend.embeddings import Price
 
 MOST_FACES = 24  # outer faces that are tried
 MOST_TURNS = 8  # spines that are tried in place of a cage
@@ -222,7 +225,7 @@ class Search:
         """The shapes of plans with their best outer faces, each under several numberings: of several least shapes another
         one is then found."""
         tried: list[tuple[Expansion, Plan, Form]] = []
-        for plan in dict.fromkeys(plans):
+        for plan in plans:
             expansion = self.expanded(plan)
             if expansion is not None:
                 tried += [(expansion, plan, form) for form in self.numberings(expansion)]
@@ -267,9 +270,10 @@ class Search:
         forms = list(itertools.islice(outer_forms(expansion, self.outer), MOST_FACES))
         return self.laid([(expansion, plan, form) for form in forms], "first")
 
-    def look(self, plan: Plan) -> list[Found]:
-        """The shapes of a plan, with `outer` on the outer face if there are such vertices."""
-        return self.turned_out(plan) if self.outer else self.shapes_of([plan])
+    def look(self, *plans: Plan) -> list[Found]:
+        """The shapes of plans, with `outer` on the outer face if there are such vertices. One call for several plans starts
+        the program once."""
+        return [found for plan in plans for found in self.turned_out(plan)] if self.outer else self.shapes_of(plans)
 
     def run(self) -> list[Found]:
         """Shapes of this embedding."""
@@ -288,8 +292,7 @@ class Search:
             raise TooLarge(len(expand(self.planar, (), {vertex: 0 for vertex in self.large}).around))
         best = min(pool, key=Found.price)
         small = [vertex for vertex in range(self.planar.vertex_count) if self.can_be_cage(vertex, first)]
-        pool += look(first.caged(small))
-        pool += look(first.caged(self.small_at_bends(best)))
+        pool += look(first.caged(small), first.caged(self.small_at_bends(best)))
         best = min(pool, key=Found.price)
         needless = [vertex for vertex in best.plan.cages - first.cages if best.is_point(vertex)]
         pool += look(best.plan.uncaged(needless))
@@ -301,6 +304,8 @@ class Search:
         """Shapes of another embedding, by the plan of the best one so far; none where a few moves find nothing better."""
         if not any(best.price()[:2]) and len(best.shape.expansion.around) < LARGE:
             return []
+        from planarbend.embeddings import climbed  # which takes a while to load
+
         other, _ = climbed(self.planar, lambda planars: self.prices(planars, best.plan), self.random,
                            rounds=ROUNDS * self.effort, width=WIDTH)
         if other is self.planar:
@@ -372,7 +377,7 @@ class Search:
         for _ in range(MOST_MENDS):
             plans = [plan for found in beam for plan in self.mended(found) if plan not in tried]
             tried |= set(plans)
-            found = [found for plan in dict.fromkeys(plans) for found in self.look(plan)]
+            found = self.look(*dict.fromkeys(plans))
             pool += found
             beam = sorted([*beam, *found], key=Found.price)[:MOST_MENDED]
             if not beam[0].shape.broken:

@@ -25,7 +25,7 @@ GRAPH is a list of connections, one or more a line (`antenna -- tuner -> mixer`,
 node-link JSON, graph6; or a netlist or board of KiCad. Its content shows which, or --format names it.
 
 DOT is read by Graphviz (Debian: graphviz). networkx (python3-networkx) reads GraphML, GML and graph6, and finds out which
-graphs are planar: without it some planar graphs are drawn, and no others. PNG and PDF are made by rsvg-convert
+graphs are planar: without it most planar graphs are drawn, and few others. PNG and PDF are made by rsvg-convert
 (librsvg2-bin). libplanarbend, of this checkout or the system, lays out; or the program planarbend: the one that PLANARBEND
 names, that of this checkout, or the one on the path.
 
@@ -35,9 +35,21 @@ is refused
 ENDINGS = (".svg", ".json", ".pc", *CONVERTED)
 
 
+class Help(argparse.RawDescriptionHelpFormatter):
+    """Help as wide as COLUMNS says, or the terminal. argparse would load half of what Python compresses files with to look."""
+
+    def __init__(self, prog: str) -> None:
+        columns = os.environ.get("COLUMNS", "")
+        try:
+            width = int(columns) if columns.isdecimal() else os.get_terminal_size().columns
+        except OSError:
+            width = 80
+        super().__init__(prog, width=(width or 80) - 2)
+
+
 def command_line() -> argparse.Namespace:
     """The arguments."""
-    parser = argparse.ArgumentParser(description=ABOUT, epilog=TEXT, formatter_class=argparse.RawDescriptionHelpFormatter)
+    parser = argparse.ArgumentParser(description=ABOUT, epilog=TEXT, formatter_class=Help)
     parser.add_argument("graph", metavar="GRAPH", help="the file, or - for standard input")
     parser.add_argument("-o", "--output", metavar="OUT", required=True,
                         help="a picture (.svg, .png, .pdf); the drawing's points for other programs (.json); the embedding"

@@ -334,11 +334,17 @@ def side_by_side(graph: Graph, parts: list[Part]) -> Drawing:
 
 def packed(sizes: list[tuple[float, float]]) -> tuple[list[Point], float, float]:
     """Places for rectangles, and the width and height of them all: of several widths the one with the least area, where
-    long strips count more."""
+    strips count more that are longer than the largest rectangle."""
     widest, area = max(width for width, _ in sizes), sum(width * height for width, height in sizes)
-    widths = sorted({max(widest, math.sqrt(area * shape)) for shape in (0.7, 0.9, 1.1, 1.3, 1.5, 1.8, 2.2, 2.7, 3.3)})
+    least = stretch_of(*max(sizes, key=lambda size: size[0] * size[1]))
+    widths = sorted({widest, *(max(widest, math.sqrt(area * shape)) for shape in (0.7, 0.9, 1.1, 1.3, 1.5, 1.8, 2.2, 2.7, 3.3))})
     found = [at_skyline(sizes, width) for width in widths]
-    return min(found, key=lambda one: one[1] * one[2] * max(1.0, one[1] / one[2] / 3, one[2] / one[1] / 2))
+    return min(found, key=lambda one: one[1] * one[2] * max(least, stretch_of(one[1], one[2])))
+
+
+def stretch_of(width: float, height: float) -> float:
+    """How much a rectangle is stretched: 1 if it is at most three times as wide as high, and twice as high as wide."""
+    return max(1.0, width / height / 3, height / width / 2)
 
 
 def at_skyline(sizes: list[tuple[float, float]], width: float) -> tuple[list[Point], float, float]:

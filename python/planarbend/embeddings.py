@@ -12,7 +12,7 @@ import random
 from collections.abc import Callable, Iterator, Sequence
 from dataclasses import replace
 
-from planarbend.planarize import Planarization
+from planarbend.planarize import Planarization, planarization_of
 from planarbend.reinsert import Reinsertion
 from planarbend.rotation import NONE, Rotation
 
@@ -268,7 +268,7 @@ def shifted(faces: Faces, dice: random.Random) -> Planarization | None:
         if len(set(others)) < len(others) or any(set(ends[edge]) & set(ends[other]) for other in others):
             search.settle()
             break
-    return _planarization(rotation)
+    return planarization_of(rotation)
 
 
 def _rotation(planar: Planarization, ends: Sequence[tuple[int, int]]) -> Rotation:
@@ -288,21 +288,3 @@ def _rotation(planar: Planarization, ends: Sequence[tuple[int, int]]) -> Rotatio
             made.onward[dart ^ 1], made.back[after] = after, dart ^ 1
     made.name_faces()
     return made
-
-
-def _planarization(rotation: Rotation) -> Planarization:
-    """The same embedding, with its pieces numbered along the edges."""
-    count = rotation.vertex_count
-    number = {vertex: vertex for vertex in range(count)}
-    number.update((crossing, count + place) for place, crossing in enumerate(rotation.crossings()))
-    pieces: list[tuple[int, int]] = []
-    chains: list[list[int]] = []
-    new: dict[int, int] = {}
-    for edge in range(len(rotation.ends)):
-        chains.append([])
-        for dart in rotation.chain(edge):
-            new[dart], new[dart ^ 1] = 2 * len(pieces), 2 * len(pieces) + 1
-            chains[-1].append(new[dart])
-            pieces.append((number[rotation.origin[dart]], number[rotation.origin[dart ^ 1]]))
-    around = [[new[dart] for dart in rotation.around(vertex)][::-1] for vertex in number]
-    return Planarization(count, pieces, around, chains)

@@ -2,6 +2,7 @@
 from __future__ import annotations
 
 import json
+import os
 from collections.abc import Sequence
 from dataclasses import dataclass
 from typing import Any, Protocol
@@ -147,7 +148,9 @@ def default_engine() -> Engine:
 
     If PLANARBEND names a program, that is used.
     """
-    from planarbend import library  # which uses this module
+    if "PLANARBEND" in os.environ:
+        return ProcessEngine()
+    from planarbend import library  # which uses this module, and takes a while to load
 
     if library.is_wanted():
         return library.LibraryEngine()

@@ -86,9 +86,11 @@ def path() -> str | None:
     for place in PLACES:
         if os.path.isfile(place):
             return place
-    import ctypes.util  # which takes long to load
-
-    return NAME if ctypes.util.find_library("planarbend") else None
+    try:
+        ctypes.CDLL(NAME)  # `ctypes.util.find_library` would start a compiler and two linkers
+    except OSError:
+        return None
+    return NAME
 
 
 def is_wanted() -> bool:

@@ -10,11 +10,14 @@ import random
 import sys
 from collections.abc import Iterable, Sequence
 from dataclasses import dataclass
-from typing import Any
+from typing import TYPE_CHECKING, Any
 
-from .core import Core, core_of
+from .easy import easily_embedded
 from .reinsert import FIXED, Reinsertion
-from .rotation import NONE, Rotation
+from .rotation import Rotation
+
+if TYPE_CHECKING:
+    from .core import Core
 
 STARTS = 8
 """Number of first embeddings that are improved, for each unit of effort."""
@@ -22,14 +25,14 @@ PATIENCE = 2
 """Number of rounds in turn without success after which an embedding is left as it is."""
 WORK = 12_000_000
 """Number of darts to pass for each block and unit of effort (some ten seconds), after which no more is tried."""
+EASY = 25_000
+"""Number of darts to pass without a planarity test: some of the time that loading networkx takes."""
 TEST = 64
 """Work of a planarity test for each edge, in darts."""
 HOPELESS = 6
 """How many times the allowed crossings a first embedding may have: improving it divides them by three at most."""
 MOST_TESTS = 100
 """Number of planarity tests for one first embedding."""
-EASY = 25_000
-"""Number of darts to pass for an embedding without a planarity test: some of the time that loading networkx takes."""
 
 
 @dataclass(frozen=True, slots=True)
@@ -121,9 +124,16 @@ def planarize(vertex_count: int, edges: Sequence[tuple[int, int]], *, effort: in
     count = vertex_count
     if together:
         count, ends, weights = _joined(vertex_count, ends, sorted(set(together)))
-    around = easily_embedded(count, ends) or _planar(count, ends)
+    around = easily_embedded(count, ends)
+    if around is None and not together:
+        certain = _certainly_least(vertex_count, ends, seed)
+        if certain is not None:
+            return certain
+    around = around or _planar(count, ends)
     if around is not None:
         return _read(vertex_count, count, ends, around)[0]
+    from .core import core_of  # which takes a while to load
+
     crossed: list[list[int]] = [[] for _ in ends]
     made = 0
     for block in _blocks(count, ends):
@@ -146,6 +156,55 @@ def needed_crossings(vertex_count: int, edges: Sequence[tuple[int, int]]) -> int
     if count >= 7 * vertex_count > 0:
         needed = max(needed, count ** 3 // (29 * vertex_count ** 2))
     return max(0, needed)
+
+
+def _certainly_least(vertex_count: int, ends: Sequence[tuple[int, int]], seed: int) -> Planarization | None:
+    """An embedding with as many crossings as Euler's formula asks for, so that no other has fewer, of a graph that has none
+    without; found without a planarity test. `None` if some work finds none, or there are loops or parallel edges.
+    """
+    if len({frozenset(pair) for pair in ends if pair[0] != pair[1]}) < len(ends):
+        return None
+    least = needed_by_cycles(vertex_count, ends)
+    if not least:
+        return None
+    dice, work = random.Random(seed + 1), 0  # other choices than `choose` makes
+    while work < EASY:
+        search = Reinsertion(Rotation(vertex_count, ends), [1] * len(ends), dice)
+        search.put_all()
+        search.improve(PATIENCE, EASY - work)
+        if search.cost == least:
+            search.settle()
+            return planarization_of(search.rotation)
+        work += search.work
+    return None
+
+
+def needed_by_cycles(vertex_count: int, ends: Sequence[tuple[int, int]]) -> int:
+    """A number of crossings that no drawing of a simple graph can do without: by Euler's formula a planar graph without cycles
+    shorter than g has at most g (n - 2) / (g - 2) edges, and with one edge less for each crossing the graph is planar."""
+    joined: list[list[int]] = [[] for _ in range(vertex_count)]
+    for tail, head in ends:
+        joined[tail].append(head)
+        joined[head].append(tail)
+    girth = min((_shortest_cycle(joined, vertex) for vertex in range(vertex_count)), default=vertex_count + 1)
+    if girth > vertex_count:
+        return 0
+    return max(0, len(ends) - girth * (vertex_count - 2) // (girth - 2))
+
+
+def _shortest_cycle(joined: Sequence[Sequence[int]], start: int) -> int:
+    """The length of a shortest cycle through a vertex of a simple graph, or of one that is no longer; more than the number of
+    vertices if none is found."""
+    distance, parent = {start: 0}, {start: start}
+    waiting, shortest = [start], len(joined) + 1
+    for vertex in waiting:
+        for other in joined[vertex]:
+            if other not in distance:
+                distance[other], parent[other] = distance[vertex] + 1, vertex
+                waiting.append(other)
+            elif parent[vertex] != other:
+                shortest = min(shortest, distance[vertex] + distance[other] + 1)
+    return shortest
 
 
 def _joined(vertex_count: int, ends: list[tuple[int, int]], together: list[int]
@@ -192,51 +251,6 @@ def _planar(vertex_count: int, ends: Iterable[tuple[int, int]]) -> list[list[int
     if embedding is None:
         return None
     return [list(embedding.neighbors_cw_order(vertex)) if embedding.degree(vertex) else [] for vertex in range(vertex_count)]
-
-
-def easily_embedded(vertex_count: int, ends: Iterable[tuple[int, int]]) -> list[list[int]] | None:
-    """For each vertex its neighbours, clockwise, in an embedding that is found without a planarity test.
-
-    Vertices are put in one by one, each where it crosses least, in several orders. `None` if no order does without a
-    crossing.
-    """
-    pairs = sorted({(min(pair), max(pair)) for pair in ends if pair[0] != pair[1]})
-    if len(pairs) > max(1, 3 * vertex_count - 6):
-        return None
-    dice, work = random.Random(0), 0
-    while work <= EASY:
-        search = Reinsertion(Rotation(vertex_count, pairs), [1] * len(pairs), dice)
-        if _put_in(search, EASY - work):
-            rotation = search.rotation
-            return [[rotation.origin[dart ^ 1] for dart in rotation.around(vertex)][::-1] for vertex in range(vertex_count)]
-        work += max(search.work, len(pairs))
-    return None
-
-
-def _put_in(search: Reinsertion, most_work: int) -> bool:
-    """Puts all vertices in, that one first which has most neighbours there; whether no edge crosses another.
-
-    Ends with the first crossing, or after this much work.
-    """
-    rotation, chance = search.rotation, search.dice.random
-    placed = [0] * rotation.vertex_count  # neighbours that are in
-    waiting = dict.fromkeys(range(rotation.vertex_count))
-    while waiting:
-        vertex = max(waiting, key=lambda vertex: (placed[vertex], len(search.at[vertex]), chance()))
-        del waiting[vertex]
-        edges = []
-        for edge in search.at[vertex]:
-            other = sum(rotation.ends[edge]) - vertex
-            placed[other] += 1
-            if other not in waiting:
-                edges.append(edge)
-        if edges and rotation.leaving[sum(rotation.ends[edges[0]]) - vertex] == NONE:  # the second vertex of a part
-            rotation.insert(edges[0], NONE, (), NONE)
-        elif edges:
-            search.put_vertex(vertex, edges)
-        if search.cost or search.work > most_work:
-            return False
-    return True
 
 
 def _blocks(vertex_count: int, ends: Sequence[tuple[int, int]]) -> list[list[int]]:
@@ -455,3 +469,21 @@ def _read(vertex_count: int, count: int, lines: Sequence[Sequence[int]], neighbo
         if vertex >= count and edge_of[around[0] >> 1] != edge_of[around[2] >> 1]:
             touching.append(vertex - count)
     return Planarization(vertex_count, pieces, rotation, chains), touching
+
+
+def planarization_of(rotation: Rotation) -> Planarization:
+    """An embedding of all edges, with its pieces numbered along them."""
+    count = rotation.vertex_count
+    number = {vertex: vertex for vertex in range(count)}
+    number.update((crossing, count + place) for place, crossing in enumerate(rotation.crossings()))
+    pieces: list[tuple[int, int]] = []
+    chains: list[list[int]] = []
+    new: dict[int, int] = {}
+    for edge in range(len(rotation.ends)):
+        chains.append([])
+        for dart in rotation.chain(edge):
+            new[dart], new[dart ^ 1] = 2 * len(pieces), 2 * len(pieces) + 1
+            chains[-1].append(new[dart])
+            pieces.append((number[rotation.origin[dart]], number[rotation.origin[dart ^ 1]]))
+    around = [[new[dart] for dart in rotation.around(vertex)][::-1] for vertex in number]
+    return Planarization(count, pieces, around, chains)

@@ -246,6 +246,25 @@ class Reinsertion:
         for edge in edges[1:]:
             self.put(edge)
 
+    def put_all(self) -> None:
+        """Puts all vertices of an embedding of no edge in, that one first which has most neighbours there."""
+        rotation, chance = self.rotation, self.dice.random
+        placed = [0] * rotation.vertex_count  # neighbours that are in
+        waiting = dict.fromkeys(range(rotation.vertex_count))
+        while waiting:
+            vertex = max(waiting, key=lambda vertex: (placed[vertex], len(self.at[vertex]), chance()))
+            del waiting[vertex]
+            edges = []
+            for edge in self.at[vertex]:
+                other = sum(rotation.ends[edge]) - vertex
+                placed[other] += 1
+                if other not in waiting:
+                    edges.append(edge)
+            if edges and rotation.leaving[sum(rotation.ends[edges[0]]) - vertex] == NONE:  # the second vertex of a part
+                rotation.insert(edges[0], NONE, (), NONE)
+            elif edges:
+                self.put_vertex(vertex, edges)
+
     def improve(self, patience: int, most_work: int) -> None:
         """Moves all vertices and edges in random order, again and again.
 

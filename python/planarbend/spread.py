@@ -8,6 +8,7 @@ paths, then their greatest, then the middle, and then what shortens lines.
 """
 from __future__ import annotations
 
+import bisect
 import itertools
 import math
 from collections.abc import Sequence
@@ -326,6 +327,7 @@ class Sheet:
         at_nets = {line for number, lines in self.at_box[axis].items() for line in lines
                    if len(lines) == 2 and self.graph.vertices[number].kind is Kind.NET}
         for _ in range(3):
+            before = solver.value[:]
             for number, box in enumerate(self.boxes):
                 lines = self.at_box[axis].get(number, [])
                 if self.graph.vertices[number].kind is Kind.NET and len(lines) == 2 and box.low[axis] != box.high[axis]:
@@ -339,6 +341,8 @@ class Sheet:
             for number, lines in self.at_box[axis].items():
                 box = self.boxes[number]
                 solver.fit(box.low[axis], box.high[axis], lines, self.sizes[number][axis], self._inset(number, axis))
+            if solver.value == before:
+                return
 
     def _apart(self, axis: int, step: int) -> list[tuple[int, int, float]]:
         """The distances along an axis between items that overlap, or nearly do, along the other one."""
@@ -362,21 +366,21 @@ class Sheet:
                 end = value[item.high[axis]] + item.after[axis]
             rows.append((begin, end, low, high, item))
         rows.sort(key=lambda row: (row[0], row[1]))
+        begins = [row[0] for row in rows]
+        first_after = bisect.bisect_right if by_grid else bisect.bisect_left  # lines that cross the axis at one place: none
         found = []
         for place, (_, end, low, high, item) in enumerate(rows):
             gaps, coordinate, after = GAP[item.kind], item.high[axis], item.after[axis]
+            margins = (1e-6,) * 3 if across_grid else [gap - 1e-6 for gap in gaps]
             hosts = item.host
-            for begin, _, start, stop, later in rows[place + 1:]:
-                gap = gaps[later.kind]
-                margin = 1e-6 if across_grid else gap - 1e-6
-                if start - high > margin or low - stop > margin:
+            for begin, _, start, stop, later in rows[first_after(begins, end, place + 1):]:  # but for a line at its own box
+                kind = later.kind
+                if start - high > margins[kind] or low - stop > margins[kind]:
                     continue
-                if begin < end or (begin == end and by_grid):
-                    continue  # a line at its own box, or two that cross the axis at one place
                 if hosts and later.host and not set(hosts).isdisjoint(later.host) and (item.kind != PIECE or later.kind != PIECE
                                                                                     or begin - end < 1e-6):
                     continue
-                found.append((coordinate, later.low[axis], gap + after - later.before[axis]))
+                found.append((coordinate, later.low[axis], gaps[kind] + after - later.before[axis]))
         return found
 
     def _pull(self, axis: int, solver: Solver) -> None:
@@ -390,15 +394,16 @@ class Sheet:
                     ends.setdefault(piece.high[axis], []).append(piece.low[axis])
         sides = {side for box in self.boxes for side in (box.low[axis], box.high[axis]) if box.low[axis] != box.high[axis]}
         movable = [number for number in ends if number not in sides]
+        fits = [(box.low[axis], box.high[axis], self.at_box[axis].get(number, []), self.sizes[number][axis],
+                 self._inset(number, axis)) for number, box in enumerate(self.boxes) if box.low[axis] != box.high[axis]]
         for _ in range(6):
-            for number, box in enumerate(self.boxes):
-                low, high = box.low[axis], box.high[axis]
-                if low == high:
-                    continue
-                lines = self.at_box[axis].get(number, [])
-                solver.fit(low, high, lines, self.sizes[number][axis], self._inset(number, axis))
+            before = solver.value[:]
+            for fit in fits:
+                solver.fit(*fit)
             for number in movable:
                 solver.move(number, ends[number])
+            if solver.value == before:
+                return
 
     def extent(self, item: Item) -> Box:
         """The rectangle of an item."""
@@ -485,16 +490,25 @@ class Solver:
         if low <= high:
             self.value[number] = min(max(wanted, low), high)
 
-    def range(self, number: int, but: Sequence[int] = ()) -> tuple[float, float]:
+    def range(self, number: int) -> tuple[float, float]:
         """The least and the greatest place that others leave a coordinate."""
-        value, low, high = self.value, -math.inf, math.inf
+        return self.least(number), self.greatest(number)
+
+    def least(self, number: int, but: int = -1) -> float:
+        """The least place that others leave a coordinate."""
+        value, low = self.value, -math.inf
         for other, distance in self.before[number]:
-            if value[other] + distance > low and other not in but:
+            if value[other] + distance > low and other != but:
                 low = value[other] + distance
+        return low
+
+    def greatest(self, number: int, but: int = -1) -> float:
+        """The greatest place that others leave a coordinate."""
+        value, high = self.value, math.inf
         for other, distance in self.after[number]:
-            if value[other] - distance < high and other not in but:
+            if value[other] - distance < high and other != but:
                 high = value[other] - distance
-        return low, high
+        return high
 
     def move(self, number: int, ends: list[int]) -> None:
         """Move one coordinate to the middle of those at the other ends of its lines, as far as it may."""
@@ -507,8 +521,7 @@ class Solver:
 
     def fit(self, low: int, high: int, lines: list[int], least: float, inset: float) -> None:
         """Make a box as large as its lines and its name want it, about the middle of its lines."""
-        first, _ = self.range(low, but=(high,))
-        _, last = self.range(high, but=(low,))
+        first, last = self.least(low, high), self.greatest(high, low)
         inner = [self.value[line] for line in lines]
         start = min(inner) - inset if inner else self.value[low]
         end = max(inner) + inset if inner else self.value[high]

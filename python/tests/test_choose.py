@@ -19,7 +19,8 @@ from planarbend.graph import Edge, Graph, Kind, Vertex
 from planarbend.mend import corners_of, ways_round_cage
 from planarbend.nets import dots_of, pieces_of
 from planarbend.numbering import contracted, numbered
-from planarbend.planarize import easily_embedded, planarize
+from planarbend.easy import easily_embedded
+from planarbend.planarize import planarize
 
 # From (0, 0) to the right and round, y downwards: a square of side 4 from which the quarter at the lower left is cut away.
 STEP = [[(0, 0), (4, 0)], [(4, 0), (4, 4)], [(4, 4), (2, 4)], [(2, 4), (2, 2), (0, 2)], [(0, 2), (0, 0)]]
@@ -151,6 +152,31 @@ class Easy(unittest.TestCase):
         for edges in ([(one, other) for one in range(5) for other in range(one)],
                       [(one, other) for one in range(3) for other in range(3, 6)]):
             self.assertIsNone(easily_embedded(6, edges))
+
+    def test_grids(self) -> None:
+        """Most grids are found planar, with as many faces as they have squares, and one more."""
+        missed = 0
+        for width in range(2, 12):
+            for height in range(2, width + 1):
+                edges = [(place, place + 1) for place in range(width * height) if (place + 1) % width]
+                edges += [(place, place + width) for place in range(width * (height - 1))]
+                around = easily_embedded(width * height, edges)
+                missed += around is None
+                if around is not None:
+                    self.assertEqual(faces(around), (width - 1) * (height - 1) + 1)
+        self.assertLess(missed, 6)
+
+    def test_nothing_but_folded(self) -> None:
+        """Chains between two vertices, with an edge there or without, and trees at them, are folded away and come back."""
+        for has_edge in (False, True):
+            edges = [(0, 1)] * has_edge
+            for middle in range(2, 20, 2):
+                edges += [(0, middle), (middle, middle + 1), (middle + 1, 1), (middle, middle + 20)]
+            around = easily_embedded(40, edges)
+            assert around is not None
+            self.assertEqual(sorted((tail, head) for tail, heads in enumerate(around) for head in heads),
+                             sorted([*edges, *((head, tail) for tail, head in edges)]))
+            self.assertEqual(40 - len(edges) + faces(around), 1 + parts(around))
 
     def test_drawing_without_networkx(self) -> None:
         """A tree, a ring and an octahedron are drawn where networkx cannot be loaded, and quickly loaded modules suffice."""

@@ -10,7 +10,7 @@ from collections.abc import Sequence
 
 import support
 from planarbend.embeddings import neighbours
-from planarbend.planarize import Planarization, TooManyCrossings, needed_crossings, planarize
+from planarbend.planarize import Planarization, TooManyCrossings, needed_by_cycles, needed_crossings, planarize
 
 try:
     import networkx
@@ -25,6 +25,11 @@ pairs = [(tail, head) for head in range(14) for tail in range(head)]
 result = planarize(14, dice.sample(pairs, 45), effort=1, seed=3, together=(2, 9, 11))
 print(result.pieces, result.rotation, result.chains)
 """
+
+
+UTILITIES = [(tail, head) for tail in range(3) for head in range(3, 6)]
+PETERSEN = [edge for place in range(5) for edge in ((place, (place + 1) % 5), (place, place + 5), (place + 5, (place + 2) % 5 + 5))]
+HEAWOOD = [(place, (place + 1) % 14) for place in range(14)] + [(place, (place + 5) % 14) for place in range(0, 14, 2)]
 
 
 def faces_of(result: Planarization) -> list[list[int]]:
@@ -46,6 +51,30 @@ def faces_of(result: Planarization) -> list[list[int]]:
                 dart = following[dart]
             faces.append(face)
     return faces
+
+
+class WithoutTest(unittest.TestCase):
+    """Crossings that Euler's formula asks for need no planarity test."""
+
+    def test_needed_by_cycles(self) -> None:
+        """The bounds of complete graphs, and of those whose shortest cycle has four, five and six edges."""
+        complete = {count: [(tail, head) for head in range(count) for tail in range(head)] for count in range(1, 9)}
+        for count, needed in zip(complete, (0, 0, 0, 0, 1, 3, 6, 10)):
+            self.assertEqual(needed_by_cycles(count, complete[count]), needed, count)
+        for count, edges, needed in ((6, UTILITIES, 1), (10, PETERSEN, 2), (14, HEAWOOD, 3)):
+            self.assertEqual(needed_by_cycles(count, edges), needed)
+        self.assertEqual(needed_by_cycles(9, [(number, (number + 1) % 9) for number in range(9)]), 0)
+        self.assertEqual(needed_by_cycles(9, [(number // 2, number) for number in range(1, 9)]), 0)
+
+    def test_without_networkx(self) -> None:
+        """These are planarized with as few crossings where networkx cannot be loaded."""
+        program = ("import sys; sys.modules['networkx'] = None\n"
+                   "from planarbend.planarize import planarize\n"
+                   "print(*[planarize(count, edges, seed=seed).crossings for count, edges in {graphs} for seed in range(3)])\n")
+        graphs = [(6, UTILITIES), (10, PETERSEN), (14, HEAWOOD)]
+        ran = subprocess.run([sys.executable, "-c", program.format(graphs=graphs)], cwd=support.PACKAGE, capture_output=True,
+                             text=True, check=False)
+        self.assertEqual(ran.stdout.split(), ["1"] * 3 + ["2"] * 3 + ["3"] * 3, ran.stderr)
 
 
 @support.needs_networkx

@@ -17,10 +17,11 @@ use crate::shaped_plane::{ShapedPlane, SpentShapedPlane};
 use crate::spent::ReturnQueue;
 use common::DrawingKind;
 use compact::{BoxesScratch, CompactFault, compact_in, dissect_along};
-use drawing_check::{CheckFault, Drawing, check_in, has_regions_in};
+use drawing_check::{CheckFault, Drawing, check_in};
 use entries::{Answer, Cause};
 use faces::Plane;
 use ortho_rep::{Points, Shape};
+use region_laws::outside_is_outer;
 use std::alloc::{AllocError, Global};
 use std::mem;
 use std::sync::Wait;
@@ -216,7 +217,7 @@ fn shorter_drawing(
         Err((CheckFault::Memory, _)) => return Err(AllocError),
         Err(_) => return Ok(None),
     };
-    if !has_regions_in(&mut scratch.check, plane, &drawing)? {
+    if !outside_is_outer(plane, &drawing) {
         return Ok(None);
     }
     Ok(Some(drawing))

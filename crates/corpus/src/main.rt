@@ -10,8 +10,13 @@
 //! The report of each is printed, and compared with that of runs over lanes, as is the report of all files at
 //! once; the JSON lines of each are read back and tested. Both texts of all files at once, as they are made over lanes,
 //! must be those of books. An error comes behind what was printed of the files before.
+//!
+//! Two commands are for scripts of checks/. After `stress`, a seed and a number of rounds come files, of whose graphs
+//! random files are made and run over lanes that are held up at random. After `again` come files: each graph goes
+//! through the calls of each layer, and a call that finds no memory is made again.
 #![tactic(auto)]
 
+mod again;
 mod batches;
 mod figures;
 mod files;
@@ -22,7 +27,9 @@ mod run_texts;
 mod runs;
 mod shapes;
 mod short;
+mod stress;
 
+use again::ask_again;
 use anyhow::Result;
 use batches::compare_choices;
 use growing::compare_growing;
@@ -32,6 +39,7 @@ use std::env;
 use std::rt::Files;
 use std::sync::Wait;
 use std::thread::Threads;
+use stress::run_random;
 
 fn main(rt: HostRuntime) -> Result<()> {
     let words = env::args(&rt)?.skip(1).collect::<Vec<String>>(rt.alloc())?;
@@ -40,6 +48,8 @@ fn main(rt: HostRuntime) -> Result<()> {
         match word.as_str() {
             "pieces" | "short" | "growing" => task = word.as_str(),
             "batches" => return compare_choices(&rt, &words[place + 1..]),
+            "stress" => return run_random(&rt, &words[place + 1..]),
+            "again" => return ask_again(&rt, &words[place + 1..]),
             name => try_file(&rt, task, name)?,
         }
     }

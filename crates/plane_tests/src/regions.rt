@@ -9,6 +9,7 @@ use crate::known::{plane_in, same};
 use drawing_check::has_regions;
 use faces::Plane;
 use ortho_rep::Turn;
+use region_laws::outside_is_outer;
 use std::alloc::Global;
 use std::process::Abort;
 
@@ -173,6 +174,40 @@ const ROWS: [(&Drawn, &[u8], &[bool]); 10] = [
     (&STAR_DRAWN, &STAR_EXCHANGED, &[true]),
     (&PATH_DRAWN, &known::PATH, &[true]),
 ];
+
+/// Whether the outer face lies on the west of a drawing, where the outer one is this face of its own plane.
+fn outside(rt: &impl Abort, alloc: Global, drawn: &Drawn, outer: u16) -> Option<bool> {
+    let plane = plane_with(rt, alloc, drawn.figure.record, drawn.outer)?;
+    let shape = shape_in(alloc, drawn.figure)?;
+    let points = points_in(alloc, drawn.places, drawn.corners).ok()?;
+    let drawing = answer(rt, alloc, &plane, &shape, points).ok()?;
+    let other = plane_with(rt, alloc, drawn.figure.record, outer)?;
+    assert!(rt; drawing.points().vertex_count() == usize::from(other.graph().vertices()));
+    assert!(rt; drawing.points().edge_count() == usize::from(other.graph().edges()));
+    Some(outside_is_outer(&other, &drawing))
+}
+
+/// Drawings, and which face lies outside.
+const OUTSIDES: [(&Drawn, &[bool]); 6] = [
+    (&NESTED_DRAWN, &[true, false, false]),
+    (&BLOCKS_DRAWN, &[false, false, true]),
+    (&TRIANGLE_DRAWN, &[true, false]),
+    (&SQUARE_DRAWN, &[true, false]),
+    (&STAR_DRAWN, &[true]),
+    (&PATH_DRAWN, &[true]),
+];
+
+#[test]
+fn outsides_by_hand(rt: HostRuntime) {
+    for (drawn, due) in OUTSIDES {
+        for outer in 0..3u16 {
+            if let Some(is_outer) = due.get(usize::from(outer)) {
+                let found = outside(&rt, rt.alloc(), drawn, outer);
+                same(&rt, found, Some(*is_outer));
+            }
+        }
+    }
+}
 
 #[test]
 fn regions_by_hand(rt: HostRuntime) {

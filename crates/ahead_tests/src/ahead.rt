@@ -1,0 +1,244 @@
+//! How far the parts of a run are ahead of one another: lines leave while their file is read, links and the fan hold as
+//! many messages as they are made for, stages pass the gate before they hand a record on, and nothing is read behind a
+//! fault.
+ghost use Rattle.std.specs.Prelude.{false, None};
+ghost use Rattle.lanes.specs.Opening.{Silent};
+
+use crate::compared::same;
+use collector::{
+    Choice, DrawingKind, Form, Gate, IoSink, OpenFault, Opener, Stage, Style, Tap, TapFault,
+};
+use commands::{TextFault, write_batch};
+use std::alloc::Global;
+use std::io::Write;
+use std::process::Abort;
+use std::sync::Wait;
+use std::sync::atomic::{AtomicBool, AtomicU32, Ordering};
+use std::thread::Threads;
+use std::{io, thread};
+
+/// What was seen of a run: how often each stage has passed the gate, the sink had bytes, and had a full buffer of them (one
+/// that is not full leaves where no line comes for a while); whether one part waited too long for another; and whether
+/// something came too early or was done once more.
+#[derive(Drop)]
+struct Seen {
+    read: AtomicU32,
+    embed: AtomicU32,
+    shape: AtomicU32,
+    draw: AtomicU32,
+    had: AtomicU32,
+    full: AtomicU32,
+    ran_out: AtomicBool,
+    strayed: AtomicBool,
+    /// The place of the first record whose line has no room in the buffer of 16 KB in front of the sink.
+    no_room: u32,
+    /// How many records are to be drawn while the sink has its first full buffer.
+    drawn: u32,
+}
+
+impl Seen {
+    fn nothing(no_room: u32, drawn: u32) -> Seen {
+        Seen {
+            read: AtomicU32::new(0),
+            embed: AtomicU32::new(0),
+            shape: AtomicU32::new(0),
+            draw: AtomicU32::new(0),
+            had: AtomicU32::new(0),
+            full: AtomicU32::new(0),
+            ran_out: AtomicBool::new(false),
+            strayed: AtomicBool::new(false),
+            no_room,
+            drawn,
+        }
+    }
+
+    /// Waits until a part was seen so often, and notes where a million turns were too few.
+    fn wait_for(&self, part: &AtomicU32, least: u32) {
+        for _ in 0..1_000_000 {
+            if part.load(Ordering::SeqCst) >= least {
+                return;
+            }
+            thread::yield_now();
+        }
+        self.ran_out.store(true, Ordering::SeqCst);
+    }
+
+    /// Waits for a while, and notes where the next part was then seen more than so often.
+    fn hold(&self, next: &AtomicU32, most: u32) {
+        for _ in 0..20_000 {
+            thread::yield_now();
+        }
+        if next.load(Ordering::SeqCst) > most {
+            self.strayed.store(true, Ordering::SeqCst);
+        }
+    }
+
+    /// A stage passes the gate: it waits at its first record until the stage before it is so far ahead, and at the
+    /// record of this place for a while, in which the next part is not to have it.
+    fn pass_at(
+        &self,
+        ordinal: u32,
+        [own, before, next]: [&AtomicU32; 3],
+        [ahead, place, most]: [u32; 3],
+    ) {
+        own.fetch_add(1, Ordering::SeqCst);
+        if ordinal == 0 {
+            self.wait_for(before, ahead);
+        }
+        if ordinal == place {
+            self.hold(next, most);
+        }
+    }
+}
+
+impl Gate for Seen {
+    fn pass(&self, _lane: u32, stage: Stage, ordinal: u32) {
+        let (parts, numbers) = match stage {
+            Stage::Read => ([&self.read, &self.read, &self.embed], [0, 100, 100]),
+            Stage::Embed => ([&self.embed, &self.read, &self.shape], [60, 100, 100]),
+            Stage::Shape => ([&self.shape, &self.embed, &self.draw], [60, 100, 100]),
+            Stage::Draw => ([&self.draw, &self.shape, &self.full], [60, self.no_room, 0]),
+        };
+        self.pass_at(ordinal, parts, numbers);
+    }
+}
+
+/// A source of 451 edges and a fault behind them. It gives one a read, and waits in front of the last one until the sink
+/// has had bytes.
+#[derive(Drop)]
+struct Edges<'s> {
+    seen: &'s Seen,
+    reads: u32,
+}
+
+impl Edges<'_> {
+    /// What the next read gives, if there is to be one.
+    fn next(&mut self) -> Option<&'static [u8]> {
+        let read = self.reads;
+        self.reads = read.saturating_add(1);
+        if read == 451 {
+            self.seen.wait_for(&self.seen.had, 1);
+        }
+        match read {
+            0 => Some(b">>planar_code<<"),
+            1..452 => Some(b"\x02\x02\x00\x01\x00"),
+            452 => Some(b"\x00"),
+            _ => None,
+        }
+    }
+}
+
+impl Tap for Edges<'_> {
+    ghost to_come = { λ _. None };
+
+    ghost fails = { λ _. false };
+
+    fn read(&mut self, buf: &mut [u8]) -> Result<usize, TapFault> {
+        let piece = self.next().unwrap_or(b"");
+        if piece.is_empty() || buf.len() < piece.len() {
+            self.seen.strayed.store(true, Ordering::SeqCst);
+            return Err(TapFault);
+        }
+        buf[..piece.len()].copy_from_slice(piece);
+        Ok(piece.len())
+    }
+}
+
+/// Opens one such source.
+#[derive(Clone, Copy)]
+struct Files<'s> {
+    seen: &'s Seen,
+}
+
+impl<'s> Opener for Files<'s> {
+    type Source = Edges<'s>;
+
+    ghost meaning = { λ _ _. Silent };
+
+    fn open(&self, _alloc: Global, _file: u32) -> Result<Edges<'s>, OpenFault> {
+        Ok(Edges {
+            seen: self.seen,
+            reads: 0,
+        })
+    }
+}
+
+/// Takes a text. Where it has a full buffer it waits until so many records are drawn.
+#[derive(Drop)]
+struct Held<'s> {
+    seen: &'s Seen,
+    text: Vec<u8>,
+}
+
+impl Write for Held<'_> {
+    fn write(&mut self, buf: &[u8]) -> io::Result<usize> {
+        self.seen.had.fetch_add(1, Ordering::SeqCst);
+        if buf.len() > 8_192 {
+            self.seen.full.fetch_add(1, Ordering::SeqCst);
+            self.seen.wait_for(&self.seen.draw, self.seen.drawn);
+        }
+        self.text.write(buf)
+    }
+
+    fn flush(&mut self) -> io::Result<()> {
+        Ok(())
+    }
+}
+
+/// The text of the source in this form over one lane whose links have room for 64, and how the run ended.
+fn run<R: AllocGlobal + Threads + Wait + Sync>(
+    rt: &R,
+    seen: &Seen,
+    form: Form,
+) -> (Result<u8, TextFault>, Vec<u8>) {
+    let alloc = rt.alloc();
+    let text = Vec::new(alloc);
+    let mut sink = IoSink::new(Held { seen, text });
+    let (files, choice) = (Files { seen }, Choice::First);
+    let drawing_kind = DrawingKind::Quick;
+    let style = Style { form, drawing_kind };
+    let ended = write_batch(
+        rt,
+        alloc,
+        &files,
+        1,
+        1,
+        64,
+        usize::MAX,
+        choice,
+        style,
+        seen,
+        &mut sink,
+    );
+    let Held { seen: _, text } = sink.into_writer();
+    (ended, text)
+}
+
+/// The text has so many lines, ends so, and nothing came too late or too early.
+fn check<R: AllocGlobal + Threads + Wait + Sync + Abort>(
+    rt: &R,
+    seen: &Seen,
+    form: Form,
+    lines: usize,
+    ends: &[u8],
+) {
+    let (ended, text) = run(rt, seen, form);
+    let ran_out = seen.ran_out.load(Ordering::SeqCst);
+    same(rt, (ended, ran_out), (Ok(3), false));
+    same(rt, seen.strayed.load(Ordering::SeqCst), false);
+    same(rt, text.as_slice().ends_with(ends), true);
+    let found = text.as_slice().split(|byte| *byte == b'\n').count();
+    same(rt, found, lines);
+}
+
+/// The lines of the first 372 records take 15,888 bytes, so that 496 are left where a line is to have 512. While these
+/// leave, the fan has room for 64 more, and the last stage has one.
+#[test]
+fn gate_sees_lines_leave(rt: HostRuntime) {
+    let report = Seen::nothing(372, 430);
+    let ends = b"graph 451 ok n=2 m=1 f=1 bends=0 drawn=yes\nend large graphs=451\n";
+    check(&rt, &report, Form::Report, 454, ends);
+    let json = Seen::nothing(u32::MAX, 0);
+    let ends = b"\n{\"end\":\"large\",\"file\":1,\"graphs\":451}\n";
+    check(&rt, &json, Form::Json, 453, ends);
+}

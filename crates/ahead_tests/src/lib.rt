@@ -1,0 +1,11 @@
+//! Tests of how far the parts of a run are ahead of one another. Sources make their bytes while they are read.
+#![tactic(auto)]
+
+#[cfg(test)]
+mod ahead;
+#[cfg(test)]
+mod by_lane;
+#[cfg(test)]
+mod commanded;
+#[cfg(test)]
+mod compared;

@@ -1,0 +1,12 @@
+pub mod Totals
+pub mod Weights
+pub mod Ways
+pub mod Levels
+pub mod Cells
+pub mod Slots
+pub mod Units
+pub mod Distinct
+pub mod Drawn
+pub mod Passing
+pub mod ByOneDart
+pub mod WestParts

@@ -1,0 +1,152 @@
+//! The westmost upright part of a drawing: it tells whether the regions are the faces.
+
+ghost use Rattle.std.specs.Prelude.{◌≡◌, ◌*◌, ◌<◌, ◌↔◌, ◌∷◌, ◌++◌, [], length, IsTrue};
+ghost use Rattle.faces.specs.Planes.{darts, vertices, reverse_dart, face_at};
+ghost use Rattle.ortho_rep.specs.Shapes.{ShapeModel};
+ghost use Rattle.ortho_rep.specs.Representation.{IsShape};
+ghost use Rattle.ortho_rep.specs.Edges.{edge_number, is_lesser};
+ghost use Rattle.drawing_check.specs.Draws.{Draws};
+ghost use Rattle.drawing_check.specs.Regions.{HasRegions};
+ghost use Rattle.region_laws.specs.Westmost.{further_west, with_part, with_path, with_edge, westmost_below, face_on_west};
+
+use drawing_check::Drawing;
+use faces::Plane;
+use ortho_rep::{Point, Points};
+
+/// A part of an edge that goes north or south: the coordinate of its line, and the face on the west of it.
+#[derive(Clone, Copy)]
+struct Upright {
+    line: u32,
+    face: u16,
+}
+
+/// The faces on both sides of an edge, met along its lesser dart.
+#[derive(Clone, Copy)]
+struct Sides {
+    left: u16,
+    right: u16,
+}
+
+/// Whether the regions into which a drawing of a shape of this plane cuts the grid's plane are its faces.
+///
+/// So it is if the outer face lies on the west of the westmost upright part: all else follows from the shape. It takes
+/// O(s) time for s parts of edges, and allocates nothing. It may answer either way of points that draw no shape of the
+/// plane; `has_regions` of `drawing_check` asks nothing of them.
+pub fn outside_is_outer(plane: &Plane, drawing: &Drawing) -> bool
+    requires vertices { length drawing.now.vertices ≡ vertices plane.now }
+    requires corners { 2 * length drawing.now.corners ≡ darts plane.now }
+    ensures { (shape : ShapeModel) → IsShape plane.now shape → Draws plane.now shape drawing.now
+        → IsTrue result ↔ HasRegions plane.now drawing.now }
+{
+    // Only the proof needs this: `graph` says that the plane is one.
+    let _graph = plane.graph();
+    let face = westmost_face(plane, drawing.points());
+    face == plane.outer()
+}
+
+/// The face on the west of the westmost upright part, and that of dart 0 if all parts are level.
+fn westmost_face(plane: &Plane, points: &Points) -> u16
+    requires vertices { length points.now.vertices ≡ vertices plane.now }
+    requires corners { 2 * length points.now.corners ≡ darts plane.now }
+    ensures { result ≡ face_on_west (westmost_below plane.now points.now (darts plane.now)) (face_at plane.now 0) }
+{
+    // Only the proof needs this: `graph` says that there is a dart.
+    let _graph = plane.graph();
+    match westmost(plane, points) {
+        Some(part) => part.face,
+        None => plane.face_of(0),
+    }
+}
+
+/// The westmost upright part of all edges, the first one met if several lie furthest west.
+fn westmost(plane: &Plane, points: &Points) -> Option<Upright>
+    requires vertices { length points.now.vertices ≡ vertices plane.now }
+    requires corners { 2 * length points.now.corners ≡ darts plane.now }
+    ensures { result ≡ westmost_below plane.now points.now (darts plane.now) }
+{
+    let graph = plane.graph();
+    let mut west = None;
+    let mut edge = 0;
+    for dart in 0..graph.darts() {
+        let reverse = graph.reverse(dart);
+        if dart < reverse {
+            west = with_edge(west, plane, points, dart, reverse, edge);
+            edge += 1;
+        }
+    }
+    west
+}
+
+/// The westmost of a part and those of the edge with this number, whose lesser dart and its reverse are given.
+fn with_edge(
+    west: Option<Upright>,
+    plane: &Plane,
+    points: &Points,
+    dart: u16,
+    reverse: u16,
+    edge: u16,
+) -> Option<Upright>
+    requires inside { dart < darts plane.now }
+    requires lesser { IsTrue (is_lesser plane.now dart) }
+    requires reverse { reverse ≡ reverse_dart plane.now dart }
+    requires number { edge ≡ edge_number plane.now dart }
+    requires vertices { length points.now.vertices ≡ vertices plane.now }
+    requires corners { 2 * length points.now.corners ≡ darts plane.now }
+    ensures { result ≡ with_edge plane.now points.now west dart }
+{
+    let graph = plane.graph();
+    let start = points.vertex(graph.head(reverse));
+    let end = points.vertex(graph.head(dart));
+    let sides = Sides {
+        left: plane.face_of(dart),
+        right: plane.face_of(reverse),
+    };
+    with_path(west, start, points.corners(edge), end, &sides)
+}
+
+/// The westmost of a part and those from one point by the corners to another.
+fn with_path(
+    west: Option<Upright>,
+    start: Point,
+    corners: &[Point],
+    end: Point,
+    sides: &Sides,
+) -> Option<Upright>
+    ensures { result ≡ with_path sides.now.left sides.now.right west (start ∷ (corners.now ++ end ∷ [])) }
+{
+    let mut so_far = west;
+    let mut from = start;
+    for corner in corners {
+        so_far = with_part(so_far, from, *corner, sides);
+        from = *corner;
+    }
+    with_part(so_far, from, end, sides)
+}
+
+/// The westmost of a part and that from one point to another, if it is upright.
+fn with_part(west: Option<Upright>, from: Point, to: Point, sides: &Sides) -> Option<Upright>
+    ensures { result ≡ with_part sides.now.left sides.now.right west from to }
+{
+    if from.x != to.x {
+        return west;
+    }
+    let face = if from.y < to.y {
+        sides.left
+    } else {
+        sides.right
+    };
+    further_west(west, Upright { line: from.x, face })
+}
+
+/// The one further west of two parts, the first of them if both lie on one line.
+fn further_west(west: Option<Upright>, part: Upright) -> Option<Upright>
+    ensures { result ≡ further_west west part }
+{
+    let Some(first) = west else {
+        return Some(part);
+    };
+    if part.line < first.line {
+        return Some(part);
+    }
+    Some(first)
+}

@@ -1,0 +1,5 @@
+//! Tests of the lines of sources.
+#![tactic(auto)]
+
+#[cfg(test)]
+mod lines;
