@@ -23,11 +23,20 @@ struct request {
     planarbend_conditions conditions;
 };
 
+/* Where the second call puts a cut. */
+struct cut_lists {
+    uint8_t *vertices;
+    size_t vertices_room;
+    uint8_t *faces;
+    size_t faces_room;
+    uint32_t outer_face;
+};
+
 /* The proved calls. A list of room 0 is left out; no pointer is null. */
 uint32_t planarbend_c_layout(const uint8_t *record, size_t size, uint32_t outer, uint32_t drawing,
                              planarbend_counts *counts, planarbend_lists *lists);
 uint32_t planarbend_c_layout_keeping(const uint8_t *record, size_t size, const struct request *request,
-                                     planarbend_counts *counts, planarbend_lists *lists);
+                                     planarbend_counts *counts, planarbend_lists *lists, struct cut_lists *cut);
 
 /* ---- memory that is kept */
 
@@ -188,9 +197,25 @@ static bool without_null(const planarbend_dart **darts, size_t count) {
     return *darts != NULL;
 }
 
+/* The call with conditions, and its cut where one is wanted. */
+static uint32_t called_keeping(const uint8_t *record, size_t size, const struct request *request, planarbend_counts *counts,
+                               planarbend_lists *lists, planarbend_cut *cut) {
+    uint8_t nothing = 0;
+    struct cut_lists found = {&nothing, 0, &nothing, 0, 0};
+    if (cut == NULL) return planarbend_c_layout_keeping(record, size, request, counts, lists, &found);
+    found.vertices = cut->vertices;
+    found.vertices_room = sizeof cut->vertices;
+    found.faces = cut->faces;
+    found.faces_room = sizeof cut->faces;
+    uint32_t result = planarbend_c_layout_keeping(record, size, request, counts, lists, &found);
+    if (result == PLANARBEND_NO_SHAPE) cut->outer_face = found.outer_face;
+    return result;
+}
+
 /* Both calls: `request` is null where there are no conditions. */
 static int called(planarbend *object, const uint8_t *record, size_t size, int outer, int drawing,
-                  const struct request *request, planarbend_counts *counts, const planarbend_lists *lists) {
+                  const struct request *request, planarbend_counts *counts, const planarbend_lists *lists,
+                  planarbend_cut *cut) {
     static const uint8_t nothing = 0;
     planarbend_counts unwanted;
     planarbend_lists own;
@@ -202,24 +227,24 @@ static int called(planarbend *object, const uint8_t *record, size_t size, int ou
     lend(object);
     uint32_t result = request == NULL
         ? planarbend_c_layout(record, size, (uint32_t)outer, (uint32_t)drawing, counts, &own)
-        : planarbend_c_layout_keeping(record, size, request, counts, &own);
+        : called_keeping(record, size, request, counts, &own, cut);
     take_back(object);
     return (int)result;
 }
 
 int planarbend_layout(planarbend *object, const uint8_t *record, size_t size, int outer, int drawing,
                       planarbend_counts *counts, const planarbend_lists *lists) {
-    return called(object, record, size, outer, drawing, NULL, counts, lists);
+    return called(object, record, size, outer, drawing, NULL, counts, lists, NULL);
 }
 
 int planarbend_layout_keeping(planarbend *object, const uint8_t *record, size_t size, int outer, int drawing,
                               const planarbend_conditions *conditions, planarbend_counts *counts,
-                              const planarbend_lists *lists) {
-    if (conditions == NULL) return called(object, record, size, outer, drawing, NULL, counts, lists);
+                              const planarbend_lists *lists, planarbend_cut *cut) {
+    if (conditions == NULL) return called(object, record, size, outer, drawing, NULL, counts, lists, cut);
     struct request request = {(uint32_t)outer, (uint32_t)drawing, *conditions};
     if (!without_null(&request.conditions.straight, request.conditions.straight_count)
         || !without_null(&request.conditions.inner, request.conditions.inner_count)) return PLANARBEND_ARGUMENT;
-    return called(object, record, size, outer, drawing, &request, counts, lists);
+    return called(object, record, size, outer, drawing, &request, counts, lists, cut);
 }
 
 planarbend_lists planarbend_lists_of(planarbend_buffer *buffer) {

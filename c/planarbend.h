@@ -54,7 +54,7 @@ enum {
     /* No such outer face or drawing, or a null pointer where none may be. */
     PLANARBEND_ARGUMENT = 12,
     /* The next four come of conditions alone. With the outer face asked for (PLANARBEND_OUTER_BEST: with any that may be
-       outside) no shape keeps these edges straight. */
+       outside) no shape keeps these edges straight. The cut is written. */
     PLANARBEND_NO_SHAPE = 13,
     /* Two vertices that name an edge or a face are no neighbours. */
     PLANARBEND_NO_EDGE = 14,
@@ -158,6 +158,21 @@ typedef struct planarbend_buffer {
 planarbend_lists planarbend_lists_of(planarbend_buffer *buffer);
 
 /*
+ * Why no shape keeps the edges straight: vertices and faces that turn more than can leave them. Each item is 1 for one of
+ * them, and else 0, also past the last vertex or face. Vertex v has item v - 1, face f item f.
+ *
+ * With a vertex each of its faces is one of them, since a right angle can go to each; with a face each face across an edge
+ * that may bend. A vertex and an inner face have to turn 4 less their degree, the outer face -4 less its degree (a face's
+ * degree: how many darts it has), and those of all of them are more than 0 together. So is it with `outer_face` as the outer
+ * one: of the faces that may be outside the one with the most darts, of several the one with the least number.
+ */
+typedef struct planarbend_cut {
+    uint8_t vertices[PLANARBEND_MAX_VERTICES];
+    uint8_t faces[PLANARBEND_MAX_FACES];
+    uint32_t outer_face;
+} planarbend_cut;
+
+/*
  * Memory that is kept from call to call, at most 1 MB. A call with it asks the system for none where an earlier one with
  * it was for a graph of at least this size in every respect.
  */
@@ -184,10 +199,11 @@ int planarbend_layout(planarbend *object, const uint8_t *record, size_t size, in
  * The same with conditions: the outer face is chosen among those that may be outside, and the shape has the fewest bends
  * of all that keep the edges straight, as the prices prove; prices say nothing of crossing such an edge. There may be more
  * than PLANARBEND_MAX_BENDS bends. A short drawing is made of the shape as it is. `conditions` may be null: there are none.
+ * `cut` is written where PLANARBEND_NO_SHAPE comes, and else left as it was; it may be null where it is not wanted.
  */
 int planarbend_layout_keeping(planarbend *object, const uint8_t *record, size_t size, int outer, int drawing,
                               const planarbend_conditions *conditions, planarbend_counts *counts,
-                              const planarbend_lists *lists);
+                              const planarbend_lists *lists, planarbend_cut *cut);
 
 /*
  * The word of a result: "ok", the word of a rule as reports have it ("range" to "genus"), "record", "memory", "room",

@@ -1,7 +1,9 @@
 // For each graph of a planar_code file and random conditions: whether libplanarbend and LEMON's network simplex find as few
 // bends, or both none. Arguments: the file, how many conditions for each graph, and a seed. It looks at each drawing too:
-// edges that are to stay straight have no corners, and the outer face is none that is to stay inside. Prints counts; the
-// first disagreement ends it by status 1.
+// edges that are to stay straight have no corners, and the outer face is none that is to stay inside. Where there is no
+// shape, it prints a line: the word "cut", the record in hexadecimal, the numbers of the straight darts and of the faces to
+// stay inside, the outer face, and the vertices and faces of the library's cut, each list with commas ("-": empty). At last
+// counts; the first disagreement ends it by status 1.
 #include "planar.hpp"
 #include "planarbend.h"
 #include <cstdlib>
@@ -67,6 +69,23 @@ static Case random_case(const Graph &graph, std::mt19937 &random) {
   return made;
 }
 
+// The places that hold something, from a number on, with commas.
+template <typename List> static std::string places_of(const List &list, int first) {
+  std::string text;
+  for (size_t k = 0; k < list.size(); ++k)
+    if (list[k]) text += (text.empty() ? "" : ",") + std::to_string(first + static_cast<int>(k));
+  return text.empty() ? "-" : text;
+}
+
+static void print_cut(const std::string &record, const Case &asked, const planarbend_cut &cut) {
+  std::printf("cut ");
+  for (const unsigned char byte : record) std::printf("%02x", byte);
+  const std::vector<uint8_t> vertices(cut.vertices, cut.vertices + PLANARBEND_MAX_VERTICES);
+  const std::vector<uint8_t> faces(cut.faces, cut.faces + PLANARBEND_MAX_FACES);
+  std::printf(" %s %s %u %s %s\n", places_of(asked.straight, 0).c_str(), places_of(asked.barred, 0).c_str(), cut.outer_face,
+              places_of(vertices, 1).c_str(), places_of(faces, 0).c_str());
+}
+
 // Whether the library answers so, and its drawing keeps the conditions.
 static bool is_answered(planarbend *object, const Graph &graph, const std::string &record, const Case &asked, int drawing) {
   std::vector<planarbend_dart> straight, inner;
@@ -80,10 +99,13 @@ static bool is_answered(planarbend *object, const Graph &graph, const std::strin
   static planarbend_buffer buffer;
   const planarbend_lists lists = planarbend_lists_of(&buffer);
   planarbend_counts counts;
+  planarbend_cut cut;
   const int result =
       planarbend_layout_keeping(object, reinterpret_cast<const uint8_t *>(record.data()), record.size(),
-                                asked.best ? PLANARBEND_OUTER_BEST : PLANARBEND_OUTER_FIRST, drawing, &conditions, &counts, &lists);
+                                asked.best ? PLANARBEND_OUTER_BEST : PLANARBEND_OUTER_FIRST, drawing, &conditions, &counts, &lists,
+                                &cut);
   if (result != asked.result) return false;
+  if (result == PLANARBEND_NO_SHAPE) print_cut(record, asked, cut);
   if (result != PLANARBEND_OK) return true;
   if (counts.bends != asked.bends || static_cast<int>(counts.outer_face) != asked.outer) return false;
   int edge = 0;

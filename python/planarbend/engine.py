@@ -48,6 +48,30 @@ class Conditions:
     inner: Sequence[tuple[int, int]] = ()
 
 
+@dataclass(frozen=True, slots=True)
+class Cut:
+    """Why no shape keeps edges straight: vertices and faces that turn more than can leave them.
+
+    Attributes
+    ----------
+    vertices : tuple of int
+        Counted from 1.
+    faces : tuple of int
+        Counted from 0, in the order of their least darts.
+    outer : int
+        The outer face with which it is so.
+    """
+
+    vertices: tuple[int, ...]
+    faces: tuple[int, ...]
+    outer: int
+
+    def __str__(self) -> str:
+        named = [f"{what} {', '.join(map(str, numbers))}"
+                 for what, numbers in (("vertices", self.vertices), ("faces", self.faces)) if numbers]
+        return f"{' and '.join(named)} turn more than can leave them"
+
+
 class NotKept(PlanarbendError):
     """No layout keeps the conditions.
 
@@ -56,11 +80,15 @@ class NotKept(PlanarbendError):
     word : str
         "noshape" (no shape does), "noedge" (two vertices are no neighbours), "noouter" (all faces are to be inner) or
         "wide" (the drawing does not fit the grid).
+    cut : Cut or None
+        With "noshape" why.
     """
 
-    def __init__(self, word: str) -> None:
-        super().__init__(f"planarbend has no layout that keeps the conditions: {word}")
+    def __init__(self, word: str, cut: Cut | None = None) -> None:
+        why = f" ({cut})" if cut else ""
+        super().__init__(f"planarbend has no layout that keeps the conditions: {word}{why}")
         self.word = word
+        self.cut = cut
 
 
 class Engine(Protocol):

@@ -13,7 +13,7 @@ import os
 from collections.abc import Iterable, Iterator, Sequence
 from typing import TYPE_CHECKING, Any
 
-from planarbend.engine import Answer, Conditions, NotKept
+from planarbend.engine import Answer, Conditions, Cut, NotKept
 from planarbend.planar_code import Lists, record_of
 from planarbend.programs import ROOT, NoProgram, PlanarbendError
 
@@ -60,6 +60,18 @@ class Kept(ctypes.Structure):
 
     _fields_ = [("straight", ctypes.c_char_p), ("straight_count", ctypes.c_size_t),
                 ("inner", ctypes.c_char_p), ("inner_count", ctypes.c_size_t)]
+
+
+class Marks(ctypes.Structure):
+    """`planarbend_cut` of planarbend.h."""
+
+    _fields_ = [("vertices", ctypes.c_uint8 * MOST_VERTICES), ("faces", ctypes.c_uint8 * MOST_FACES),
+                ("outer_face", ctypes.c_uint32)]
+
+    def cut(self) -> Cut:
+        """The vertices and faces that are marked."""
+        vertices = tuple(vertex for vertex, mark in enumerate(self.vertices, 1) if mark)
+        return Cut(vertices, tuple(face for face, mark in enumerate(self.faces) if mark), self.outer_face)
 
 
 Darts = Iterable[tuple[int, int]]
@@ -119,8 +131,8 @@ class Library:
         self._keeping = getattr(self._library, "planarbend_layout_keeping", None)
         self.keeps = self._keeping is not None  # an older library has no such call
         if self._keeping is not None:
-            self._keeping.argtypes = [*self._layout.argtypes[:5], ctypes.c_void_p, *self._layout.argtypes[5:]]
-        self._counts, self._buffer = Counts(), Buffer()
+            self._keeping.argtypes = [*self._layout.argtypes[:5], ctypes.c_void_p, *self._layout.argtypes[5:], ctypes.c_void_p]
+        self._counts, self._buffer, self._marks = Counts(), Buffer(), Marks()
         self._lists = self._library.planarbend_lists_of(ctypes.byref(self._buffer))
         self._addresses = ctypes.addressof(self._counts), ctypes.addressof(self._lists)
         if self._library.planarbend_new(ctypes.byref(self._object)):
@@ -183,7 +195,7 @@ class Library:
         if self._keeping is None:
             raise PlanarbendError("this libplanarbend keeps no conditions: it is older than the package")
         conditions = Kept(kept[0], len(kept[0]) // 2, kept[1], len(kept[1]) // 2)
-        return int(self._keeping(*given, ctypes.addressof(conditions), *self._addresses))
+        return int(self._keeping(*given, ctypes.addressof(conditions), *self._addresses, ctypes.addressof(self._marks)))
 
     def line(self, record: bytes, outer: str = "first", drawing: str = "short", straight: Darts = (),
              inner: Darts = ()) -> dict[str, Any]:
@@ -199,7 +211,7 @@ class Library:
             The drawing. With "none", "points" is None and "drawn" is "no".
         straight, inner : iterables of (u, v), optional
             See `planarbend.engine.Conditions`. Where they cannot be kept, "status" is "noshape", "noedge", "noouter" or
-            "wide", and there is nothing else.
+            "wide", and there is nothing else but, with "noshape", "cut" (see `planarbend.engine.Cut`).
 
         Raises
         ------
@@ -207,7 +219,9 @@ class Library:
             The bytes are not one record.
         """
         result = self._called(record, outer, drawing, straight, inner)
-        if result == MEMORY or NO_SHAPE <= result <= WIDE:
+        if result == NO_SHAPE:
+            return {"cut": self._marks.cut(), "status": self.word(result)}
+        if result == MEMORY or NO_SHAPE < result <= WIDE:
             return {"status": self.word(result)}
         if result != OK:
             self._look_at(result)
@@ -240,7 +254,7 @@ class Library:
         """
         result = self._called(record, outer, "short", straight, inner)
         if NO_SHAPE <= result <= WIDE:
-            raise NotKept(self.word(result))
+            raise NotKept(self.word(result), self._marks.cut() if result == NO_SHAPE else None)
         if result != OK:
             raise PlanarbendError(f"planarbend does not draw a graph: {self.word(result)}")
         counts, buffer = self._counts, self._buffer

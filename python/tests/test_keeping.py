@@ -10,12 +10,12 @@ from drawing_checker import check
 from planarbend import library
 from planarbend.choose import Search
 from planarbend.draw import DrawError, Options, draw
-from planarbend.engine import Answer, Conditions, NotKept, ProcessEngine, keeps_conditions
+from planarbend.engine import Answer, Conditions, Cut, NotKept, ProcessEngine, keeps_conditions
 from planarbend.expand import expand
 from planarbend.graph import Edge, Graph, Vertex
 from planarbend.keeping import conditions_of
 from planarbend.numbering import contracted, numbered, outer_forms
-from planarbend.planar_code import Lists, Plane
+from planarbend.planar_code import Lists, Plane, record_of
 from planarbend.planarize import planarize
 
 HUBS = [(hub, leaf) for hub in (0, 1) for leaf in range(2, 9)]  # two vertices of degree 7
@@ -137,6 +137,19 @@ class Kept(unittest.TestCase):
     def test_a_triangle_of_points_cannot_be_straight(self) -> None:
         with self.assertRaisesRegex(DrawError, "straight: 0--1, 1--2, 2--0"):
             draw(graph_of(3, [(0, 1), (1, 2), (2, 0)]), Options(straight=(0, 1, 2)), keeper())
+
+    def test_what_cannot_be_kept_is_named(self) -> None:
+        """The inside of a triangle has three corners, which turn three times at most, and no edge may bend."""
+        triangle = [[2, 3], [3, 1], [1, 2]]
+        straight = Conditions(straight=[(1, 2), (3, 2), (1, 3)])
+        with self.assertRaisesRegex(NotKept, r"noshape \(faces 1 turn more than can leave them\)") as raised:
+            keeper().lay_keeping(triangle, "first", straight)
+        self.assertEqual(raised.exception.cut, Cut((), (1,), 0))
+        line = keeper().library.line(record_of(triangle), straight=straight.straight)
+        self.assertEqual(line, {"cut": Cut((), (1,), 0), "status": "noshape"})
+        with self.assertRaises(NotKept) as raised:
+            keeper().lay_keeping(triangle, "first", Conditions(straight=[(1, 4)]))
+        self.assertIsNone(raised.exception.cut)
 
 
 if __name__ == "__main__":

@@ -23,7 +23,7 @@ pub struct KeptPlane {
 }
 
 /// Why a record has no shape that keeps conditions.
-#[derive(Clone, Copy, Debug, PartialEq, Eq)]
+#[derive(Debug, Drop)]
 pub enum KeptFault {
     /// It has no plane.
     Record(ShapeFault),

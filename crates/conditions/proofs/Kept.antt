@@ -1,9 +1,15 @@
 -- What is asked of a plane is asked of it with another outer face.
-use Rattle.std.proofs.Common.{◌≡◌, ℕ, Bool, List, Result, Ok, Err, OnOk, subst, sym}
+use Rattle.std.proofs.Common.{◌≡◌, ◌∙◌, ℕ, Bool, List, Result, Ok, Err, OnOk, ap, subst, sym}
+use Rattle.common.specs.declared.choice.Choice.{Choice}
 use Rattle.faces.specs.Planes.{PlaneModel, with_outer}
 use Rattle.conditions.specs.declared.conditions.Conditions.{Conditions}
 use Rattle.conditions.specs.declared.conditions.DartEnds.{DartEnds}
+use Rattle.conditions.specs.declared.fault.KeepFault.{KeepFault}
+use Rattle.conditions.specs.declared.fault.KeepFault.TheVariants.{NoEdge, NoOuter, NoShape, Memory}
+use Rattle.ortho_rep.specs.Keeping.{HasNoneKeeping}
+use Rattle.cuts.specs.Cut.{ShowsNone}
 use Rattle.conditions.specs.Asked.{IsAsked, IsDart}
+use Rattle.conditions.specs.Chosen.{IsGreatestOpen, HasNoChosen, IsToldOf, IsKeepFault}
 
 dart_moved : (p : PlaneModel) (o : ℕ) (ends : DartEnds) → IsDart p ends → IsDart (with_outer p o) ends
 dart_moved p o ends is = record { dart = is.dart; inside = is.inside; joins = is.joins }
@@ -22,3 +28,28 @@ asked_moved p q conditions marks barred is asked =
 pub whenever : {A E : Type 0} (found : Result A E) (P : Type 0) → P → OnOk found P
 whenever (Ok x) P is = is
 whenever (Err e) P is = tt
+
+-- what is told of the plane with the greatest face as the outer one shows why no shape keeps the conditions
+pub fault_told : (p q : PlaneModel) (conditions : Conditions) (choice : Choice) (marks barred : List Bool) (greatest : ℕ) (fault : KeepFault) → q ≡ with_outer p q.outer → IsAsked p conditions marks barred → IsGreatestOpen p barred greatest → HasNoChosen choice p marks barred → IsToldOf q marks greatest fault → IsKeepFault conditions choice p fault
+fault_told p q conditions choice marks barred greatest (NoShape why) moved asked is none told =
+    let vs : List Bool = why.cut.vertices.items in
+    let fs : List Bool = why.cut.faces.items in
+    let shown : ShowsNone (with_outer p greatest) marks vs fs = subst (λ (m : PlaneModel). ShowsNone (with_outer m greatest) marks vs fs) moved told.1 in
+    record {
+      marks = marks;
+      barred = barred;
+      asked = asked;
+      none = none;
+      greatest = subst (λ (o : ℕ). IsGreatestOpen p barred o) (sym told.0) is;
+      shown = subst (λ (o : ℕ). ShowsNone (with_outer p o) marks vs fs) (sym told.0) shown;
+    }
+fault_told p q conditions choice marks barred greatest Memory moved asked is none told = tt
+fault_told p q conditions choice marks barred greatest NoEdge moved asked is none told = absurd told
+fault_told p q conditions choice marks barred greatest NoOuter moved asked is none told = absurd told
+
+-- whichever face was the outer one, with this one as the outer face it is the same plane
+pub outer_anew : (p q r : PlaneModel) → q ≡ with_outer p q.outer → r ≡ with_outer q r.outer → r ≡ with_outer p r.outer
+outer_anew p q r one two = two ∙ ap (λ (m : PlaneModel). with_outer m r.outer) one
+
+pub none_anew : (p q : PlaneModel) (marks : List Bool) (o : ℕ) → q ≡ with_outer p q.outer → HasNoneKeeping (with_outer p o) marks → HasNoneKeeping (with_outer q o) marks
+none_anew p q marks o moved none = subst (λ (m : PlaneModel). HasNoneKeeping (with_outer m o) marks) (sym moved) none

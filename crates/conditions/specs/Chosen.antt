@@ -10,6 +10,8 @@ use Rattle.ortho_rep.specs.Keeping.{IsLeastKeeping, HasNoneKeeping}
 use Rattle.ortho_rep.specs.Prices.{PricesModel, IsProofKeeping}
 use Rattle.ortho_rep.specs.BestKeeping.{IsOpen, IsBestKeeping, HasNoFace}
 use Rattle.conditions.specs.declared.conditions.Conditions.{Conditions}
+use Rattle.cuts.specs.Cut.{ShowsNone}
+use Rattle.conditions.specs.declared.fault.Unkept.{Unkept}
 use Rattle.conditions.specs.declared.fault.KeepFault.{KeepFault}
 use Rattle.conditions.specs.declared.fault.KeepFault.TheVariants.{NoEdge, NoOuter, NoShape, Memory}
 use Rattle.conditions.specs.Asked.{IsAsked, IsDart, IsLeftOf}
@@ -59,11 +61,21 @@ pub record IsKept (conditions : Conditions) (choice : Choice) (p : PlaneModel) (
   pub proof : IsProofKeeping p marks shape prices
 
 -- all pairs are darts, and no shape with a chosen outer face keeps the edges straight
-pub record HasNoKept (conditions : Conditions) (choice : Choice) (p : PlaneModel) : Type 0 where
+pub record HasNoKept (conditions : Conditions) (choice : Choice) (p : PlaneModel) (why : Unkept) : Type 0 where
   pub marks : List Bool
   pub barred : List Bool
   pub asked : IsAsked p conditions marks barred
   pub none : HasNoChosen choice p marks barred
+  -- the cut shows it of the greatest of the faces that may be outside
+  pub greatest : IsGreatestOpen p barred why.outer
+  pub shown : ShowsNone (with_outer p why.outer) marks why.cut.vertices.items why.cut.faces.items
+
+-- the fault is the cut of the plane with this outer face, or memory ran out
+abbrev pub IsToldOf : PlaneModel → List Bool → ℕ → KeepFault → Type 0
+IsToldOf p marks face (NoShape why) = (why.outer ≡ face) × ShowsNone (with_outer p face) marks why.cut.vertices.items why.cut.faces.items
+IsToldOf p marks face Memory = ⊤
+IsToldOf p marks face NoEdge = ⊥
+IsToldOf p marks face NoOuter = ⊥
 
 -- some pair is not the ends of a dart
 abbrev pub LacksDart : PlaneModel → Conditions → Type 0
@@ -74,6 +86,6 @@ abbrev pub IsKeepFault : Conditions → Choice → PlaneModel → KeepFault → 
 IsKeepFault conditions choice p NoEdge = LacksDart p conditions
 -- each face is to stay inside
 IsKeepFault conditions choice p NoOuter = (f : ℕ) → f < p.faces → IsLeftOf p conditions.inner.now f
-IsKeepFault conditions choice p NoShape = HasNoKept conditions choice p
+IsKeepFault conditions choice p (NoShape why) = HasNoKept conditions choice p why
 -- nothing is said
 IsKeepFault conditions choice p Memory = ⊤

@@ -8,12 +8,13 @@ ghost use Rattle.ortho_rep.specs.Prices.{IsProofKeeping};
 ghost use Rattle.ortho_rep.specs.BestKeeping.{IsOpen};
 ghost use Rattle.common.specs.declared.choice.Choice.{Choice};
 ghost use Rattle.conditions.specs.Asked.{IsAsked};
-ghost use Rattle.conditions.specs.Chosen.{IsGreatestSoFar, IsGreatestOpen, IsChosenKeeping, HasNoChosen, IsKept, IsKeepFault};
+ghost use Rattle.conditions.specs.Chosen.{IsGreatestSoFar, IsGreatestOpen, IsChosenKeeping, HasNoChosen, IsKept, IsKeepFault, IsToldOf};
 
 use crate::conditions::Conditions;
-use crate::fault::KeepFault;
+use crate::fault::{KeepFault, Unkept};
 use crate::marks::{are_darts, barred_of, marks_of};
 use common::Choice;
+use cuts::cut_keeping;
 use faces::Plane;
 use flow_network::has_mark;
 use ortho_rep::{Prices, Scratch, Shape, ShapeFault, best_shape_keeping, least_shape_keeping_in};
@@ -28,8 +29,9 @@ use std::alloc::{AllocError, Global};
 /// # Errors
 ///
 /// `NoEdge` exactly if two vertices that are named are no neighbours, otherwise `NoOuter` exactly if no face may be
-/// outside, otherwise `NoShape` exactly if no shape with a chosen face keeps the edges straight, memory aside; `Memory` if
-/// memory runs out. The outer face may then be another one.
+/// outside, otherwise `NoShape` exactly if no shape with a chosen face keeps the edges straight, memory aside, with vertices
+/// and faces that show it of the face with the most darts; `Memory` if memory runs out. The outer face may then be another
+/// one.
 pub fn shape_keeping_in(
     alloc: Global,
     scratch: &mut Scratch,
@@ -47,8 +49,26 @@ pub fn shape_keeping_in(
     };
     match chosen_shape(alloc, scratch, plane, choice, &meant) {
         Ok(solution) => Ok(solution),
-        Err(ShapeFault::NoShape) => Err(KeepFault::NoShape),
+        Err(ShapeFault::NoShape) => Err(unkept(alloc, plane, &meant)),
         Err(ShapeFault::Memory) => Err(KeepFault::Memory),
+    }
+}
+
+/// Why no shape keeps the edges straight, told of the greatest face that may be outside.
+fn unkept(alloc: Global, plane: &mut Plane, meant: &Meaning) -> KeepFault
+    requires face { meant.now.greatest < plane.old.faces }
+    requires none { HasNoneKeeping (with_outer plane.old meant.now.greatest) meant.now.marks.items }
+    ensures outer_moved { plane.new ≡ with_outer plane.old plane.new.outer }
+    ensures shown { IsToldOf plane.old meant.now.marks.items meant.now.greatest result }
+{
+    plane.set_outer(meant.greatest);
+    match cut_keeping(alloc, plane, &meant.marks) {
+        Ok(Some(cut)) => KeepFault::NoShape(Unkept {
+            outer: meant.greatest,
+            cut,
+        }),
+        Ok(None) => unreachable!(),
+        Err(AllocError) => KeepFault::Memory,
     }
 }
 
@@ -104,6 +124,8 @@ fn chosen_shape(
     ensures proof { IfOk result (λ found. IsProofKeeping plane.new meant.now.marks.items found.0 found.1) }
     ensures none { IfErr result (λ fault. fault ≡ ShapeFault.NoShape
         → HasNoChosen choice plane.old meant.now.marks.items meant.now.barred.items) }
+    ensures none_there { IfErr result (λ fault. fault ≡ ShapeFault.NoShape
+        → HasNoneKeeping (with_outer plane.old meant.now.greatest) meant.now.marks.items) }
 {
     match choice {
         Choice::First => first_shape(alloc, scratch, plane, &meant.marks, meant.greatest),

@@ -1,9 +1,10 @@
 //! Why no shape keeps the conditions.
 
+use cuts::Cut;
 use thiserror::Error;
 
 /// The reason why there is no shape that keeps the conditions.
-#[derive(Clone, Copy, Debug, PartialEq, Eq, Error)]
+#[derive(Debug, Drop, Error)]
 pub enum KeepFault {
     /// Two vertices that name an edge or a face are no neighbours.
     #[error("two vertices are no neighbours")]
@@ -13,8 +14,18 @@ pub enum KeepFault {
     NoOuter,
     /// No shape with a chosen outer face keeps these edges straight.
     #[error("no shape keeps these edges straight")]
-    NoShape,
+    NoShape(Unkept),
     /// An allocation was refused.
     #[error("out of memory")]
     Memory,
+}
+
+/// Why no shape keeps edges straight: with one of the faces that may be outside, these vertices and faces turn more than can
+/// leave them.
+#[derive(Debug, Drop)]
+pub struct Unkept {
+    /// That face: the one with the most darts, among equals the one with the least number.
+    pub outer: u16,
+    /// The vertices and faces.
+    pub cut: Cut,
 }

@@ -8,4 +8,4 @@ mod marks;
 
 pub use chosen::shape_keeping_in;
 pub use conditions::{Conditions, DartEnds};
-pub use fault::KeepFault;
+pub use fault::{KeepFault, Unkept};

@@ -11,11 +11,12 @@ use Rattle.planarbend_c.specs.declared.keeping.KeepingFault.TheVariants as keepi
 use Rattle.planarbend_c.specs.declared.layout.Fault.{Fault}
 use Rattle.planarbend_c.specs.declared.layout.Fault.TheVariants as fault
 use Rattle.planarbend_c.specs.declared.request.Request.{Request}
+use Rattle.planarbend_c.specs.Cuts.{CutModel}
 use Rattle.planarbend_c.specs.Faults.{IsFault, IsKeepingFault}
 use Rattle.planarbend_c.specs.Requests.{choice_in, drawing_in}
 use Rattle.planarbend_c.specs.Held.{ListsModel}
 use Rattle.planarbend_c.specs.Found.{Finding}
-use Rattle.planarbend_c.specs.Outcomes.{IsAnswerOf, IsOutcome, IsOutcomeKeeping, IsOutcomeOf, IsTold, outcome_of, refusal_of}
+use Rattle.planarbend_c.specs.Outcomes.{IsAnswerOf, IsOutcome, IsOutcomeKeeping, IsOutcomeOf, IsCutTold, IsTold, outcome_of, refusal_of}
 
 -- what is found is an answer
 pub answer_of : (Is : Choice → List ℕ → Finding → Type 0) (bytes : List ℕ) (outer drawing : ℕ) (choice : Choice) (kind : Option DrawingKind) (found : Finding)
@@ -34,7 +35,7 @@ answer_of Is bytes outer drawing choice kind found choice_asked kind_asked is_re
     }
 
 -- what is told of an answer is what comes of the call
-pub told : (Is : Choice → List ℕ → Finding → Type 0) (Unkept : KeepingFault → Type 0) (bytes : List ℕ) (outer drawing : ℕ) (found : Finding) (counts : Counts) (lists : ListsModel) (outcome : Outcome)
+pub told : (Is : Choice → List ℕ → Finding → Type 0) (Unkept : Outcome → Type 0) (bytes : List ℕ) (outer drawing : ℕ) (found : Finding) (counts : Counts) (lists : ListsModel) (outcome : Outcome)
     → IsAnswerOf Is bytes outer drawing found → IsTold found counts lists outcome → IsOutcomeOf Is Unkept bytes outer drawing counts lists outcome
 told Is Unkept bytes outer drawing found counts lists Laid answer is =
     record { found = found; answer = answer; counted = is.0; held = is.1 }
@@ -57,13 +58,13 @@ refused_told bytes outer drawing counts lists fault.NotARecord shown = shown
 refused_told bytes outer drawing counts lists fault.Memory shown = tt
 
 -- the same where conditions are to be kept
-pub unlaid_told : (request : Request) (choice : Choice) (bytes : List ℕ) (counts : Counts) (lists : ListsModel) (it : KeepingFault)
-    → choice_in request.outer ≡ Some choice → IsKeepingFault request.conditions choice bytes it
-    → IsOutcomeKeeping request bytes counts lists (outcome_of it)
-unlaid_told request choice bytes counts lists (keeping.Record (fault.Rule rule)) asked shown = shown
-unlaid_told request choice bytes counts lists (keeping.Record fault.NotARecord) asked shown = shown
-unlaid_told request choice bytes counts lists (keeping.Record fault.Memory) asked shown = tt
-unlaid_told request choice bytes counts lists keeping.NoShape asked shown = record { choice = choice; choice_asked = asked; shown = shown }
-unlaid_told request choice bytes counts lists keeping.NoEdge asked shown = record { choice = choice; choice_asked = asked; shown = shown }
-unlaid_told request choice bytes counts lists keeping.NoOuter asked shown = record { choice = choice; choice_asked = asked; shown = shown }
-unlaid_told request choice bytes counts lists keeping.Wide asked shown = record { choice = choice; choice_asked = asked; shown = shown }
+pub unlaid_told : (request : Request) (choice : Choice) (bytes : List ℕ) (counts : Counts) (lists : ListsModel) (cut : CutModel) (it : KeepingFault)
+    → choice_in request.outer ≡ Some choice → IsKeepingFault request.conditions choice bytes it → IsCutTold it cut
+    → IsOutcomeKeeping request bytes counts lists cut (outcome_of it)
+unlaid_told request choice bytes counts lists cut (keeping.Record (fault.Rule rule)) asked shown told = shown
+unlaid_told request choice bytes counts lists cut (keeping.Record fault.NotARecord) asked shown told = shown
+unlaid_told request choice bytes counts lists cut (keeping.Record fault.Memory) asked shown told = tt
+unlaid_told request choice bytes counts lists cut (keeping.NoShape why) asked shown told = record { why = why; unlaid = record { choice = choice; choice_asked = asked; shown = shown }; held = told }
+unlaid_told request choice bytes counts lists cut keeping.NoEdge asked shown told = record { choice = choice; choice_asked = asked; shown = shown }
+unlaid_told request choice bytes counts lists cut keeping.NoOuter asked shown told = record { choice = choice; choice_asked = asked; shown = shown }
+unlaid_told request choice bytes counts lists cut keeping.Wide asked shown told = record { choice = choice; choice_asked = asked; shown = shown }

@@ -36,7 +36,7 @@ pub record IsTooWide (conditions : Conditions) (choice : Choice) (bytes : List �
 -- the same where conditions are to be kept
 abbrev pub IsKeepingFault : Conditions → Choice → List ℕ → KeepingFault → Type 0
 IsKeepingFault conditions choice bytes (keeping.Record fault) = IsFault bytes fault
-IsKeepingFault conditions choice bytes keeping.NoShape = IsRecord bytes × IsUnkept conditions choice bytes keep.NoShape
+IsKeepingFault conditions choice bytes (keeping.NoShape why) = IsRecord bytes × IsUnkept conditions choice bytes (keep.NoShape why)
 IsKeepingFault conditions choice bytes keeping.NoEdge = IsRecord bytes × IsUnkept conditions choice bytes keep.NoEdge
 IsKeepingFault conditions choice bytes keeping.NoOuter = IsRecord bytes × IsUnkept conditions choice bytes keep.NoOuter
 IsKeepingFault conditions choice bytes keeping.Wide = IsRecord bytes × IsTooWide conditions choice bytes

@@ -2,5 +2,6 @@ pub mod Codes
 pub mod Requests
 pub mod Held
 pub mod Found
+pub mod Cuts
 pub mod Faults
 pub mod Outcomes

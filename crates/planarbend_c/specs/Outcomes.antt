@@ -10,6 +10,8 @@ use Rattle.planarbend_c.specs.declared.keeping.KeepingFault.{KeepingFault}
 use Rattle.planarbend_c.specs.declared.keeping.KeepingFault.TheVariants as keeping
 use Rattle.planarbend_c.specs.declared.layout.Fault.{Fault}
 use Rattle.planarbend_c.specs.declared.layout.Fault.TheVariants as fault
+use Rattle.conditions.specs.declared.fault.Unkept.{Unkept}
+use Rattle.planarbend_c.specs.Cuts.{CutModel, HoldsCut}
 use Rattle.planarbend_c.specs.Faults.{IsKeepingFault}
 use Rattle.planarbend_c.specs.declared.counts.Counts.{Counts}
 use Rattle.planarbend_c.specs.declared.outcome.Outcome.{Outcome}
@@ -49,7 +51,7 @@ abbrev pub AsksNothing : ℕ → ℕ → Type 0
 AsksNothing outer drawing = (choice_in outer ≡ None) ⊎ (drawing_in drawing ≡ None)
 
 -- what an outcome shows, where `Unkept` says what is shown where conditions are not kept
-abbrev pub IsOutcomeOf : (Choice → List ℕ → Finding → Type 0) → (KeepingFault → Type 0) → List ℕ → ℕ → ℕ → Counts → ListsModel → Outcome → Type 0
+abbrev pub IsOutcomeOf : (Choice → List ℕ → Finding → Type 0) → (Outcome → Type 0) → List ℕ → ℕ → ℕ → Counts → ListsModel → Outcome → Type 0
 IsOutcomeOf Is Unkept bytes outer drawing counts lists Laid = IsLaidOut Is bytes outer drawing counts lists
 -- the rule is broken, and none before it
 IsOutcomeOf Is Unkept bytes outer drawing counts lists (Refused rule) = IsRecord bytes × FirstBroken (lists_of bytes) rule
@@ -58,10 +60,10 @@ IsOutcomeOf Is Unkept bytes outer drawing counts lists NotARecord = ¬ IsRecord 
 IsOutcomeOf Is Unkept bytes outer drawing counts lists Memory = ⊤
 IsOutcomeOf Is Unkept bytes outer drawing counts lists Room = LacksRoom Is bytes outer drawing counts lists
 IsOutcomeOf Is Unkept bytes outer drawing counts lists Argument = AsksNothing outer drawing
-IsOutcomeOf Is Unkept bytes outer drawing counts lists NoShape = Unkept keeping.NoShape
-IsOutcomeOf Is Unkept bytes outer drawing counts lists NoEdge = Unkept keeping.NoEdge
-IsOutcomeOf Is Unkept bytes outer drawing counts lists NoOuter = Unkept keeping.NoOuter
-IsOutcomeOf Is Unkept bytes outer drawing counts lists Wide = Unkept keeping.Wide
+IsOutcomeOf Is Unkept bytes outer drawing counts lists NoShape = Unkept NoShape
+IsOutcomeOf Is Unkept bytes outer drawing counts lists NoEdge = Unkept NoEdge
+IsOutcomeOf Is Unkept bytes outer drawing counts lists NoOuter = Unkept NoOuter
+IsOutcomeOf Is Unkept bytes outer drawing counts lists Wide = Unkept Wide
 
 -- without conditions the last four do not come
 abbrev pub IsOutcome : List ℕ → ℕ → ℕ → Counts → ListsModel → Outcome → Type 0
@@ -73,10 +75,38 @@ pub record IsUnlaid (request : Request) (bytes : List ℕ) (fault : KeepingFault
   pub choice_asked : choice_in request.outer ≡ Some choice
   pub shown : IsKeepingFault request.conditions choice bytes fault
 
+-- no shape keeps the edges straight, and the vertices and faces that show it stand in the lists of the cut
+pub record HasCut (request : Request) (bytes : List ℕ) (cut : CutModel) : Type 0 where
+  pub why : Unkept
+  pub unlaid : IsUnlaid request bytes (keeping.NoShape why)
+  pub held : HoldsCut why cut
+
+-- what is shown where conditions are not kept
+abbrev pub IsNotKept : Request → List ℕ → CutModel → Outcome → Type 0
+IsNotKept request bytes cut NoShape = HasCut request bytes cut
+IsNotKept request bytes cut NoEdge = IsUnlaid request bytes keeping.NoEdge
+IsNotKept request bytes cut NoOuter = IsUnlaid request bytes keeping.NoOuter
+IsNotKept request bytes cut Wide = IsUnlaid request bytes keeping.Wide
+-- it comes of something else
+IsNotKept request bytes cut Laid = ⊥
+IsNotKept request bytes cut (Refused rule) = ⊥
+IsNotKept request bytes cut NotARecord = ⊥
+IsNotKept request bytes cut Memory = ⊥
+IsNotKept request bytes cut Room = ⊥
+IsNotKept request bytes cut Argument = ⊥
+
 -- with conditions
-abbrev pub IsOutcomeKeeping : Request → List ℕ → Counts → ListsModel → Outcome → Type 0
-IsOutcomeKeeping request bytes counts lists outcome =
-    IsOutcomeOf (IsFoundKeeping request.conditions) (IsUnlaid request bytes) bytes request.outer request.drawing counts lists outcome
+abbrev pub IsOutcomeKeeping : Request → List ℕ → Counts → ListsModel → CutModel → Outcome → Type 0
+IsOutcomeKeeping request bytes counts lists cut outcome =
+    IsOutcomeOf (IsFoundKeeping request.conditions) (IsNotKept request bytes cut) bytes request.outer request.drawing counts lists outcome
+
+-- where no shape keeps the edges straight, the lists of the cut say why
+abbrev pub IsCutTold : KeepingFault → CutModel → Type 0
+IsCutTold (keeping.NoShape why) cut = HoldsCut why cut
+IsCutTold (keeping.Record fault) cut = ⊤
+IsCutTold keeping.NoEdge cut = ⊤
+IsCutTold keeping.NoOuter cut = ⊤
+IsCutTold keeping.Wide cut = ⊤
 
 -- what comes of the call where bytes are not laid out
 abbrev pub refusal_of : Fault → Outcome
@@ -87,7 +117,7 @@ refusal_of fault.Memory = Memory
 -- the same where conditions are to be kept
 abbrev pub outcome_of : KeepingFault → Outcome
 outcome_of (keeping.Record fault) = refusal_of fault
-outcome_of keeping.NoShape = NoShape
+outcome_of (keeping.NoShape why) = NoShape
 outcome_of keeping.NoEdge = NoEdge
 outcome_of keeping.NoOuter = NoOuter
 outcome_of keeping.Wide = Wide

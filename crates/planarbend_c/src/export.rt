@@ -4,10 +4,12 @@ ghost use Rattle.std.specs.Prelude.{◌≡◌, is_some};
 ghost use Rattle.planarbend_c.specs.declared.outcome.Outcome.{Outcome};
 ghost use Rattle.planarbend_c.specs.Codes.{code_of};
 ghost use Rattle.planarbend_c.specs.Held.{contents};
+ghost use Rattle.planarbend_c.specs.Cuts.{cut_contents};
 ghost use Rattle.planarbend_c.specs.Found.{AreCounts, HaveRoom, HoldFinding, IsDrawnIfAsked, finding_of};
-ghost use Rattle.planarbend_c.specs.Outcomes.{IsOutcome, IsOutcomeKeeping, IsTold, outcome_of, refusal_of};
+ghost use Rattle.planarbend_c.specs.Outcomes.{IsOutcome, IsOutcomeKeeping, IsTold, IsCutTold, outcome_of, refusal_of};
 
 use crate::counts::{Counts, counts_of};
+use crate::cut::{CutLists, put_cut};
 use crate::keeping::{KeepingFault, lay_out_keeping};
 use crate::laid::Layout;
 use crate::layout::{Fault, lay_out};
@@ -39,7 +41,8 @@ pub extern "C" fn planarbend_c_layout(
 
 /// Lays out the record that the bytes are as it is asked for, and gives the number of what comes of it.
 ///
-/// What is written is as for [`planarbend_c_layout`]; the shape has the fewest bends of all that keep the conditions.
+/// What is written is as for [`planarbend_c_layout`]; the shape has the fewest bends of all that keep the conditions. Where
+/// no shape keeps the edges straight, the cut is written instead.
 #[unsafe(no_mangle)]
 pub extern "C" fn planarbend_c_layout_keeping(
     alloc: Global,
@@ -47,11 +50,12 @@ pub extern "C" fn planarbend_c_layout_keeping(
     request: &Request<'_>,
     counts: &mut Counts,
     lists: &mut Lists<'_>,
+    cut: &mut CutLists<'_>,
 ) -> u32
     ensures { (outcome : Outcome) × (result ≡ code_of outcome)
-        × IsOutcomeKeeping request.now bytes.now counts.new (contents lists.new) outcome }
+        × IsOutcomeKeeping request.now bytes.now counts.new (contents lists.new) (cut_contents cut.new) outcome }
 {
-    answer_keeping(alloc, bytes, request, counts, lists).code()
+    answer_keeping(alloc, bytes, request, counts, lists, cut).code()
 }
 
 /// Lays the record out as it is asked for, and says what comes of it.
@@ -61,8 +65,9 @@ fn answer_keeping(
     request: &Request<'_>,
     counts: &mut Counts,
     lists: &mut Lists<'_>,
+    cut: &mut CutLists<'_>,
 ) -> Outcome
-    ensures { IsOutcomeKeeping request.now bytes.now counts.new (contents lists.new) result }
+    ensures { IsOutcomeKeeping request.now bytes.now counts.new (contents lists.new) (cut_contents cut.new) result }
 {
     let Some(choice) = choice_of(request.outer) else {
         return Outcome::Argument;
@@ -72,7 +77,7 @@ fn answer_keeping(
     };
     match lay_out_keeping(alloc, bytes, choice, kind, &request.conditions) {
         Ok(layout) => tell(&layout, counts, lists),
-        Err(fault) => unlaid(fault),
+        Err(fault) => unlaid(fault, cut),
     }
 }
 
@@ -99,13 +104,18 @@ fn answer(
     }
 }
 
-/// What comes of a call where conditions are not kept for this reason.
-fn unlaid(fault: KeepingFault) -> Outcome
-    ensures { result ≡ outcome_of fault }
+/// What comes of a call where conditions are not kept for this reason. Where no shape keeps the edges straight, the cut is
+/// written.
+fn unlaid(fault: KeepingFault, cut: &mut CutLists<'_>) -> Outcome
+    ensures outcome { result ≡ outcome_of fault }
+    ensures cut { IsCutTold fault (cut_contents cut.new) }
 {
     match fault {
         KeepingFault::Record(fault) => refused(fault),
-        KeepingFault::NoShape => Outcome::NoShape,
+        KeepingFault::NoShape(why) => {
+            put_cut(cut, &why);
+            Outcome::NoShape
+        }
         KeepingFault::NoEdge => Outcome::NoEdge,
         KeepingFault::NoOuter => Outcome::NoOuter,
         KeepingFault::Wide => Outcome::Wide,

@@ -15,18 +15,18 @@ use crate::laid::Layout;
 use crate::layout::{Fault, parsed};
 use answers::{DrawFault, KeptFault, KeptPlane, RecordScratch, ShapeFault};
 use common::{Choice, DrawingKind};
-use conditions::{Conditions, KeepFault};
+use conditions::{Conditions, KeepFault, Unkept};
 use ortho_rep::Points;
 use planar_code::Record;
 use std::alloc::Global;
 
 /// Why bytes are not laid out so that conditions are kept.
-#[derive(Clone, Copy)]
+#[derive(Drop)]
 pub(crate) enum KeepingFault {
     /// They are not laid out with any.
     Record(Fault),
     /// No shape with the outer face that was asked for keeps the edges straight.
-    NoShape,
+    NoShape(Unkept),
     /// Two vertices that are named are no neighbours.
     NoEdge,
     /// All faces are to stay inside.
@@ -108,7 +108,7 @@ fn fault_of(fault: KeptFault) -> KeepingFault
     match fault {
         KeptFault::Record(ShapeFault::Rule(rule)) => KeepingFault::Record(Fault::Rule(rule)),
         KeptFault::Record(ShapeFault::Memory) => KeepingFault::Record(Fault::Memory),
-        KeptFault::Conditions(KeepFault::NoShape) => KeepingFault::NoShape,
+        KeptFault::Conditions(KeepFault::NoShape(why)) => KeepingFault::NoShape(why),
         KeptFault::Conditions(KeepFault::NoEdge) => KeepingFault::NoEdge,
         KeptFault::Conditions(KeepFault::NoOuter) => KeepingFault::NoOuter,
         KeptFault::Conditions(KeepFault::Memory) => KeepingFault::Record(Fault::Memory),

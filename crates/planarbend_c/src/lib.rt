@@ -3,6 +3,7 @@
 #![tactic(auto)]
 
 mod counts;
+mod cut;
 mod export;
 mod keeping;
 mod laid;
@@ -14,6 +15,7 @@ mod request;
 mod shapes;
 
 pub use counts::Counts;
+pub use cut::CutLists;
 pub use export::{planarbend_c_layout, planarbend_c_layout_keeping};
 pub use lists::{DartTurns, GridPoint, Lists};
 pub use request::Request;

@@ -1,4 +1,4 @@
-use Rattle.conditions.proofs.Kept.{asked_moved}
+use Rattle.conditions.proofs.Kept.{asked_moved, fault_told}
 use Rattle.conditions.proofs.chosen.shape_keeping_in.Goals as goal
 
 pub returns-in-Err-clause-fault : goal.returns-in-Err-clause-fault
@@ -17,3 +17,9 @@ returns-in-Ok-chosen_shape-clause-kept c =
       least = found.least;
       proof = found.proof;
     }
+
+pub returns-in-Err-NoShape-clause-fault : goal.returns-in-Err-NoShape-clause-fault
+returns-in-Err-NoShape-clause-fault c =
+    let meant = c.in-Ok.meant in
+    fault_told c.args.plane.now c.chosen_shape.new.plane c.args.conditions.now c.args.choice meant.marks.items meant.barred.items meant.greatest c.unkept.result
+    c.chosen_shape.ensures.outer_moved c.in-Ok.ensures.asked c.in-Ok.ensures.greatest (c.in-Err-NoShape.ensures.none c.in-Err-NoShape.field-0-is) c.unkept.ensures.shown

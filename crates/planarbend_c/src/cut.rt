@@ -1,0 +1,33 @@
+//! Why no shape keeps the edges straight, as C is told it.
+
+ghost use Rattle.std.specs.Prelude.{◌≡◌};
+ghost use Rattle.planarbend_c.specs.Cuts.{HoldsCut, HoldsMarks, cut_contents};
+
+use conditions::Unkept;
+
+/// Where a call puts vertices and faces that turn more than can leave them: for each 1, or 0 where it is not one of them.
+#[repr(C)]
+pub struct CutLists<'a> {
+    pub vertices: &'a mut [u8],
+    pub faces: &'a mut [u8],
+    /// The number of the outer face with which it is so.
+    pub outer: u32,
+}
+
+/// Puts the vertices and faces, and the outer face.
+pub(crate) fn put_cut(out: &mut CutLists<'_>, why: &Unkept)
+    ensures { HoldsCut why.now (cut_contents out.new) }
+{
+    put_marks(out.vertices, &why.cut.vertices);
+    put_marks(out.faces, &why.cut.faces);
+    out.outer = u32::from(why.outer);
+}
+
+/// Puts 1 for each mark, and 0 everywhere else.
+fn put_marks(out: &mut [u8], marks: &[bool])
+    ensures { HoldsMarks out.new marks.now }
+{
+    for place in 0..out.len() {
+        out[place] = u8::from(place < marks.len() && marks[place]);
+    }
+}
