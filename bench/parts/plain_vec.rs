@@ -222,7 +222,7 @@ pub fn filled<T: Clone>(t: T, n: usize) -> Result<Vec<T>, AllocError> {
 }
 #[inline]
 pub fn boxed<T>(t: T) -> Result<Box<T>, AllocError> {
-    Ok(Box::new(t))
+    Box::new(crate::alloc::Global, t)
 }
 #[macro_export]
 macro_rules! prove {
