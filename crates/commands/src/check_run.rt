@@ -24,11 +24,11 @@ pub fn check<R: AllocGlobal + Wait, N: NamedFiles, S: Sink, E: Sink>(
 ) -> Result<u8, Fault>
     requires out_is_intact { S.failed out.old ≡ false }
     requires err_is_intact { E.failed err.old ≡ false }
-    ensures written { IfOk result (IsTextOfChecked (N.meaning files.now) asked
+    ensures written { IfOk result (IsTextOfChecked (N.meaning files.now) asked.entry
         (S.taken out.old) (S.taken out.new) (S.failed out.new)) }
     ensures failed { IfErr result (λ fault. ¬ IsMisuse fault) }
     ensures begun { OnErr result ((out.new ≡ out.old)
-        ⊎ IsBegunTextOfChecked asked (S.taken out.old) (S.taken out.new)) }
+        ⊎ IsBegunTextOfChecked asked.entry (S.taken out.old) (S.taken out.new)) }
     ensures intact { OnErr result (E.failed err.new ≡ false) }
 {
     let Ok(notes) = FileNotes::new(rt.alloc(), 2) else {
