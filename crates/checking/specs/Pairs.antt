@@ -1,5 +1,5 @@
 -- The verdicts on records, each with the next line that is no end of a run.
-use Rattle.std.specs.Prelude.{◌≡◌, ◌≢◌, ◌⊎◌, ◌<◌, ◌≤◌, ℕ, Bool, true, false, List, [], ◌∷◌, length, drop, Option, None, Some, All, ⊤}
+use Rattle.std.specs.Prelude.{◌≡◌, ◌≢◌, ◌⊎◌, ◌<◌, ◌≤◌, ◌-◌, ◌^◌, min, ℕ, Bool, true, false, List, [], ◌∷◌, length, drop, Option, None, Some, All, ⊤}
 use Rattle.text_lines.specs.declared.TheConstants.{MAX_LINE}
 use Rattle.drawn_lines.specs.declared.fault.LineFault.TheVariants as line
 use Rattle.verdicts.specs.Said.{IsEndLine, SaysDrawing, SaysNothing}
@@ -36,7 +36,11 @@ AreVerdicts faces failed (bytes ∷ records) lines [] = ⊥
 AreVerdicts faces failed (bytes ∷ records) [] (v ∷ vs) = IsVerdictOf faces failed bytes None v × AreVerdicts faces failed records [] vs
 AreVerdicts faces failed (bytes ∷ records) (line ∷ lines) (v ∷ vs) = IsVerdictOf faces failed bytes (Some line) v × AreVerdicts faces failed records lines vs
 
--- the lines behind those of this many records: none is the end of a run
+-- a line is the end of a run only where it is too long to be read
+abbrev pub IsNoShortEnd : List ℕ → Type 0
+IsNoShortEnd line = IsEndLine line → MAX_LINE < length line
+
+-- the lines behind those of this many records, none of which is the end of a run; as a number of 64 bits
 pub record AreSurplus (records : ℕ) (lines : List (List ℕ)) (surplus : ℕ) : Type 0 where
-  pub counted : surplus ≡ length (drop records lines)
-  pub each : All (λ line. ¬ IsEndLine line) (drop records lines)
+  pub counted : surplus ≡ min (length (drop records lines)) (2 ^ 64 - 1)
+  pub each : All IsNoShortEnd (drop records lines)

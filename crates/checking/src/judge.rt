@@ -1,4 +1,11 @@
 //! Records as they come, each with its line.
+ghost use Rattle.std.specs.Prelude.{◌≡◌, ◌+◌, ◌≤◌, ◌<◌, ◌++◌, ◌∷◌, ◌↔◌, ◌⊎◌, ℕ, Bool, Option, List, [], length, true, false, IfOk, OnOk, OnErr, IsTrue};
+ghost use Rattle.planar_code.specs.declared.TheConstants.{MAX_RECORDS};
+ghost use Rattle.streams.specs.Reading.{IsFoundIn};
+ghost use Rattle.text_lines.specs.Lines.{state_in};
+ghost use Rattle.verdicts.specs.declared.verdict.Verdict.TheVariants as verdict;
+ghost use Rattle.checking.specs.Runs.{IsOk, IsTextOfVerdicts, IsBegunTextOfVerdicts};
+ghost use Rattle.checking.specs.UnderWay.{HasKept, KeepsNext, IsUnderWay};
 
 use crate::run::{Asked, Checked};
 use drawn_lines::LineFault;
@@ -31,7 +38,11 @@ impl<L: Tap> Judge<L> {
     /// # Errors
     ///
     /// `AllocError` if there is no memory for a line.
-    pub(crate) fn new(alloc: Global, lines: L, asked: Asked) -> Result<Judge<L>, AllocError> {
+    pub(crate) fn new(alloc: Global, lines: L, asked: Asked) -> Result<Judge<L>, AllocError>
+        ensures begins { IfOk result (λ judge. (start : Option (List ℕ))
+            → IsUnderWay L.to_come L.fails (L.to_come lines) (L.fails lines) start start judge []) }
+        ensures asked { IfOk result (λ judge. judge.asked ≡ asked) }
+    {
         Ok(Judge {
             alloc,
             lines: Lines::new(alloc, lines)?,
@@ -50,7 +61,19 @@ impl<L: Tap> Judge<L> {
         rt: &R,
         records: &mut Vec<Record>,
         out: &mut S,
-    ) -> Result<(), WriteFault> {
+    ) -> Result<(), WriteFault>
+        requires intact { S.failed out.old ≡ false }
+        requires few { self.old.count + length records.old.items ≤ MAX_RECORDS }
+        ensures intact { OnOk result (S.failed out.new ≡ false) }
+        ensures goes_on { OnOk result ((known : Option (List ℕ)) (fails : Bool) (start : Option (List ℕ)) (earlier : List (List ℕ))
+            → IsUnderWay L.to_come L.fails known fails start (S.taken out.old) self.old earlier
+            → IsUnderWay L.to_come L.fails known fails start (S.taken out.new) self.new (earlier ++ records.old.items)) }
+        ensures begun { OnErr result ((known : Option (List ℕ)) (fails : Bool) (start : Option (List ℕ)) (earlier : List (List ℕ))
+            → IsUnderWay L.to_come L.fails known fails start (S.taken out.old) self.old earlier
+            → IsBegunTextOfVerdicts self.old.asked start (S.taken out.new)) }
+        ensures asked { self.new.asked ≡ self.old.asked }
+        ensures empties { OnOk result (records.new.items ≡ []) }
+    {
         for rec in records.iter() {
             match self.judge(rt, rec, out) {
                 Ok(()) => {}
@@ -67,7 +90,19 @@ impl<L: Tap> Judge<L> {
         rt: &R,
         rec: &Record,
         out: &mut S,
-    ) -> Result<(), WriteFault> {
+    ) -> Result<(), WriteFault>
+        requires intact { S.failed out.old ≡ false }
+        requires few { self.old.count + 1 ≤ MAX_RECORDS }
+        ensures intact { OnOk result (S.failed out.new ≡ false) }
+        ensures goes_on { OnOk result ((known : Option (List ℕ)) (fails : Bool) (start : Option (List ℕ)) (earlier : List (List ℕ))
+            → IsUnderWay L.to_come L.fails known fails start (S.taken out.old) self.old earlier
+            → IsUnderWay L.to_come L.fails known fails start (S.taken out.new) self.new (earlier ++ rec.now ∷ [])) }
+        ensures begun { OnErr result ((known : Option (List ℕ)) (fails : Bool) (start : Option (List ℕ)) (earlier : List (List ℕ))
+            → IsUnderWay L.to_come L.fails known fails start (S.taken out.old) self.old earlier
+            → IsBegunTextOfVerdicts self.old.asked start (S.taken out.new)) }
+        ensures asked { self.new.asked ≡ self.old.asked }
+        ensures counted { self.new.count ≡ self.old.count + 1 }
+    {
         let given = self.give(rt);
         let verdict = judge_record(
             self.alloc,
@@ -86,7 +121,15 @@ impl<L: Tap> Judge<L> {
     }
 
     /// Counts one record more, and this verdict on it.
-    fn note(&mut self, verdict: Verdict) {
+    fn note(&mut self, verdict: Verdict)
+        requires { self.old.count < MAX_RECORDS }
+        ensures counted { self.new.count ≡ self.old.count + 1 }
+        ensures ok { IsTrue self.new.all_ok ↔ (IsTrue self.old.all_ok × IsOk verdict) }
+        ensures wants { IsTrue self.new.wants_memory ↔ (IsTrue self.old.wants_memory ⊎ (verdict ≡ verdict.Memory)) }
+        ensures lines { self.new.lines ≡ self.old.lines }
+        ensures text { self.new.text ≡ self.old.text }
+        ensures asked { self.new.asked ≡ self.old.asked }
+    {
         // A file has at most a million records.
         self.count = self.count.saturating_add(1);
         match verdict {
@@ -100,7 +143,16 @@ impl<L: Tap> Judge<L> {
     }
 
     /// What is given for the next record: the next line that is no end of a run.
-    fn give<R: Wait>(&mut self, rt: &R) -> Given {
+    fn give<R: Wait>(&mut self, rt: &R) -> Given
+        ensures gives { (known : Option (List ℕ)) (fails : Bool) (kept : List (List ℕ))
+            → HasKept L.to_come L.fails known fails self.old.lines kept
+            → KeepsNext L.to_come L.fails known fails (state_in self.old.lines) self.new.lines kept result }
+        ensures asked { self.new.asked ≡ self.old.asked }
+        ensures text { self.new.text ≡ self.old.text }
+        ensures count { self.new.count ≡ self.old.count }
+        ensures ok { self.new.all_ok ≡ self.old.all_ok }
+        ensures wants { self.new.wants_memory ≡ self.old.wants_memory }
+    {
         for _ in rt.forever() {
             match self.lines.next(rt) {
                 Next::Line => match said_in(self.alloc, self.lines.line()) {
@@ -122,7 +174,16 @@ impl<L: Tap> Judge<L> {
         rt: &R,
         mark: Mark,
         out: &mut S,
-    ) -> Result<Checked, WriteFault> {
+    ) -> Result<Checked, WriteFault>
+        requires { S.failed out.old ≡ false }
+        ensures whole { IfOk result (λ checked. (graphs : Option (List ℕ)) (cut : Bool) (known : Option (List ℕ)) (fails : Bool)
+            (start : Option (List ℕ)) (records : List (List ℕ)) → IsFoundIn graphs cut records mark
+            → IsUnderWay L.to_come L.fails known fails start (S.taken out.old) self.entry records
+            → IsTextOfVerdicts self.entry.asked graphs cut known fails start (S.taken out.new) (S.failed out.new) checked.status) }
+        ensures begun { OnErr result ((known : Option (List ℕ)) (fails : Bool) (start : Option (List ℕ)) (records : List (List ℕ))
+            → IsUnderWay L.to_come L.fails known fails start (S.taken out.old) self.entry records
+            → IsBegunTextOfVerdicts self.entry.asked start (S.taken out.new)) }
+    {
         let mut surplus = 0u64;
         let mut lines_failed = false;
         for _ in rt.forever() {
