@@ -41,7 +41,7 @@ impl<L: Tap> Judge<L> {
     pub(crate) fn new(alloc: Global, lines: L, asked: Asked) -> Result<Judge<L>, AllocError>
         ensures begins { IfOk result (λ judge. (start : Option (List ℕ))
             → IsUnderWay L.to_come L.fails (L.to_come lines) (L.fails lines) start start judge []) }
-        ensures asked { IfOk result (λ judge. judge.asked ≡ asked) }
+        ensures asked { IfOk result (λ judge. judge.asked ≡ asked.entry) }
     {
         Ok(Judge {
             alloc,
@@ -64,7 +64,7 @@ impl<L: Tap> Judge<L> {
     ) -> Result<(), WriteFault>
         requires intact { S.failed out.old ≡ false }
         requires few { self.old.count + length records.old.items ≤ MAX_RECORDS }
-        ensures intact { OnOk result (S.failed out.new ≡ false) }
+        ensures unfailed { OnOk result (S.failed out.new ≡ false) }
         ensures goes_on { OnOk result ((known : Option (List ℕ)) (fails : Bool) (start : Option (List ℕ)) (earlier : List (List ℕ))
             → IsUnderWay L.to_come L.fails known fails start (S.taken out.old) self.old earlier
             → IsUnderWay L.to_come L.fails known fails start (S.taken out.new) self.new (earlier ++ records.old.items)) }
@@ -93,7 +93,7 @@ impl<L: Tap> Judge<L> {
     ) -> Result<(), WriteFault>
         requires intact { S.failed out.old ≡ false }
         requires few { self.old.count + 1 ≤ MAX_RECORDS }
-        ensures intact { OnOk result (S.failed out.new ≡ false) }
+        ensures unfailed { OnOk result (S.failed out.new ≡ false) }
         ensures goes_on { OnOk result ((known : Option (List ℕ)) (fails : Bool) (start : Option (List ℕ)) (earlier : List (List ℕ))
             → IsUnderWay L.to_come L.fails known fails start (S.taken out.old) self.old earlier
             → IsUnderWay L.to_come L.fails known fails start (S.taken out.new) self.new (earlier ++ rec.now ∷ [])) }
@@ -104,13 +104,7 @@ impl<L: Tap> Judge<L> {
         ensures counted { self.new.count ≡ self.old.count + 1 }
     {
         let given = self.give(rt);
-        let verdict = judge_record(
-            self.alloc,
-            &mut self.scratch,
-            self.asked.faces,
-            rec,
-            given,
-        );
+        let verdict = judge_record(self.alloc, &mut self.scratch, self.asked.faces, rec, given);
         self.note(verdict);
         match self.text.make_room(out) {
             Ok(()) => {}

@@ -66,7 +66,7 @@ impl<T: Tap> Lines<T> {
     ///
     /// Once the source has ended or a read has failed, it is read no more.
     pub fn next<R: Wait>(&mut self, rt: &R) -> Next
-        ensures { (known : Option (List ℕ)) (fails : Bool) (given : List (List ℕ))
+        ensures gives { (known : Option (List ℕ)) (fails : Bool) (given : List (List ℕ))
             → HasGiven known fails (state_in self.old) (rest_in T.to_come self.old) (fails_in T.fails self.old) given
             → GivesNext known fails (state_in self.new) (rest_in T.to_come self.new) (fails_in T.fails self.new) given
             (line_in self.new) result }
