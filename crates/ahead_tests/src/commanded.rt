@@ -6,9 +6,11 @@ use crate::compared::same;
 use commands::{Console, FilesAndInput, KeepsReason, Reason, SystemFiles, command};
 use lanes::{OpenFault, Opener};
 use std::alloc::Global;
+use std::rt::Files;
+use std::sync::Wait;
 use std::sync::atomic::{AtomicBool, AtomicU32, Ordering};
 use std::test::Fail;
-use std::thread;
+use std::thread::{self, Threads};
 use streams::{IoSink, Tap, TapFault};
 
 const HEADER: &[u8] = b">>planar_code<<";
@@ -111,6 +113,28 @@ impl Console for Held<'_> {
     fn show(&self, _text: &[u8]) {}
 }
 
+/// Runs the command with these arguments, on this standard input; returns its status and what it wrote.
+fn ran<R: Files + AllocGlobal + Threads + Wait + Sync, I: Opener, C: Console + Sync>(
+    rt: &R,
+    words: &[String],
+    input: &I,
+    console: &C,
+) -> (u8, Vec<u8>)
+where
+    R::File: Send,
+    R::Dir: Send,
+    I::Source: KeepsReason,
+{
+    let mut out = IoSink::new(Vec::new(rt.alloc()));
+    let mut err = IoSink::new(Vec::new(rt.alloc()));
+    let files = FilesAndInput {
+        files: &SystemFiles { rt },
+        input,
+    };
+    let status = command(rt, words, &files, console, &mut out, &mut err);
+    (status, out.into_writer())
+}
+
 /// While the first graph is held in front of its drawing, more than a hundred others are read.
 #[test]
 fn links_hold_many_messages(rt: HostRuntime) -> Result<(), Fail> {
@@ -121,20 +145,13 @@ fn links_hold_many_messages(rt: HostRuntime) -> Result<(), Fail> {
         ran_out: AtomicBool::new(false),
     };
     let input = Input { reads: &reads };
-    let files = FilesAndInput {
-        files: &SystemFiles { rt: &rt },
-        input: &input,
-    };
     let mut words = Vec::new(rt.alloc());
     for word in ["layout", "--progress", "--progress", "-"] {
         words.push(String::from_str(rt.alloc(), word)?)?;
     }
-    let mut out = IoSink::new(Vec::new(rt.alloc()));
-    let mut err = IoSink::new(Vec::new(rt.alloc()));
-    let status = command(&rt, words.as_slice(), &files, &console, &mut out, &mut err);
+    let (status, text) = ran(&rt, words.as_slice(), &input, &console);
     same(&rt, status, 0);
     same(&rt, console.ran_out.load(Ordering::SeqCst), false);
-    let text = out.into_writer();
     let end = b"graph 400 ok n=2 m=1 f=1 bends=0 drawn=yes\nend complete graphs=400\n";
     same(&rt, text.as_slice().ends_with(end), true);
     Ok(())
