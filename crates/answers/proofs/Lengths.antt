@@ -9,9 +9,8 @@ use Rattle.ortho_rep.specs.Points.{PointsModel}
 use Rattle.ortho_rep.specs.Edges.{is_lesser}
 use Rattle.drawing_check.specs.Paths.{path_along}
 use Rattle.drawing_check.proofs.Routing.{paths_below, paths_below-more, paths_below-kept}
-use Rattle.drawing_laws.specs.Least.{AreBelow, IsBelow}
 use Rattle.drawing_laws.proofs.Lowest.{laid_below}
-use Rattle.answers.specs.Lengths.{path_length, IsQuick, IsNoLonger, IsNear}
+use Rattle.entries.specs.Lengths.{path_length, IsQuick, IsNoLonger, IsNear, AreBelow, IsBelow}
 
 -- how long the edges are whose lesser darts are below n
 abbrev pub length_below : PlaneModel → PointsModel → ℕ → ℕ

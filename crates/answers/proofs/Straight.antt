@@ -1,5 +1,5 @@
 -- Edges without turns in a drawing.
-use Rattle.std.proofs.Common.{◌≡◌, ◌⊎◌, ℕ, ◌++◌, ◌∷◌, [], Bool, true, false, ◌||◌, Result, Ok, Err, IfOk, length, ap, arith, inl, inr, refl, length-append}
+use Rattle.std.proofs.Common.{◌≡◌, ◌⊎◌, ◌++◌, ◌∷◌, [], Bool, true, false, ◌||◌, Result, Ok, Err, IfOk, length, ap, arith, inl, inr, refl, length-append}
 use Rattle.std.proofs.lemmas.Bool.{both_ways}
 use Rattle.std.proofs.lemmas.List.{nil_from_length}
 use Rattle.common.specs.declared.choice.Choice.{Choice}

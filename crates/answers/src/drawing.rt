@@ -7,8 +7,7 @@ ghost use Rattle.compact.specs.Monotone.{AreDirectionsOf};
 ghost use Rattle.drawing_check.specs.Draws.{Draws};
 ghost use Rattle.drawing_check.specs.Regions.{HasRegions};
 ghost use Rattle.entries.specs.Drawn.{HasPoints, IsDrawingOf, IsDrawn};
-ghost use Rattle.drawing_laws.specs.Least.{AreBelow};
-ghost use Rattle.answers.specs.Lengths.{IsNear, IsNoLonger, IsQuick, edge_length};
+ghost use Rattle.entries.specs.Lengths.{AreBelow, IsNear, IsNoLonger, IsQuick, edge_length};
 
 use crate::fault::ShapeFault;
 use crate::holder::{Holder, Shell};

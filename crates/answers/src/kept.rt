@@ -6,7 +6,7 @@ ghost use Rattle.drawing_check.specs.Regions.{HasRegions};
 ghost use Rattle.entries.specs.declared.cause.Cause.TheVariants.{Wide};
 ghost use Rattle.entries.specs.Drawn.{HasPoints, IsCause};
 ghost use Rattle.answers.specs.Kept.{IsKeptPlane, IsKeptFault, AreDrawnStraight};
-ghost use Rattle.answers.specs.Lengths.{IsNear, IsNoLonger, IsQuick};
+ghost use Rattle.entries.specs.Lengths.{IsNear, IsNoLonger, IsQuick};
 ghost use Rattle.answers.specs.Steps.{IsShaped};
 
 use crate::drawing::{DrawScratch, draw, least_points};

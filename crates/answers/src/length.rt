@@ -5,8 +5,7 @@ ghost use Rattle.faces.specs.Planes.{darts, reverse_dart, vertices};
 ghost use Rattle.ortho_rep.specs.Edges.{edge_number, is_lesser};
 ghost use Rattle.drawing_check.specs.Paths.{path_along};
 ghost use Rattle.drawing_check.specs.Walks.{distance};
-ghost use Rattle.drawing_laws.specs.Least.{AreBelow, IsBelow};
-ghost use Rattle.answers.specs.Lengths.{edge_length, path_length};
+ghost use Rattle.entries.specs.Lengths.{AreBelow, IsBelow, edge_length, path_length};
 
 use faces::Plane;
 use ortho_rep::{Point, Points};

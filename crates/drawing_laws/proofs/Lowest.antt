@@ -11,7 +11,8 @@ use Rattle.dissect.specs.Faces.{Below}
 use Rattle.dissect.specs.Paths.{turn_to, turning_vertices}
 use Rattle.dissect.specs.Boxes.{BoxesModel, AreBoxes, dart_map}
 use Rattle.dissect.specs.Monotone.{IsMonotone, AreLeastPoints, point_at}
-use Rattle.drawing_laws.specs.Least.{AreLeast, AreBelow, HasLeast, HasNoGap, IsBelow}
+use Rattle.drawing_laws.specs.Least.{AreLeast, HasLeast, HasNoGap}
+use Rattle.entries.specs.Lengths.{AreBelow, IsBelow}
 use Rattle.drawing_laws.proofs.Axes.{Follow, HasEnds, least_following, no_gap, few_numbers}
 
 ends_of : (b : BoxesModel) → AreBoxes b → HasEnds (dart_map b)

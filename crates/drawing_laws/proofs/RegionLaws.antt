@@ -13,7 +13,7 @@ use Rattle.drawing_check.specs.Paths.{path_along, paths, dart_path, point_of}
 use Rattle.drawing_check.specs.Draws.{AreOnAxes}
 use Rattle.drawing_check.specs.Regions.{GoesNorth, PassesNorth, PassesEast, IsRegionMap}
 use Rattle.drawing_check.proofs.Routing.{axes_each}
-use Rattle.drawing_laws.specs.Least.{IsBelow, AreBelow}
+use Rattle.entries.specs.Lengths.{IsBelow, AreBelow}
 use Rattle.drawing_laws.proofs.Segments.{Runs, PathRuns}
 use Rattle.drawing_laws.proofs.DartPaths.{backwards, runs_reversed, lesser_is, greater_is, by_edge, reverse_is_greater}
 

@@ -1,7 +1,5 @@
 -- The least coordinates that grow along the darts of boxes.
-use Rattle.std.specs.Prelude.{◌≡◌, ℕ, ◌<◌, ◌≤◌, All}
-use Rattle.ortho_rep.specs.declared.points.Point.{Point}
-use Rattle.ortho_rep.specs.Points.{PointsModel}
+use Rattle.std.specs.Prelude.{◌≡◌, ℕ, ◌<◌, ◌≤◌}
 use Rattle.dissect.specs.Boxes.{BoxesModel, dart_map}
 use Rattle.dissect.specs.Monotone.{IsMonotone}
 
@@ -22,12 +20,3 @@ HasNoGap n x = (v k : ℕ) → v < n → k ≤ x v → (u : ℕ) × (u < n) × (
 -- no coordinates grow along the darts of the boxes
 abbrev pub HasNoCoordinates : BoxesModel → Type 0
 HasNoCoordinates b = (x y : ℕ → ℕ) → ¬ IsMonotone (dart_map b) x y
-
--- both coordinates of a point are less than n
-abbrev pub IsBelow : ℕ → Point → Type 0
-IsBelow n point = (point.x < n) × (point.y < n)
-
--- so are those of all points and corners
-pub record AreBelow (n : ℕ) (points : PointsModel) : Type 0 where
-  pub ends : All (IsBelow n) points.vertices
-  pub bends : All (All (IsBelow n)) points.corners

@@ -15,7 +15,7 @@ ghost use Rattle.dissect.specs.Monotone.{IsMonotone, AreTaken, AreLeastPoints};
 ghost use Rattle.drawing_check.specs.Draws.{AreOnAxes};
 ghost use Rattle.drawing_check.specs.Paths.{paths};
 ghost use Rattle.drawing_check.specs.Regions.{HasRegions, IsRegionMap};
-ghost use Rattle.drawing_laws.specs.Least.{AreBelow};
+ghost use Rattle.entries.specs.Lengths.{AreBelow};
 
 /// Points derived from coordinates that grow along the darts of boxes of a shape have regions, which are the faces.
 ///

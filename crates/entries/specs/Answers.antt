@@ -1,5 +1,5 @@
 -- The condition that an answer is right for a record.
-use Rattle.std.specs.Prelude.{◌≡◌, ℕ, List, Result, ⊤}
+use Rattle.std.specs.Prelude.{◌≡◌, ℕ, List, Result, IfOk, ⊤}
 use Rattle.planar_code.specs.Stream.{lists_of}
 use Rattle.embedding.specs.Rules.{FirstBroken}
 use Rattle.common.specs.declared.choice.Choice.{Choice}
@@ -13,6 +13,7 @@ use Rattle.entries.specs.declared.cause.Cause.{Cause}
 use Rattle.entries.specs.declared.answer.Answer.{Answer}
 use Rattle.entries.specs.declared.answer.Answer.TheVariants.{Laid, Refused, NoMemory}
 use Rattle.entries.specs.Drawn.{IsDrawn}
+use Rattle.entries.specs.Lengths.{IsNoLonger, IsNear}
 
 -- the plane of the record's bytes with the chosen outer face, a shape of it with the fewest bends, prices that prove so, and a drawing of the shape
 -- or the cause in its place
@@ -30,6 +31,10 @@ pub record IsLaid (choice : Choice) (bytes : List ℕ) (plane : PlaneModel) (sha
   -- the prices prove that
   pub proof : IsProof plane shape prices
   pub drawn : IsDrawn plane shape drawing
+  -- the edges are together no longer than in a quick drawing of the shape
+  pub no_longer : IfOk drawing (IsNoLonger plane shape)
+  -- coordinates are less than three times the vertices, twice the bends, and five
+  pub near : IfOk drawing (IsNear plane shape)
 
 -- the answer is right for a record of these bytes under this choice
 abbrev pub Answers : Choice → List ℕ → Answer → Type 0

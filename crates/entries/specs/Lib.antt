@@ -1,4 +1,5 @@
 pub mod CauseWords
+pub mod Lengths
 pub mod Drawn
 pub mod Answers
 pub mod Abouts

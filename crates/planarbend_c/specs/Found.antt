@@ -18,7 +18,7 @@ use Rattle.entries.specs.Drawn.{HasPoints}
 use Rattle.conditions.specs.declared.conditions.Conditions.{Conditions}
 use Rattle.conditions.specs.Chosen.{IsKept}
 use Rattle.answers.specs.Kept.{AreDrawnStraight}
-use Rattle.answers.specs.Lengths.{IsNear, IsNoLonger}
+use Rattle.entries.specs.Lengths.{IsNear, IsNoLonger}
 use Rattle.planarbend_c.specs.declared.counts.Counts.{Counts}
 use Rattle.planarbend_c.specs.declared.laid.Layout.{Layout}
 use Rattle.planarbend_c.specs.declared.lists.DartTurns.{DartTurns}

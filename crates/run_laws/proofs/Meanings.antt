@@ -144,4 +144,6 @@ means choice bytes plane shape prices drawing laid =
       proof = proves plane shape prices laid.proof;
       drawn = drawn.0;
       shown = drawn.1;
+      near = laid.near;
+      no_longer = laid.no_longer;
     }

@@ -26,6 +26,7 @@ use Rattle.drawing_check.specs.Regions.{HasRegions}
 use Rattle.dissect.specs.Boxes.{BoxesModel}
 use Rattle.dissect.specs.Boxed.{IsBoxed}
 use Rattle.entries.specs.declared.cause.Cause.{Cause}
+use Rattle.entries.specs.Lengths.{AreBelow, IsNoLonger}
 use Rattle.entries.specs.Drawn.{ShowsCause}
 
 -- ---- representations
@@ -159,3 +160,7 @@ pub record IsLaidPlainly (choice : Choice) (bytes : List ℕ) (plane : PlaneMode
   -- points, if given, draw the shape; a cause in their place is shown
   pub drawn : IfOk drawing (AreDrawn plane shape)
   pub shown : IfErr drawing (IsCauseShown plane shape)
+  -- all their coordinates are less than three times the vertices, twice the bends, and five
+  pub near : IfOk drawing (AreBelow (3 * vertices plane + 2 * bends plane (turns_at shape) + 5))
+  -- and their edges are together no longer than between the least points of some boxes that dissect the shape
+  pub no_longer : IfOk drawing (IsNoLonger plane shape)

@@ -1,5 +1,5 @@
 use Rattle.std.proofs.Common.{◌≡◌, ◌+◌, ◌++◌, ◌∷◌, [], drop}
-use Rattle.answers.specs.Lengths.{path_length}
+use Rattle.entries.specs.Lengths.{path_length}
 use Rattle.answers.proofs.length.path_length.Given as goal
 
 -- the way so far and the rest are the whole

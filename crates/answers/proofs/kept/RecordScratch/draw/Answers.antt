@@ -1,5 +1,5 @@
 use Rattle.std.proofs.Common.{IfOk, subst}
-use Rattle.answers.specs.Lengths.{IsQuick}
+use Rattle.entries.specs.Lengths.{IsQuick}
 use Rattle.entries.specs.Drawn.{IsCause, IsDrawn}
 use Rattle.drawing_laws.proofs.Drawings.{none_shown}
 use Rattle.answers.proofs.kept.RecordScratch.draw.Goals as goal

@@ -1,7 +1,7 @@
 use Rattle.std.proofs.Common.{IfOk, subst}
 use Rattle.entries.specs.Drawn.{IsCause, IsDrawn, IsDrawingOf}
 use Rattle.drawing_laws.proofs.WideOnly.{shown_wide}
-use Rattle.answers.specs.Lengths.{IsQuick}
+use Rattle.entries.specs.Lengths.{IsQuick}
 use Rattle.answers.proofs.Straight.{drawn_straight}
 use Rattle.answers.proofs.kept.RecordScratch.draw_keeping.Goals as goal
 

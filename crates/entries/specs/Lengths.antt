@@ -1,5 +1,5 @@
 -- How long the edges of a drawing are and how far it reaches, beside a quick drawing of the same shape.
-use Rattle.std.specs.Prelude.{ℕ, ◌+◌, ◌*◌, ◌≤◌, List, [], ◌∷◌, IfOk, ⊤}
+use Rattle.std.specs.Prelude.{ℕ, ◌+◌, ◌*◌, ◌<◌, ◌≤◌, List, [], ◌∷◌, All, IfOk, ⊤}
 use Rattle.std.specs.List.{sum_by}
 use Rattle.faces.specs.Planes.{PlaneModel, darts, vertices}
 use Rattle.ortho_rep.specs.declared.points.Point.{Point}
@@ -13,7 +13,6 @@ use Rattle.dissect.specs.Boxed.{IsBoxed}
 use Rattle.dissect.specs.Monotone.{AreLeastPoints}
 use Rattle.entries.specs.declared.answer.Answer.{Answer}
 use Rattle.entries.specs.declared.answer.Answer.TheVariants.{Laid, Refused, NoMemory}
-use Rattle.drawing_laws.specs.Least.{AreBelow}
 
 -- how many steps lead along a path
 abbrev pub path_length : List Point → ℕ
@@ -36,6 +35,15 @@ pub record IsNoLonger (plane : PlaneModel) (shape : ShapeModel) (points : Points
   pub quick : PointsModel
   pub is_quick : IsQuick plane shape quick
   pub no_longer : edge_length plane points ≤ edge_length plane quick
+
+-- both coordinates of a point are less than n
+abbrev pub IsBelow : ℕ → Point → Type 0
+IsBelow n point = (point.x < n) × (point.y < n)
+
+-- so are those of all points and corners
+pub record AreBelow (n : ℕ) (points : PointsModel) : Type 0 where
+  pub ends : All (IsBelow n) points.vertices
+  pub bends : All (All (IsBelow n)) points.corners
 
 -- three times the vertices, twice the bends, and five
 abbrev pub coordinate_bound : PlaneModel → ShapeModel → ℕ
