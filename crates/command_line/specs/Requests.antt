@@ -17,7 +17,7 @@ use Rattle.command_line.specs.declared.reading.Number.TheVariants as number
 use Rattle.command_line.specs.declared.reading.Keyword.{Keyword}
 use Rattle.command_line.specs.declared.reading.Keyword.TheVariants as keyword
 use Rattle.command_line.specs.declared.request.Request.{Request}
-use Rattle.command_line.specs.declared.request.Request.TheVariants.{Frames, Layout}
+use Rattle.command_line.specs.declared.request.Request.TheVariants.{Frames, Layout, Check}
 
 -- the argument begins with these two bytes
 abbrev pub has_prefix : ℕ → ℕ → List ℕ → Bool
@@ -50,6 +50,7 @@ abbrev pub asks : Keyword → Role → List ℕ → Bool
 asks keyword.Version Command word = bytes_eq word (codes "--version")
 asks keyword.Frames Command word = bytes_eq word (codes "frames")
 asks keyword.Layout Command word = bytes_eq word (codes "layout")
+asks keyword.Check Command word = bytes_eq word (codes "check")
 asks keyword.Json Any word = bytes_eq word (codes "--json")
 asks keyword.BestOuter Any word = bytes_eq word (codes "--outer=best")
 asks keyword.BestOuter Outer word = bytes_eq word (codes "best")
@@ -57,6 +58,7 @@ asks keyword.ShortDrawing Any word = bytes_eq word (codes "--drawing=short")
 asks keyword.ShortDrawing Drawing word = bytes_eq word (codes "short")
 asks keyword.QuickDrawing Any word = bytes_eq word (codes "--drawing=quick")
 asks keyword.QuickDrawing Drawing word = bytes_eq word (codes "quick")
+asks keyword.Faces Any word = bytes_eq word (codes "--faces")
 asks keyword.Help File word = false
 asks keyword.Help Command word = bytes_eq word (codes "help") || is_help word
 asks keyword.Help _ word = is_help word
@@ -159,6 +161,15 @@ pub record AsksFrames (words : List (String Global)) (name : List ℕ) : Type 0 
   pub command : asks_in keyword.Frames words ≡ true
   pub file : files_in words ≡ name ∷ []
 
+-- the arguments ask for the verdicts on the drawings in one file, line by line, of the graphs in another one, of which at
+-- most one is standard input, in this form; `faces` says whether each face must also be where it belongs
+pub record AsksCheck (words : List (String Global)) (graphs lines : List ℕ) (form : Form) (faces : Bool) : Type 0 where
+  pub command : asks_in keyword.Check words ≡ true
+  pub files : files_in words ≡ graphs ∷ lines ∷ []
+  pub once : inputs_in words ≤ 1
+  pub json : (form ≡ Form.Json) ↔ (asks_in keyword.Json words ≡ true)
+  pub faces_in : faces ≡ asks_in keyword.Faces words
+
 -- this limit on buffered text, in megabytes, is in range
 abbrev pub IsWaiting : ℕ → Type 0
 IsWaiting waiting = (1 ≤ waiting) × (waiting ≤ 65536)
@@ -167,8 +178,10 @@ IsWaiting waiting = (1 ≤ waiting) × (waiting ≤ 65536)
 abbrev pub HasWaiting : Request → Type 0
 HasWaiting (Frames name) = ⊤
 HasWaiting (Layout asked) = IsWaiting asked.waiting
+HasWaiting (Check asked) = ⊤
 
 -- the request is what the arguments ask for
 abbrev pub IsAskedBy : List (String Global) → Request → Type 0
 IsAskedBy words (Frames name) = AsksFrames words name.now
 IsAskedBy words (Layout asked) = AsksLayout words asked.names asked.choice asked.style asked.lanes asked.waiting
+IsAskedBy words (Check asked) = AsksCheck words asked.graphs.now asked.lines.now asked.form asked.faces

@@ -28,7 +28,7 @@ pub use progress::{Console, Meter, Progress};
 pub use read_tap::ReadTap;
 pub use reading::{Keyword, Number, asks};
 pub use reason::{KeepsReason, Reason};
-pub use request::{LayoutRequest, ParseFault, Request, parse};
+pub use request::{CheckRequest, LayoutRequest, ParseFault, Request, parse};
 pub use source::{FileSource, NamedSource, NotedSource, open_fault, open_source};
 pub use standard_input::{INPUT, StandardInput, is_input};
 pub use terminal::{ErrorConsole, SharedTerminal};

@@ -33,10 +33,12 @@ pub enum Keyword {
     Help,
     Frames,
     Layout,
+    Check,
     Json,
     BestOuter,
     ShortDrawing,
     QuickDrawing,
+    Faces,
 }
 
 /// The numbers that arguments can give.
@@ -83,6 +85,7 @@ impl Role {
             (Keyword::Version, Role::Command) => word == "--version",
             (Keyword::Frames, Role::Command) => word == "frames",
             (Keyword::Layout, Role::Command) => word == "layout",
+            (Keyword::Check, Role::Command) => word == "check",
             (Keyword::Json, Role::Any) => word == "--json",
             (Keyword::BestOuter, Role::Any) => word == "--outer=best",
             (Keyword::BestOuter, Role::Outer) => word == "best",
@@ -90,6 +93,7 @@ impl Role {
             (Keyword::ShortDrawing, Role::Drawing) => word == "short",
             (Keyword::QuickDrawing, Role::Any) => word == "--drawing=quick",
             (Keyword::QuickDrawing, Role::Drawing) => word == "quick",
+            (Keyword::Faces, Role::Any) => word == "--faces",
             (Keyword::Help, Role::File) => false,
             (Keyword::Help, Role::Command) => word == "help" || is_help(word),
             (Keyword::Help, _) => is_help(word),

@@ -20,6 +20,8 @@ pub enum Request<'a> {
     Frames { name: &'a str },
     /// Answers to the records of files (the command `layout`).
     Layout(LayoutRequest<'a>),
+    /// Verdicts on drawings (the command `check`).
+    Check(CheckRequest<'a>),
 }
 
 /// The options and files of the command `layout`.
@@ -39,6 +41,19 @@ pub struct LayoutRequest<'a> {
     pub progress: Progress,
 }
 
+/// The options and files of the command `check`.
+#[derive(Clone, Copy)]
+pub struct CheckRequest<'a> {
+    /// The planar_code file of the graphs.
+    pub graphs: &'a str,
+    /// The file with a drawing of each graph, one a line.
+    pub lines: &'a str,
+    /// The output format.
+    pub form: Form,
+    /// Whether each face must also be where it belongs.
+    pub faces: bool,
+}
+
 /// The reason why the arguments are not a valid request.
 #[derive(Drop)]
 pub enum ParseFault {
@@ -51,8 +66,8 @@ pub enum ParseFault {
 
 /// Parses the arguments after the program's name into a request.
 ///
-/// A `layout` has at least one file, and standard input at most once. The number of lanes is not checked: one that is
-/// not a number is 0.
+/// A `layout` has at least one file, a `check` two, and both have standard input at most once. The number of lanes is
+/// not checked: one that is not a number is 0.
 ///
 /// # Errors
 ///
@@ -77,7 +92,7 @@ fn can_wait(request: &Request) -> bool
     ensures { IsTrue result → HasWaiting request.now }
 {
     match request {
-        Request::Frames { .. } => true,
+        Request::Frames { .. } | Request::Check(_) => true,
         Request::Layout(asked) => 1 <= asked.waiting && asked.waiting <= GREATEST_WAITING,
     }
 }
@@ -102,13 +117,13 @@ fn read<'a>(alloc: Global, words: &'a [String]) -> Result<Request<'a>, Error>
     }
     match request_of(words, files, &matches) {
         Some(request) => Ok(request),
-        // The file is required, so accepted arguments name one.
-        None => Err(program.error(ErrorKind::MissingRequiredArgument, "no file is named")?),
+        // The files are required, so accepted arguments name them.
+        None => Err(program.error(ErrorKind::MissingRequiredArgument, "a file is missing")?),
     }
 }
 
-/// The request made by arguments that clap has accepted and that name these files; `None` if they name no file. Clap's
-/// own reading gives the progress; the rest is taken from the arguments, as `command` promises.
+/// The request made by arguments that clap has accepted and that name these files; `None` if they name too few or too
+/// many. Clap's own reading gives the progress; the rest is taken from the arguments, as `command` promises.
 fn request_of<'a>(
     words: &[String],
     files: Vec<&'a str>,
@@ -123,6 +138,15 @@ fn request_of<'a>(
     if asks(Keyword::Frames, words) {
         let name = only_file(files.as_slice())?;
         return Some(Request::Frames { name });
+    }
+    if asks(Keyword::Check, words) {
+        let (graphs, lines) = two_files(files.as_slice())?;
+        return Some(Request::Check(CheckRequest {
+            graphs,
+            lines,
+            form: form_of(words),
+            faces: asks(Keyword::Faces, words),
+        }));
     }
     if files.is_empty() || !asks(Keyword::Layout, words) {
         return None;
@@ -147,6 +171,17 @@ fn only_file<'a>(files: &[&'a str]) -> Option<&'a str>
 {
     match files {
         [name] => Some(*name),
+        _ => None,
+    }
+}
+
+/// The two files, if these are two; otherwise `None`.
+fn two_files<'a>(files: &[&'a str]) -> Option<(&'a str, &'a str)>
+    ensures two { IfSome result (λ both. map (λ file. file.now) files.now ≡ both.0.now ∷ both.1.now ∷ []) }
+    ensures none { IfNone result (length files.now ≢ 2) }
+{
+    match files {
+        [first, second] => Some((*first, *second)),
         _ => None,
     }
 }
@@ -229,7 +264,10 @@ fn drawing_of(words: &[String]) -> DrawingKind
 
 /// The definition of the command line for clap, with the texts of its help.
 fn describe<'a>(alloc: Global) -> Result<Command<'a>, AllocError> {
-    take_frames(alloc, take_layout(alloc, describe_program(alloc)?)?)
+    take_check(
+        alloc,
+        take_frames(alloc, take_layout(alloc, describe_program(alloc)?)?)?,
+    )
 }
 
 /// Adds the command `layout` to the program.
@@ -240,6 +278,11 @@ fn take_layout<'a>(alloc: Global, program: Command<'a>) -> Result<Command<'a>, A
 /// Adds the command `frames` to the program.
 fn take_frames<'a>(alloc: Global, program: Command<'a>) -> Result<Command<'a>, AllocError> {
     program.subcommand(describe_frames(alloc)?)
+}
+
+/// Adds the command `check` to the program.
+fn take_check<'a>(alloc: Global, program: Command<'a>) -> Result<Command<'a>, AllocError> {
+    program.subcommand(describe_check(alloc)?)
 }
 
 fn describe_program<'a>(alloc: Global) -> Result<Command<'a>, AllocError> {
@@ -359,6 +402,57 @@ fn describe_frames<'a>(alloc: Global) -> Result<Command<'a>, AllocError> {
         .arg(file)
 }
 
+fn describe_check<'a>(alloc: Global) -> Result<Command<'a>, AllocError> {
+    let check = Command::new(alloc, "check")
+        .about(
+            "Checks drawings of the graphs of a planar_code file, and prints their bends and the fewest",
+        )
+        .after_help(CHECK_HELP);
+    take_checked_files(alloc, take_check_options(alloc, check)?)
+}
+
+/// Adds the options of `check`.
+fn take_check_options<'a>(alloc: Global, check: Command<'a>) -> Result<Command<'a>, AllocError> {
+    check.arg(verdicts_option(alloc))?.arg(faces_option(alloc))
+}
+
+/// Adds the two files of `check`.
+fn take_checked_files<'a>(alloc: Global, check: Command<'a>) -> Result<Command<'a>, AllocError> {
+    check.arg(graphs_file(alloc))?.arg(lines_file(alloc))
+}
+
+fn verdicts_option<'a>(alloc: Global) -> Arg<'a> {
+    Arg::new(alloc, "json")
+        .long("json")
+        .help("Write JSON Lines")
+        .action(ArgAction::SetTrue)
+}
+
+fn faces_option<'a>(alloc: Global) -> Arg<'a> {
+    Arg::new(alloc, "faces")
+        .long("faces")
+        .help("Check too that each region is the face on the left of its darts")
+        .action(ArgAction::SetTrue)
+}
+
+fn graphs_file<'a>(alloc: Global) -> Arg<'a> {
+    Arg::new(alloc, "GRAPHS")
+        .help(
+            "A planar_code file: the 15 bytes >>planar_code<< and then records; - is standard input",
+        )
+        .required(true)
+        .action(ArgAction::Set)
+}
+
+fn lines_file<'a>(alloc: Global) -> Arg<'a> {
+    Arg::new(alloc, "LINES")
+        .help(
+            "JSON Lines with the points of a drawing for each graph, as layout --json writes; - is standard input",
+        )
+        .required(true)
+        .action(ArgAction::Set)
+}
+
 /// The maximum limit on buffered text, in megabytes.
 const GREATEST_WAITING: u32 = 65_536;
 
@@ -376,7 +470,8 @@ const DRAWING: &[&str] = &["short", "quick"];
 
 const HELP: &str = "Examples:
   planarbend layout examples/two.pc
-  planarbend frames examples/two.pc";
+  planarbend frames examples/two.pc
+  planarbend check examples/two.pc examples/two.jsonl";
 
 const LAYOUT_HELP: &str = "Examples:
   planarbend layout examples/two.pc
@@ -397,3 +492,14 @@ prints
   record 2 n=3 bytes=10
   end complete records=2
 Exit status: 0 if the file was complete, otherwise 3.";
+
+const CHECK_HELP: &str = "Examples:
+  planarbend check examples/two.pc examples/two.jsonl
+prints
+  graph 1 ok bends=0 fewest=0
+  graph 2 ok bends=1 fewest=1
+  end complete graphs=2 surplus=0
+and of planarbend's own drawings
+  planarbend layout --json examples/two.pc | planarbend check examples/two.pc -
+Exit status: 3 if a file was not complete or memory ran out for a graph; otherwise 4 if a drawing is not ok or a line has
+no graph; otherwise 0.";

@@ -21,9 +21,10 @@ use Rattle.printing.proofs.TextBytes.{text_apart}
 use Rattle.printing.proofs.Added.{text_added, front_added, none_added, from_some}
 use Rattle.commands.proofs.TextDrawing.{all_drawn, begun_drawn}
 use Rattle.command_line.specs.declared.request.Request.{Request}
-use Rattle.command_line.specs.declared.request.Request.TheVariants.{Frames, Layout}
-use Rattle.commands.specs.Statuses.{IsTextOfRecords, IsTextOfBooks, IsBegunTextOfRecords, IsBegunTextOfBooks, IsDone, IsBegunToBeDone, IsNoText, IsPrinted, version_text}
+use Rattle.command_line.specs.declared.request.Request.TheVariants.{Frames, Layout, Check}
+use Rattle.commands.specs.Statuses.{IsTextOfRecords, IsTextOfBooks, IsBegunTextOfRecords, IsBegunTextOfBooks, IsDone, IsBegunToBeDone, IsJudged, IsNoText, IsPrinted, version_text}
 use Rattle.commands.proofs.NoText.{no_text}
+use Rattle.commands.proofs.Verdicts.{verdicts_drawn, begun_verdicts_drawn}
 
 -- ---- records and how they end
 
@@ -60,30 +61,39 @@ frames_apart found =
 
 done_drawn : (files : List ℕ → Meaning) (request : Request) (old new : Option (List ℕ)) (failed : Bool) (status : ℕ) → IsDone files request old new failed status → AddsNoneUndrawn old new
 done_drawn files (Frames name) old new failed status is = text_added old new (frames_text is.found) (frames_apart is.found) is.text
+done_drawn files (Check asked) old new failed status is = verdicts_drawn _ old new _ _ _ _ failed status is
 done_drawn files (Layout asked) old new failed status is =
     text_added old new (text_in asked.style.form is.books) (text_apart asked.style.form is.books (all_drawn asked.choice _ _ is.books is.of_files)) is.text
 
 begun_to_be_drawn : (files : List ℕ → Meaning) (request : Request) (old new : Option (List ℕ)) → IsBegunToBeDone files request old new → AddsNoneUndrawn old new
 begun_to_be_drawn files (Frames name) old new is = front_added old new (frames_text is.found) (frames_apart is.found) is.text
+begun_to_be_drawn files (Check asked) old new is = begun_verdicts_drawn _ old new is
 begun_to_be_drawn files (Layout asked) old new is = begun_drawn asked.choice _ asked.style.form _ old new is
+
+judged_drawn : (files : List ℕ → Meaning) (request : Request) (old new : Option (List ℕ)) (failed : Bool) → IsJudged files request old new failed → AddsNoneUndrawn old new
+judged_drawn files (Frames name) old new failed is = absurd is
+judged_drawn files (Layout asked) old new failed is = absurd is
+judged_drawn files (Check asked) old new failed is = verdicts_drawn _ old new _ _ _ _ failed 4 is
 
 unchanged : {S : Type 0} (taken : S → Option (List ℕ)) (old new : S) → new ≡ old → AddsNoneUndrawn (taken old) (taken new)
 unchanged taken old new same = subst (λ s. AddsNoneUndrawn (taken old) (taken s)) (sym same) (none_added (taken old))
 
-pub performed_drawn : {S : Type 0} (taken : S → Option (List ℕ)) (files : List ℕ → Meaning) (request : Request) (old new : S) (failed : Bool) (status : ℕ) → status ≤ 3
+pub performed_drawn : {S : Type 0} (taken : S → Option (List ℕ)) (files : List ℕ → Meaning) (request : Request) (old new : S) (failed : Bool) (status : ℕ) → status ≤ 4
     → (status ≡ 2 → new ≡ old)
     → ((status ≡ 0) ⊎ (status ≡ 3) → IsDone files request (taken old) (taken new) failed status)
+    → (status ≡ 4 → IsJudged files request (taken old) (taken new) failed)
     → (status ≡ 1 → (new ≡ old) ⊎ IsBegunToBeDone files request (taken old) (taken new))
     → AddsNoneUndrawn (taken old) (taken new)
-performed_drawn taken files request old new failed zero known refused done begun = done_drawn files request (taken old) (taken new) failed 0 (done (inl refl))
-performed_drawn taken files request old new failed (suc zero) known refused done begun =
+performed_drawn taken files request old new failed zero known refused done judged begun = done_drawn files request (taken old) (taken new) failed 0 (done (inl refl))
+performed_drawn taken files request old new failed (suc zero) known refused done judged begun =
     elim (begun refl) [
       | inl same ↦ unchanged taken old new same
       | inr is ↦ begun_to_be_drawn files request (taken old) (taken new) is
     ]
-performed_drawn taken files request old new failed (suc (suc zero)) known refused done begun = unchanged taken old new (refused refl)
-performed_drawn taken files request old new failed (suc (suc (suc zero))) known refused done begun = done_drawn files request (taken old) (taken new) failed 3 (done (inr refl))
-performed_drawn taken files request old new failed (suc (suc (suc (suc n)))) known refused done begun = absurd (let none : ⊥ = omega (arith, known) in none)
+performed_drawn taken files request old new failed (suc (suc zero)) known refused done judged begun = unchanged taken old new (refused refl)
+performed_drawn taken files request old new failed (suc (suc (suc zero))) known refused done judged begun = done_drawn files request (taken old) (taken new) failed 3 (done (inr refl))
+performed_drawn taken files request old new failed (suc (suc (suc (suc zero)))) known refused done judged begun = judged_drawn files request (taken old) (taken new) failed (judged refl)
+performed_drawn taken files request old new failed (suc (suc (suc (suc (suc n))))) known refused done judged begun = absurd (let none : ⊥ = omega (arith, known) in none)
 
 -- ---- the version and help
 

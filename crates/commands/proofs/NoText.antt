@@ -4,7 +4,9 @@ use Rattle.streams.specs.declared.frames.Mark.{Mark}
 use Rattle.streams.specs.Text.{record_lines, frames_end_line, frames_text}
 use Rattle.reports.specs.Forms.{text_in}
 use Rattle.reports.proofs.FirstBytes.{first, books_first}
+use Rattle.checking.specs.Runs.{verdicts_text}
 use Rattle.commands.specs.Statuses.{IsNoText}
+use Rattle.commands.proofs.Verdicts.{verdicts_first}
 
 -- the lines of records begin with no capital letter
 records_first : (records : List (List ℕ)) (mark : Mark) (count : ℕ) → 91 ≤ first (record_lines 1 records ++ frames_end_line mark count)
@@ -21,6 +23,10 @@ no_text (byte ∷ text) low high = record {
         | inl none ↦ omega (arith, none, at, low)
         | inr above ↦ omega (arith, above, at, high)
       ];
+  no_verdicts = λ json verdicts mark surplus rest same.
+      let at : first (verdicts_text json verdicts mark surplus) ≡ byte = ap first same in
+      let above = verdicts_first json verdicts mark surplus in
+      omega (arith, above, at, high);
   no_records = λ found rest same.
       let at : first (frames_text found) ≡ byte = ap first same in
       let above = records_first found.records found.mark (length found.records) in

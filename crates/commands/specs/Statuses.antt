@@ -13,28 +13,34 @@ use Rattle.lanes.specs.Opening.{Meaning, known_of, fails_of}
 use Rattle.entries.specs.Books.{BookModel}
 use Rattle.entries.specs.AllBooks.{AreAllBooks}
 use Rattle.reports.specs.declared.form.Form.{Form}
+use Rattle.reports.specs.declared.form.Form.TheVariants.{Report, Json}
 use Rattle.reports.specs.Forms.{text_in}
 use Rattle.reports.specs.FlawlessBooks.{IsFlawlessBook}
+use Rattle.verdicts.specs.declared.verdict.Verdict.{Verdict}
+use Rattle.checking.specs.Runs.{IsTextOfVerdicts, IsBegunTextOfVerdicts, verdicts_text}
+use Rattle.checking.specs.declared.run.Asked.{Asked}
 use Rattle.commands.specs.TextRuns.{IsBegun}
 use Rattle.command_line.specs.Naming.{meanings_in}
-use Rattle.command_line.specs.Requests.{IsAskedBy, asks_in}
+use Rattle.command_line.specs.Requests.{IsAskedBy, AsksCheck, asks_in}
 use Rattle.command_line.specs.declared.reading.Keyword.{Keyword}
 use Rattle.entries.specs.declared.limits.TheConstants.{MAX_FILES}
 use Rattle.ruled_lanes.specs.declared.limits.TheConstants.{LANES}
 use Rattle.printing.specs.Telling.{AddsNoneUndrawn}
 use Rattle.command_line.specs.declared.request.Request.{Request}
-use Rattle.command_line.specs.declared.request.Request.TheVariants.{Frames, Layout}
+use Rattle.command_line.specs.declared.request.Request.TheVariants.{Frames, Layout, Check}
+use Rattle.command_line.specs.declared.request.CheckRequest.{CheckRequest}
 
 -- the output of '--version'
 abbrev pub version_text : List ℕ
 version_text = codes "planarbend 0.3.0\nproved with rattle-kit-13 logic dac8208d650f15bf\n"
 
--- The text begins with a capital letter, and is no prefix of what a run writes: neither of the text of some books, in
--- any format, nor of the lines of some records. (Books have right entries alone, so a text that only resembles one is
--- told apart by its first byte.)
+-- The text begins with a capital letter, and is no prefix of what a run writes: neither of the text of some books or of
+-- some verdicts, in any format, nor of the lines of some records. (Books have right entries alone, so a text that only
+-- resembles one is told apart by its first byte.)
 pub record IsNoText (text : List ℕ) : Type 0 where
   pub capital : (65 ≤ slice_index text 0) × (slice_index text 0 ≤ 90)
   pub no_books : (form : Form) (books : List BookModel) (rest : List ℕ) → text_in form books ≡ text ++ rest → ⊥
+  pub no_verdicts : (json : Bool) (verdicts : List Verdict) (mark : Mark) (surplus : ℕ) (rest : List ℕ) → verdicts_text json verdicts mark surplus ≡ text ++ rest → ⊥
   pub no_records : (found : FramesModel) (rest : List ℕ) → frames_text found ≡ text ++ rest → ⊥
 
 -- this text and nothing else was added to the output, with status 0; or the output failed, with a prefix of it and
@@ -86,12 +92,37 @@ pub record IsBegunTextOfRecords (meaning : Meaning) (old new : Option (List ℕ)
   pub known : (all : List ℕ) → known_of meaning ≡ Some all → IsMarked all (fails_of meaning) found.records found.mark
   pub text : AppendsPrefix old new (frames_text found)
 
+abbrev pub is_json : Form → Bool
+is_json Report = false
+is_json Json = true
+
+-- how verdicts are asked for
+abbrev pub asked_in : CheckRequest → Asked
+asked_in asked = record { json = is_json asked.form; faces = asked.faces }
+
+-- The whole text of the verdicts that a request asks for, where the file with a name means what `files` says, was added
+-- to the output, and the status says what they are.
+abbrev pub IsTextOfChecked : (List ℕ → Meaning) → CheckRequest → Option (List ℕ) → Option (List ℕ) → Bool → ℕ → Type 0
+IsTextOfChecked files asked old new failed status =
+    IsTextOfVerdicts (asked_in asked) (known_of (files asked.graphs.now)) (fails_of (files asked.graphs.now))
+    (known_of (files asked.lines.now)) (fails_of (files asked.lines.now)) old new failed status
+
+-- a prefix of such a text was added
+abbrev pub IsBegunTextOfChecked : CheckRequest → Option (List ℕ) → Option (List ℕ) → Type 0
+IsBegunTextOfChecked asked old new = IsBegunTextOfVerdicts (asked_in asked) old new
+
 -- the whole text that a request asks for, where the file with a name means what `files` says, was added to the output,
 -- with this status
 abbrev pub IsDone : (List ℕ → Meaning) → Request → Option (List ℕ) → Option (List ℕ) → Bool → ℕ → Type 0
 IsDone files (Frames name) old new failed status = IsTextOfRecords (files name.now) old new failed status
 IsDone files (Layout asked) old new failed status =
     IsTextOfBooks asked.choice asked.style.form (meanings_in files asked.names.items) (vec_len asked.names) old new failed status
+IsDone files (Check asked) old new failed status = IsTextOfChecked files asked old new failed status
+
+-- the whole text of the verdicts that a request asks for was added to the output, with status 4
+abbrev pub IsJudged : (List ℕ → Meaning) → Request → Option (List ℕ) → Option (List ℕ) → Bool → Type 0
+IsJudged files (Check asked) old new failed = IsTextOfChecked files asked old new failed 4
+IsJudged files _ old new failed = ⊥
 
 -- a prefix of the text that a request asks for, where the file with a name means what `files` says, was added to the
 -- output
@@ -99,6 +130,7 @@ abbrev pub IsBegunToBeDone : (List ℕ → Meaning) → Request → Option (List
 IsBegunToBeDone files (Frames name) old new = IsBegunTextOfRecords (files name.now) old new
 IsBegunToBeDone files (Layout asked) old new =
     IsBegunTextOfBooks asked.choice asked.style.form (meanings_in files asked.names.items) (vec_len asked.names) old new
+IsBegunToBeDone files (Check asked) old new = IsBegunTextOfChecked asked old new
 
 -- The meaning of status 0 or 3: the version, or help, which begins with a capital letter and as no text of a run does,
 -- was added to the output, or the text of all files that the arguments name, as they ask for it.
@@ -108,19 +140,28 @@ IsDoneFor files words old new failed status =
     ⊎ (((status ≡ 0) × (asks_in Keyword.Help words ≡ true) × ((text : List ℕ) × IsNoText text × Appends old new text))
     ⊎ ((request : Request) × IsAskedBy words request × IsDone files request old new failed status))
 
+-- The meaning of status 4: the command line asks for verdicts on two files, and their whole text was added to the
+-- output, as it is asked for, with this status.
+abbrev pub IsJudgedFor : (List ℕ → Meaning) → List (String Global) → Option (List ℕ) → Option (List ℕ) → Bool → Type 0
+IsJudgedFor files words old new failed =
+    (asked : CheckRequest) × AsksCheck words asked.graphs.now asked.lines.now asked.form asked.faces
+    × IsTextOfChecked files asked old new failed 4
+
 -- a request is refused: it names too many files, or no lanes or too many
 abbrev pub IsRefusable : Request → Type 0
 IsRefusable (Frames name) = ⊥
+IsRefusable (Check asked) = ⊥
 IsRefusable (Layout asked) = (MAX_FILES < vec_len asked.names) ⊎ ((asked.lanes ≡ 0) ⊎ (LANES < asked.lanes))
 
 -- The outcome of a command line, where the file with a name means what `files` says: the output was `old` and is `new`,
 -- of which these bytes are taken and which may have failed, and the program ends with this status.
 pub record IsOutcome {S : Type 0} (files : List ℕ → Meaning) (words : List (String Global)) (taken : S → Option (List ℕ)) (failed : S → Bool) (old new : S) (status : ℕ) : Type 0 where
-  pub in_range : status ≤ 3
+  pub in_range : status ≤ 4
   pub failed_write : failed new ≡ true → status ≡ 1
   pub refused : status ≡ 2 → new ≡ old
   pub version : asks_in Keyword.Version words ≡ true → IsPrinted version_text (taken old) (taken new) (failed new) status
   pub done : (status ≡ 0) ⊎ (status ≡ 3) → IsDoneFor files words (taken old) (taken new) (failed new) status
+  pub judged : status ≡ 4 → IsJudgedFor files words (taken old) (taken new) (failed new)
   pub begun : status ≡ 1 → asks_in Keyword.Version words ≡ false → asks_in Keyword.Help words ≡ false
       → (new ≡ old) ⊎ ((request : Request) × IsAskedBy words request × IsBegunToBeDone files request (taken old) (taken new))
   pub drawn : AddsNoneUndrawn (taken old) (taken new)

@@ -2,6 +2,7 @@
 //! whose output is streamed.
 #![tactic(auto)]
 
+mod check_run;
 mod layout;
 mod line_lanes;
 mod process;

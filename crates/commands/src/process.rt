@@ -37,7 +37,7 @@ where
     I::Source: KeepsReason,
     requires out_is_intact { S.failed out.old ≡ false }
     requires err_is_intact { E.failed err.old ≡ false }
-    ensures in_range { exit_status result ≤ 3 }
+    ensures in_range { exit_status result ≤ 4 }
 
     // For some arguments all that `command` promises holds; or the arguments could not be read, and nothing is written.
     ensures outcome { ((words : List (String Global))

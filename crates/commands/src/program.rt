@@ -12,10 +12,12 @@ ghost use Rattle.clap.specs.Words.{kind_of};
 ghost use Rattle.clap.specs.declared.error.kind.ErrorKind.{ErrorKind};
 ghost use Rattle.command_line.specs.declared.reading.Keyword.{Keyword};
 ghost use Rattle.command_line.specs.declared.request.Request.{Request};
-ghost use Rattle.commands.specs.Statuses.{IsTextOfRecords, IsTextOfBooks, IsDone, IsDoneFor, IsBegunTextOfBooks, IsBegunTextOfRecords, IsBegunToBeDone, IsNoText, IsPrinted, IsRefusable, version_text};
+ghost use Rattle.command_line.specs.declared.request.CheckRequest.{CheckRequest};
+ghost use Rattle.commands.specs.Statuses.{IsTextOfRecords, IsTextOfBooks, IsTextOfChecked, IsDone, IsDoneFor, IsBegunTextOfBooks, IsBegunTextOfRecords, IsBegunToBeDone, IsJudged, IsJudgedFor, IsNoText, IsPrinted, IsRefusable, version_text};
 ghost use Rattle.command_line.specs.Requests.{IsAskedBy, asks_in};
 ghost use Rattle.printing.specs.Telling.{AddsNoneUndrawn};
 
+use crate::check_run::check;
 use crate::layout::{CAPACITY, layout};
 use crate::version::VERSION;
 use clap::Error;
@@ -37,7 +39,8 @@ use streams::{Sink, WriteFault, put_all, run_frames, write_frames};
 /// `err` changes nothing, nor does the progress that `console` shows.
 ///
 /// The status is 0 for the version, for help and for a whole text in which each file ends complete and every graph is
-/// answered, 3 for any other whole text, 2 for a command line that is refused, and 1 if there is no whole text.
+/// answered, 4 for a whole text of `check` in which some drawing is not ok or a line has no graph, 3 for any other whole
+/// text, 2 for a command line that is refused, and 1 if there is no whole text.
 pub fn command<
     R: AllocGlobal + Threads + Wait + Sync,
     N: NamedFiles,
@@ -47,20 +50,22 @@ pub fn command<
 >(rt: &R, words: &[String], files: &N, console: &C, out: &mut S, err: &mut E) -> u8
     requires out_is_intact { S.failed out.old ≡ false }
     requires err_is_intact { E.failed err.old ≡ false }
-    ensures in_range { result ≤ 3 }
+    ensures in_range { result ≤ 4 }
     ensures failed_write { S.failed out.new ≡ true → result ≡ 1 }
 
     // If the command line is refused, nothing is written.
     ensures refused { result ≡ 2 → out.new ≡ out.old }
 
     // With status 3 the text is whole: of a file that does not end complete, or of files of which one does not or lacks
-    // an answer because memory ran out.
+    // an answer because memory ran out, or of verdicts that are not about all graphs and lines.
     ensures written { result ≡ 3
         → ((name : List ℕ)
         × IsTextOfRecords (N.meaning files.now name) (S.taken out.old) (S.taken out.new) (S.failed out.new) 3)
         ⊎ ((choice : Choice) × (form : Form) × (names : List (Bor (List ℕ)))
         × IsTextOfBooks choice form (meanings_in (N.meaning files.now) names) (length names)
-        (S.taken out.old) (S.taken out.new) (S.failed out.new) 3) }
+        (S.taken out.old) (S.taken out.new) (S.failed out.new) 3)
+        ⊎ ((asked : CheckRequest)
+        × IsTextOfChecked (N.meaning files.now) asked (S.taken out.old) (S.taken out.new) (S.failed out.new) 3) }
 
     // If the first argument is `--version`, the version is printed.
     ensures version { asks_in Keyword.Version words.now ≡ true
@@ -71,6 +76,11 @@ pub fn command<
     // name gives.
     ensures done { (result ≡ 0) ⊎ (result ≡ 3)
         → IsDoneFor (N.meaning files.now) words.now (S.taken out.old) (S.taken out.new) (S.failed out.new) result }
+
+    // Status 4 is that of `check` alone: the text of the verdicts on the two files that the arguments name is whole, and
+    // some drawing is not ok, or a line has no graph.
+    ensures judged { result ≡ 4
+        → IsJudgedFor (N.meaning files.now) words.now (S.taken out.old) (S.taken out.new) (S.failed out.new) }
 
     // With status 1, if neither the version nor help is asked for, nothing is written, or a prefix of the text that the
     // arguments ask for.
@@ -98,7 +108,7 @@ pub fn command<
     }
 }
 
-/// Does what a request asks for, and returns the exit status. It is 0 or 3 only if the whole text was written, of all
+/// Does what a request asks for, and returns the exit status. It is 0, 3 or 4 only if the whole text was written, of all
 /// files that the request names, and then as `command` says; and 2 only if there are too many files or the number of
 /// lanes is bad.
 fn perform<
@@ -110,12 +120,14 @@ fn perform<
 >(rt: &R, request: Request, files: &N, console: &C, out: &mut S, err: &mut E) -> u8
     requires out_is_intact { S.failed out.old ≡ false }
     requires err_is_intact { E.failed err.old ≡ false }
-    ensures in_range { result ≤ 3 }
+    ensures in_range { result ≤ 4 }
     ensures failed_write { S.failed out.new ≡ true → result ≡ 1 }
     ensures refused { result ≡ 2 → out.new ≡ out.old }
     ensures refusable { result ≡ 2 → IsRefusable request.entry }
     ensures done { (result ≡ 0) ⊎ (result ≡ 3)
         → IsDone (N.meaning files.now) request.entry (S.taken out.old) (S.taken out.new) (S.failed out.new) result }
+    ensures judged { result ≡ 4
+        → IsJudged (N.meaning files.now) request.entry (S.taken out.old) (S.taken out.new) (S.failed out.new) }
     ensures begun { result ≡ 1
         → (out.new ≡ out.old)
         ⊎ IsBegunToBeDone (N.meaning files.now) request.entry (S.taken out.old) (S.taken out.new) }
@@ -123,6 +135,7 @@ fn perform<
     let outcome = match request {
         Request::Frames { name } => frames(rt, name, files, out, err),
         Request::Layout(asked) => lay_out(rt, &asked, files, console, out, err),
+        Request::Check(asked) => check(rt, asked, files, out, err),
     };
     match outcome {
         Ok(status) => status,

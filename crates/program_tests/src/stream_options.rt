@@ -23,7 +23,7 @@ fn input_of(alloc: Global, parts: &[&[u8]]) -> Result<MemOpener, AllocError> {
 }
 
 /// Runs the command line of each row on a standard input with these parts, and checks the report and the status.
-fn check_on<R: Files + AllocGlobal + Threads + Wait + Sync + Abort>(
+pub fn check_on<R: Files + AllocGlobal + Threads + Wait + Sync + Abort>(
     rt: &R,
     parts: &[&[u8]],
     rows: &[Row],

@@ -1,5 +1,5 @@
 -- The lines of bytes: they are divided at each byte 0A.
-use Rattle.std.specs.Prelude.{◌≡◌, ◌≢◌, ℕ, ◌<◌, ◌≤◌, ◌==◌, Bool, true, false, List, [], ◌∷◌, ◌++◌, length, All, Option, if◌then◌else◌}
+use Rattle.std.specs.Prelude.{◌≡◌, ◌≢◌, ℕ, ◌<◌, ◌≤◌, ◌==◌, Bool, true, false, List, [], ◌∷◌, ◌++◌, length, All, Option, ⊤, if◌then◌else◌}
 use Rattle.std.specs.List.{flat_map}
 use Rattle.std.specs.Io.KnownBytes.{Consumes, prepend_known}
 use Rattle.planar_code.specs.Stream.{before_first}
@@ -82,6 +82,12 @@ GivesNext known known_fails now rest fails given line next.TooLong =
     (long : List ℕ) × (MAX_LINE < length long) × HasGiven known known_fails now rest fails (given ++ long ∷ [])
 GivesNext known known_fails now rest fails given line next.End = (now ≡ state.Ended) × HasGivenAll known known_fails false given
 GivesNext known known_fails now rest fails given line next.Failed = (now ≡ state.Failed) × HasGivenAll known known_fails true given
+
+-- once a source has ended or a read has failed, there is no further line
+abbrev pub StaysClosed : State → Next → Type 0
+StaysClosed state.Open given = ⊤
+StaysClosed state.Ended given = given ≡ next.End
+StaysClosed state.Failed given = given ≡ next.Failed
 
 -- ---- a line as it is read. Only private contracts speak of it
 

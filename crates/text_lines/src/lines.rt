@@ -1,6 +1,6 @@
 //! The lines of a source, one after another.
 ghost use Rattle.std.specs.Prelude.{◌≡◌, ◌≤◌, ℕ, Bool, Option, List, [], IfOk, length};
-ghost use Rattle.text_lines.specs.Lines.{HasGiven, GivesNext, IsWhole, IsLast, rest_in, state_in, line_in, fails_in};
+ghost use Rattle.text_lines.specs.Lines.{HasGiven, GivesNext, StaysClosed, IsWhole, IsLast, rest_in, state_in, line_in, fails_in};
 ghost use Rattle.text_lines.specs.declared.lines.State.{State};
 
 use crate::collected::Collected;
@@ -66,10 +66,11 @@ impl<T: Tap> Lines<T> {
     ///
     /// Once the source has ended or a read has failed, it is read no more.
     pub fn next<R: Wait>(&mut self, rt: &R) -> Next
-        ensures { (known : Option (List ℕ)) (fails : Bool) (given : List (List ℕ))
+        ensures gives { (known : Option (List ℕ)) (fails : Bool) (given : List (List ℕ))
             → HasGiven known fails (state_in self.old) (rest_in T.to_come self.old) (fails_in T.fails self.old) given
             → GivesNext known fails (state_in self.new) (rest_in T.to_come self.new) (fails_in T.fails self.new) given
             (line_in self.new) result }
+        ensures closed { StaysClosed (state_in self.old) result }
     {
         match self.state {
             State::Open => self.read_on(rt),

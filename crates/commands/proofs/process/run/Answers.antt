@@ -16,6 +16,7 @@ returns-in-Ok-clause-outcome g c =
             refused = is.refused;
             version = is.version;
             done = is.done;
+            judged = is.judged;
             begun = is.begun;
             drawn = is.drawn;
           }),

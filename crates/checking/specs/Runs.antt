@@ -1,0 +1,62 @@
+-- The text of a run, and its status.
+use Rattle.std.specs.Prelude.{◌≡◌, ◌≢◌, ◌↔◌, ◌⊎◌, ◌<◌, ℕ, Bool, true, false, List, ◌++◌, length, Option, Some, All, Any, ⊤}
+use Rattle.std.specs.Io.KnownBytes.{Appends}
+use Rattle.planar_code.specs.declared.ending.Ending.{Ending}
+use Rattle.streams.specs.declared.frames.Mark.{Mark}
+use Rattle.streams.specs.Marks.{IsMarked}
+use Rattle.streams.specs.Sink.{AppendsPrefix}
+use Rattle.text_lines.specs.Lines.{lines_of}
+use Rattle.verdicts.specs.declared.verdict.Verdict.{Verdict}
+use Rattle.verdicts.specs.declared.verdict.Verdict.TheVariants as verdict
+use Rattle.verdicts.specs.Text.{verdict_lines, last_line}
+use Rattle.checking.specs.declared.run.Asked.{Asked}
+use Rattle.checking.specs.Pairs.{KeepsAllBut, AreVerdicts, AreSurplus}
+
+abbrev pub IsOk : Verdict → Type 0
+IsOk (verdict.Ok bends fewest) = ⊤
+IsOk _ = ⊥
+
+-- all was read: the file of graphs ended complete, no read of the lines failed, and memory sufficed for each record
+pub record IsWhole (mark : Mark) (lines_failed : Bool) (verdicts : List Verdict) : Type 0 where
+  pub complete : mark ≡ Mark.Ended Ending.Complete
+  pub lines : lines_failed ≡ false
+  pub memory : All (λ v. v ≢ verdict.Memory) verdicts
+
+-- the text of all verdicts and of the last line
+abbrev pub verdicts_text : Bool → List Verdict → Mark → ℕ → List ℕ
+verdicts_text json verdicts mark surplus = verdict_lines json 1 verdicts ++ last_line json mark (length verdicts) surplus
+
+-- The whole text of a run was added to the output, and the status says how it went. The records and the mark are those of
+-- some bytes, after which the file of graphs ends or fails, and of its bytes where they are known; likewise the lines.
+pub record IsTextOfVerdicts (asked : Asked) (known : Option (List ℕ)) (fails : Bool) (known_lines : Option (List ℕ)) (lines_fail : Bool) (old new : Option (List ℕ)) (failed : Bool) (status : ℕ) : Type 0 where
+  pub bytes : List ℕ
+  pub cut : Bool
+  pub records : List (List ℕ)
+  pub mark : Mark
+  pub marked : IsMarked bytes cut records mark
+  pub known_bytes : (all : List ℕ) → known ≡ Some all → (all ≡ bytes) × (fails ≡ cut)
+  pub line_bytes : List ℕ
+  pub lines_cut : Bool
+  pub known_line_bytes : (all : List ℕ) → known_lines ≡ Some all → (all ≡ line_bytes) × (lines_fail ≡ lines_cut)
+  pub kept : List (List ℕ)
+  pub keeps : KeepsAllBut (lines_of line_bytes lines_cut) kept
+  pub verdicts : List Verdict
+  pub each : AreVerdicts asked.faces lines_cut records kept verdicts
+  pub surplus : ℕ
+  pub behind : AreSurplus (length records) kept surplus
+  pub text : Appends old new (verdicts_text asked.json verdicts mark surplus)
+  pub written : failed ≡ false
+  pub ok : (IsWhole mark lines_cut verdicts × All IsOk verdicts × (surplus ≡ 0)) ↔ (status ≡ 0)
+  pub not_whole : (¬ IsWhole mark lines_cut verdicts) ↔ (status ≡ 3)
+  pub other : status ≢ 0 → status ≢ 3 → status ≡ 4
+
+-- A prefix of the text of a run was added to the output.
+pub record IsBegunTextOfVerdicts (asked : Asked) (old new : Option (List ℕ)) : Type 0 where
+  pub records : List (List ℕ)
+  pub kept : List (List ℕ)
+  pub lines_cut : Bool
+  pub verdicts : List Verdict
+  pub each : AreVerdicts asked.faces lines_cut records kept verdicts
+  pub mark : Mark
+  pub surplus : ℕ
+  pub text : AppendsPrefix old new (verdicts_text asked.json verdicts mark surplus)

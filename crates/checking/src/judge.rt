@@ -1,0 +1,217 @@
+//! Records as they come, each with its line.
+ghost use Rattle.std.specs.Prelude.{◌≡◌, ◌+◌, ◌≤◌, ◌<◌, ◌++◌, ◌∷◌, ◌↔◌, ◌⊎◌, ℕ, Bool, Option, List, [], length, true, false, IfOk, OnOk, OnErr, IsTrue};
+ghost use Rattle.planar_code.specs.declared.TheConstants.{MAX_RECORDS};
+ghost use Rattle.streams.specs.Reading.{IsFoundIn};
+ghost use Rattle.text_lines.specs.Lines.{state_in};
+ghost use Rattle.verdicts.specs.declared.verdict.Verdict.TheVariants as verdict;
+ghost use Rattle.checking.specs.Runs.{IsOk, IsTextOfVerdicts, IsBegunTextOfVerdicts};
+ghost use Rattle.checking.specs.UnderWay.{HasKept, KeepsNext, IsUnderWay};
+
+use crate::run::{Asked, Checked};
+use drawn_lines::LineFault;
+use planar_code::{Ending, Record};
+use std::alloc::{AllocError, Global};
+use std::sync::Wait;
+use streams::{Mark, Sink, Tap, TextBuffer, WriteFault};
+use text_lines::{Lines, Next};
+use verdicts::{Given, Said, Scratch, Verdict, judge_record, push_end, push_verdict, said_in};
+
+/// The lines that are left, and what was said so far.
+#[derive(Drop)]
+pub(crate) struct Judge<L> {
+    alloc: Global,
+    lines: Lines<L>,
+    asked: Asked,
+    scratch: Scratch,
+    text: TextBuffer,
+    /// How many records were judged.
+    count: u64,
+    /// Whether each verdict is `Ok`.
+    all_ok: bool,
+    /// Whether some verdict is `Memory`.
+    wants_memory: bool,
+}
+
+impl<L: Tap> Judge<L> {
+    /// Nothing said yet, before the first line.
+    ///
+    /// # Errors
+    ///
+    /// `AllocError` if there is no memory for a line.
+    pub(crate) fn new(alloc: Global, lines: L, asked: Asked) -> Result<Judge<L>, AllocError>
+        ensures begins { IfOk result (λ judge. (start : Option (List ℕ))
+            → IsUnderWay L.to_come L.fails (L.to_come lines) (L.fails lines) start start judge []) }
+        ensures asked { IfOk result (λ judge. judge.asked ≡ asked.entry) }
+    {
+        Ok(Judge {
+            alloc,
+            lines: Lines::new(alloc, lines)?,
+            asked,
+            scratch: Scratch::empty(alloc),
+            text: TextBuffer::new(),
+            count: 0,
+            all_ok: true,
+            wants_memory: false,
+        })
+    }
+
+    /// Writes the verdicts on records, in order, and takes them out of the list.
+    pub(crate) fn judge_all<R: Wait, S: Sink>(
+        &mut self,
+        rt: &R,
+        records: &mut Vec<Record>,
+        out: &mut S,
+    ) -> Result<(), WriteFault>
+        requires intact { S.failed out.old ≡ false }
+        requires few { self.old.count + length records.old.items ≤ MAX_RECORDS }
+        ensures unfailed { OnOk result (S.failed out.new ≡ false) }
+        ensures goes_on { OnOk result ((known : Option (List ℕ)) (fails : Bool) (start : Option (List ℕ)) (earlier : List (List ℕ))
+            → IsUnderWay L.to_come L.fails known fails start (S.taken out.old) self.old earlier
+            → IsUnderWay L.to_come L.fails known fails start (S.taken out.new) self.new (earlier ++ records.old.items)) }
+        ensures begun { OnErr result ((known : Option (List ℕ)) (fails : Bool) (start : Option (List ℕ)) (earlier : List (List ℕ))
+            → IsUnderWay L.to_come L.fails known fails start (S.taken out.old) self.old earlier
+            → IsBegunTextOfVerdicts self.old.asked start (S.taken out.new)) }
+        ensures asked { self.new.asked ≡ self.old.asked }
+        ensures empties { OnOk result (records.new.items ≡ []) }
+    {
+        for rec in records.iter() {
+            match self.judge(rt, rec, out) {
+                Ok(()) => {}
+                Err(fault) => return Err(fault),
+            }
+        }
+        records.clear();
+        Ok(())
+    }
+
+    /// Writes the verdict on the next record.
+    fn judge<R: Wait, S: Sink>(
+        &mut self,
+        rt: &R,
+        rec: &Record,
+        out: &mut S,
+    ) -> Result<(), WriteFault>
+        requires intact { S.failed out.old ≡ false }
+        requires few { self.old.count + 1 ≤ MAX_RECORDS }
+        ensures unfailed { OnOk result (S.failed out.new ≡ false) }
+        ensures goes_on { OnOk result ((known : Option (List ℕ)) (fails : Bool) (start : Option (List ℕ)) (earlier : List (List ℕ))
+            → IsUnderWay L.to_come L.fails known fails start (S.taken out.old) self.old earlier
+            → IsUnderWay L.to_come L.fails known fails start (S.taken out.new) self.new (earlier ++ rec.now ∷ [])) }
+        ensures begun { OnErr result ((known : Option (List ℕ)) (fails : Bool) (start : Option (List ℕ)) (earlier : List (List ℕ))
+            → IsUnderWay L.to_come L.fails known fails start (S.taken out.old) self.old earlier
+            → IsBegunTextOfVerdicts self.old.asked start (S.taken out.new)) }
+        ensures asked { self.new.asked ≡ self.old.asked }
+        ensures counted { self.new.count ≡ self.old.count + 1 }
+    {
+        let given = self.give(rt);
+        let verdict = judge_record(self.alloc, &mut self.scratch, self.asked.faces, rec, given);
+        self.note(verdict);
+        match self.text.make_room(out) {
+            Ok(()) => {}
+            Err(fault) => return Err(fault),
+        }
+        push_verdict(&mut self.text, self.asked.json, self.count, verdict);
+        Ok(())
+    }
+
+    /// Counts one record more, and this verdict on it.
+    fn note(&mut self, verdict: Verdict)
+        requires { self.old.count < MAX_RECORDS }
+        ensures counted { self.new.count ≡ self.old.count + 1 }
+        ensures ok { IsTrue self.new.all_ok ↔ (IsTrue self.old.all_ok × IsOk verdict) }
+        ensures wants { IsTrue self.new.wants_memory ↔ (IsTrue self.old.wants_memory ⊎ (verdict ≡ verdict.Memory)) }
+        ensures lines { self.new.lines ≡ self.old.lines }
+        ensures text { self.new.text ≡ self.old.text }
+        ensures asked { self.new.asked ≡ self.old.asked }
+    {
+        // A file has at most a million records.
+        self.count = self.count.saturating_add(1);
+        match verdict {
+            Verdict::Ok { .. } => {}
+            Verdict::Memory => {
+                self.all_ok = false;
+                self.wants_memory = true;
+            }
+            _ => self.all_ok = false,
+        }
+    }
+
+    /// What is given for the next record: the next line that is no end of a run.
+    fn give<R: Wait>(&mut self, rt: &R) -> Given
+        ensures gives { (known : Option (List ℕ)) (fails : Bool) (kept : List (List ℕ))
+            → HasKept L.to_come L.fails known fails self.old.lines kept
+            → KeepsNext L.to_come L.fails known fails (state_in self.old.lines) self.new.lines kept result }
+        ensures asked { self.new.asked ≡ self.old.asked }
+        ensures text { self.new.text ≡ self.old.text }
+        ensures count { self.new.count ≡ self.old.count }
+        ensures ok { self.new.all_ok ≡ self.old.all_ok }
+        ensures wants { self.new.wants_memory ≡ self.old.wants_memory }
+    {
+        for _ in rt.forever() {
+            match self.lines.next(rt) {
+                Next::Line => match said_in(self.alloc, self.lines.line()) {
+                    Ok(Said::End) => {}
+                    Ok(Said::Drawing(said)) => return Given::Drawing(said),
+                    Err(fault) => return Given::Fault(fault),
+                },
+                Next::TooLong => return Given::Fault(LineFault::Malformed),
+                Next::End => return Given::Missing,
+                Next::Failed => return Given::Unread,
+            }
+        }
+        unreachable!()
+    }
+
+    /// Reads the lines behind the last record, and writes the last line.
+    pub(crate) fn finish<R: Wait, S: Sink>(
+        mut self,
+        rt: &R,
+        mark: Mark,
+        out: &mut S,
+    ) -> Result<Checked, WriteFault>
+        requires { S.failed out.old ≡ false }
+        ensures whole { IfOk result (λ checked. (graphs : Option (List ℕ)) (cut : Bool) (known : Option (List ℕ)) (fails : Bool)
+            (start : Option (List ℕ)) (records : List (List ℕ)) → IsFoundIn graphs cut records mark
+            → IsUnderWay L.to_come L.fails known fails start (S.taken out.old) self.entry records
+            → IsTextOfVerdicts self.entry.asked graphs cut known fails start (S.taken out.new) (S.failed out.new) checked.status) }
+        ensures begun { OnErr result ((known : Option (List ℕ)) (fails : Bool) (start : Option (List ℕ)) (records : List (List ℕ))
+            → IsUnderWay L.to_come L.fails known fails start (S.taken out.old) self.entry records
+            → IsBegunTextOfVerdicts self.entry.asked start (S.taken out.new)) }
+    {
+        let mut surplus = 0u64;
+        let mut lines_failed = false;
+        for _ in rt.forever() {
+            match self.give(rt) {
+                Given::Missing => break,
+                Given::Unread => {
+                    lines_failed = true;
+                    break;
+                }
+                Given::Fault(LineFault::Memory) => return Err(WriteFault::Memory),
+                _ => surplus = surplus.saturating_add(1),
+            }
+        }
+        match self.text.make_room(out) {
+            Ok(()) => {}
+            Err(fault) => return Err(fault),
+        }
+        push_end(&mut self.text, self.asked.json, mark, self.count, surplus);
+        match self.text.flush(out) {
+            Ok(()) => {}
+            Err(fault) => return Err(fault),
+        }
+        let whole = mark == Mark::Ended(Ending::Complete) && !lines_failed && !self.wants_memory;
+        let status = if !whole {
+            3
+        } else if self.all_ok && surplus == 0 {
+            0
+        } else {
+            4
+        };
+        Ok(Checked {
+            mark,
+            lines_failed,
+            status,
+        })
+    }
+}

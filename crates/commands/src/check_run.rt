@@ -1,0 +1,59 @@
+//! The command `check`.
+ghost use Rattle.std.specs.Prelude.{◌≡◌, ◌⊎◌, false, IfOk, IfErr, OnErr};
+ghost use Rattle.command_line.specs.Refusals.{IsMisuse};
+ghost use Rattle.commands.specs.Statuses.{IsTextOfChecked, IsBegunTextOfChecked, is_json};
+
+use checking::{Asked, check_files};
+use command_line::{CheckRequest, Fault, FileNotes, NamedFiles, open_source};
+use reports::Form;
+use std::sync::Wait;
+use streams::Sink;
+
+/// Checks the drawings in one file of the graphs in another one, and writes the verdicts, and the lines about the files.
+/// Returns the exit status of the verdicts.
+///
+/// # Errors
+///
+/// `Memory` if memory ran out for the run, and `Write` if the output failed; a prefix of the text is then written.
+pub fn check<R: AllocGlobal + Wait, N: NamedFiles, S: Sink, E: Sink>(
+    rt: &R,
+    asked: CheckRequest<'_>,
+    files: &N,
+    out: &mut S,
+    err: &mut E,
+) -> Result<u8, Fault>
+    requires out_is_intact { S.failed out.old ≡ false }
+    requires err_is_intact { E.failed err.old ≡ false }
+    ensures written { IfOk result (IsTextOfChecked (N.meaning files.now) asked.entry
+        (S.taken out.old) (S.taken out.new) (S.failed out.new)) }
+    ensures failed { IfErr result (λ fault. ¬ IsMisuse fault) }
+    ensures begun { OnErr result ((out.new ≡ out.old)
+        ⊎ IsBegunTextOfChecked asked.entry (S.taken out.old) (S.taken out.new)) }
+    ensures intact { OnErr result (E.failed err.new ≡ false) }
+{
+    let Ok(notes) = FileNotes::new(rt.alloc(), 2) else {
+        return Err(Fault::Memory);
+    };
+    let graphs = open_source(files, rt.alloc(), asked.graphs, notes.note(0))?;
+    let lines = open_source(files, rt.alloc(), asked.lines, notes.note(1))?;
+    let how = Asked {
+        json: is_json(asked.form),
+        faces: asked.faces,
+    };
+    let checked = check_files(rt, graphs, lines, how, out)?;
+    if let Some(note) = notes.note(0) {
+        note.end(checked.mark);
+    }
+    notes.write(rt.alloc(), &[asked.graphs, asked.lines], err);
+    Ok(checked.status)
+}
+
+/// Whether the lines of this format are JSON.
+fn is_json(form: Form) -> bool
+    ensures { result ≡ is_json form }
+{
+    match form {
+        Form::Report => false,
+        Form::Json => true,
+    }
+}

@@ -1,0 +1,4 @@
+pub mod Said
+pub mod Words
+pub mod Text
+pub mod Verdicts

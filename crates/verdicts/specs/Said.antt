@@ -1,0 +1,63 @@
+-- What a line says.
+use Rattle.std.specs.Prelude.{◌≡◌, ◌≢◌, ℕ, ◌^◌, ◌<◌, ◌≤◌, List, Option, Some, None, IfSome, MatchOption, All, codes, option_map, IsUtf8}
+use Rattle.serde_json.specs.Data.{Data}
+use Rattle.serde_json.specs.Find.{get}
+use Rattle.serde_json.specs.Read.{read}
+use Rattle.ortho_rep.specs.Points.{PointsModel}
+use Rattle.ortho_rep.specs.Storage.{lists_in}
+use Rattle.drawn_lines.specs.Said.{natural, array_of, turns_data, SaysPoints, SaysPrices, AreShort, AreOf32Bits}
+use Rattle.referee.specs.declared.claims.Claims.{Claims}
+use Rattle.verdicts.specs.declared.said.Said.{Said}
+use Rattle.verdicts.specs.declared.said.Said.TheVariants as said
+
+-- a value makes these claims, each in a field of its own, and none where it has no such field
+pub record HasClaims (value : Data) (claims : Claims) : Type 0 where
+  pub angles : get (codes "angles") value ≡ option_map (λ angles. array_of natural angles.items) claims.angles
+  pub turns : get (codes "turns") value ≡ option_map (λ strings. array_of turns_data (lists_in strings.items)) claims.turns
+  pub prices : MatchOption claims.prices (get (codes "prices") value ≡ None) (SaysPrices value)
+  pub bends : get (codes "bends") value ≡ option_map natural claims.bends
+  pub outer : get (codes "outer") value ≡ option_map natural claims.outer
+
+-- a value says these points, and makes these claims
+pub record HasFields (value : Data) (points : PointsModel) (claims : Claims) : Type 0 where
+  pub points_are : SaysPoints value points
+  pub claims_are : HasClaims value claims
+
+-- numbers have their ranges: angles have 8 bits, prices 32 with sign, the bends 32, the outer face 16
+pub record HasClaimRanges (claims : Claims) : Type 0 where
+  pub angles : IfSome claims.angles (λ angles. All (λ angle. angle ≤ 255) angles.items)
+  pub prices : IfSome claims.prices AreOf32Bits
+  pub bends : IfSome claims.bends (λ bends. bends < 2 ^ 32)
+  pub outer : IfSome claims.outer (λ outer. outer < 2 ^ 16)
+
+-- and coordinates have 32 bits
+pub record HasRanges (points : PointsModel) (claims : Claims) : Type 0 where
+  pub short : AreShort points
+  pub claims_fit : HasClaimRanges claims
+
+-- a line is the JSON text, in UTF-8, of this value
+pub record IsTextOf (line : List ℕ) (value : Data) : Type 0 where
+  pub utf8 : IsUtf8 line
+  pub text : read line ≡ Some value
+
+-- a line is the last one of a run: its value has a field `end`
+pub record IsEndLine (line : List ℕ) : Type 0 where
+  pub value : Data
+  pub text : IsTextOf line value
+  pub named : get (codes "end") value ≢ None
+
+-- a line says a drawing: these points, with these claims
+pub record SaysDrawing (line : List ℕ) (points : PointsModel) (claims : Claims) : Type 0 where
+  pub value : Data
+  pub text : IsTextOf line value
+  pub goes_on : get (codes "end") value ≡ None
+  pub fields : HasFields value points claims
+
+abbrev pub Says : List ℕ → Said → Type 0
+Says line said.End = IsEndLine line
+Says line (said.Drawing drawing) = SaysDrawing line drawing.points drawing.claims
+
+-- a line says neither an end nor a drawing whose numbers have their ranges
+pub record SaysNothing (line : List ℕ) : Type 0 where
+  pub no_end : ¬ IsEndLine line
+  pub no_drawing : (points : PointsModel) (claims : Claims) → HasRanges points claims → SaysDrawing line points claims → ⊥

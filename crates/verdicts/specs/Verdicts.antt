@@ -1,0 +1,69 @@
+-- When a verdict holds of a record and of what is given for it.
+use Rattle.std.specs.Prelude.{◌≡◌, ◌≢◌, ℕ, ◌<◌, Bool, true, List, length, ⊤}
+use Rattle.planar_code.specs.Stream.{lists_of}
+use Rattle.embedding.specs.Rules.{FirstBroken, KeepsBefore}
+use Rattle.faces.specs.Planes.{PlaneModel, IsPlane, with_outer}
+use Rattle.ortho_rep.specs.Points.{PointsModel}
+use Rattle.ortho_rep.specs.Shapes.{ShapeModel, turns_at}
+use Rattle.ortho_rep.specs.Representation.{bends_of}
+use Rattle.ortho_rep.specs.Best.{HasRep, NeedsBends}
+use Rattle.drawing_check.specs.Regions.{HasRegions}
+use Rattle.drawn_lines.specs.declared.fault.LineFault.TheVariants as line
+use Rattle.referee.specs.declared.claims.Claims.{Claims}
+use Rattle.referee.specs.Claims.{Hold, IsFirstFalse}
+use Rattle.referee.specs.Drawings.{IsDrawn, IsDrawnBy}
+use Rattle.verdicts.specs.declared.said.Given.{Given}
+use Rattle.verdicts.specs.declared.said.Given.TheVariants as given
+use Rattle.verdicts.specs.declared.verdict.Verdict.{Verdict}
+use Rattle.verdicts.specs.declared.verdict.Verdict.TheVariants as verdict
+
+-- where faces are asked for, each region is its face
+abbrev pub KeepsFaces : Bool → PlaneModel → PointsModel → Type 0
+KeepsFaces faces p points = faces ≡ true → HasRegions p points
+
+-- so many bends, and so many are fewest
+pub record HasBendCounts (p : PlaneModel) (shape : ShapeModel) (bends fewest : ℕ) : Type 0 where
+  pub bends_are : bends ≡ bends_of (length shape.strings) (turns_at shape)
+  pub some : HasRep p fewest
+  pub needed : NeedsBends p fewest
+
+-- a verdict on a drawing, whose points draw this orthogonal representation of the plane with its outer face
+abbrev pub IsFound : Bool → PlaneModel → PointsModel → ShapeModel → Claims → Verdict → Type 0
+IsFound faces p points shape claims verdict.Regions = ¬ KeepsFaces faces p points
+IsFound faces p points shape claims (verdict.Claim claim) = KeepsFaces faces p points × IsFirstFalse p shape claims claim
+IsFound faces p points shape claims (verdict.Ok bends fewest) = KeepsFaces faces p points × Hold p shape claims × HasBendCounts p shape bends fewest
+IsFound faces p points shape claims _ = ⊥
+
+-- the points draw an orthogonal representation of the plane with this outer face, on which this is the verdict
+pub record IsFoundOf (faces : Bool) (p : PlaneModel) (points : PointsModel) (claims : Claims) (v : Verdict) : Type 0 where
+  pub outer : ℕ
+  pub named : outer < p.faces
+  pub shape : ShapeModel
+  pub drawn : IsDrawnBy (with_outer p outer) points shape
+  pub found : IsFound faces (with_outer p outer) points shape claims v
+
+abbrev pub IsVerdictOnDrawing : Bool → PlaneModel → PointsModel → Claims → Verdict → Type 0
+IsVerdictOnDrawing faces p points claims (verdict.Drawn fault) = ¬ IsDrawn p points
+IsVerdictOnDrawing faces p points claims verdict.Memory = ⊤
+IsVerdictOnDrawing faces p points claims v = IsFoundOf faces p points claims v
+
+-- a verdict on what is given for a plane
+abbrev pub IsVerdictOnPlane : Bool → PlaneModel → Given → Verdict → Type 0
+IsVerdictOnPlane faces p (given.Drawing said) v = IsVerdictOnDrawing faces p said.points said.claims v
+IsVerdictOnPlane faces p (given.Fault fault) (verdict.Line other) = (other ≡ fault) × (fault ≢ line.Memory)
+IsVerdictOnPlane faces p (given.Fault fault) v = (v ≡ verdict.Memory) × (fault ≡ line.Memory)
+IsVerdictOnPlane faces p given.Missing v = v ≡ verdict.Missing
+IsVerdictOnPlane faces p given.Unread v = v ≡ verdict.Unread
+
+-- the record breaks no rule, and this is the verdict on what is given for its plane
+pub record IsVerdictOnEmbedding (faces : Bool) (bytes : List ℕ) (given : Given) (v : Verdict) : Type 0 where
+  pub plane : PlaneModel
+  pub lists_are : plane.lists ≡ lists_of bytes
+  pub is_plane : IsPlane plane
+  pub verdict_is : IsVerdictOnPlane faces plane given v
+
+-- the verdict on a record and what is given for it
+abbrev pub IsVerdict : Bool → List ℕ → Given → Verdict → Type 0
+IsVerdict faces bytes given (verdict.Refused rule) = FirstBroken (lists_of bytes) rule
+IsVerdict faces bytes given verdict.Memory = ⊤
+IsVerdict faces bytes given v = IsVerdictOnEmbedding faces bytes given v

@@ -1,0 +1,62 @@
+-- The words of verdicts.
+use Rattle.std.specs.Prelude.{ℕ, List, codes}
+use Rattle.embedding.specs.declared.rules.Rule.{Rule}
+use Rattle.embedding.specs.declared.rules.Rule.TheVariants as rule
+use Rattle.drawn_lines.specs.declared.fault.LineFault.{LineFault}
+use Rattle.drawn_lines.specs.declared.fault.LineFault.TheVariants as line
+use Rattle.referee.specs.declared.fault.Fault.{Fault}
+use Rattle.referee.specs.declared.fault.Fault.TheVariants as fault
+use Rattle.referee.specs.declared.claims.FalseClaim.{FalseClaim}
+use Rattle.referee.specs.declared.claims.FalseClaim.TheVariants as claim
+use Rattle.verdicts.specs.declared.verdict.Verdict.{Verdict}
+use Rattle.verdicts.specs.declared.verdict.Verdict.TheVariants as verdict
+
+abbrev pub rule_word : Rule → List ℕ
+rule_word rule.Range = codes "refused range"
+rule_word rule.Loop = codes "refused loop"
+rule_word rule.Multi = codes "refused multi"
+rule_word rule.Asymmetric = codes "refused asymmetric"
+rule_word rule.Edgeless = codes "refused edgeless"
+rule_word rule.Degree = codes "refused degree"
+rule_word rule.Disconnected = codes "refused disconnected"
+rule_word rule.Genus = codes "refused genus"
+
+abbrev pub line_word : LineFault → List ℕ
+line_word line.Malformed = codes "line=malformed"
+line_word line.Points = codes "line=points"
+line_word line.Number = codes "line=number"
+line_word line.Angles = codes "line=angles"
+line_word line.Turns = codes "line=turns"
+line_word line.Prices = codes "line=prices"
+line_word line.Memory = codes "memory"
+
+abbrev pub drawn_word : Fault → List ℕ
+drawn_word fault.Vertices = codes "drawn=vertices"
+drawn_word fault.Edges = codes "drawn=edges"
+drawn_word (fault.Long edge) = codes "drawn=long"
+drawn_word (fault.VertexOutOfGrid vertex) = codes "drawn=grid"
+drawn_word (fault.CornerOutOfGrid edge corner) = codes "drawn=grid"
+drawn_word (fault.NotAxis edge part) = codes "drawn=axes"
+drawn_word (fault.NoTurn edge corner) = codes "drawn=turn"
+drawn_word (fault.Embedding vertex) = codes "embedding"
+drawn_word fault.Outer = codes "outer"
+drawn_word fault.Meet = codes "drawn=meet"
+drawn_word fault.Memory = codes "memory"
+
+abbrev pub claim_word : FalseClaim → List ℕ
+claim_word claim.Angles = codes "claim=angles"
+claim_word claim.Turns = codes "claim=turns"
+claim_word claim.Prices = codes "claim=prices"
+claim_word claim.Bends = codes "claim=bends"
+claim_word claim.Outer = codes "claim=outer"
+
+abbrev pub word_of : Verdict → List ℕ
+word_of (verdict.Refused r) = rule_word r
+word_of verdict.Missing = codes "line=missing"
+word_of verdict.Unread = codes "line=unread"
+word_of (verdict.Line f) = line_word f
+word_of (verdict.Drawn f) = drawn_word f
+word_of verdict.Regions = codes "regions"
+word_of (verdict.Claim c) = claim_word c
+word_of (verdict.Ok bends fewest) = codes "ok"
+word_of verdict.Memory = codes "memory"

@@ -1,0 +1,154 @@
+//! What a line says: a drawing, or the end of a run.
+ghost use Rattle.std.specs.Prelude.{◌≡◌, ◌≢◌, codes, true, false, None, IfOk, IfErr};
+ghost use Rattle.serde_json.specs.Find.{get};
+ghost use Rattle.serde_json.specs.Data.{Data};
+ghost use Rattle.serde_json.specs.Errors.{IsMemory};
+ghost use Rattle.serde_json.specs.View.{view};
+ghost use Rattle.ortho_rep.specs.Points.{PointsModel};
+ghost use Rattle.referee.specs.declared.claims.Claims.{Claims};
+ghost use Rattle.drawn_lines.specs.declared.fault.LineFault.TheVariants.{Memory};
+ghost use Rattle.verdicts.specs.Said.{IsTextOf, HasFields, HasRanges, HasClaims, HasClaimRanges, Says, SaysNothing};
+
+use drawn_lines::{LineFault, angles_in, bends_in, outer_in, points_in, prices_in, turns_in};
+use ortho_rep::Points;
+use referee::Claims;
+use serde_json::{Error, Value};
+use std::alloc::Global;
+
+/// A drawing as a line says it: its points, and what else it claims of them.
+#[derive(Debug, Drop)]
+pub struct SaidDrawing {
+    pub points: Points,
+    pub claims: Claims,
+}
+
+/// What a line says.
+#[derive(Debug, Drop)]
+pub enum Said {
+    /// The line is the last one of a run.
+    End,
+    /// The line says a drawing.
+    Drawing(SaidDrawing),
+}
+
+/// What is given for a record.
+#[derive(Debug, Drop)]
+pub enum Given {
+    /// A line that says a drawing.
+    Drawing(SaidDrawing),
+    /// A line that says none.
+    Fault(LineFault),
+    /// No line, as there are no more.
+    Missing,
+    /// No line, as a read failed.
+    Unread,
+}
+
+/// What a line says.
+///
+/// # Errors
+///
+/// `Memory` if memory runs out. Otherwise the line says neither a drawing whose numbers have their ranges nor an end.
+pub fn said_in(alloc: Global, line: &[u8]) -> Result<Said, LineFault>
+    ensures ok { IfOk result (Says line.now) }
+    ensures none { IfErr result (λ fault. fault ≢ Memory → SaysNothing line.now) }
+{
+    let value = match value_of(alloc, line) {
+        Ok(value) => value,
+        Err(fault) => return Err(fault),
+    };
+    if is_end(&value) {
+        return Ok(Said::End);
+    }
+    match drawing_in(alloc, &value) {
+        Ok(drawing) => Ok(Said::Drawing(drawing)),
+        Err(fault) => Err(fault),
+    }
+}
+
+/// Whether a value has a field `end`.
+fn is_end(value: &Value) -> bool
+    ensures ended { result ≡ true → get (codes "end") (view value.now) ≢ None }
+    ensures goes_on { result ≡ false → get (codes "end") (view value.now) ≡ None }
+{
+    match value.get("end") {
+        Some(_) => true,
+        None => false,
+    }
+}
+
+/// The JSON value of a line.
+fn value_of(alloc: Global, line: &[u8]) -> Result<Value, LineFault>
+    ensures ok { IfOk result (λ value. IsTextOf line.now (view value)) }
+    ensures none { IfErr result (λ fault. fault ≢ Memory → (value : Data) → IsTextOf line.now value → ⊥) }
+{
+    match Value::from_slice(alloc, line) {
+        Ok(value) => Ok(value),
+        Err(error) => Err(fault_of(&error)),
+    }
+}
+
+/// Why a text is no value.
+fn fault_of(error: &Error) -> LineFault
+    ensures { result ≢ Memory → ¬ IsMemory error.now }
+{
+    if error.is_memory() {
+        LineFault::Memory
+    } else {
+        LineFault::Malformed
+    }
+}
+
+/// The drawing that a value says.
+fn drawing_in(alloc: Global, value: &Value) -> Result<SaidDrawing, LineFault>
+    ensures ok { IfOk result (λ said. HasFields (view value.now) said.points said.claims) }
+    ensures none { IfErr result (λ fault. fault ≢ Memory → (points : PointsModel) (claims : Claims)
+        → HasRanges points claims → HasFields (view value.now) points claims → ⊥) }
+{
+    if !value.is_object() {
+        return Err(LineFault::Malformed);
+    }
+    let points = match points_in(alloc, value) {
+        Ok(points) => points,
+        Err(fault) => return Err(fault),
+    };
+    match claims_in(alloc, value) {
+        Ok(claims) => Ok(SaidDrawing { points, claims }),
+        Err(fault) => Err(fault),
+    }
+}
+
+/// What a value claims of its points.
+fn claims_in(alloc: Global, value: &Value) -> Result<Claims, LineFault>
+    ensures ok { IfOk result (HasClaims (view value.now)) }
+    ensures none { IfErr result (λ fault. fault ≢ Memory → (claims : Claims)
+        → HasClaimRanges claims → HasClaims (view value.now) claims → ⊥) }
+{
+    let angles = match angles_in(alloc, value) {
+        Ok(angles) => angles,
+        Err(fault) => return Err(fault),
+    };
+    let turns = match turns_in(alloc, value) {
+        Ok(turns) => turns,
+        Err(fault) => return Err(fault),
+    };
+    let prices = match prices_in(alloc, value) {
+        Ok(prices) => prices,
+        Err(fault) => return Err(fault),
+    };
+    let bends = match bends_in(value) {
+        Ok(bends) => bends,
+        Err(fault) => return Err(fault),
+    };
+    let outer = match outer_in(value) {
+        Ok(outer) => outer,
+        Err(fault) => return Err(fault),
+    };
+    Ok(Claims {
+        angles,
+        turns,
+        prices,
+        bends,
+        outer,
+    })
+}
