@@ -10,7 +10,7 @@ import re
 ROOT = os.path.dirname(os.path.dirname(os.path.abspath(__file__)))
 PAGES = ["README.md", "CONTRIBUTING.md", "docs/*.md", "bench/*.md"]
 COUNTED = [*PAGES, "CHANGELOG.md", "examples/README.md"]
-MOST = {"README.md": 900, "CONTRIBUTING.md": 900, "CHANGELOG.md": 600, "docs/CHECK.md": 500, "docs/CLUSTER.md": 750, "": 13_400}  # words; of all pages
+MOST = {"README.md": 900, "CONTRIBUTING.md": 900, "CHANGELOG.md": 600, "docs/CHECK.md": 500, "docs/CLUSTER.md": 750, "": 13_000}  # words; of all pages
 WRITTEN = {"bench/RESULTS.md", "docs/COUNTS.md"}  # by scripts, and so not counted
 NO_TREE = {"bench/RESULTS.md"}  # quotes what ran
 NUMBER = re.compile(r"([\d,]*\d) (crates|proofs|edits|attacks|tests)\b")
