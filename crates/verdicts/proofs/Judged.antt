@@ -44,17 +44,23 @@ on_drawing faces p now points shape claims (verdict.Line f) same named drawn fou
 on_drawing faces p now points shape claims (verdict.Drawn f) same named drawn found = absurd found
 on_drawing faces p now points shape claims verdict.Memory same named drawn found = tt
 on_drawing faces p now points shape claims verdict.Regions same named drawn found = record {
-  outer = now.outer; named = named; shape = shape;
+  outer = now.outer;
+  named = named;
+  shape = shape;
   drawn = subst (λ (q : PlaneModel). IsDrawnBy q points shape) same drawn;
   found = subst (λ (q : PlaneModel). IsFound faces q points shape claims verdict.Regions) same found;
 }
 on_drawing faces p now points shape claims (verdict.Claim c) same named drawn found = record {
-  outer = now.outer; named = named; shape = shape;
+  outer = now.outer;
+  named = named;
+  shape = shape;
   drawn = subst (λ (q : PlaneModel). IsDrawnBy q points shape) same drawn;
   found = subst (λ (q : PlaneModel). IsFound faces q points shape claims (verdict.Claim c)) same found;
 }
 on_drawing faces p now points shape claims (verdict.Ok bends fewest) same named drawn found = record {
-  outer = now.outer; named = named; shape = shape;
+  outer = now.outer;
+  named = named;
+  shape = shape;
   drawn = subst (λ (q : PlaneModel). IsDrawnBy q points shape) same drawn;
   found = subst (λ (q : PlaneModel). IsFound faces q points shape claims (verdict.Ok bends fewest)) same found;
 }

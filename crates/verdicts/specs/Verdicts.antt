@@ -1,7 +1,7 @@
 -- When a verdict holds of a record and of what is given for it.
 use Rattle.std.specs.Prelude.{◌≡◌, ◌≢◌, ℕ, ◌<◌, Bool, true, List, length, ⊤}
 use Rattle.planar_code.specs.Stream.{lists_of}
-use Rattle.embedding.specs.Rules.{FirstBroken, KeepsBefore}
+use Rattle.embedding.specs.Rules.{FirstBroken}
 use Rattle.faces.specs.Planes.{PlaneModel, IsPlane, with_outer}
 use Rattle.ortho_rep.specs.Points.{PointsModel}
 use Rattle.ortho_rep.specs.Shapes.{ShapeModel, turns_at}
