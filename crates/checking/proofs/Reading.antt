@@ -1,5 +1,5 @@
 -- What a reader of lines keeps, step by step.
-use Rattle.std.proofs.Common.{◌≡◌, ◌≤◌, ◌<◌, ◌-◌, ◌^◌, min, ◌⊎◌, ℕ, ◌+◌, Bool, true, false, List, [], ◌∷◌, ◌++◌, Option, None, Some, length, inl, inr, refl, ap, sym, subst, ◌∙◌, append_assoc, append-nil, length-append, arith}
+use Rattle.std.proofs.Common.{◌≡◌, ◌≢◌, ◌≤◌, ◌<◌, ◌-◌, ◌^◌, min, ◌⊎◌, ℕ, ◌+◌, Bool, true, false, List, [], ◌∷◌, ◌++◌, Option, None, Some, length, inl, inr, refl, ap, sym, subst, ◌∙◌, append_assoc, append-nil, length-append, arith}
 use Rattle.std.specs.Prelude.{All}
 use Rattle.std.proofs.lemmas.List.Elements.{All-nil, All-push}
 use Rattle.text_lines.specs.declared.TheConstants.{MAX_LINE}
@@ -9,7 +9,7 @@ use Rattle.text_lines.specs.declared.lines.State.{State}
 use Rattle.text_lines.specs.declared.lines.State.TheVariants as state
 use Rattle.text_lines.specs.Lines.{HasGiven, GivesNext, StaysClosed, state_in, rest_in, fails_in, line_in}
 use Rattle.drawn_lines.specs.declared.fault.LineFault.{LineFault}
-use Rattle.drawn_lines.specs.declared.fault.LineFault.TheVariants as line
+use Rattle.drawn_lines.specs.declared.fault.LineFault.TheVariants.{Memory, Malformed}
 use Rattle.verdicts.specs.Said.{IsEndLine, SaysDrawing, SaysNothing}
 use Rattle.verdicts.specs.Verdicts.{IsVerdict}
 use Rattle.verdicts.specs.declared.said.Given.{Given}
@@ -88,17 +88,15 @@ closed_fails false failed may = may
 
 module _ {L : Type 0} (to_come : L → Option (List ℕ)) (fails : L → Bool) (known : Option (List ℕ)) (known_fails : Bool) (lines : Lines L) where
   -- the next line is the end of a run
-  pub leaves_out : (before : Lines L) (kept : List (List ℕ)) (line : List ℕ) → line ≡ line_in lines → IsEndLine line
+  pub leaves_out : (before : Lines L) (kept : List (List ℕ)) → IsEndLine (line_in lines)
       → (so_far : HasKept to_come fails known known_fails before kept)
       → GivesNext known known_fails (state_in lines) (rest_in to_come lines) (fails_in fails lines) so_far.given (line_in lines) next.Line
       → HasKept to_come fails known known_fails lines kept
-  leaves_out before kept line is says so_far gives =
-      let ends : IsEndLine (line_in lines) = subst IsEndLine is says in
-      record {
-        given = so_far.given ++ line_in lines ∷ [];
-        has_given = gives.1;
-        keeps = one_left so_far.given kept (line_in lines) (record { short = gives.0; says = ends }) so_far.keeps;
-      }
+  leaves_out before kept says so_far gives = record {
+    given = so_far.given ++ line_in lines ∷ [];
+    has_given = gives.1;
+    keeps = one_left so_far.given kept (line_in lines) (record { short = gives.0; says = says }) so_far.keeps;
+  }
 
   -- it is another one, of which this is told
   pub keeps_line : (first : State) (before : Lines L) (kept : List (List ℕ)) (told : Given) → first ≡ state.Open
@@ -121,7 +119,7 @@ module _ {L : Type 0} (to_come : L → Option (List ℕ)) (fails : L → Bool) (
   pub keeps_long : (first : State) (before : Lines L) (kept : List (List ℕ)) → first ≡ state.Open
       → (so_far : HasKept to_come fails known known_fails before kept)
       → GivesNext known known_fails (state_in lines) (rest_in to_come lines) (fails_in fails lines) so_far.given (line_in lines) next.TooLong
-      → KeepsOneMore to_come fails known known_fails first lines kept (given.Fault line.Malformed)
+      → KeepsOneMore to_come fails known known_fails first lines kept (given.Fault Malformed)
   keeps_long first before kept opened so_far gives = record {
     line = gives.0;
     opened = opened;
@@ -194,7 +192,7 @@ module _ {L : Type 0} (to_come : L → Option (List ℕ)) (fails : L → Bool) (
   -- a record and the next line, if there is one
   pub pairs_next : (before : State) (faces : Bool) (records kept : List (List ℕ)) (verdicts : List Verdict) (bytes : List ℕ) (v : Verdict) (told : Given)
       → Keeps before (length kept) (length records) → ((failed : Bool) → MayFail before failed → AreVerdicts faces failed records kept verdicts)
-      → KeepsNext to_come fails known known_fails before lines kept told → IsVerdict faces bytes told v → (told ≡ given.Fault line.Memory → v ≡ verdict.Memory)
+      → KeepsNext to_come fails known known_fails before lines kept told → IsVerdict faces bytes told v → (told ≡ given.Fault Memory → v ≡ verdict.Memory)
       → ArePaired faces (records ++ bytes ∷ []) (verdicts ++ v ∷ [])
   pairs_next before faces records kept verdicts bytes v given.Missing many each step holds memory =
       pairs_none before faces false records kept verdicts bytes v many each step (judged_as faces false bytes None v given.Missing refl holds memory)
@@ -221,7 +219,7 @@ module _ {L : Type 0} (to_come : L → Option (List ℕ)) (fails : L → Bool) (
 
   -- one more, unless memory ran out for it
   pub rest_one : (kept : List (List ℕ)) (first : State) (before : Lines L) (surplus next : ℕ) (told : Given) → next ≡ min (surplus + 1) (2 ^ 64 - 1)
-      → told ≢ given.Fault line.Memory → (so_far : KeepsMore to_come fails known known_fails first before kept surplus)
+      → told ≢ given.Fault Memory → (so_far : KeepsMore to_come fails known known_fails first before kept surplus)
       → KeepsOneMore to_come fails known known_fails (state_in before) lines (kept ++ so_far.more) told
       → KeepsMore to_come fails known known_fails first lines kept next
   rest_one kept first before surplus next told is other so_far step =

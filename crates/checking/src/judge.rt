@@ -7,7 +7,7 @@ ghost use Rattle.streams.specs.Reading.{IsFoundIn};
 ghost use Rattle.text_lines.specs.Lines.{state_in};
 ghost use Rattle.drawn_lines.specs.declared.fault.LineFault.TheVariants as line;
 ghost use Rattle.verdicts.specs.declared.said.Given.TheVariants as told;
-ghost use Rattle.verdicts.specs.declared.verdict.Verdict.TheVariants as verdict;
+ghost use Rattle.verdicts.specs.declared.verdict.Verdict.TheVariants as found;
 ghost use Rattle.verdicts.specs.Verdicts.{IsVerdict};
 ghost use Rattle.checking.specs.Runs.{IsOk, IsTextOfVerdicts};
 ghost use Rattle.checking.specs.UnderWay.{HasKept, KeepsNext, KeepsRest, IsUnderWay, IsCutShort, IsCutShortWithin};
@@ -132,7 +132,7 @@ impl<L: Tap> Judge<L> {
     /// the verdict is that memory ran out.
     fn verdict_on(&mut self, rec: &Record, given: Given) -> Verdict
         ensures holds { IsVerdict self.old.asked.faces rec.now given result }
-        ensures memory { given ≡ told.Fault line.Memory → result ≡ verdict.Memory }
+        ensures memory { given ≡ told.Fault line.Memory → result ≡ found.Memory }
         ensures lines { self.new.lines ≡ self.old.lines }
         ensures asked { self.new.asked ≡ self.old.asked }
         ensures text { self.new.text ≡ self.old.text }
@@ -151,7 +151,7 @@ impl<L: Tap> Judge<L> {
         requires { self.old.count < MAX_RECORDS }
         ensures counted { self.new.count ≡ self.old.count + 1 }
         ensures ok { (self.new.all_ok ≡ true) ↔ ((self.old.all_ok ≡ true) × IsOk verdict) }
-        ensures wants { (self.new.wants_memory ≡ false) ↔ ((self.old.wants_memory ≡ false) × (verdict ≢ verdict.Memory)) }
+        ensures wants { (self.new.wants_memory ≡ false) ↔ ((self.old.wants_memory ≡ false) × (verdict ≢ found.Memory)) }
         ensures lines { self.new.lines ≡ self.old.lines }
         ensures text { self.new.text ≡ self.old.text }
         ensures asked { self.new.asked ≡ self.old.asked }
