@@ -140,10 +140,10 @@ impl<L: Tap> Judge<L> {
         ensures ok { self.new.all_ok ≡ self.old.all_ok }
         ensures wants { self.new.wants_memory ≡ self.old.wants_memory }
     {
-        match given {
-            Given::Fault(LineFault::Memory) => Verdict::Memory,
-            given => judge_record(self.alloc, &mut self.scratch, self.asked.faces, rec, given),
+        if is_wanting(&given) {
+            return Verdict::Memory;
         }
+        judge_record(self.alloc, &mut self.scratch, self.asked.faces, rec, given)
     }
 
     /// Counts one record more, and this verdict on it.
@@ -211,7 +211,13 @@ impl<L: Tap> Judge<L> {
     {
         let mut surplus = 0u64;
         for _ in rt.forever() {
-            match self.give(rt) {
+            let given = self.give(rt);
+            if is_wanting(&given) {
+                return Err(WriteFault::Memory);
+            }
+            match given {
+                Given::Drawing(_) => surplus = surplus.saturating_add(1),
+                Given::Fault(_) => surplus = surplus.saturating_add(1),
                 Given::Missing => {
                     return Ok(Rest {
                         surplus,
@@ -224,8 +230,6 @@ impl<L: Tap> Judge<L> {
                         failed: true,
                     });
                 }
-                Given::Fault(LineFault::Memory) => return Err(WriteFault::Memory),
-                _ => surplus = surplus.saturating_add(1),
             }
         }
         unreachable!()
@@ -266,6 +270,16 @@ impl<L: Tap> Judge<L> {
             lines_failed: rest.failed,
             status: status_of(whole, self.all_ok, rest.surplus),
         })
+    }
+}
+
+/// Whether memory ran out for a line.
+fn is_wanting(given: &Given) -> bool
+    ensures { (result ≡ true) ↔ (given.now ≡ told.Fault line.Memory) }
+{
+    match given {
+        Given::Fault(LineFault::Memory) => true,
+        _ => false,
     }
 }
 
