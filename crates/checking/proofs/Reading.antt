@@ -218,7 +218,7 @@ module _ {L : Type 0} (to_come : L → Option (List ℕ)) (fails : L → Bool) (
   }
 
   -- one more, unless memory ran out for it
-  pub rest_one : (kept : List (List ℕ)) (first : State) (before : Lines L) (surplus next : ℕ) (told : Given) → next ≡ min (surplus + 1) (2 ^ 64 - 1)
+  rest_one : (kept : List (List ℕ)) (first : State) (before : Lines L) (surplus next : ℕ) (told : Given) → next ≡ min (surplus + 1) (2 ^ 64 - 1)
       → told ≢ given.Fault Memory → (so_far : KeepsMore to_come fails known known_fails first before kept surplus)
       → KeepsOneMore to_come fails known known_fails (state_in before) lines (kept ++ so_far.more) told
       → KeepsMore to_come fails known known_fails first lines kept next
@@ -231,6 +231,17 @@ module _ {L : Type 0} (to_come : L → Option (List ℕ)) (fails : L → Bool) (
         counted = omega (arith, length-append so_far.more (step.line ∷ []));
         opened = elim so_far.opened [ inl opened ↦ inl opened | inr same ↦ inl (sym same.0 ∙ step.opened) ];
       }
+
+  pub rest_next : (kept : List (List ℕ)) (first : State) (before : Lines L) (surplus next : ℕ) (told : Given) → told ≢ given.Missing → told ≢ given.Unread
+      → next ≡ min (surplus + 1) (2 ^ 64 - 1) → told ≢ given.Fault Memory → (so_far : KeepsMore to_come fails known known_fails first before kept surplus)
+      → KeepsNext to_come fails known known_fails (state_in before) lines (kept ++ so_far.more) told
+      → KeepsMore to_come fails known known_fails first lines kept next
+  rest_next kept first before surplus next given.Missing some read is other so_far step = absurd (some refl)
+  rest_next kept first before surplus next given.Unread some read is other so_far step = absurd (read refl)
+  rest_next kept first before surplus next (given.Drawing said) some read is other so_far step =
+      rest_one kept first before surplus next (given.Drawing said) is other so_far step
+  rest_next kept first before surplus next (given.Fault fault) some read is other so_far step =
+      rest_one kept first before surplus next (given.Fault fault) is other so_far step
 
   -- there is none
   pub rest_all : (kept : List (List ℕ)) (first : State) (before : Lines L) (surplus : ℕ) (failed : Bool) → (so_far : KeepsMore to_come fails known known_fails first before kept surplus)

@@ -1,6 +1,7 @@
 -- The lines of verdicts, one after another, and what is true of each.
-use Rattle.std.proofs.Common.{◌≡◌, ℕ, ◌+◌, Bool, List, [], ◌∷◌, ◌++◌, All, Option, Ok, Err, length, refl, ap, subst, sym, ◌∙◌, append_assoc, append-nil, arith}
-use Rattle.std.proofs.Math.Seq.{take-append_seam}
+use Rattle.std.proofs.Common.{◌≡◌, ◌<◌, ◌≤◌, ℕ, suc, ◌+◌, get_or, take, Bool, List, [], ◌∷◌, ◌++◌, All, Option, Ok, Err, length, refl, ap, subst, sym, ◌∙◌, append_assoc, append-nil, arith}
+use Rattle.std.proofs.Math.Seq.{take-append_seam, take-suc}
+use Rattle.std.proofs.lemmas.List.{take_all}
 use Rattle.std.proofs.lemmas.List.Elements.{All-push, All-take, All-contains, Contains-push}
 use Rattle.streams.specs.declared.faults.WriteFault.{WriteFault}
 use Rattle.streams.specs.declared.faults.WriteFault.TheVariants.{Write, Memory}
@@ -51,3 +52,14 @@ pub line_added : (start old new : Option (List ℕ)) (waited mid waits text line
 line_added start old new waited mid waits text line whole failed stays is same way =
     let more = line_waits old new waited mid waits failed line tt tt stays is in
     subst (IsInTransit start new waits) (sym same) (more.1 start text way)
+
+-- ---- the records of a list, one after another
+
+pub taken_next : (earlier xs : List (List ℕ)) (i : ℕ) (x : List ℕ) → i < length xs → x ≡ get_or xs i x → (earlier ++ take i xs) ++ x ∷ [] ≡ earlier ++ take (i + 1) xs
+taken_next earlier xs i x low is =
+    let next : suc i ≡ i + 1 = omega arith in
+    append_assoc earlier (take i xs) (x ∷ [])
+    ∙ ap (λ (l : List (List ℕ)). earlier ++ l) (ap (λ (y : List ℕ). take i xs ++ y ∷ []) is ∙ sym (take-suc xs i x low) ∙ ap (λ (n : ℕ). take n xs) next)
+
+pub taken_all : (xs : List (List ℕ)) (i : ℕ) → length xs ≤ i → take i xs ≡ xs
+taken_all xs i high = take_all i xs high

@@ -9,5 +9,5 @@ invariant-loop-rec g l = record {
   asked : l.self.asked ≡ l.initial.self.asked;
   goes_on : (known : Option (List ℕ)) (fails : Bool) (start : Option (List ℕ)) (earlier : List (List ℕ))
       → IsUnderWay g.L.Tap.to_come g.L.Tap.fails known fails start (g.S.Sink.taken l.initial.out) l.initial.self earlier
-      → IsUnderWay g.L.Tap.to_come g.L.Tap.fails known fails start (g.S.Sink.taken l.out) l.self (earlier ++ take l.rec-index l.records);
+      → IsUnderWay g.L.Tap.to_come g.L.Tap.fails known fails start (g.S.Sink.taken l.out) l.self (earlier ++ take l.rec-index l.rec-items);
 }
