@@ -95,3 +95,17 @@ module _ {L : Type 0} (to_come : L → Option (List ℕ)) (fails : L → Bool) (
   stops_before start old_out new_out judge records mark surplus u text =
       stops_short start old_out new_out judge records mark surplus u
       (longer start new_out (verdict_lines judge.asked.json 1 u.verdicts) (last_line judge.asked.json mark (length u.verdicts) surplus) (verdicts_text judge.asked.json u.verdicts mark surplus) refl text)
+
+  -- the last line is added
+  pub ends_text : (start old_out mid_out : Option (List ℕ)) (judge : Judge L) (records : List (List ℕ)) (asked : Asked) (text mid waits : List ℕ) (count surplus : ℕ) (mark : Mark) (failed : Bool)
+      → (u : IsUnderWay to_come fails known known_fails start old_out judge records)
+      → asked ≡ judge.asked → text ≡ judge.text → count ≡ judge.count
+      → StaysInTransit {A = Unit {0}} old_out text mid_out mid failed [] (Ok tt) → waits ≡ mid ++ last_line asked.json mark count surplus
+      → IsInTransit start mid_out waits (verdicts_text judge.asked.json u.verdicts mark surplus)
+  ends_text start old_out mid_out judge records asked text mid waits count surplus mark failed u same_asked same_text same_count stays is =
+      let said = verdict_lines judge.asked.json 1 u.verdicts in
+      let last : last_line asked.json mark count surplus ≡ last_line judge.asked.json mark (length u.verdicts) surplus =
+      ap (λ (a : Asked). last_line a.json mark count surplus) same_asked ∙ ap (λ (n : ℕ). last_line judge.asked.json mark n surplus) (same_count ∙ u.counted) in
+      let way : IsInTransit start old_out text said = subst (λ (w : List ℕ). IsInTransit start old_out w said) (sym same_text) u.text in
+      line_added start old_out mid_out text mid waits said (last_line judge.asked.json mark (length u.verdicts) surplus) (verdicts_text judge.asked.json u.verdicts mark surplus) failed
+      stays (is ∙ ap (λ (l : List ℕ). mid ++ l) last) refl way

@@ -55,7 +55,7 @@ impl<L: Tap> Judge<L> {
     pub(crate) fn new(alloc: Global, lines: L, asked: Asked) -> Result<Judge<L>, AllocError>
         ensures begins { IfOk result (λ judge. (start : Option (List ℕ))
             → IsUnderWay L.to_come L.fails (L.to_come lines) (L.fails lines) start start judge []) }
-        ensures asked { IfOk result (λ judge. judge.asked ≡ asked.entry) }
+        ensures asked { IfOk result (λ judge. judge.asked ≡ asked) }
     {
         Ok(Judge {
             alloc,
@@ -245,11 +245,11 @@ impl<L: Tap> Judge<L> {
         requires { S.failed out.old ≡ false }
         ensures whole { IfOk result (λ checked. (graphs : Option (List ℕ)) (cut : Bool) (known : Option (List ℕ)) (fails : Bool)
             (start : Option (List ℕ)) (records : List (List ℕ)) → IsFoundIn graphs cut records mark
-            → IsUnderWay L.to_come L.fails known fails start (S.taken out.old) self.entry records
-            → IsTextOfVerdicts self.entry.asked graphs cut known fails start (S.taken out.new) (S.failed out.new) checked.status) }
+            → IsUnderWay L.to_come L.fails known fails start (S.taken out.old) self records
+            → IsTextOfVerdicts self.asked graphs cut known fails start (S.taken out.new) (S.failed out.new) checked.status) }
         ensures begun { OnErr result ((known : Option (List ℕ)) (fails : Bool) (start : Option (List ℕ)) (records : List (List ℕ))
-            → IsUnderWay L.to_come L.fails known fails start (S.taken out.old) self.entry records
-            → (surplus : ℕ) × IsCutShort self.entry.asked known fails start (S.taken out.new) mark surplus records) }
+            → IsUnderWay L.to_come L.fails known fails start (S.taken out.old) self records
+            → (surplus : ℕ) × IsCutShort self.asked known fails start (S.taken out.new) mark surplus records) }
     {
         let rest = match self.read_rest(rt) {
             Ok(rest) => rest,

@@ -46,9 +46,9 @@ pub fn check_files<R: AllocGlobal + Wait, G: Tap, L: Tap, S: Sink>(
     out: &mut S,
 ) -> Result<Checked, WriteFault>
     requires { S.failed out.old ≡ false }
-    ensures whole { IfOk result (λ checked. IsTextOfVerdicts asked.entry (G.to_come graphs) (G.fails graphs) (L.to_come lines)
+    ensures whole { IfOk result (λ checked. IsTextOfVerdicts asked (G.to_come graphs) (G.fails graphs) (L.to_come lines)
         (L.fails lines) (S.taken out.old) (S.taken out.new) (S.failed out.new) checked.status) }
-    ensures begun { OnErr result (IsBegunTextOfVerdicts asked.entry (G.to_come graphs) (G.fails graphs) (L.to_come lines)
+    ensures begun { OnErr result (IsBegunTextOfVerdicts asked (G.to_come graphs) (G.fails graphs) (L.to_come lines)
         (L.fails lines) (S.taken out.old) (S.taken out.new)) }
 {
     let alloc = rt.alloc();

@@ -42,6 +42,30 @@ loop-preserved g c =
       wants = gives.wants ∙ inv.wants;
     }
 
+pub loop-preserved-after-given-2 : goal.loop-preserved-after-given-2
+loop-preserved-after-given-2 g c =
+    let inv = c.loop.invariant in
+    let gives = c.give-given.ensures in
+    let known_told : c.give-given.result ≢ told.Fault Memory = λ e. let yes = c.is_wanting.ensures.1 e in let no = c.if-is_wanting.false in cc in
+    record {
+      keeps = λ known fails kept has.
+          let so_far = inv.keeps known fails kept has in
+          let step = gives.gives known fails (kept ++ so_far.more) so_far.has_kept in
+          elim c.match-given-2.branch [
+            | in-Drawing w ↦ let is = w.in-Drawing.is in
+                rest_next g.L.Tap.to_come g.L.Tap.fails known fails c.give-given.new.self.lines kept (state_in c.args.self.now.lines) c.loop.self.lines c.loop.surplus c.match-given-2.surplus c.give-given.result
+                (λ e. cc) (λ e. cc) (w.surplus-is ∙ w.saturating_add-surplus.ensures) known_told so_far step
+            | in-Fault w ↦ let is = w.in-Fault.is in
+                rest_next g.L.Tap.to_come g.L.Tap.fails known fails c.give-given.new.self.lines kept (state_in c.args.self.now.lines) c.loop.self.lines c.loop.surplus c.match-given-2.surplus c.give-given.result
+                (λ e. cc) (λ e. cc) (w.surplus-is ∙ w.saturating_add-surplus-in-Fault.ensures) known_told so_far step
+          ];
+      asked = gives.asked ∙ inv.asked;
+      text = gives.text ∙ inv.text;
+      count = gives.count ∙ inv.count;
+      ok = gives.ok ∙ inv.ok;
+      wants = gives.wants ∙ inv.wants;
+    }
+
 pub returns-in-Missing-clause-reads : goal.returns-in-Missing-clause-reads
 returns-in-Missing-clause-reads g c = λ known fails kept has.
     let so_far = c.loop.invariant.keeps known fails kept has in
