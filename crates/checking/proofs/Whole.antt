@@ -1,6 +1,6 @@
 -- A whole run, or one that is cut short.
-use Rattle.std.proofs.Common.{◌≡◌, ◌≢◌, ◌↔◌, ◌≤◌, ◌-◌, ◌^◌, min, ℕ, Bool, true, false, List, [], ◌∷◌, ◌++◌, Option, None, Some, length, drop, inl, inr, refl, ap, sym, subst, ◌∙◌, append_assoc, append-nil, arith}
-use Rattle.std.specs.Prelude.{All}
+use Rattle.std.proofs.Common.{◌≡◌, ◌≢◌, ◌↔◌, ◌≤◌, ◌-◌, ◌^◌, min, Result, Ok, Err, ℕ, Bool, true, false, List, [], ◌∷◌, ◌++◌, Option, None, Some, length, drop, inl, inr, refl, ap, sym, subst, ◌∙◌, append_assoc, append-nil, arith}
+use Rattle.std.specs.Prelude.{All, IfOk, OnErr}
 use Rattle.std.proofs.Math.Seq.{drop-append_seam}
 use Rattle.std.proofs.lemmas.List.{drop_all}
 use Rattle.std.proofs.lemmas.List.Elements.{All-nil}
@@ -24,10 +24,13 @@ use Rattle.text_lines.specs.Lines.{HasGivenAll, HasGiven, lines_of, state_in, re
 use Rattle.verdicts.specs.declared.verdict.Verdict.{Verdict}
 use Rattle.verdicts.specs.declared.verdict.Verdict.TheVariants as verdict
 use Rattle.checking.specs.declared.run.Asked.{Asked}
+use Rattle.streams.specs.declared.faults.WriteFault.{WriteFault}
+use Rattle.checking.specs.declared.run.Checked.{Checked}
+use Rattle.checking.specs.declared.judge.Judge.{Judge}
 use Rattle.checking.specs.declared.judge.Rest.{Rest}
 use Rattle.checking.specs.Pairs.{EndsRun, KeepsAllBut, AreVerdicts, AreSurplus}
 use Rattle.checking.specs.Runs.{IsOk, IsWhole, verdicts_text, IsTextOfVerdicts, IsBegunTextOfVerdicts}
-use Rattle.checking.specs.UnderWay.{MayFail, closed, Keeps, HasKept, KeepsRest, IsCutShort}
+use Rattle.checking.specs.UnderWay.{MayFail, closed, Keeps, HasKept, KeepsRest, IsUnderWay, IsCutShort}
 use Rattle.checking.proofs.Pairing.{more_lines}
 use Rattle.checking.proofs.Reading.{at_most}
 
@@ -222,3 +225,26 @@ whole_text asked graphs cut known known_fails start new written failed found rec
   not_whole = ends.not_whole;
   other = ends.other;
 }
+
+-- ---- the end of a run
+
+module _ {L : Type 0} (to_come : L → Option (List ℕ)) (fails : L → Bool) (judge : Judge L) (asked : Asked) (found : Mark) (graphs : Option (List ℕ)) (cut : Bool)
+    (known : Option (List ℕ)) (known_fails : Bool) (start now new : Option (List ℕ)) (records : List (List ℕ)) where
+  pub finished : (written : Bool) (r : Result Checked WriteFault) → judge.asked ≡ asked → IsFoundIn graphs cut records found → IsUnderWay to_come fails known known_fails start now judge records
+      → IfOk r (λ checked. (graphs : Option (List ℕ)) (cut : Bool) (known : Option (List ℕ)) (known_fails : Bool) (start : Option (List ℕ)) (records : List (List ℕ))
+      → IsFoundIn graphs cut records found → IsUnderWay to_come fails known known_fails start now judge records
+      → IsTextOfVerdicts judge.asked graphs cut known known_fails start new written checked.status)
+      → IfOk r (λ checked. IsTextOfVerdicts asked graphs cut known known_fails start new written checked.status)
+  finished written (Ok checked) same is u whole =
+      subst (λ (a : Asked). IsTextOfVerdicts a graphs cut known known_fails start new written checked.status) same (whole graphs cut known known_fails start records is u)
+  finished written (Err fault) same is u whole = tt
+
+  pub finished_short : (r : Result Checked WriteFault) → judge.asked ≡ asked → IsFoundIn graphs cut records found → IsUnderWay to_come fails known known_fails start now judge records
+      → OnErr r ((known : Option (List ℕ)) (known_fails : Bool) (start : Option (List ℕ)) (records : List (List ℕ))
+      → IsUnderWay to_come fails known known_fails start now judge records → (surplus : ℕ) × IsCutShort judge.asked known known_fails start new found surplus records)
+      → OnErr r (IsBegunTextOfVerdicts asked graphs cut known known_fails start new)
+  finished_short (Ok checked) same is u short = tt
+  finished_short (Err fault) same is u short =
+      let cut_off = short known known_fails start records u in
+      subst (λ (a : Asked). IsBegunTextOfVerdicts a graphs cut known known_fails start new) same
+      (begun judge.asked graphs cut known known_fails start new found cut_off.0 records is cut_off.1)

@@ -1,11 +1,12 @@
-use Rattle.std.proofs.Common.{◌≡◌, ◌<◌, ℕ, Bool, false, Option, List, [], length}
+use Rattle.std.proofs.Common.{◌≡◌, ◌<◌, ℕ, Bool, false, Option, List, []}
+use Rattle.std.specs.Prelude.{vec_len}
 use Rattle.streams.specs.Reading.{IsBeingRead}
 use Rattle.checking.specs.UnderWay.{IsUnderWay}
 use Rattle.checking.proofs.run.check_files.Given as goal
 
 abbrev pub invariant-loop : goal.invariant-loop
 invariant-loop g l = record {
-  room : 0 < length l.buffer;
+  room : 0 < vec_len l.buffer;
   none : l.records.items ≡ [];
   intact : g.S.Sink.failed l.out ≡ false;
   asked : l.judge.asked ≡ l.initial.judge.asked;
