@@ -1,5 +1,5 @@
 -- The text of verdicts.
-use Rattle.std.proofs.Common.{◌≡◌, ◌∙◌, ◌≤◌, ℕ, ◌+◌, Bool, true, false, List, [], ◌∷◌, ◌++◌, length, codes, decimal, lit≤, Option, Some, refl, sym}
+use Rattle.std.proofs.Common.{◌≡◌, ◌∙◌, ◌≤◌, ℕ, ◌+◌, Bool, true, false, List, [], ◌∷◌, ◌++◌, length, codes, decimal, lit≤, Option, Some, refl, sym, subst}
 use Rattle.planar_code.specs.declared.ending.Ending.TheVariants as ending
 use Rattle.embedding.specs.declared.rules.Rule.{Rule}
 use Rattle.embedding.specs.declared.rules.Rule.TheVariants as rule
@@ -198,11 +198,11 @@ known_less known less fails less_fails bytes cut more knows all is =
     let both = knows all same.0 in
     (both.0, sym same.1 ∙ both.1)
 
-module _ (asked : Asked) (known less : Option (List ℕ)) (fails less_fails : Bool) (known_lines less_lines : Option (List ℕ)) (lines_fail less_lines_fail : Bool)
+module _ (how asked : Asked) (same : how ≡ asked) (known less : Option (List ℕ)) (fails less_fails : Bool) (known_lines less_lines : Option (List ℕ)) (lines_fail less_lines_fail : Bool)
     (old new : Option (List ℕ)) (more : KnowsMore known fails less less_fails) (more_lines : KnowsMore known_lines lines_fail less_lines less_lines_fail) where
-  pub verdicts_less : (failed : Bool) (status : ℕ) → IsTextOfVerdicts asked known fails known_lines lines_fail old new failed status
+  pub verdicts_less : (failed : Bool) (status : ℕ) → IsTextOfVerdicts how known fails known_lines lines_fail old new failed status
       → IsTextOfVerdicts asked less less_fails less_lines less_lines_fail old new failed status
-  verdicts_less failed status is = record {
+  verdicts_less failed status is = subst (λ a. IsTextOfVerdicts a less less_fails less_lines less_lines_fail old new failed status) same (record {
     bytes = is.bytes;
     cut = is.cut;
     records = is.records;
@@ -223,10 +223,10 @@ module _ (asked : Asked) (known less : Option (List ℕ)) (fails less_fails : Bo
     ok = is.ok;
     not_whole = is.not_whole;
     other = is.other;
-  }
+  })
 
-  pub begun_verdicts_less : IsBegunTextOfVerdicts asked known fails known_lines lines_fail old new → IsBegunTextOfVerdicts asked less less_fails less_lines less_lines_fail old new
-  begun_verdicts_less is = record {
+  pub begun_verdicts_less : IsBegunTextOfVerdicts how known fails known_lines lines_fail old new → IsBegunTextOfVerdicts asked less less_fails less_lines less_lines_fail old new
+  begun_verdicts_less is = subst (λ a. IsBegunTextOfVerdicts a less less_fails less_lines less_lines_fail old new) same (record {
     bytes = is.bytes;
     cut = is.cut;
     records = is.records;
@@ -242,4 +242,4 @@ module _ (asked : Asked) (known less : Option (List ℕ)) (fails less_fails : Bo
     each = is.each;
     surplus = is.surplus;
     text = is.text;
-  }
+  })
