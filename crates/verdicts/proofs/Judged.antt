@@ -1,18 +1,17 @@
 -- Verdicts, step by step.
-use Rattle.std.proofs.Common.{◌≡◌, ◌≢◌, ℕ, ◌<◌, ◌≤◌, Bool, true, false, List, length, refl, sym, ap, subst, ◌∙◌}
+use Rattle.std.proofs.Common.{◌≡◌, ℕ, ◌<◌, Bool, List, ap, subst, arith}
 use Rattle.planar_code.specs.Stream.{lists_of}
 use Rattle.embedding.specs.declared.rules.Rule.{Rule}
-use Rattle.faces.specs.Planes.{PlaneModel, IsPlane, darts, with_outer}
+use Rattle.faces.specs.Planes.{PlaneModel, IsPlane, with_outer}
 use Rattle.ortho_rep.specs.Points.{PointsModel}
-use Rattle.ortho_rep.specs.Shapes.{ShapeModel, angle_at, turns_at}
-use Rattle.ortho_rep.specs.Representation.{bends_of, IsShape, IsLeast}
+use Rattle.ortho_rep.specs.Shapes.{ShapeModel}
 use Rattle.referee.specs.declared.claims.Claims.{Claims}
 use Rattle.referee.specs.Drawings.{IsDrawnBy}
 use Rattle.verdicts.specs.declared.said.Given.{Given}
 use Rattle.verdicts.specs.declared.said.Given.TheVariants as given
 use Rattle.verdicts.specs.declared.verdict.Verdict.{Verdict}
 use Rattle.verdicts.specs.declared.verdict.Verdict.TheVariants as verdict
-use Rattle.verdicts.specs.Verdicts.{HasBendCounts, IsFound, IsVerdictOnDrawing, IsVerdictOnPlane, IsVerdict}
+use Rattle.verdicts.specs.Verdicts.{IsFound, IsVerdictOnDrawing, IsVerdictOnPlane, IsVerdict}
 
 -- what is given for a plane is not refused
 never_refused : (faces : Bool) (p : PlaneModel) (given : Given) (rule : Rule) → IsVerdictOnPlane faces p given (verdict.Refused rule) → ⊥
@@ -35,7 +34,7 @@ on_record faces bytes p given (verdict.Claim c) same plane h = record { plane = 
 on_record faces bytes p given (verdict.Ok bends fewest) same plane h = record { plane = p; lists_are = same; is_plane = plane; verdict_is = h }
 
 -- the verdict on a representation that points draw is that on the points
-pub on_drawing : (faces : Bool) (p now : PlaneModel) (points : PointsModel) (shape : ShapeModel) (claims : Claims) (v : Verdict)
+on_drawing : (faces : Bool) (p now : PlaneModel) (points : PointsModel) (shape : ShapeModel) (claims : Claims) (v : Verdict)
     → now ≡ with_outer p now.outer → now.outer < p.faces → IsDrawnBy now points shape → IsFound faces now points shape claims v
     → IsVerdictOnDrawing faces p points claims v
 on_drawing faces p now points shape claims (verdict.Refused rule) same named drawn found = absurd found
@@ -45,28 +44,33 @@ on_drawing faces p now points shape claims (verdict.Line f) same named drawn fou
 on_drawing faces p now points shape claims (verdict.Drawn f) same named drawn found = absurd found
 on_drawing faces p now points shape claims verdict.Memory same named drawn found = tt
 on_drawing faces p now points shape claims verdict.Regions same named drawn found = record {
-  outer = now.outer; named = named; shape = shape;
+  outer = now.outer;
+  named = named;
+  shape = shape;
   drawn = subst (λ (q : PlaneModel). IsDrawnBy q points shape) same drawn;
   found = subst (λ (q : PlaneModel). IsFound faces q points shape claims verdict.Regions) same found;
 }
 on_drawing faces p now points shape claims (verdict.Claim c) same named drawn found = record {
-  outer = now.outer; named = named; shape = shape;
+  outer = now.outer;
+  named = named;
+  shape = shape;
   drawn = subst (λ (q : PlaneModel). IsDrawnBy q points shape) same drawn;
   found = subst (λ (q : PlaneModel). IsFound faces q points shape claims (verdict.Claim c)) same found;
 }
 on_drawing faces p now points shape claims (verdict.Ok bends fewest) same named drawn found = record {
-  outer = now.outer; named = named; shape = shape;
+  outer = now.outer;
+  named = named;
+  shape = shape;
   drawn = subst (λ (q : PlaneModel). IsDrawnBy q points shape) same drawn;
   found = subst (λ (q : PlaneModel). IsFound faces q points shape claims (verdict.Ok bends fewest)) same found;
 }
 
--- a least shape has the fewest bends
-pub least_counts : (p : PlaneModel) (shape : ShapeModel) (bends : ℕ) → IsShape p shape → IsLeast p shape
-    → bends ≡ bends_of (length shape.strings) (turns_at shape) → HasBendCounts p shape bends bends
-least_counts p shape bends is least e =
-    let all : bends_of (darts p) (turns_at shape) ≡ bends = ap (λ (n : ℕ). bends_of n (turns_at shape)) (sym is.lengths.strings) ∙ sym e in
-    record {
-      bends_are = e;
-      some = (angle_at shape, turns_at shape, is.rep, all);
-      needed = λ a s rep. subst (λ (n : ℕ). n ≤ bends_of (darts p) s) all (least.least a s rep);
-    }
+-- so is the verdict on a representation of a drawing that has these points
+pub on_judged : (faces : Bool) (p now : PlaneModel) (points drawing : PointsModel) (shape : ShapeModel) (claims : Claims) (v : Verdict) (outer : ℕ)
+    → drawing ≡ points → now ≡ with_outer p now.outer → outer ≡ now.outer → outer < now.faces → IsDrawnBy now drawing shape
+    → IsFound faces now drawing shape claims v → IsVerdictOnDrawing faces p points claims v
+on_judged faces p now points drawing shape claims v outer points_same same outer_same inside drawn found =
+    let few : now.faces ≡ p.faces = ap (λ (q : PlaneModel). q.faces) same in
+    let named : now.outer < p.faces = omega arith in
+    on_drawing faces p now points shape claims v same named (subst (λ (q : PointsModel). IsDrawnBy now q shape) points_same drawn)
+    (subst (λ (q : PointsModel). IsFound faces now q shape claims v) points_same found)

@@ -1,7 +1,7 @@
 -- When a verdict holds of a record and of what is given for it.
 use Rattle.std.specs.Prelude.{◌≡◌, ◌≢◌, ℕ, ◌<◌, Bool, true, List, length, ⊤}
 use Rattle.planar_code.specs.Stream.{lists_of}
-use Rattle.embedding.specs.Rules.{FirstBroken, KeepsBefore}
+use Rattle.embedding.specs.Rules.{FirstBroken}
 use Rattle.faces.specs.Planes.{PlaneModel, IsPlane, with_outer}
 use Rattle.ortho_rep.specs.Points.{PointsModel}
 use Rattle.ortho_rep.specs.Shapes.{ShapeModel, turns_at}
@@ -11,6 +11,7 @@ use Rattle.drawing_check.specs.Regions.{HasRegions}
 use Rattle.drawn_lines.specs.declared.fault.LineFault.TheVariants as line
 use Rattle.referee.specs.declared.claims.Claims.{Claims}
 use Rattle.referee.specs.Claims.{Hold, IsFirstFalse}
+use Rattle.referee.specs.declared.fault.Fault.TheVariants as drawn
 use Rattle.referee.specs.Drawings.{IsDrawn, IsDrawnBy}
 use Rattle.verdicts.specs.declared.said.Given.{Given}
 use Rattle.verdicts.specs.declared.said.Given.TheVariants as given
@@ -43,7 +44,7 @@ pub record IsFoundOf (faces : Bool) (p : PlaneModel) (points : PointsModel) (cla
   pub found : IsFound faces (with_outer p outer) points shape claims v
 
 abbrev pub IsVerdictOnDrawing : Bool → PlaneModel → PointsModel → Claims → Verdict → Type 0
-IsVerdictOnDrawing faces p points claims (verdict.Drawn fault) = ¬ IsDrawn p points
+IsVerdictOnDrawing faces p points claims (verdict.Drawn fault) = (fault ≢ drawn.Memory) × ¬ IsDrawn p points
 IsVerdictOnDrawing faces p points claims verdict.Memory = ⊤
 IsVerdictOnDrawing faces p points claims v = IsFoundOf faces p points claims v
 

@@ -24,7 +24,7 @@ rule_word rule.Genus = codes "refused genus"
 abbrev pub line_word : LineFault → List ℕ
 line_word line.Malformed = codes "line=malformed"
 line_word line.Points = codes "line=points"
-line_word line.Number = codes "line=number"
+line_word line.Number = codes "line=range"
 line_word line.Angles = codes "line=angles"
 line_word line.Turns = codes "line=turns"
 line_word line.Prices = codes "line=prices"

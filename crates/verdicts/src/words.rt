@@ -30,7 +30,7 @@ fn line_word(fault: LineFault) -> &'static str
     match fault {
         LineFault::Malformed => "line=malformed",
         LineFault::Points => "line=points",
-        LineFault::Number => "line=number",
+        LineFault::Number => "line=range",
         LineFault::Angles => "line=angles",
         LineFault::Turns => "line=turns",
         LineFault::Prices => "line=prices",
