@@ -1,32 +1,50 @@
 -- The verdicts on records, each with the next line that is no end of a run.
-use Rattle.std.specs.Prelude.{◌≡◌, ◌≢◌, ◌⊎◌, ◌<◌, ◌≤◌, ◌-◌, ◌^◌, min, ℕ, Bool, true, false, List, [], ◌∷◌, length, drop, Option, None, Some, All, ⊤}
+use Rattle.std.specs.Prelude.{◌≡◌, ◌≢◌, ◌⊎◌, ◌<◌, ◌≤◌, ◌-◌, ◌^◌, min, ℕ, Bool, true, false, List, [], ◌∷◌, length, drop, Option, Some, None, All, ⊤}
 use Rattle.text_lines.specs.declared.TheConstants.{MAX_LINE}
+use Rattle.drawn_lines.specs.declared.fault.LineFault.{LineFault}
 use Rattle.drawn_lines.specs.declared.fault.LineFault.TheVariants as line
 use Rattle.verdicts.specs.Said.{IsEndLine, SaysDrawing, SaysNothing}
 use Rattle.verdicts.specs.Verdicts.{IsVerdict}
 use Rattle.verdicts.specs.declared.said.Given.{Given}
 use Rattle.verdicts.specs.declared.said.Given.TheVariants as given
 use Rattle.verdicts.specs.declared.verdict.Verdict.{Verdict}
+use Rattle.verdicts.specs.declared.verdict.Verdict.TheVariants as verdict
+
+-- a line is the end of a run: its value has a field `end`, and it is not too long to be read
+pub record EndsRun (line : List ℕ) : Type 0 where
+  pub short : length line ≤ MAX_LINE
+  pub says : IsEndLine line
 
 -- the lines without some that are the end of a run
 abbrev pub KeepsAllBut : List (List ℕ) → List (List ℕ) → Type 0
 KeepsAllBut [] kept = kept ≡ []
-KeepsAllBut (line ∷ lines) kept = (IsEndLine line × KeepsAllBut lines kept) ⊎ ((rest : List (List ℕ)) × (kept ≡ line ∷ rest) × KeepsAllBut lines rest)
+KeepsAllBut (line ∷ lines) kept = (EndsRun line × KeepsAllBut lines kept) ⊎ ((rest : List (List ℕ)) × (kept ≡ line ∷ rest) × KeepsAllBut lines rest)
 
--- what is given tells of a line, or that there is none: the source ended, or a read failed
+-- a line gives no drawing: it says none, or is too long to be read
+abbrev pub GivesNone : List ℕ → LineFault → Type 0
+GivesNone bytes fault = ((length bytes ≤ MAX_LINE) × SaysNothing bytes) ⊎ ((MAX_LINE < length bytes) × (fault ≡ line.Malformed))
+
+-- what is given tells of a line, or that there is none: the source ended, or a read failed. Want of memory tells nothing
 abbrev pub TellsOf : Bool → Option (List ℕ) → Given → Type 0
 TellsOf failed (Some bytes) (given.Drawing said) = (length bytes ≤ MAX_LINE) × SaysDrawing bytes said.points said.claims
-TellsOf failed (Some bytes) (given.Fault fault) = fault ≢ line.Memory → SaysNothing bytes ⊎ (MAX_LINE < length bytes)
+TellsOf failed (Some bytes) (given.Fault fault) = fault ≢ line.Memory → GivesNone bytes fault
 TellsOf failed (Some bytes) _ = ⊥
 TellsOf failed None given.Missing = failed ≡ false
 TellsOf failed None given.Unread = failed ≡ true
 TellsOf failed None _ = ⊥
 
--- a verdict on a record and its line, or on a record for which there is none
+-- it is not the end of a run, if it is a line
+abbrev pub GoesOn : Option (List ℕ) → Type 0
+GoesOn (Some bytes) = ¬ EndsRun bytes
+GoesOn None = ⊤
+
+-- A verdict on a record and its line, or on a record for which there is none. Unless it is that memory ran out, the line
+-- is not the end of a run.
 pub record IsVerdictOf (faces failed : Bool) (bytes : List ℕ) (line : Option (List ℕ)) (v : Verdict) : Type 0 where
   pub given : Given
   pub tells : TellsOf failed line given
   pub holds : IsVerdict faces bytes given v
+  pub goes_on : v ≢ verdict.Memory → GoesOn line
 
 -- one verdict a record, in order, each with its line as long as there are lines
 abbrev pub AreVerdicts : Bool → Bool → List (List ℕ) → List (List ℕ) → List Verdict → Type 0
@@ -36,11 +54,7 @@ AreVerdicts faces failed (bytes ∷ records) lines [] = ⊥
 AreVerdicts faces failed (bytes ∷ records) [] (v ∷ vs) = IsVerdictOf faces failed bytes None v × AreVerdicts faces failed records [] vs
 AreVerdicts faces failed (bytes ∷ records) (line ∷ lines) (v ∷ vs) = IsVerdictOf faces failed bytes (Some line) v × AreVerdicts faces failed records lines vs
 
--- a line is the end of a run only where it is too long to be read
-abbrev pub IsNoShortEnd : List ℕ → Type 0
-IsNoShortEnd line = IsEndLine line → MAX_LINE < length line
-
 -- the lines behind those of this many records, none of which is the end of a run; as a number of 64 bits
 pub record AreSurplus (records : ℕ) (lines : List (List ℕ)) (surplus : ℕ) : Type 0 where
   pub counted : surplus ≡ min (length (drop records lines)) (2 ^ 64 - 1)
-  pub each : All IsNoShortEnd (drop records lines)
+  pub each : All (λ line. ¬ EndsRun line) (drop records lines)

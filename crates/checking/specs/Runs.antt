@@ -50,13 +50,21 @@ pub record IsTextOfVerdicts (asked : Asked) (known : Option (List ℕ)) (fails :
   pub not_whole : (¬ IsWhole mark lines_cut verdicts) ↔ (status ≡ 3)
   pub other : status ≢ 0 → status ≢ 3 → status ≡ 4
 
--- A prefix of the text of a run was added to the output.
-pub record IsBegunTextOfVerdicts (asked : Asked) (old new : Option (List ℕ)) : Type 0 where
+-- A prefix of the text of a run was added to the output. The records and the mark are those of some bytes, and the lines
+-- those of some bytes, as in a whole text; if memory ran out, the file of graphs may have more records.
+pub record IsBegunTextOfVerdicts (asked : Asked) (known : Option (List ℕ)) (fails : Bool) (known_lines : Option (List ℕ)) (lines_fail : Bool) (old new : Option (List ℕ)) : Type 0 where
+  pub bytes : List ℕ
+  pub cut : Bool
   pub records : List (List ℕ)
-  pub kept : List (List ℕ)
+  pub mark : Mark
+  pub marked : IsMarked bytes cut records mark
+  pub known_bytes : (all : List ℕ) → known ≡ Some all → (all ≡ bytes) × (fails ≡ cut)
+  pub line_bytes : List ℕ
   pub lines_cut : Bool
+  pub known_line_bytes : (all : List ℕ) → known_lines ≡ Some all → (all ≡ line_bytes) × (lines_fail ≡ lines_cut)
+  pub kept : List (List ℕ)
+  pub keeps : KeepsAllBut (lines_of line_bytes lines_cut) kept
   pub verdicts : List Verdict
   pub each : AreVerdicts asked.faces lines_cut records kept verdicts
-  pub mark : Mark
   pub surplus : ℕ
   pub text : AppendsPrefix old new (verdicts_text asked.json verdicts mark surplus)

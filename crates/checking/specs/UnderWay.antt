@@ -1,24 +1,34 @@
 -- A run under way: what was said of the records so far. Only private contracts speak of it.
-use Rattle.std.specs.Prelude.{◌≡◌, ◌↔◌, ◌≤◌, ℕ, Bool, true, false, List, [], ◌∷◌, ◌++◌, length, Option, Some, All, IsTrue, Contains, ⊤}
+use Rattle.std.specs.Prelude.{◌≡◌, ◌≢◌, ◌↔◌, ◌⊎◌, ◌≤◌, ◌-◌, ◌^◌, min, ℕ, Bool, true, false, List, [], ◌∷◌, ◌++◌, length, Option, Some, All, IsTrue, ⊤}
 use Rattle.text_lines.specs.declared.lines.Lines.{Lines}
 use Rattle.text_lines.specs.declared.lines.State.{State}
 use Rattle.text_lines.specs.declared.lines.State.TheVariants as state
-use Rattle.text_lines.specs.Lines.{HasGiven, state_in, rest_in, fails_in}
-use Rattle.streams.specs.Sink.{IsInTransit}
+use Rattle.text_lines.specs.Lines.{HasGiven, lines_of, state_in, rest_in, fails_in}
+use Rattle.streams.specs.declared.frames.Mark.{Mark}
+use Rattle.streams.specs.Marks.{IsBeginningOf}
+use Rattle.streams.specs.Reading.{IsKnownOf}
+use Rattle.streams.specs.Sink.{AppendsPrefix, IsInTransit}
 use Rattle.verdicts.specs.declared.said.Given.{Given}
 use Rattle.verdicts.specs.declared.said.Given.TheVariants as given
 use Rattle.verdicts.specs.declared.verdict.Verdict.{Verdict}
 use Rattle.verdicts.specs.declared.verdict.Verdict.TheVariants as verdict
 use Rattle.verdicts.specs.Text.{verdict_lines}
 use Rattle.checking.specs.declared.judge.Judge.{Judge}
-use Rattle.checking.specs.Pairs.{KeepsAllBut, TellsOf, AreVerdicts}
-use Rattle.checking.specs.Runs.{IsOk}
+use Rattle.checking.specs.declared.judge.Rest.{Rest}
+use Rattle.checking.specs.declared.run.Asked.{Asked}
+use Rattle.checking.specs.Pairs.{EndsRun, KeepsAllBut, TellsOf, AreVerdicts}
+use Rattle.checking.specs.Runs.{IsOk, verdicts_text}
 
 -- whether a read of the lines fails, as far as it is known by now
 abbrev pub MayFail : State → Bool → Type 0
 MayFail state.Open failed = ⊤
 MayFail state.Ended failed = failed ≡ false
 MayFail state.Failed failed = failed ≡ true
+
+-- the state of a reader that has read all: a read failed, or the source ended
+abbrev pub closed : Bool → State
+closed true = state.Failed
+closed false = state.Ended
 
 -- as many lines as records, as long as there are more
 abbrev pub Keeps : State → ℕ → ℕ → Type 0
@@ -31,12 +41,37 @@ pub record HasKept {L : Type 0} (to_come : L → Option (List ℕ)) (fails : L �
   pub has_given : HasGiven known known_fails (state_in lines) (rest_in to_come lines) (fails_in fails lines) given
   pub keeps : KeepsAllBut given kept
 
--- a reader that had given the lines in `kept` gives one more, of which this is told; or there is none
+-- a reader that had given the lines in `kept` gives no more, since the source ended or a read failed
+pub record KeepsNoMore {L : Type 0} (to_come : L → Option (List ℕ)) (fails : L → Bool) (known : Option (List ℕ)) (known_fails failed : Bool) (before : State) (lines : Lines L) (kept : List (List ℕ)) : Type 0 where
+  pub ended : state_in lines ≡ closed failed
+  pub may_fail : MayFail before failed
+  pub has_kept : HasKept to_come fails known known_fails lines kept
+
+-- it gives one more, of which this is told
+pub record KeepsOneMore {L : Type 0} (to_come : L → Option (List ℕ)) (fails : L → Bool) (known : Option (List ℕ)) (known_fails : Bool) (before : State) (lines : Lines L) (kept : List (List ℕ)) (told : Given) : Type 0 where
+  pub line : List ℕ
+  pub opened : before ≡ state.Open
+  pub tells : TellsOf false (Some line) told
+  pub has_kept : HasKept to_come fails known known_fails lines (kept ++ line ∷ [])
+
 abbrev pub KeepsNext : {L : Type 0} → (L → Option (List ℕ)) → (L → Bool) → Option (List ℕ) → Bool → State → Lines L → List (List ℕ) → Given → Type 0
-KeepsNext to_come fails known known_fails before lines kept given.Missing = (state_in lines ≡ state.Ended) × HasKept to_come fails known known_fails lines kept
-KeepsNext to_come fails known known_fails before lines kept given.Unread = (state_in lines ≡ state.Failed) × HasKept to_come fails known known_fails lines kept
-KeepsNext to_come fails known known_fails before lines kept told =
-    (line : List ℕ) × (before ≡ state.Open) × TellsOf false (Some line) told × HasKept to_come fails known known_fails lines (kept ++ line ∷ [])
+KeepsNext to_come fails known known_fails before lines kept given.Missing = KeepsNoMore to_come fails known known_fails false before lines kept
+KeepsNext to_come fails known known_fails before lines kept given.Unread = KeepsNoMore to_come fails known known_fails true before lines kept
+KeepsNext to_come fails known known_fails before lines kept told = KeepsOneMore to_come fails known known_fails before lines kept told
+
+-- a reader that had given the lines in `kept` has given so many more, none of which is the end of a run
+pub record KeepsMore {L : Type 0} (to_come : L → Option (List ℕ)) (fails : L → Bool) (known : Option (List ℕ)) (known_fails : Bool) (before : State) (lines : Lines L) (kept : List (List ℕ)) (surplus : ℕ) : Type 0 where
+  pub more : List (List ℕ)
+  pub has_kept : HasKept to_come fails known known_fails lines (kept ++ more)
+  pub each : All (λ line. ¬ EndsRun line) more
+  pub counted : surplus ≡ min (length more) (2 ^ 64 - 1)
+  pub opened : (before ≡ state.Open) ⊎ ((state_in lines ≡ before) × (more ≡ []))
+
+-- it has given all that there are
+pub record KeepsRest {L : Type 0} (to_come : L → Option (List ℕ)) (fails : L → Bool) (known : Option (List ℕ)) (known_fails : Bool) (before : State) (lines : Lines L) (kept : List (List ℕ)) (rest : Rest) : Type 0 where
+  pub all : KeepsMore to_come fails known known_fails before lines kept rest.surplus
+  pub ended : state_in lines ≡ closed rest.failed
+  pub may_fail : MayFail before rest.failed
 
 -- Of a source of lines of which this is known, the judge has taken those that belong to these records; the lines of their
 -- verdicts were added to the output from `start` on, or wait.
@@ -48,5 +83,23 @@ pub record IsUnderWay {L : Type 0} (to_come : L → Option (List ℕ)) (fails : 
   pub each : (failed : Bool) → MayFail (state_in judge.lines) failed → AreVerdicts judge.asked.faces failed records kept verdicts
   pub counted : judge.count ≡ length verdicts
   pub text : IsInTransit start now judge.text (verdict_lines judge.asked.json 1 verdicts)
-  pub oks : IsTrue judge.all_ok ↔ All IsOk verdicts
-  pub wants : IsTrue judge.wants_memory ↔ Contains verdicts verdict.Memory
+  pub oks : (judge.all_ok ≡ true) ↔ All IsOk verdicts
+  pub wants : (judge.wants_memory ≡ false) ↔ All (λ v. v ≢ verdict.Memory) verdicts
+
+-- Of a source of lines of which this is known, some belong to these records, and of the text of their verdicts and a last
+-- line with this mark and this number of lines, a prefix was added to the output.
+pub record IsCutShort (asked : Asked) (known : Option (List ℕ)) (known_fails : Bool) (start now : Option (List ℕ)) (mark : Mark) (surplus : ℕ) (records : List (List ℕ)) : Type 0 where
+  pub line_bytes : List ℕ
+  pub lines_cut : Bool
+  pub gave : IsKnownOf known known_fails line_bytes lines_cut
+  pub kept : List (List ℕ)
+  pub keeps : KeepsAllBut (lines_of line_bytes lines_cut) kept
+  pub verdicts : List Verdict
+  pub each : AreVerdicts asked.faces lines_cut records kept verdicts
+  pub text : AppendsPrefix start now (verdicts_text asked.json verdicts mark surplus)
+
+-- so it is of some of these records, the first ones
+pub record IsCutShortWithin (asked : Asked) (known : Option (List ℕ)) (known_fails : Bool) (start now : Option (List ℕ)) (mark : Mark) (surplus : ℕ) (records : List (List ℕ)) : Type 0 where
+  pub judged : List (List ℕ)
+  pub first : IsBeginningOf judged records
+  pub short : IsCutShort asked known known_fails start now mark surplus judged

@@ -1,11 +1,16 @@
 //! Records as they come, each with its line.
-ghost use Rattle.std.specs.Prelude.{◌≡◌, ◌+◌, ◌≤◌, ◌<◌, ◌++◌, ◌∷◌, ◌↔◌, ◌⊎◌, ℕ, Bool, Option, List, [], length, true, false, IfOk, OnOk, OnErr, IsTrue};
+ghost use Rattle.std.specs.Prelude.{◌≡◌, ◌≢◌, ◌+◌, ◌≤◌, ◌<◌, ◌++◌, ◌∷◌, ◌↔◌, ℕ, Bool, Option, List, [], length, true, false, IfOk, OnOk, OnErr};
 ghost use Rattle.planar_code.specs.declared.TheConstants.{MAX_RECORDS};
+ghost use Rattle.planar_code.specs.declared.ending.Ending.{Ending};
+ghost use Rattle.streams.specs.declared.frames.Mark.{Mark};
 ghost use Rattle.streams.specs.Reading.{IsFoundIn};
 ghost use Rattle.text_lines.specs.Lines.{state_in};
-ghost use Rattle.verdicts.specs.declared.verdict.Verdict.TheVariants as verdict;
-ghost use Rattle.checking.specs.Runs.{IsOk, IsTextOfVerdicts, IsBegunTextOfVerdicts};
-ghost use Rattle.checking.specs.UnderWay.{HasKept, KeepsNext, IsUnderWay};
+ghost use Rattle.drawn_lines.specs.declared.fault.LineFault.TheVariants as line;
+ghost use Rattle.verdicts.specs.declared.said.Given.TheVariants as told;
+ghost use Rattle.verdicts.specs.declared.verdict.Verdict.TheVariants as found;
+ghost use Rattle.verdicts.specs.Verdicts.{IsVerdict};
+ghost use Rattle.checking.specs.Runs.{IsOk, IsTextOfVerdicts};
+ghost use Rattle.checking.specs.UnderWay.{HasKept, KeepsNext, KeepsRest, IsUnderWay, IsCutShort, IsCutShortWithin};
 
 use crate::run::{Asked, Checked};
 use drawn_lines::LineFault;
@@ -15,6 +20,15 @@ use std::sync::Wait;
 use streams::{Mark, Sink, Tap, TextBuffer, WriteFault};
 use text_lines::{Lines, Next};
 use verdicts::{Given, Said, Scratch, Verdict, judge_record, push_end, push_verdict, said_in};
+
+/// The lines behind those of the records.
+#[derive(Clone, Copy, Debug)]
+pub(crate) struct Rest {
+    /// How many they are.
+    pub(crate) surplus: u64,
+    /// Whether a read failed, and did not end.
+    pub(crate) failed: bool,
+}
 
 /// The lines that are left, and what was said so far.
 #[derive(Drop)]
@@ -41,7 +55,7 @@ impl<L: Tap> Judge<L> {
     pub(crate) fn new(alloc: Global, lines: L, asked: Asked) -> Result<Judge<L>, AllocError>
         ensures begins { IfOk result (λ judge. (start : Option (List ℕ))
             → IsUnderWay L.to_come L.fails (L.to_come lines) (L.fails lines) start start judge []) }
-        ensures asked { IfOk result (λ judge. judge.asked ≡ asked.entry) }
+        ensures asked { IfOk result (λ judge. judge.asked ≡ asked) }
     {
         Ok(Judge {
             alloc,
@@ -68,9 +82,9 @@ impl<L: Tap> Judge<L> {
         ensures goes_on { OnOk result ((known : Option (List ℕ)) (fails : Bool) (start : Option (List ℕ)) (earlier : List (List ℕ))
             → IsUnderWay L.to_come L.fails known fails start (S.taken out.old) self.old earlier
             → IsUnderWay L.to_come L.fails known fails start (S.taken out.new) self.new (earlier ++ records.old.items)) }
-        ensures begun { OnErr result ((known : Option (List ℕ)) (fails : Bool) (start : Option (List ℕ)) (earlier : List (List ℕ))
+        ensures begun { OnErr result ((known : Option (List ℕ)) (fails : Bool) (start : Option (List ℕ)) (earlier : List (List ℕ)) (mark : Mark) (surplus : ℕ)
             → IsUnderWay L.to_come L.fails known fails start (S.taken out.old) self.old earlier
-            → IsBegunTextOfVerdicts self.old.asked start (S.taken out.new)) }
+            → IsCutShortWithin self.old.asked known fails start (S.taken out.new) mark surplus (earlier ++ records.old.items)) }
         ensures asked { self.new.asked ≡ self.old.asked }
         ensures empties { OnOk result (records.new.items ≡ []) }
     {
@@ -97,14 +111,14 @@ impl<L: Tap> Judge<L> {
         ensures goes_on { OnOk result ((known : Option (List ℕ)) (fails : Bool) (start : Option (List ℕ)) (earlier : List (List ℕ))
             → IsUnderWay L.to_come L.fails known fails start (S.taken out.old) self.old earlier
             → IsUnderWay L.to_come L.fails known fails start (S.taken out.new) self.new (earlier ++ rec.now ∷ [])) }
-        ensures begun { OnErr result ((known : Option (List ℕ)) (fails : Bool) (start : Option (List ℕ)) (earlier : List (List ℕ))
+        ensures begun { OnErr result ((known : Option (List ℕ)) (fails : Bool) (start : Option (List ℕ)) (earlier : List (List ℕ)) (mark : Mark) (surplus : ℕ)
             → IsUnderWay L.to_come L.fails known fails start (S.taken out.old) self.old earlier
-            → IsBegunTextOfVerdicts self.old.asked start (S.taken out.new)) }
+            → IsCutShort self.old.asked known fails start (S.taken out.new) mark surplus earlier) }
         ensures asked { self.new.asked ≡ self.old.asked }
         ensures counted { self.new.count ≡ self.old.count + 1 }
     {
         let given = self.give(rt);
-        let verdict = judge_record(self.alloc, &mut self.scratch, self.asked.faces, rec, given);
+        let verdict = self.verdict_on(rec, given);
         self.note(verdict);
         match self.text.make_room(out) {
             Ok(()) => {}
@@ -114,12 +128,30 @@ impl<L: Tap> Judge<L> {
         Ok(())
     }
 
+    /// The verdict on a record and what is given for it. Where memory ran out for the line, it may be the end of a run, and
+    /// the verdict is that memory ran out.
+    fn verdict_on(&mut self, rec: &Record, given: Given) -> Verdict
+        ensures holds { IsVerdict self.old.asked.faces rec.now given result }
+        ensures memory { given ≡ told.Fault line.Memory → result ≡ found.Memory }
+        ensures lines { self.new.lines ≡ self.old.lines }
+        ensures asked { self.new.asked ≡ self.old.asked }
+        ensures text { self.new.text ≡ self.old.text }
+        ensures count { self.new.count ≡ self.old.count }
+        ensures ok { self.new.all_ok ≡ self.old.all_ok }
+        ensures wants { self.new.wants_memory ≡ self.old.wants_memory }
+    {
+        if is_wanting(&given) {
+            return Verdict::Memory;
+        }
+        judge_record(self.alloc, &mut self.scratch, self.asked.faces, rec, given)
+    }
+
     /// Counts one record more, and this verdict on it.
     fn note(&mut self, verdict: Verdict)
         requires { self.old.count < MAX_RECORDS }
         ensures counted { self.new.count ≡ self.old.count + 1 }
-        ensures ok { IsTrue self.new.all_ok ↔ (IsTrue self.old.all_ok × IsOk verdict) }
-        ensures wants { IsTrue self.new.wants_memory ↔ (IsTrue self.old.wants_memory ⊎ (verdict ≡ verdict.Memory)) }
+        ensures ok { (self.new.all_ok ≡ true) ↔ ((self.old.all_ok ≡ true) × IsOk verdict) }
+        ensures wants { (self.new.wants_memory ≡ false) ↔ ((self.old.wants_memory ≡ false) × (verdict ≢ found.Memory)) }
         ensures lines { self.new.lines ≡ self.old.lines }
         ensures text { self.new.text ≡ self.old.text }
         ensures asked { self.new.asked ≡ self.old.asked }
@@ -162,6 +194,47 @@ impl<L: Tap> Judge<L> {
         unreachable!()
     }
 
+    /// Reads the lines behind those of the records.
+    ///
+    /// # Errors
+    ///
+    /// `Memory` if there is no memory to tell whether a line is the end of a run.
+    fn read_rest<R: Wait>(&mut self, rt: &R) -> Result<Rest, WriteFault>
+        ensures reads { IfOk result (λ rest. (known : Option (List ℕ)) (fails : Bool) (kept : List (List ℕ))
+            → HasKept L.to_come L.fails known fails self.old.lines kept
+            → KeepsRest L.to_come L.fails known fails (state_in self.old.lines) self.new.lines kept rest) }
+        ensures asked { self.new.asked ≡ self.old.asked }
+        ensures text { self.new.text ≡ self.old.text }
+        ensures count { self.new.count ≡ self.old.count }
+        ensures ok { self.new.all_ok ≡ self.old.all_ok }
+        ensures wants { self.new.wants_memory ≡ self.old.wants_memory }
+    {
+        let mut surplus = 0u64;
+        for _ in rt.forever() {
+            let given = self.give(rt);
+            if is_wanting(&given) {
+                return Err(WriteFault::Memory);
+            }
+            match given {
+                Given::Drawing(_) => surplus = surplus.saturating_add(1),
+                Given::Fault(_) => surplus = surplus.saturating_add(1),
+                Given::Missing => {
+                    return Ok(Rest {
+                        surplus,
+                        failed: false,
+                    });
+                }
+                Given::Unread => {
+                    return Ok(Rest {
+                        surplus,
+                        failed: true,
+                    });
+                }
+            }
+        }
+        unreachable!()
+    }
+
     /// Reads the lines behind the last record, and writes the last line.
     pub(crate) fn finish<R: Wait, S: Sink>(
         mut self,
@@ -172,46 +245,62 @@ impl<L: Tap> Judge<L> {
         requires { S.failed out.old ≡ false }
         ensures whole { IfOk result (λ checked. (graphs : Option (List ℕ)) (cut : Bool) (known : Option (List ℕ)) (fails : Bool)
             (start : Option (List ℕ)) (records : List (List ℕ)) → IsFoundIn graphs cut records mark
-            → IsUnderWay L.to_come L.fails known fails start (S.taken out.old) self.entry records
-            → IsTextOfVerdicts self.entry.asked graphs cut known fails start (S.taken out.new) (S.failed out.new) checked.status) }
+            → IsUnderWay L.to_come L.fails known fails start (S.taken out.old) self records
+            → IsTextOfVerdicts self.asked graphs cut known fails start (S.taken out.new) (S.failed out.new) checked.status) }
         ensures begun { OnErr result ((known : Option (List ℕ)) (fails : Bool) (start : Option (List ℕ)) (records : List (List ℕ))
-            → IsUnderWay L.to_come L.fails known fails start (S.taken out.old) self.entry records
-            → IsBegunTextOfVerdicts self.entry.asked start (S.taken out.new)) }
+            → IsUnderWay L.to_come L.fails known fails start (S.taken out.old) self records
+            → (surplus : ℕ) × IsCutShort self.asked known fails start (S.taken out.new) mark surplus records) }
     {
-        let mut surplus = 0u64;
-        let mut lines_failed = false;
-        for _ in rt.forever() {
-            match self.give(rt) {
-                Given::Missing => break,
-                Given::Unread => {
-                    lines_failed = true;
-                    break;
-                }
-                Given::Fault(LineFault::Memory) => return Err(WriteFault::Memory),
-                _ => surplus = surplus.saturating_add(1),
-            }
-        }
+        let rest = match self.read_rest(rt) {
+            Ok(rest) => rest,
+            Err(fault) => return Err(fault),
+        };
         match self.text.make_room(out) {
             Ok(()) => {}
             Err(fault) => return Err(fault),
         }
-        push_end(&mut self.text, self.asked.json, mark, self.count, surplus);
+        push_end(&mut self.text, self.asked.json, mark, self.count, rest.surplus);
         match self.text.flush(out) {
             Ok(()) => {}
             Err(fault) => return Err(fault),
         }
-        let whole = mark == Mark::Ended(Ending::Complete) && !lines_failed && !self.wants_memory;
-        let status = if !whole {
-            3
-        } else if self.all_ok && surplus == 0 {
-            0
-        } else {
-            4
-        };
+        let whole = is_whole(mark, rest.failed, self.wants_memory);
         Ok(Checked {
             mark,
-            lines_failed,
-            status,
+            lines_failed: rest.failed,
+            status: status_of(whole, self.all_ok, rest.surplus),
         })
+    }
+}
+
+/// Whether memory ran out for a line.
+fn is_wanting(given: &Given) -> bool
+    ensures { (result ≡ true) ↔ (given.now ≡ told.Fault line.Memory) }
+{
+    match given {
+        Given::Fault(LineFault::Memory) => true,
+        _ => false,
+    }
+}
+
+/// Whether all was read.
+fn is_whole(mark: Mark, lines_failed: bool, wants_memory: bool) -> bool
+    ensures { (result ≡ true) ↔ ((mark ≡ Mark.Ended Ending.Complete) × (lines_failed ≡ false) × (wants_memory ≡ false)) }
+{
+    mark == Mark::Ended(Ending::Complete) && !lines_failed && !wants_memory
+}
+
+/// The exit status of a run: whether all was read, whether each verdict is `Ok`, and the number of lines that are left.
+fn status_of(whole: bool, all_ok: bool, surplus: u64) -> u8
+    ensures unread { (whole ≡ false) ↔ (result ≡ 3) }
+    ensures well { ((whole ≡ true) × (all_ok ≡ true) × (surplus ≡ 0)) ↔ (result ≡ 0) }
+    ensures other { result ≢ 0 → result ≢ 3 → result ≡ 4 }
+{
+    if !whole {
+        3
+    } else if all_ok && surplus == 0 {
+        0
+    } else {
+        4
     }
 }

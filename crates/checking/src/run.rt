@@ -46,9 +46,10 @@ pub fn check_files<R: AllocGlobal + Wait, G: Tap, L: Tap, S: Sink>(
     out: &mut S,
 ) -> Result<Checked, WriteFault>
     requires { S.failed out.old ≡ false }
-    ensures whole { IfOk result (λ checked. IsTextOfVerdicts asked.entry (G.to_come graphs) (G.fails graphs) (L.to_come lines)
+    ensures whole { IfOk result (λ checked. IsTextOfVerdicts asked (G.to_come graphs) (G.fails graphs) (L.to_come lines)
         (L.fails lines) (S.taken out.old) (S.taken out.new) (S.failed out.new) checked.status) }
-    ensures begun { OnErr result (IsBegunTextOfVerdicts asked.entry (S.taken out.old) (S.taken out.new)) }
+    ensures begun { OnErr result (IsBegunTextOfVerdicts asked (G.to_come graphs) (G.fails graphs) (L.to_come lines)
+        (L.fails lines) (S.taken out.old) (S.taken out.new)) }
 {
     let alloc = rt.alloc();
     let Ok(mut buffer) = piece_buffer(alloc) else {

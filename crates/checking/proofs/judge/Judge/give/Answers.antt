@@ -1,0 +1,72 @@
+use Rattle.std.proofs.Common.{true, false, inl, inr, refl, subst}
+use Rattle.text_lines.specs.Lines.{state_in}
+use Rattle.verdicts.specs.Said.{SaysNothing}
+use Rattle.verdicts.specs.declared.said.Given.TheVariants as told
+use Rattle.checking.proofs.Ends.{says_drawing, says_end}
+use Rattle.checking.proofs.Reading.{open_first, open_at_line, open_at_long, may_first, may_end, may_fail, leaves_out, keeps_line, keeps_long, keeps_none}
+use Rattle.checking.proofs.judge.Judge.give.Goals as goal
+
+pub loop-init : goal.loop-init
+loop-init g c = record {
+  since = inr refl;
+  keeps = λ known fails kept has. has;
+  asked = refl;
+  text = refl;
+  count = refl;
+  ok = refl;
+  wants = refl;
+}
+
+pub loop-preserved : goal.loop-preserved
+loop-preserved g c =
+    let inv = c.loop.invariant in
+    record {
+      since = inl (open_first _ _ inv.since (open_at_line _ c.in-Line.ensures.closed));
+      keeps = λ known fails kept has.
+          let so_far = inv.keeps known fails kept has in
+          leaves_out g.L.Tap.to_come g.L.Tap.fails known fails c.next-in-loop.new.self c.loop.self.lines kept
+          (says_end _ _ c.in-Ok-End.field-0 c.line.ensures c.in-Ok-End.field-0-is c.in-Ok-End.ensures.ok)
+          so_far (c.in-Line.ensures.gives known fails so_far.given so_far.has_given);
+      asked = inv.asked;
+      text = inv.text;
+      count = inv.count;
+      ok = inv.ok;
+      wants = inv.wants;
+    }
+
+pub returns-in-Ok-Drawing-clause-gives : goal.returns-in-Ok-Drawing-clause-gives
+returns-in-Ok-Drawing-clause-gives g c = λ known fails kept has.
+    let so_far = c.loop.invariant.keeps known fails kept has in
+    keeps_line g.L.Tap.to_come g.L.Tap.fails known fails c.next-in-loop.new.self (state_in c.args.self.now.lines) c.loop.self.lines kept (told.Drawing c.in-Ok-Drawing.said)
+    (open_first _ _ c.loop.invariant.since (open_at_line _ c.in-Line.ensures.closed)) so_far
+    (λ short. (short, says_drawing _ _ c.in-Ok-Drawing.field-0 c.in-Ok-Drawing.said c.line.ensures c.in-Ok-Drawing.field-0-is c.in-Ok-Drawing.ensures.ok))
+    (c.in-Line.ensures.gives known fails so_far.given so_far.has_given)
+
+pub returns-in-Err-clause-gives : goal.returns-in-Err-clause-gives
+returns-in-Err-clause-gives g c = λ known fails kept has.
+    let so_far = c.loop.invariant.keeps known fails kept has in
+    keeps_line g.L.Tap.to_come g.L.Tap.fails known fails c.next-in-loop.new.self (state_in c.args.self.now.lines) c.loop.self.lines kept (told.Fault c.in-Err.fault)
+    (open_first _ _ c.loop.invariant.since (open_at_line _ c.in-Line.ensures.closed)) so_far
+    (λ short other. inl (short, subst SaysNothing c.line.ensures (c.in-Err.ensures.none other)))
+    (c.in-Line.ensures.gives known fails so_far.given so_far.has_given)
+
+pub returns-in-TooLong-clause-gives : goal.returns-in-TooLong-clause-gives
+returns-in-TooLong-clause-gives g c = λ known fails kept has.
+    let so_far = c.loop.invariant.keeps known fails kept has in
+    keeps_long g.L.Tap.to_come g.L.Tap.fails known fails c.next-in-loop.new.self (state_in c.args.self.now.lines) c.loop.self.lines kept
+    (open_first _ _ c.loop.invariant.since (open_at_long _ c.in-TooLong.ensures.closed)) so_far
+    (c.in-TooLong.ensures.gives known fails so_far.given so_far.has_given)
+
+pub returns-in-End-clause-gives : goal.returns-in-End-clause-gives
+returns-in-End-clause-gives g c = λ known fails kept has.
+    let so_far = c.loop.invariant.keeps known fails kept has in
+    let gives = c.in-End.ensures.gives known fails so_far.given so_far.has_given in
+    keeps_none g.L.Tap.to_come g.L.Tap.fails known fails c.next-in-loop.new.self false (state_in c.args.self.now.lines) c.loop.self.lines kept
+    (may_first _ _ false c.loop.invariant.since (may_end _ c.in-End.ensures.closed)) so_far gives.0 gives.1
+
+pub returns-in-Failed-clause-gives : goal.returns-in-Failed-clause-gives
+returns-in-Failed-clause-gives g c = λ known fails kept has.
+    let so_far = c.loop.invariant.keeps known fails kept has in
+    let gives = c.in-Failed.ensures.gives known fails so_far.given so_far.has_given in
+    keeps_none g.L.Tap.to_come g.L.Tap.fails known fails c.next-in-loop.new.self true (state_in c.args.self.now.lines) c.loop.self.lines kept
+    (may_first _ _ true c.loop.invariant.since (may_fail _ c.in-Failed.ensures.closed)) so_far gives.0 gives.1
