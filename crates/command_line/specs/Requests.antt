@@ -162,7 +162,7 @@ pub record AsksFrames (words : List (String Global)) (name : List ℕ) : Type 0 
   pub file : files_in words ≡ name ∷ []
 
 -- the arguments ask for the verdicts on the drawings in one file, line by line, of the graphs in another one, of which at
--- most one is standard input, in this form; `faces` says whether each face must also be where it belongs
+-- most one is standard input, in this form; `faces` says whether each region must also be its face
 pub record AsksCheck (words : List (String Global)) (graphs lines : List ℕ) (form : Form) (faces : Bool) : Type 0 where
   pub command : asks_in keyword.Check words ≡ true
   pub files : files_in words ≡ graphs ∷ lines ∷ []

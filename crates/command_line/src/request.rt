@@ -46,11 +46,11 @@ pub struct LayoutRequest<'a> {
 pub struct CheckRequest<'a> {
     /// The planar_code file of the graphs.
     pub graphs: &'a str,
-    /// The file with a drawing of each graph, one a line.
+    /// The file with a drawing of each graph, one per line.
     pub lines: &'a str,
     /// The output format.
     pub form: Form,
-    /// Whether each face must also be where it belongs.
+    /// Whether each region must also be its face.
     pub faces: bool,
 }
 
@@ -431,7 +431,7 @@ fn verdicts_option<'a>(alloc: Global) -> Arg<'a> {
 fn faces_option<'a>(alloc: Global) -> Arg<'a> {
     Arg::new(alloc, "faces")
         .long("faces")
-        .help("Check too that each region is the face on the left of its darts")
+        .help("Also check that each region is the face on the left of its darts")
         .action(ArgAction::SetTrue)
 }
 

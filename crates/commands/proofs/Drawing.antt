@@ -67,7 +67,7 @@ done_drawn files (Layout asked) old new failed status is =
 
 begun_to_be_drawn : (files : List ℕ → Meaning) (request : Request) (old new : Option (List ℕ)) → IsBegunToBeDone files request old new → AddsNoneUndrawn old new
 begun_to_be_drawn files (Frames name) old new is = front_added old new (frames_text is.found) (frames_apart is.found) is.text
-begun_to_be_drawn files (Check asked) old new is = begun_verdicts_drawn _ old new is
+begun_to_be_drawn files (Check asked) old new is = begun_verdicts_drawn _ old new _ _ _ _ is
 begun_to_be_drawn files (Layout asked) old new is = begun_drawn asked.choice _ asked.style.form _ old new is
 
 judged_drawn : (files : List ℕ → Meaning) (request : Request) (old new : Option (List ℕ)) (failed : Bool) → IsJudged files request old new failed → AddsNoneUndrawn old new

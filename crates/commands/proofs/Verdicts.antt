@@ -1,11 +1,10 @@
 -- The text of verdicts.
-use Rattle.std.proofs.Common.{◌≡◌, ◌∙◌, ◌≤◌, ℕ, ◌+◌, Bool, true, false, List, [], ◌∷◌, ◌++◌, length, codes, decimal, lit≤, Option, None, Some, refl, sym, subst}
+use Rattle.std.proofs.Common.{◌≡◌, ◌∙◌, ◌≤◌, ℕ, ◌+◌, Bool, true, false, List, [], ◌∷◌, ◌++◌, length, codes, decimal, lit≤, Option, Some, refl, sym, subst}
 use Rattle.planar_code.specs.declared.ending.Ending.TheVariants as ending
 use Rattle.embedding.specs.declared.rules.Rule.{Rule}
 use Rattle.embedding.specs.declared.rules.Rule.TheVariants as rule
 use Rattle.streams.specs.declared.frames.Mark.{Mark}
 use Rattle.streams.specs.declared.frames.Mark.TheVariants.{Ended, Io}
-use Rattle.streams.specs.Reading.{IsFoundIn, IsKnownOf}
 use Rattle.streams.specs.Text as marks
 use Rattle.drawn_lines.specs.declared.fault.LineFault.{LineFault}
 use Rattle.drawn_lines.specs.declared.fault.LineFault.TheVariants as line
@@ -183,8 +182,9 @@ module _ (asked : Asked) (old new : Option (List ℕ)) where
       → IsTextOfVerdicts asked known fails known_lines lines_fail old new failed status → AddsNoneUndrawn old new
   verdicts_drawn known fails known_lines lines_fail failed status is = text_added old new _ (verdicts_apart asked.json is.verdicts is.mark is.surplus) is.text
 
-  pub begun_verdicts_drawn : IsBegunTextOfVerdicts asked old new → AddsNoneUndrawn old new
-  begun_verdicts_drawn is = front_added old new _ (verdicts_apart asked.json is.verdicts is.mark is.surplus) is.text
+  pub begun_verdicts_drawn : (known : Option (List ℕ)) (fails : Bool) (known_lines : Option (List ℕ)) (lines_fail : Bool)
+      → IsBegunTextOfVerdicts asked known fails known_lines lines_fail old new → AddsNoneUndrawn old new
+  begun_verdicts_drawn known fails known_lines lines_fail is = front_added old new _ (verdicts_apart asked.json is.verdicts is.mark is.surplus) is.text
 
 -- ---- less may be known of the files by their names than of what was opened
 
@@ -198,28 +198,48 @@ known_less known less fails less_fails bytes cut more knows all is =
     let both = knows all same.0 in
     (both.0, sym same.1 ∙ both.1)
 
-pub verdicts_less : (asked : Asked) (known less : Option (List ℕ)) (fails less_fails : Bool) (known_lines less_lines : Option (List ℕ)) (lines_fail less_lines_fail : Bool)
-    (old new : Option (List ℕ)) (failed : Bool) (status : ℕ) → KnowsMore known fails less less_fails → KnowsMore known_lines lines_fail less_lines less_lines_fail
-    → IsTextOfVerdicts asked known fails known_lines lines_fail old new failed status → IsTextOfVerdicts asked less less_fails less_lines less_lines_fail old new failed status
-verdicts_less asked known less fails less_fails known_lines less_lines lines_fail less_lines_fail old new failed status more more_lines is = record {
-  bytes = is.bytes;
-  cut = is.cut;
-  records = is.records;
-  mark = is.mark;
-  marked = is.marked;
-  known_bytes = known_less known less fails less_fails is.bytes is.cut more is.known_bytes;
-  line_bytes = is.line_bytes;
-  lines_cut = is.lines_cut;
-  known_line_bytes = known_less known_lines less_lines lines_fail less_lines_fail is.line_bytes is.lines_cut more_lines is.known_line_bytes;
-  kept = is.kept;
-  keeps = is.keeps;
-  verdicts = is.verdicts;
-  each = is.each;
-  surplus = is.surplus;
-  behind = is.behind;
-  text = is.text;
-  written = is.written;
-  ok = is.ok;
-  not_whole = is.not_whole;
-  other = is.other;
-}
+module _ (how asked : Asked) (same : how ≡ asked) (known less : Option (List ℕ)) (fails less_fails : Bool) (known_lines less_lines : Option (List ℕ)) (lines_fail less_lines_fail : Bool)
+    (old new : Option (List ℕ)) (more : KnowsMore known fails less less_fails) (more_lines : KnowsMore known_lines lines_fail less_lines less_lines_fail) where
+  pub verdicts_less : (failed : Bool) (status : ℕ) → IsTextOfVerdicts how known fails known_lines lines_fail old new failed status
+      → IsTextOfVerdicts asked less less_fails less_lines less_lines_fail old new failed status
+  verdicts_less failed status is = subst (λ a. IsTextOfVerdicts a less less_fails less_lines less_lines_fail old new failed status) same (record {
+    bytes = is.bytes;
+    cut = is.cut;
+    records = is.records;
+    mark = is.mark;
+    marked = is.marked;
+    known_bytes = known_less known less fails less_fails is.bytes is.cut more is.known_bytes;
+    line_bytes = is.line_bytes;
+    lines_cut = is.lines_cut;
+    known_line_bytes = known_less known_lines less_lines lines_fail less_lines_fail is.line_bytes is.lines_cut more_lines is.known_line_bytes;
+    kept = is.kept;
+    keeps = is.keeps;
+    verdicts = is.verdicts;
+    each = is.each;
+    surplus = is.surplus;
+    behind = is.behind;
+    text = is.text;
+    written = is.written;
+    ok = is.ok;
+    not_whole = is.not_whole;
+    other = is.other;
+  })
+
+  pub begun_verdicts_less : IsBegunTextOfVerdicts how known fails known_lines lines_fail old new → IsBegunTextOfVerdicts asked less less_fails less_lines less_lines_fail old new
+  begun_verdicts_less is = subst (λ a. IsBegunTextOfVerdicts a less less_fails less_lines less_lines_fail old new) same (record {
+    bytes = is.bytes;
+    cut = is.cut;
+    records = is.records;
+    mark = is.mark;
+    marked = is.marked;
+    known_bytes = known_less known less fails less_fails is.bytes is.cut more is.known_bytes;
+    line_bytes = is.line_bytes;
+    lines_cut = is.lines_cut;
+    known_line_bytes = known_less known_lines less_lines lines_fail less_lines_fail is.line_bytes is.lines_cut more_lines is.known_line_bytes;
+    kept = is.kept;
+    keeps = is.keeps;
+    verdicts = is.verdicts;
+    each = is.each;
+    surplus = is.surplus;
+    text = is.text;
+  })

@@ -108,8 +108,10 @@ IsTextOfChecked files asked old new failed status =
     (known_of (files asked.lines.now)) (fails_of (files asked.lines.now)) old new failed status
 
 -- a prefix of such a text was added
-abbrev pub IsBegunTextOfChecked : CheckRequest → Option (List ℕ) → Option (List ℕ) → Type 0
-IsBegunTextOfChecked asked old new = IsBegunTextOfVerdicts (asked_in asked) old new
+abbrev pub IsBegunTextOfChecked : (List ℕ → Meaning) → CheckRequest → Option (List ℕ) → Option (List ℕ) → Type 0
+IsBegunTextOfChecked files asked old new =
+    IsBegunTextOfVerdicts (asked_in asked) (known_of (files asked.graphs.now)) (fails_of (files asked.graphs.now))
+    (known_of (files asked.lines.now)) (fails_of (files asked.lines.now)) old new
 
 -- the whole text that a request asks for, where the file with a name means what `files` says, was added to the output,
 -- with this status
@@ -130,7 +132,7 @@ abbrev pub IsBegunToBeDone : (List ℕ → Meaning) → Request → Option (List
 IsBegunToBeDone files (Frames name) old new = IsBegunTextOfRecords (files name.now) old new
 IsBegunToBeDone files (Layout asked) old new =
     IsBegunTextOfBooks asked.choice asked.style.form (meanings_in files asked.names.items) (vec_len asked.names) old new
-IsBegunToBeDone files (Check asked) old new = IsBegunTextOfChecked asked old new
+IsBegunToBeDone files (Check asked) old new = IsBegunTextOfChecked files asked old new
 
 -- The meaning of status 0 or 3: the version, or help, which begins with a capital letter and as no text of a run does,
 -- was added to the output, or the text of all files that the arguments name, as they ask for it.

@@ -28,7 +28,7 @@ pub fn check<R: AllocGlobal + Wait, N: NamedFiles, S: Sink, E: Sink>(
         (S.taken out.old) (S.taken out.new) (S.failed out.new)) }
     ensures failed { IfErr result (λ fault. ¬ IsMisuse fault) }
     ensures begun { OnErr result ((out.new ≡ out.old)
-        ⊎ IsBegunTextOfChecked asked.entry (S.taken out.old) (S.taken out.new)) }
+        ⊎ IsBegunTextOfChecked (N.meaning files.now) asked.entry (S.taken out.old) (S.taken out.new)) }
     ensures intact { OnErr result (E.failed err.new ≡ false) }
 {
     let Ok(notes) = FileNotes::new(rt.alloc(), 2) else {
