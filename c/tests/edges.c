@@ -52,11 +52,11 @@ static const uint8_t EDGE[] = {2, 2, 0, 1, 0};
 static const uint8_t TRIANGLE[] = {3, 2, 3, 0, 3, 1, 0, 1, 2, 0};
 
 static void look_at_words(void) {
-    const char *words[] = {"ok",           "range", "loop",   "multi",  "asymmetric", "edgeless", "degree",
-                           "disconnected", "genus", "record", "memory", "room",       "argument"};
-    for (int result = 0; result <= PLANARBEND_ARGUMENT; result++) LOOK(strcmp(planarbend_word(result), words[result]) == 0);
+    const char *words[] = {"ok",     "range", "loop",     "multi",   "asymmetric", "edgeless", "degree", "disconnected", "genus",
+                           "record", "memory", "room",    "argument", "noshape",   "noedge",   "noouter", "wide"};
+    for (int result = 0; result <= PLANARBEND_WIDE; result++) LOOK(strcmp(planarbend_word(result), words[result]) == 0);
     LOOK(planarbend_word(-1) == NULL);
-    LOOK(planarbend_word(PLANARBEND_ARGUMENT + 1) == NULL);
+    LOOK(planarbend_word(PLANARBEND_WIDE + 1) == NULL);
     LOOK(strlen(planarbend_version()) >= 5);
 }
 
@@ -115,6 +115,65 @@ static void look_at_arguments(void) {
     NULL_WITH_ROOM(corners);
     LOOK(planarbend_new(NULL) == PLANARBEND_ARGUMENT);
     planarbend_free(NULL);
+}
+
+/* The triangle, with edges that stay straight and faces that stay inside. A refusal leaves all but the cut as it was. */
+static int keep(planarbend *object, const planarbend_dart *straight, size_t straight_count, const planarbend_dart *inner,
+                size_t inner_count, planarbend_counts *counts, planarbend_cut *cut) {
+    planarbend_conditions conditions = {straight, straight_count, inner, inner_count};
+    planarbend_counts before = {7, 7, 7, 7, 7, 7};
+    planarbend_lists lists = planarbend_lists_of(&buffer);
+    memset(&buffer, 0xA5, sizeof buffer);
+    if (cut != NULL) memset(cut, 0xA5, sizeof *cut);
+    *counts = before;
+    int result = planarbend_layout_keeping(object, TRIANGLE, sizeof TRIANGLE, 0, 1, &conditions, counts, &lists, cut);
+    if (result != PLANARBEND_OK) LOOK(memcmp(counts, &before, sizeof before) == 0 && buffer.angles[0] == 0xA5);
+    if (result != PLANARBEND_NO_SHAPE && cut != NULL) LOOK(cut->vertices[0] == 0xA5 && cut->faces[0] == 0xA5);
+    return result;
+}
+
+static const planarbend_dart SIDES[] = {{1, 2}, {3, 2}, {1, 3}};
+static const planarbend_dart ACROSS[] = {{1, 2}, {2, 1}}; /* one of them has each face on its left */
+
+static void look_at_cut(const planarbend_cut *cut) {
+    for (int at = 0; at < PLANARBEND_MAX_VERTICES; at++) LOOK(cut->vertices[at] <= (at < 3));
+    for (int at = 0; at < PLANARBEND_MAX_FACES; at++) LOOK(cut->faces[at] <= (at < 2));
+    LOOK(cut->outer_face < 2);
+}
+
+static void look_at_conditions(planarbend *object) {
+    planarbend_counts counts;
+    planarbend_cut cut;
+    LOOK(keep(object, NULL, 0, NULL, 0, &counts, &cut) == PLANARBEND_OK && counts.bends == 1);
+    LOOK(keep(object, SIDES, 2, NULL, 0, &counts, &cut) == PLANARBEND_OK && counts.bends == 1);
+    LOOK(keep(object, SIDES, 3, NULL, 0, &counts, &cut) == PLANARBEND_NO_SHAPE);
+    look_at_cut(&cut);
+    LOOK(keep(object, SIDES, 3, NULL, 0, &counts, NULL) == PLANARBEND_NO_SHAPE);
+    uint32_t outer[2];
+    for (int at = 0; at < 2; at++) {
+        LOOK(keep(object, NULL, 0, ACROSS + at, 1, &counts, &cut) == PLANARBEND_OK);
+        outer[at] = counts.outer_face;
+    }
+    LOOK(outer[0] + outer[1] == 1);
+    LOOK(keep(object, NULL, 0, ACROSS, 2, &counts, &cut) == PLANARBEND_NO_OUTER);
+    for (uint8_t to = 0; to < 5; to++) {
+        planarbend_dart dart = {1, to};
+        int result = to == 2 || to == 3 ? PLANARBEND_OK : PLANARBEND_NO_EDGE;
+        LOOK(keep(object, &dart, 1, NULL, 0, &counts, &cut) == result);
+        LOOK(keep(object, NULL, 0, &dart, 1, &counts, &cut) == result);
+    }
+    LOOK(keep(object, NULL, 1, NULL, 0, &counts, &cut) == PLANARBEND_ARGUMENT);
+    LOOK(keep(object, NULL, 0, NULL, 1, &counts, &cut) == PLANARBEND_ARGUMENT);
+    for (size_t straight = 0; straight <= 3; straight++) {
+        int result = keep(object, SIDES, straight, ACROSS, 1, &counts, &cut), met = 1;
+        for (long nth = 0; met; nth++) {
+            refused = nth;
+            int other_result = keep(object, SIDES, straight, ACROSS, 1, &counts, &cut);
+            met = refused < 0;
+            refused = -1;
+            LOOK(other_result == result || (met && other_result == PLANARBEND_MEMORY));
+        }
+    }
 }
 
 /* Each list alone with every room from 0 to one more than it needs, in memory of just that size. */
@@ -231,6 +290,8 @@ int main(int count, char **words) {
     look_at_rooms(TRIANGLE, sizeof TRIANGLE);
     planarbend *object;
     LOOK(planarbend_new(&object) == PLANARBEND_OK);
+    look_at_conditions(NULL);
+    look_at_conditions(object);
     long graphs = 0;
     for (size_t at = 15; at < size; graphs++) {
         size_t length = record_size(bytes + at, size - at);
