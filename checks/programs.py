@@ -192,7 +192,7 @@ def preload(folder: str) -> str:
 
 def outside(folder: str, source: str = "lemon.cc", *more: str) -> str:
     """Builds a program of bench/outside in a folder, with these words for the compiler, and returns its path."""
-    program = os.path.join(folder, source.removesuffix(".cc"))
+    program = os.path.join(folder, os.path.basename(source).removesuffix(".cc"))
     subprocess.run(["g++", *FAST, "-o", program, os.path.join(OUTSIDE, source), *more], check=True)
     return program
 
