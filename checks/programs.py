@@ -23,7 +23,6 @@ from planarbend.planar_code import HEADER, records
 
 DATA = os.path.join(ROOT, "crates/corpus/data")
 OUTSIDE = os.path.join(ROOT, "bench/outside")
-PARTS = os.path.join(ROOT, "bench/parts")
 
 KINDS = [("cubic", "250", "1"), ("medial", "249", "2"), ("grid", "250", "3"), ("tree", "250", "4")]
 SMALL = os.path.join(DATA, "planar_d4_n8.pc")
@@ -223,10 +222,10 @@ def write(path: str, graphs: Iterable[bytes]) -> str:
     return path
 
 
-def libraries() -> dict[str, list[str]]:
-    """Each crate of the repository with the libraries it uses, lowest first."""
+def libraries(root: str = ROOT) -> dict[str, list[str]]:
+    """Each crate of a checkout with the libraries it uses, lowest first."""
     uses = {}
-    with open(os.path.join(ROOT, "crates.txt"), encoding="utf-8") as lines:
+    with open(os.path.join(root, "crates.txt"), encoding="utf-8") as lines:
         for line in lines:
             name, colon, rest = line.partition(":")
             if colon and not line.startswith("#"):
@@ -246,16 +245,16 @@ def closure(names: Iterable[str], uses: dict[str, list[str]]) -> list[str]:
     return [name for name in uses if name in found]
 
 
-def copy_crates(folder: str, top: str) -> str:
+def copy_crates(folder: str, top: str, root: str = ROOT) -> str:
     """Copies the sources and definitions of a crate and of all below it, and returns the copy of the crate."""
-    uses = libraries()
+    uses = libraries(root)
     crates = closure([top], uses)
     for crate in crates:
         for part in ("src", "specs"):
-            source = os.path.join(ROOT, "crates", crate, part)
+            source = os.path.join(root, "crates", crate, part)
             if os.path.isdir(source):
                 shutil.copytree(source, os.path.join(folder, "crates", crate, part))
-    shutil.copy(os.path.join(ROOT, "HANDLES"), folder)
+    shutil.copy(os.path.join(root, "HANDLES"), folder)
     with open(os.path.join(folder, "crates.txt"), "w", encoding="utf-8") as out:
         out.writelines(f"{crate}: {' '.join(uses[crate])}\n" for crate in crates)
     return os.path.join(folder, "crates", top)
