@@ -4,7 +4,7 @@ edits, attacks and tests that they quote are those of the tree, and that each na
 file, a crate, an option, or a word of the code, the definitions or the scripts. In docs/PROVED.md a name must stand in
 the crates of its section, and in its tables each clause in the contract of a call beside it. Blocks of code are not
 looked at. The man page docs/planarbend.1 has the arguments and options of --help in its words, its version is the
-program's, and `man --warnings` finds no fault in it. The texts are those of start/texts, which checks/first-answer
+program's, and `man --warnings` finds no fault in it. The texts are those of checks/start/texts, which checks/first-answer
 compares with the program's; started by itself, this script puts them into the page.
 """
 import difflib
@@ -27,7 +27,7 @@ NUMBER = re.compile(r"([\d,]*\d) (crates|proofs|edits|attacks|tests)\b")
 OUTSIDE = set("""rt ci check fmt tidy lemma test doc version must-fail verdict Ok Err printf png svg planarg geng -p -c -D4
     plantri parallel slurm-wlm munge nauty chromium futex clap MOD RES kill cred_expire slurm.conf sshlogin workdir env
     passed failed smallvec --only requires docs/REFUSED.md""".split())
-MAN, TEXTS = "docs/planarbend.1", "start/texts"
+MAN, TEXTS = "docs/planarbend.1", "checks/start/texts"
 ENTRY = re.compile(r"^ {2,6}(-\S.*?|<.*?>\S*)  +(\S.*)$")  # an argument or option of --help, and what it says
 WORD = re.compile(r"-{0,2}[A-Za-z_][\w\-]*(?:\.[a-z]\w*)*|\d[\d,.]*")
 
@@ -66,7 +66,7 @@ class Tree:
         self.ends = {"/".join(place.split("/")[at:]) for place in self.files | self.folders
                      for at in range(place.count("/") + 1)}
         self.words = {crate: self.words_of_crate(crate) for crate in self.crates}
-        scripts = [file for file in self.files if file.split("/")[0] in ("checks", "bench", "examples", "start")
+        scripts = [file for file in self.files if file.split("/")[0] in ("checks", "bench", "examples")
                    and not file.endswith((".md", ".pc")) and not file.startswith("checks/pages")]
         self.others = self.split("\n".join(map(text_of, scripts + ["planarbend", "crates.txt"])))
         self.all = self.others.union(OUTSIDE, *self.words.values())
@@ -92,7 +92,7 @@ class Tree:
         return {"crates": len(self.crates), "tests": sum(tests.values()),
                 "proofs": len(self.crates) + sum(count > 0 for count in tests.values()),
                 "edits": sum(parts[0] == "crates" and parts[2] == "must-fail" for parts in edits),
-                "attacks": sum(parts[0] == "attacks" for parts in edits)}
+                "attacks": sum(parts[:2] == ["checks", "edits"] for parts in edits)}
 
     def has_path(self, name):
         """Whether some file or folder of the tree ends so."""

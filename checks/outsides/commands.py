@@ -56,9 +56,9 @@ def refused(path: str) -> list[tuple[str, list[Any], str | None]]:
 
 def version_text() -> bytes:
     """The newest number of CHANGELOG.md, and what `rt version` says without the letter behind the kit's number, since
-    kits of one number and one logic prove the same; where there is no `rt`, the text of start/."""
+    kits of one number and one logic prove the same; where there is no `rt`, the text of checks/start."""
     if not shutil.which("rt"):
-        with open(os.path.join(ROOT, "start/texts/version"), "rb") as text:
+        with open(os.path.join(ROOT, "checks/start/texts/version"), "rb") as text:
             return text.read()
     with open(os.path.join(ROOT, "CHANGELOG.md"), encoding="utf-8") as changes:
         number = re.search(r"^## ([0-9.]+), ", changes.read(), re.MULTILINE)

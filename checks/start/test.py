@@ -16,7 +16,7 @@ import unittest
 from pathlib import Path
 
 sys.dont_write_bytecode = True
-ROOT = Path(__file__).resolve().parent.parent
+ROOT = Path(__file__).resolve().parents[2]
 PACKAGE = ROOT / "python"
 PROGRAM = ROOT / "crates/planarbend/out/planarbend"
 PYTHONS = (sys.executable, "/usr/bin/python3")

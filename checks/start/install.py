@@ -5,8 +5,6 @@ packages. What stands there from an earlier version is replaced; a file is whole
 
 `planarbend --install PREFIX` runs it. It ends by status 0 if all is copied, and else by 1 and says why not.
 """
-import importlib.machinery
-import importlib.util
 import os
 import shutil
 import sys
@@ -14,6 +12,7 @@ import sysconfig
 from pathlib import Path
 
 sys.dont_write_bytecode = True
+import library
 from common import CRATE, ROOT, say, stop
 
 TOP = Path(ROOT)
@@ -26,14 +25,6 @@ from planarbend.command import run
 
 sys.exit(run())
 """
-
-
-def library_script():
-    """start/library, as a module."""
-    loader = importlib.machinery.SourceFileLoader("library", str(TOP / "start/library"))
-    module = importlib.util.module_from_spec(importlib.util.spec_from_loader("library", loader))
-    loader.exec_module(module)
-    return module
 
 
 def put(source, target, mode):
@@ -55,7 +46,7 @@ def put_text(text, target, mode):
     target.chmod(mode)
 
 
-def put_library(library, prefix):
+def put_library(prefix):
     """Copies both libraries and the header, with a planarbend.pc for where they stand."""
     put(library.OUT / "libplanarbend.a", prefix / "lib/libplanarbend.a", 0o644)
     put(library.OUT / library.SONAME, prefix / "lib" / library.SONAME, 0o755)
@@ -75,10 +66,10 @@ def put_package(prefix):
     return folder
 
 
-def install(library, prefix):
+def install(prefix):
     put(PROGRAM, prefix / "bin/planarbend", 0o755)
     if (library.OUT / library.SONAME).is_file():
-        put_library(library, prefix)
+        put_library(prefix)
     else:
         say("no library for C stands here, so none is installed; planarbend --build makes it")
     put(TOP / "docs/planarbend.1", prefix / "share/man/man1/planarbend.1", 0o644)
@@ -89,11 +80,10 @@ def install(library, prefix):
 
 def main():
     prefix = Path(os.path.abspath(sys.argv[1]))
-    library = library_script()
     if not PROGRAM.is_file():
         stop("no proved program stands here yet", "planarbend --build proves and builds it")
     try:
-        install(library, prefix)
+        install(prefix)
     except OSError as error:
         stop(f"cannot install below {prefix}: {error.filename}: {error.strerror}")
 
