@@ -381,7 +381,7 @@ def build(crates):
 
 def make_library():
     """Makes the libraries for C of what is proved."""
-    status = subprocess.run([sys.executable, os.path.join(START, "library.py")]).returncode
+    status = subprocess.run([sys.executable, os.path.join(ROOT, "c/make.py")]).returncode
     if status:
         sys.exit(status)
 

@@ -12,8 +12,10 @@ import sysconfig
 from pathlib import Path
 
 sys.dont_write_bytecode = True
-import library
 from common import CRATE, ROOT, say, stop
+
+sys.path.append(os.path.join(ROOT, "c"))
+import make
 
 TOP = Path(ROOT)
 PROGRAM = Path(CRATE) / "out/planarbend"
@@ -48,14 +50,14 @@ def put_text(text, target, mode):
 
 def put_library(prefix):
     """Copies both libraries and the header, with a planarbend.pc for where they stand."""
-    put(library.OUT / "libplanarbend.a", prefix / "lib/libplanarbend.a", 0o644)
-    put(library.OUT / library.SONAME, prefix / "lib" / library.SONAME, 0o755)
+    put(make.OUT / "libplanarbend.a", prefix / "lib/libplanarbend.a", 0o644)
+    put(make.OUT / make.SONAME, prefix / "lib" / make.SONAME, 0o755)
     link = prefix / "lib/libplanarbend.so"
     link.unlink(missing_ok=True)
-    link.symlink_to(library.SONAME)
-    text = library.package_text(prefix, "${prefix}/lib", "${prefix}/include")
+    link.symlink_to(make.SONAME)
+    text = make.package_text(prefix, "${prefix}/lib", "${prefix}/include")
     put_text(text, prefix / "lib/pkgconfig/planarbend.pc", 0o644)
-    put(library.SOURCE / "planarbend.h", prefix / "include/planarbend.h", 0o644)
+    put(make.SOURCE / "planarbend.h", prefix / "include/planarbend.h", 0o644)
 
 
 def put_package(prefix):
@@ -68,7 +70,7 @@ def put_package(prefix):
 
 def install(prefix):
     put(PROGRAM, prefix / "bin/planarbend", 0o755)
-    if (library.OUT / library.SONAME).is_file():
+    if (make.OUT / make.SONAME).is_file():
         put_library(prefix)
     else:
         say("no library for C stands here, so none is installed; planarbend --build makes it")

@@ -15,6 +15,7 @@ import tempfile
 from pathlib import Path
 
 sys.dont_write_bytecode = True
+sys.path.append(str(Path(__file__).resolve().parent.parent / "checks/start"))
 import build
 from common import ROOT, START, end_on_signals, say, stop
 
