@@ -37,7 +37,7 @@ def check_open_files(machine: Machine) -> None:
 def one_at_a_time(machine: Machine, command: Command) -> None:
     """A run over 8 files that may have one of them open: each is whole or `io`."""
     ran = machine.run([*command.words, *[machine.two] * 8], preexec_fn=limits(NOFILE=4))
-    marks = [event[2] for event in events_of(command, ran.out)[0] if event[0] == "end"]
+    marks = [text.split()[1] for _, text in events_of(command, ran.out)[0] if text.startswith("end ")]
     is_whole(command, ran, [split(TWO) if mark == "complete" else IO for mark in marks])
     if len(marks) != 8:
         raise Wrong(f"{len(marks)} files in the report, not 8")
@@ -170,9 +170,9 @@ def wants_memory(command: Command, ran: Ran, files: list[File]) -> None:
         return
     events, rest = events_of(command, ran.out)
     told = list(files)
-    for kind, number, *more in events:
-        if kind == "end" and more[0] == "memory" and number <= len(files):
-            told[number - 1] = File(files[number - 1].records[:more[1]], "memory")
+    for number, text in events:
+        if text.startswith("end memory ") and number <= len(files):
+            told[number - 1] = File(files[number - 1].records[:int(text.partition("=")[2])], "memory")
     expected = expected_events(command, told)
     lacking = any(lacks_memory(event) for event in events)
     status = 3 if lacking or any(file.mark != "complete" for file in told) else 0

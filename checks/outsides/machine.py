@@ -7,6 +7,7 @@ import contextlib
 import fcntl
 import json
 import os
+import re
 import resource
 import shutil
 import subprocess
@@ -15,9 +16,8 @@ import time
 from collections.abc import Callable, Iterable, Iterator
 from typing import Any, NamedTuple
 
-from planarbend import planar_code
+from planarbend import planar_code, reports
 from planarbend.planar_code import HEADER
-from planarbend.reports import End, File, json_line, Line, line_of, NoLine, of_json, Record
 
 
 # ---- What the program is given and must answer: the commands that are tried, the records of the files, the texts of
@@ -42,7 +42,7 @@ FULL = WRITE.format("No space left on device")
 TWICE = ("error: standard input, the file '-', can be read only once, and is named twice\n\n"
          "Usage: planarbend <COMMAND>\n\nFor more information, try '--help'.\n")
 
-Event = tuple[Any, ...]
+Event = tuple[int, str]  # the number of a file, and a line of its report; of JSON lines that of the same report
 
 
 class Wrong(Exception):
@@ -93,70 +93,47 @@ def expected_events(command: Command, files: Iterable[File]) -> list[Event]:
     """What a whole report tells, line by line."""
     events: list[Event] = []
     for number, file in enumerate(files, 1):
-        if not command.frames and not command.json:
-            events.append(("file", number))
+        lines: list[object] = [] if command.frames or command.json else [reports.File(number)]
         for place, record in enumerate(file.records, 1):
-            answer = f"n={record[0]} bytes={len(record)}" if command.frames else ANSWERS.get(record, "?")
-            events.append(("graph", number, place, answer))
-        events.append(("end", number, file.mark, len(file.records)))
+            lines.append(reports.Record(place, record[0], len(record)) if command.frames
+                         else f"graph {place} {ANSWERS.get(record, '?')}")
+        lines.append(reports.End(file.mark, len(file.records), "records" if command.frames else "graphs"))
+        events += [(number, str(line)) for line in lines]
     return events
 
 
-def text_of(event: Event, command: Command) -> str:
-    """The line of a report that tells this."""
-    kind, *words = event
-    if kind == "file":
-        return f"file {words[0]}"
-    if kind == "graph":
-        return f"{'record' if command.frames else 'graph'} {words[1]} {words[2]}"
-    return f"end {words[1]} {'records' if command.frames else 'graphs'}={words[2]}"
-
-
-# ---- What the lines of a report tell, as the events that expected.py has. A line that no such report has is wrong.
+# ---- What the lines of a report tell. A line that no such report has is wrong.
 
 def events_of(command: Command, text: bytes) -> tuple[list[Event], str]:
     """What the whole lines of a report tell, and what is left behind the last of them."""
     *lines, rest = text.decode("ascii", "replace").split("\n")
     events: list[Event] = []
-    number = 1 if command.frames else 0
     for line in lines:
-        events.append(event_of_json(line) if command.json else event_of_text(command, line, number))
-        number = events[-1][1]
+        number = events[-1][0] if events else int(command.frames)
+        try:
+            events.append(event_of_json(line) if command.json else event_of_text(command, line, number))
+        except reports.NoLine as why:
+            raise Wrong(f"{why}") from None
     return events, rest
 
 
-def event_of_text(command: Command, line: str, number: int) -> Event:
+def event_of_text(command: Command, text: str, number: int) -> Event:
     """What a line of a report of `frames` or `layout` tells, in file `number`."""
-    try:
-        found = line_of(line)
-    except NoLine as why:
-        raise Wrong(f"{why}") from None
-    of_frames = isinstance(found, Record) or isinstance(found, End) and found.of == "records"
-    if str(found) != line or of_frames != command.frames:
-        raise Wrong(f"a line that no such report has: {line!r}")
-    return event_of(found, number)
+    found = reports.line_of(text)
+    of_frames = isinstance(found, reports.Record) or isinstance(found, reports.End) and found.of == "records"
+    if str(found) != text or of_frames != command.frames:
+        raise Wrong(f"a line that no such report has: {text!r}")
+    return found.number if isinstance(found, reports.File) else number, text
 
 
 def event_of_json(text: str) -> Event:
     """What a JSON line tells. It is compact, with the keys of docs/JSON.md in order."""
-    try:
-        line = json_line(text)
-    except NoLine as why:
-        raise Wrong(f"{why}") from None
+    line = reports.json_line(text)
     if json.dumps(line, sort_keys=True, separators=(",", ":")) != text:
         raise Wrong(f"not compact, or its keys not in order: {text[:80]}")
     if line.get("status") == "ok":
         look_at_lists(line)
-    return event_of(of_json(line), line["file"])
-
-
-def event_of(found: Line, number: int) -> Event:
-    """What a line tells, in file `number`."""
-    if isinstance(found, File):
-        return "file", found.number
-    if isinstance(found, End):
-        return "end", number, found.ending, found.count
-    return "graph", number, found.number, found.answer
+    return line["file"], str(reports.of_json(line))
 
 
 def look_at_lists(line: dict[str, Any]) -> None:
@@ -202,13 +179,13 @@ def is_whole(command: Command, ran: Ran, files: list[File], said: str | None = N
 
 def lacks_memory(event: Event) -> bool:
     """Whether it is a graph for which there was no memory."""
-    return event[0] == "graph" and event[3] == "memory"
+    return re.fullmatch(r"graph \d+ memory", event[1]) is not None
 
 
 def are_same(events: list[Event], expected: list[Event], scarce: bool) -> bool:
     """Whether these are the lines expected; where memory is scarce, a graph may be `memory` instead."""
     return len(events) == len(expected) and all(
-        event == other or (scarce and lacks_memory(event) and event[:3] == other[:3])
+        event == other or scarce and lacks_memory(event) and event[0] == other[0] and event[1].split()[:2] == other[1].split()[:2]
         for event, other in zip(events, expected))
 
 
@@ -219,7 +196,7 @@ def is_beginning(command: Command, out: bytes, files: list[File], scarce: bool =
     expected = expected_events(command, files)
     if not are_same(events, expected[:len(events)], scarce):
         raise Wrong(f"no beginning of the report: {out[-80:]!r}")
-    following = [text_of(event, command) for event in expected[len(events):len(events) + 1]]
+    following = [text for _, text in expected[len(events):len(events) + 1]]
     if rest and not (following and (command.json or following[0].startswith(rest))):
         raise Wrong(f"no beginning of the report: {rest!r}")
 
