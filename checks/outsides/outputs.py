@@ -335,14 +335,8 @@ def tells_nothing(machine: Machine, command: Command) -> None:
 
 def tells_on_a_terminal(machine: Machine, command: Command, wanted: bool) -> None:
     """On a terminal the line is written over, and ended at the end of the run; it stands there only if wanted."""
-    master, terminal = pty.openpty()
-    try:
-        with os.fdopen(terminal, "wb", buffering=0) as screen:
-            ran = machine.fed([*command.words, "-"], HEADER + EDGE * 100, 0.001, stderr=screen)
-            shown = on_screen(master).decode()
-        is_whole(command, ran, [File([EDGE] * 100, "complete")])
-    finally:
-        os.close(master)
+    ran, shown = on_a_terminal(machine, command, 100, "stderr")
+    is_whole(command, ran, [File([EDGE] * 100, "complete")])
     if wanted:
         if not shown.startswith("\r") or not shown.endswith("\r\n") or "\n" in shown[:-1]:
             raise Wrong(f"not one line that is written over: {shown!r}")
@@ -351,30 +345,28 @@ def tells_on_a_terminal(machine: Machine, command: Command, wanted: bool) -> Non
         raise Wrong(f"shown: {shown!r}")
 
 
-def on_screen(master: int) -> bytes:
-    """What a terminal, which somebody still has open, shows once nothing came to it for a fifth of a second."""
-    shown = b""
-    while select.select([master], [], [], 0.2)[0]:
-        shown += os.read(master, 65_536)
-    return shown
-
-
 def shares_a_terminal(machine: Machine, command: Command) -> None:
     """On a terminal to which the report goes too, each of its lines stands whole, and then the last line of progress."""
+    ran, shown = on_a_terminal(machine, command, 200, "stdout", "stderr")
+    *report, last = screen_of(shown)
+    text = "".join(line + "\n" for line in report).encode()
+    is_whole(command, ran._replace(out=text), [File([EDGE] * 200, "complete")], "")
+    tells(last + "\n", 1, 200, 1)
+
+
+def on_a_terminal(machine: Machine, command: Command, graphs: int, *outputs: str) -> tuple[Ran, str]:
+    """A run over this many graphs, of which these outputs are a terminal, and what that shows."""
     master, terminal = pty.openpty()
     parts: list[bytes] = []
     reader = threading.Thread(target=reads_all, args=(master, parts), daemon=True)
     reader.start()
     try:
         with os.fdopen(terminal, "wb", buffering=0) as screen:
-            ran = machine.fed([*command.words, "-"], HEADER + EDGE * 200, 0.001, stdout=screen, stderr=screen)
+            ran = machine.fed([*command.words, "-"], HEADER + EDGE * graphs, 0.001, **dict.fromkeys(outputs, screen))
         reader.join(PATIENCE)
     finally:
         os.close(master)
-    *report, last = screen_of(b"".join(parts).decode())
-    text = "".join(line + "\n" for line in report).encode()
-    is_whole(command, ran._replace(out=text), [File([EDGE] * 200, "complete")], "")
-    tells(last + "\n", 1, 200, 1)
+    return ran, b"".join(parts).decode()
 
 
 def reads_all(master: int, parts: list[bytes]) -> None:
