@@ -1,13 +1,22 @@
+#!/usr/bin/env python3
 """What checks/ready looks for in the pages: that each is no longer than it may be, that the numbers of crates, proofs,
 edits, attacks and tests that they quote are those of the tree, and that each name in backticks is one of the tree: a
 file, a crate, an option, or a word of the code, the definitions or the scripts. In docs/PROVED.md a name must stand in
 the crates of its section, and in its tables each clause in the contract of a call beside it. Blocks of code are not
-looked at."""
+looked at. The man page docs/planarbend.1 has the arguments and options of --help in its words, its version is the
+program's, and `man --warnings` finds no fault in it. The texts are those of checks/start/texts, which checks/first-answer
+compares with the program's; started by itself, this script puts them into the page.
+"""
+import difflib
 import glob
 import os
 import re
+import shutil
+import subprocess
 
-ROOT = os.path.dirname(os.path.dirname(os.path.abspath(__file__)))
+import programs
+from programs import ROOT
+
 PAGES = ["README.md", "CONTRIBUTING.md", "docs/*.md", "bench/*.md"]
 COUNTED = [*PAGES, "CHANGELOG.md", "examples/README.md"]
 MOST = {"README.md": 900, "CONTRIBUTING.md": 900, "CHANGELOG.md": 600, "docs/CHECK.md": 500, "docs/CLUSTER.md": 750, "": 13_000}  # words; of all pages
@@ -17,7 +26,9 @@ NUMBER = re.compile(r"([\d,]*\d) (crates|proofs|edits|attacks|tests)\b")
 # Words of other programs, of formats, and of the system.
 OUTSIDE = set("""rt ci check fmt tidy lemma test doc version must-fail verdict Ok Err printf png svg planarg geng -p -c -D4
     plantri parallel slurm-wlm munge nauty chromium futex clap MOD RES kill cred_expire slurm.conf sshlogin workdir env
-    passed failed smallvec --only requires docs/REFUSED.md""".split())
+    passed failed smallvec --only requires docs/REFUSED.md python3-networkx""".split())
+MAN, TEXTS = "docs/planarbend.1", "checks/start/texts"
+ENTRY = re.compile(r"^ {2,6}(-\S.*?|<.*?>\S*)  +(\S.*)$")  # an argument or option of --help, and what it says
 WORD = re.compile(r"-{0,2}[A-Za-z_][\w\-]*(?:\.[a-z]\w*)*|\d[\d,.]*")
 
 
@@ -48,14 +59,14 @@ class Tree:
         self.uses = {crate.name: [dep.name for dep in crate.deps] for crate in crates}
         self.files, self.folders = set(), set()
         for folder, below, names in os.walk(ROOT):
-            below[:] = [name for name in below if name not in (".git", "out")]
+            below[:] = [name for name in below if name not in (".git", "out", "__pycache__")]
             place = os.path.relpath(folder, ROOT)
             self.folders.add(place)
             self.files.update(os.path.normpath(os.path.join(place, name)) for name in names)
         self.ends = {"/".join(place.split("/")[at:]) for place in self.files | self.folders
                      for at in range(place.count("/") + 1)}
         self.words = {crate: self.words_of_crate(crate) for crate in self.crates}
-        scripts = [file for file in self.files if file.split("/")[0] in ("checks", "bench", "examples", "start")
+        scripts = [file for file in self.files if file.split("/")[0] in ("checks", "bench", "examples")
                    and not file.endswith((".md", ".pc")) and not file.startswith("checks/pages")]
         self.others = self.split("\n".join(map(text_of, scripts + ["planarbend", "crates.txt"])))
         self.all = self.others.union(OUTSIDE, *self.words.values())
@@ -81,7 +92,7 @@ class Tree:
         return {"crates": len(self.crates), "tests": sum(tests.values()),
                 "proofs": len(self.crates) + sum(count > 0 for count in tests.values()),
                 "edits": sum(parts[0] == "crates" and parts[2] == "must-fail" for parts in edits),
-                "attacks": sum(parts[0] == "attacks" for parts in edits)}
+                "attacks": sum(parts[:2] == ["checks", "edits"] for parts in edits)}
 
     def has_path(self, name):
         """Whether some file or folder of the tree ends so."""
@@ -164,6 +175,35 @@ def wrong_numbers(counts, page, text):
             if int(number.replace(",", "")) != counts[what]]
 
 
+def troff(text):
+    """A text as troff reads it."""
+    text = text.replace("\\", "\\e").replace("-", "\\-")
+    return "\\&" + text if text.startswith((".", "'")) else text
+
+
+def man_page(text):
+    """The man page with the texts of --help between its headings."""
+    for command in re.findall(r'^\.\\" (\w+)$', text, re.M):
+        entries = filter(None, map(ENTRY.match, text_of(f"{TEXTS}/{command}").splitlines()))
+        section = "".join(f".TP\n.B {troff(entry[1])}\n{troff(entry[2])}\n" for entry in entries)
+        heading = f'.\\" {command}\n'
+        before, _, after = text.partition(heading)
+        text = before + heading + section + ".SH " + after.partition(".SH ")[2]
+    version = text_of(f"{TEXTS}/version").split()[1]
+    return re.sub(r'"planarbend [\d.]+"', f'"planarbend {version}"', text, count=1)
+
+
+def faults_of_man():
+    """What is wrong with the man page, a line each."""
+    text = text_of(MAN)
+    lines = list(difflib.unified_diff(text.splitlines(), man_page(text).splitlines(), MAN, "--help", lineterm=""))
+    if shutil.which("man"):
+        ran = subprocess.run(["man", "--warnings", "-E", "UTF-8", "-l", "-Tutf8", "-Z", os.path.join(ROOT, MAN)], stdout=subprocess.DEVNULL,
+                             stderr=subprocess.PIPE, text=True, env={"LC_ALL": "C.UTF-8", "MANROFFSEQ": "", "MANWIDTH": "80", "PATH": "/usr/bin:/bin"})
+        lines += [f"man: {line}" for line in ran.stderr.splitlines()] or [f"man: status {ran.returncode}"] * bool(ran.returncode)
+    return lines
+
+
 def faults(crates):
     """What is wrong with the pages, a line each."""
     tree, found = Tree(crates), pages(PAGES)
@@ -171,5 +211,11 @@ def faults(crates):
     for page, text in found.items():
         if page not in NO_TREE:
             lines += lost_names(tree, page, text) + wrong_numbers(counts, page, text)
-    lines += lost_clauses(tree, found["docs/PROVED.md"])
-    return lines
+    return lines + lost_clauses(tree, found["docs/PROVED.md"]) + faults_of_man()
+
+
+if __name__ == "__main__":
+    programs.parser_of(__doc__).parse_args()
+    page = man_page(text_of(MAN))
+    with open(os.path.join(ROOT, MAN), "w", encoding="utf-8") as out:
+        out.write(page)

@@ -28,15 +28,14 @@ Needs Python's standard library alone, and takes a few milliseconds a graph of 2
 """
 from __future__ import annotations
 
-import argparse
 import math
 import os
 import random
 import sys
 from collections.abc import Callable, Iterator
 
-sys.dont_write_bytecode = True
-sys.path.insert(0, os.path.join(os.path.dirname(os.path.abspath(__file__)), "../../python"))
+sys.path.insert(0, os.path.join(os.path.dirname(os.path.abspath(__file__)), "../../checks"))
+import programs
 from planarbend.planar_code import HEADER, record_of
 from planarbend.reports import End, File, Graph
 
@@ -181,20 +180,7 @@ def medial_of_prism() -> Lists:
     """The last of the growing graphs, from 0."""
     rotation = {i: [(i + 1) % SIDES, SIDES + i, (i - 1) % SIDES] for i in range(SIDES)}
     rotation |= {SIDES + i: [SIDES + (i + 1) % SIDES, SIDES + (i - 1) % SIDES, i] for i in range(SIDES)}
-    return by_breadth(around_edges(rotation))
-
-
-def around_edges(rotation: Rotation) -> Lists:
-    """The medial graph of the mirror image of a graph."""
-    edges = [(u, v) for u, around in rotation.items() for v in around if u < v]
-    number = {dart: at for at, (u, v) in enumerate(edges) for dart in ((u, v), (v, u))}
-
-    def after(dart: Dart) -> Dart:
-        around = rotation[dart[1]]
-        return dart[1], around[(around.index(dart[0]) + 1) % len(around)]
-
-    before = {after(dart): dart for dart in number}
-    return [[number[other] for other in (after((u, v)), before[u, v], after((v, u)), before[v, u])] for u, v in edges]
+    return by_breadth([around[-1:] + around[:-1] for around in medial(rotation).values()])
 
 
 def by_breadth(lists: Lists) -> Lists:
@@ -228,10 +214,6 @@ def ring(first: int, count: int) -> list[Dart]:
     return [(first + i, first + (i + 1) % count) for i in range(count)]
 
 
-def path(n: int) -> Placed:
-    return [(i, 0) for i in range(n)], [(i, i + 1) for i in range(n - 1)]
-
-
 def cycle(n: int) -> Placed:
     return circle(n, 1, 0), ring(0, n)
 
@@ -256,7 +238,7 @@ def antiprism(k: int) -> Placed:
 
 def families() -> list[tuple[Placed, int]]:
     """Each graph with its fewest bends."""
-    found = [(path(n), 0) for n in range(2, 41)]
+    found = [(grid(n, 1), 0) for n in range(2, 41)]
     found += [(cycle(3), 1)] + [(cycle(n), 0) for n in range(4, 41)]
     found += [(star(leaves), 0) for leaves in range(2, 5)]
     found += [(grid(a, b), 0) for a in range(2, 7) for b in range(2, 7)]
@@ -300,7 +282,7 @@ FIXED: dict[str, Callable[[], Iterator[Lists]]] = {
 
 
 def main() -> None:
-    parser = argparse.ArgumentParser(description=__doc__, formatter_class=argparse.RawDescriptionHelpFormatter)
+    parser = programs.parser_of(__doc__)
     parser.add_argument("kind", metavar="KIND", choices=[*RANDOM, *FIXED], help=", ".join([*RANDOM, *FIXED]))
     parser.add_argument("numbers", metavar="NUMBER", type=int, nargs="*", help="of random graphs: VERTICES COUNT SEED")
     parser.add_argument("--report", action="store_true", help="of families: print the report instead")

@@ -1,11 +1,13 @@
-// Planar code, the rules for graphs, and faces: an outside reading, written apart from the product.
-// The benchmarks compare with it; it shares no code with the crates.
+// Planar code, the rules for graphs, faces, and the fewest bends by LEMON's network simplex: written apart from the
+// product, with which it shares no code.
 #pragma once
 #include <algorithm>
 #include <array>
 #include <cstdint>
 #include <cstdio>
 #include <fstream>
+#include <lemon/network_simplex.h>
+#include <lemon/smart_graph.h>
 #include <string>
 #include <vector>
 
@@ -115,3 +117,40 @@ inline const char *broken_rule(Graph &graph) {
     if (graph.degree[f] > graph.degree[graph.outer]) graph.outer = f;
   return nullptr;
 }
+
+// The least cost of a shape, by the cost of a bend and that of a vertex of degree 2 that turns: such a vertex has two
+// units, and has both in one corner. The edges of marked darts stay straight. -1 if there is none.
+inline long least_cost(const Graph &graph, int bend, int turn, const std::vector<bool> &straight = {}) {
+  using Net = lemon::SmartDigraph;
+  const int n = graph.vertices, darts = graph.darts(), faces = static_cast<int>(graph.degree.size());
+  Net net;
+  net.reserveNode(n + faces);
+  net.reserveArc(2 * darts);
+  for (int v = 0; v < n + faces; ++v) net.addNode();
+  Net::ArcMap<int> upper(net), cost(net);
+  Net::NodeMap<int> supply(net);
+  for (int d = 0; d < darts; ++d) {
+    const auto corner = net.addArc(net.nodeFromId(graph.head[d] - 1), net.nodeFromId(n + graph.face[d]));
+    upper[corner] = 3;
+    cost[corner] = 0;
+    if (turn > 0 && graph.lists[graph.head[d]].size() == 2) {
+      const auto second = net.addArc(net.source(corner), net.target(corner));
+      upper[corner] = upper[second] = 1;
+      cost[second] = turn;
+    }
+    if (!straight.empty() && (straight[d] || straight[graph.reverse[d]])) continue;
+    const auto crossing =
+        net.addArc(net.nodeFromId(n + graph.face[d]), net.nodeFromId(n + graph.face[graph.reverse[d]]));
+    upper[crossing] = 1 << 20;
+    cost[crossing] = bend;
+  }
+  for (int v = 1; v <= n; ++v) supply[net.nodeFromId(v - 1)] = 4 - static_cast<int>(graph.lists[v].size());
+  for (int f = 0; f < faces; ++f)
+    supply[net.nodeFromId(n + f)] = f == graph.outer ? -(graph.degree[f] + 4) : 4 - graph.degree[f];
+  lemon::NetworkSimplex<Net> simplex(net);
+  simplex.upperMap(upper).costMap(cost).supplyMap(supply);
+  if (simplex.run() != lemon::NetworkSimplex<Net>::OPTIMAL) return -1;
+  return simplex.totalCost();
+}
+
+inline long fewest_bends(const Graph &graph, const std::vector<bool> &straight = {}) { return least_cost(graph, 1, 0, straight); }

@@ -1,18 +1,286 @@
-"""The folder in which the program runs, and what counts the cases."""
+"""What the groups of cases share: what the program is given and must answer, what the lines of a report tell, how a run
+may end, what is asked of Linux, and the folder in which the program runs."""
 from __future__ import annotations
 
+import array
 import contextlib
+import fcntl
+import json
 import os
+import re
+import resource
 import shutil
 import subprocess
+import termios
 import time
-from collections.abc import Iterator
-from typing import Any
+from collections.abc import Callable, Iterable, Iterator
+from typing import Any, NamedTuple
 
-from answers import Ran, is_whole
-from expected import TWO, Command, File, Wrong
-from system import PATIENCE
+from planarbend import planar_code, reports
+from planarbend.planar_code import HEADER
 
+
+# ---- What the program is given and must answer: the commands that are tried, the records of the files, the texts of
+# faults, and the lines of a whole report, as README.md, docs/FORMAT.md and docs/JSON.md say.
+
+EDGE, TRIANGLE, LONE = b"\2\2\0\1\0", b"\3\2\3\0\3\1\0\1\2\0", b"\1\0"
+# A path of 10 vertices, whose record begins with a line end.
+PATH_OF_10 = b"\n\2\0" + b"".join(bytes([vertex - 1, vertex + 1, 0]) for vertex in range(2, 10)) + b"\x09\0"
+BULKY = b"\xff" + 255 * (254 * b"\1" + b"\0")  # the longest record there is; no graph
+TWO = HEADER + EDGE + TRIANGLE
+MANY = 10_000  # times two graphs, whose report is longer than a pipe holds
+LONG = HEADER + (EDGE + TRIANGLE) * MANY
+
+# What README.md says of these graphs: n, m, f and fewest bends; and docs/FORMAT.md of one without an edge.
+ANSWERS = {EDGE: "ok n=2 m=1 f=1 bends=0 drawn=yes", TRIANGLE: "ok n=3 m=3 f=2 bends=1 drawn=yes",
+           LONE: "refused edgeless", PATH_OF_10: "ok n=10 m=9 f=1 bends=0 drawn=yes"}
+
+MEMORY, THREAD = "planarbend: out of memory\n", "planarbend: cannot start a thread\n"
+LOST = "planarbend: internal error: a worker thread disconnected\n"
+WRITE = "planarbend: cannot write output: {}\n"  # with the reason, as the system has it
+FULL = WRITE.format("No space left on device")
+TWICE = ("error: standard input, the file '-', can be read only once, and is named twice\n\n"
+         "Usage: planarbend <COMMAND>\n\nFor more information, try '--help'.\n")
+
+Event = tuple[int, str]  # the number of a file, and a line of its report; of JSON lines that of the same report
+
+
+class Wrong(Exception):
+    """An answer that is not what these pages say."""
+
+
+class Command(NamedTuple):
+    """A command with its form and its number of lanes."""
+    words: list[str]
+
+    @property
+    def frames(self) -> bool:
+        return self.words[0] == "frames"
+
+    @property
+    def json(self) -> bool:
+        return "--json" in self.words
+
+    @property
+    def lanes(self) -> int:
+        return int(self.words[self.words.index("--lanes") + 1]) if "--lanes" in self.words else 1
+
+    def __str__(self) -> str:
+        return " ".join(self.words)
+
+
+FRAMES, LAYOUT, LAYOUT_JSON = Command(["frames"]), Command(["layout"]), Command(["layout", "--json"])
+LAYOUTS = [LAYOUT, Command(["layout", "--lanes", "4"]), LAYOUT_JSON, Command(["layout", "--json", "--lanes", "4"]),
+           Command(["layout", "--outer", "best", "--lanes", "8"])]
+COMMANDS = [FRAMES, *LAYOUTS]
+
+
+class File(NamedTuple):
+    """What a file has: its records and how it ends."""
+    records: list[bytes]
+    mark: str
+
+
+IO = File([], "io")
+
+
+def split(text: bytes) -> File:
+    """The records and the ending of these bytes, as docs/FORMAT.md has them."""
+    return File(*planar_code.split(text))
+
+
+def expected_events(command: Command, files: Iterable[File]) -> list[Event]:
+    """What a whole report tells, line by line."""
+    events: list[Event] = []
+    for number, file in enumerate(files, 1):
+        lines: list[object] = [] if command.frames or command.json else [reports.File(number)]
+        for place, record in enumerate(file.records, 1):
+            lines.append(reports.Record(place, record[0], len(record)) if command.frames
+                         else f"graph {place} {ANSWERS.get(record, '?')}")
+        lines.append(reports.End(file.mark, len(file.records), "records" if command.frames else "graphs"))
+        events += [(number, str(line)) for line in lines]
+    return events
+
+
+# ---- What the lines of a report tell. A line that no such report has is wrong.
+
+def events_of(command: Command, text: bytes) -> tuple[list[Event], str]:
+    """What the whole lines of a report tell, and what is left behind the last of them."""
+    *lines, rest = text.decode("ascii", "replace").split("\n")
+    events: list[Event] = []
+    for line in lines:
+        number = events[-1][0] if events else int(command.frames)
+        try:
+            events.append(event_of_json(line) if command.json else event_of_text(command, line, number))
+        except reports.NoLine as why:
+            raise Wrong(f"{why}") from None
+    return events, rest
+
+
+def event_of_text(command: Command, text: str, number: int) -> Event:
+    """What a line of a report of `frames` or `layout` tells, in file `number`."""
+    found = reports.line_of(text)
+    of_frames = isinstance(found, reports.Record) or isinstance(found, reports.End) and found.of == "records"
+    if str(found) != text or of_frames != command.frames:
+        raise Wrong(f"a line that no such report has: {text!r}")
+    return found.number if isinstance(found, reports.File) else number, text
+
+
+def event_of_json(text: str) -> Event:
+    """What a JSON line tells. It is compact, with the keys of docs/JSON.md in order."""
+    line = reports.json_line(text)
+    if json.dumps(line, sort_keys=True, separators=(",", ":")) != text:
+        raise Wrong(f"not compact, or its keys not in order: {text[:80]}")
+    if line.get("status") == "ok":
+        look_at_lists(line)
+    return line["file"], str(reports.of_json(line))
+
+
+def look_at_lists(line: dict[str, Any]) -> None:
+    """The lists of a graph have as many members as docs/JSON.md says, and the turns are the bends."""
+    n, m, f, turns = line["n"], line["m"], line["f"], line["turns"]
+    lists = [(line["angles"], 2 * m), (turns, 2 * m), (line["prices"]["faces"], f), (line["prices"]["vertices"], n),
+             (line["points"]["vertices"], n), (line["points"]["corners"], m)]
+    if any(len(members) != length for members, length in lists) or len("".join(turns)) != 2 * line["bends"]:
+        raise Wrong(f"lists of other lengths: {line}")
+
+
+# ---- How a run may end: with a whole report, with a beginning of one, or with a fault.
+
+class Ran(NamedTuple):
+    """How a run ended: its status, below 0 for a signal, and what it wrote."""
+    status: int
+    out: bytes
+    err: str
+
+
+# The marks of files of which a line on standard error may say what they look like.
+MISFITS = ("header", "large", "oversize", "truncated")
+
+
+def is_whole(command: Command, ran: Ran, files: list[File], said: str | None = None) -> None:
+    """The whole report of these files, the status that goes with it, and this text on standard error. If no text is
+    given, there is a line for each file that could not be read, and one or none for each that is no planar_code."""
+    least = sum(file.mark == "io" for file in files)
+    most = least + sum(file.mark in MISFITS for file in files)
+    told = said if said is not None else ran.err
+    if ran.err != told or not least <= ran.err.count("planarbend: ") <= most:
+        raise Wrong(f"status {ran.status}, on standard error {ran.err!r}, not {said!r}")
+    events, rest = events_of(command, ran.out)
+    expected = expected_events(command, files)
+    if events != expected or rest:
+        place = next((i for i, pair in enumerate(zip(events, expected)) if pair[0] != pair[1]), len(events))
+        raise Wrong(f"status {ran.status}, line {place + 1} of the report: {events[place:place + 1] or rest}, not "
+                    f"{expected[place:place + 1]}")
+    status = 0 if all(file.mark == "complete" for file in files) else 3
+    if ran.status != status:
+        raise Wrong(f"status {ran.status}, not {status}")
+
+
+def lacks_memory(event: Event) -> bool:
+    """Whether it is a graph for which there was no memory."""
+    return re.fullmatch(r"graph \d+ memory", event[1]) is not None
+
+
+def are_same(events: list[Event], expected: list[Event], scarce: bool) -> bool:
+    """Whether these are the lines expected; where memory is scarce, a graph may be `memory` instead."""
+    return len(events) == len(expected) and all(
+        event == other or scarce and lacks_memory(event) and event[0] == other[0] and event[1].split()[:2] == other[1].split()[:2]
+        for event, other in zip(events, expected))
+
+
+def is_beginning(command: Command, out: bytes, files: list[File], scarce: bool = False) -> None:
+    """What was written is a beginning of the whole report of these files; where memory is scarce, with graphs that
+    are `memory`."""
+    events, rest = events_of(command, out)
+    expected = expected_events(command, files)
+    if not are_same(events, expected[:len(events)], scarce):
+        raise Wrong(f"no beginning of the report: {out[-80:]!r}")
+    following = [text for _, text in expected[len(events):len(events) + 1]]
+    if rest and not (following and (command.json or following[0].startswith(rest))):
+        raise Wrong(f"no beginning of the report: {rest!r}")
+
+
+def is_fault(ran: Ran, status: int, text: str | None) -> None:
+    """This status with nothing on standard output, and this text on standard error, or any where it is None."""
+    if ran.status != status or ran.out or (not ran.err if text is None else ran.err != text):
+        raise Wrong(f"status {ran.status}, {len(ran.out)} bytes of output, {ran.err[:200]!r}; not status {status}, "
+                    f"{'a text' if text is None else repr(text)}")
+
+
+# ---- What the cases ask of Linux: limits and closed descriptors for the process that becomes the program, outputs
+# that take nothing, and what is seen of a process while it runs.
+
+PATIENCE = 20  # seconds that one run may take
+NOBODY = 65534
+IS_ROOT = os.geteuid() == 0
+AS_NOBODY: dict[str, Any] = {"user": NOBODY, "group": NOBODY, "extra_groups": []} if IS_ROOT else {}
+
+
+def limits(**which: int) -> Callable[[], None]:
+    """What sets limits by name, as AS or NOFILE, in the process that becomes the program."""
+    def set_limits() -> None:
+        for name, most in which.items():
+            resource.setrlimit(getattr(resource, f"RLIMIT_{name}"), (most, most))
+    return set_limits
+
+
+def closing(*descriptors: int) -> Callable[[], None]:
+    """What closes these in the process that becomes the program."""
+    def close() -> None:
+        for descriptor in descriptors:
+            os.close(descriptor)
+    return close
+
+
+def broken_pipe() -> Any:
+    """A pipe's end for writing that nobody reads."""
+    reader, writer = os.pipe()
+    os.close(reader)
+    return os.fdopen(writer, "wb", buffering=0)
+
+
+def full_disk() -> Any:
+    """An output that has no room."""
+    return open("/dev/full", "wb", buffering=0)
+
+
+def wait_for(holds: Callable[[], object], text: str) -> None:
+    """Waits until something holds."""
+    end = time.monotonic() + PATIENCE
+    while not holds():
+        if time.monotonic() > end:
+            raise Wrong(f"not seen in {PATIENCE} s: {text}")
+        time.sleep(0.001)
+
+
+def waiting_bytes(pipe: int) -> int:
+    """How many bytes a pipe holds."""
+    count = array.array("i", [0])
+    fcntl.ioctl(pipe, termios.FIONREAD, count)
+    return count[0]
+
+
+def is_stopped(process: int) -> bool:
+    """Whether each thread of a process stands still."""
+    states = []
+    for task in os.listdir(f"/proc/{process}/task"):
+        with contextlib.suppress(OSError), open(f"/proc/{process}/task/{task}/stat", encoding="ascii") as line:
+            states.append(line.read().rpartition(")")[2].split()[0])
+    return set(states) == {"T"}
+
+
+def place_in(process: int, path: str) -> int:
+    """How many bytes of a file a process has read, or -1 where it has not opened it."""
+    for number in os.listdir(f"/proc/{process}/fd"):
+        with contextlib.suppress(OSError):
+            if os.readlink(f"/proc/{process}/fd/{number}") == path:
+                with open(f"/proc/{process}/fdinfo/{number}", encoding="ascii") as lines:
+                    return int(lines.readline().split()[1])
+    return -1
+
+
+# ---- The folder in which the program runs, and what counts the cases.
 
 class Machine:
     """A folder with the program and files, and what counts the cases."""

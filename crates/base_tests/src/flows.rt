@@ -230,7 +230,7 @@ fn random_supplies(rt: &impl Abort, alloc: Global, numbers: &mut Numbers, nodes:
     supplies
 }
 
-/// The next of the random networks, made as `bench/networks/least_costs.py` makes it.
+/// The next of the random networks, made as `bench/outside/lemon.cc` makes it.
 pub(crate) fn random_network(rt: &impl Abort, alloc: Global, numbers: &mut Numbers) -> Network {
     let nodes = 2 + numbers.below(7);
     let supplies = random_supplies(rt, alloc, numbers, nodes);
@@ -288,7 +288,7 @@ fn random_networks_cost_what_other_solvers_found(rt: HostRuntime) {
     same(&rt, count, 1000);
 }
 
-/// The least costs that networkx and LEMON found, `-` if there is no flow (`bench/networks/least_costs.py`).
+/// The least costs that networkx and LEMON found, `-` if there is no flow (`checks/drawings networks`).
 const LEAST_COSTS: &str = "\
     - 7 9 7 6 5 10 2 0 - 1 4 4 - - 2 0 - 2 - 2 - 2 - 3 2 2 1 - - - - 0 - - - 2 - 12 - 0 4 0 - 1 \
     1 - - - - - 2 4 0 14 14 4 - 6 - - - 10 - 0 5 2 - 1 - 5 - 10 2 0 7 - - - 3 - 0 - 4 - 3 3 5 4 \

@@ -1,5 +1,5 @@
 //! Random drawings, a thousand small ones and three large ones, whose least lengths LEMON found by its network simplex
-//! (`checks/least-lengths`).
+//! (`checks/drawings random`).
 use crate::compared::same;
 use crate::least::length_of;
 use least_length::{Scratch, Segment, Wire, find_shortest};

@@ -26,7 +26,7 @@ import sys
 import time
 
 sys.dont_write_bytecode = True
-from common import BUILD_MINUTES, CRATE, ROOT, end_on_signals, free_memory, look_at_machine, say, stop, write_error
+from common import BUILD_MINUTES, CRATE, ROOT, START, end_on_signals, free_memory, look_at_machine, say, stop, write_error
 
 PROGRAM = os.path.join(CRATE, "out", "planarbend")
 SUMS = PROGRAM + ".sources"
@@ -35,7 +35,7 @@ CRATE_LIST = os.path.join(ROOT, "crates.txt")
 KIT = os.path.dirname(os.path.dirname(os.path.realpath(shutil.which("rt") or "")))
 MEMORY, DISK = 4000, 8000  # MB
 MEMORY_OF_CRATE = 2500  # MB, while it is proved
-SECONDS = os.path.join(ROOT, "start", "seconds")
+SECONDS = os.path.join(START, "seconds")
 OTHER_SECONDS = 60  # of a crate that has no line there
 JOBS, BUSY = 4, 2  # of a proof that is shared: its jobs, and how many processors these keep busy
 NEARLY = 0.95  # of the longest chain
@@ -381,7 +381,7 @@ def build(crates):
 
 def make_library():
     """Makes the libraries for C of what is proved."""
-    status = subprocess.run([os.path.join(ROOT, "start", "library")]).returncode
+    status = subprocess.run([sys.executable, os.path.join(ROOT, "c/make.py")]).returncode
     if status:
         sys.exit(status)
 

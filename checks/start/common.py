@@ -6,7 +6,8 @@ import shutil
 import signal
 import sys
 
-ROOT = os.path.dirname(os.path.dirname(os.path.abspath(__file__)))
+START = os.path.dirname(os.path.abspath(__file__))
+ROOT = os.path.dirname(os.path.dirname(START))
 CRATE = os.path.join(ROOT, "crates", "planarbend")
 
 BUILD_MINUTES = 21  # from nothing, on 4 free cores

@@ -7,35 +7,7 @@
 #include "planar.hpp"
 #include "planarbend.h"
 #include <cstdlib>
-#include <lemon/network_simplex.h>
-#include <lemon/smart_graph.h>
 #include <random>
-
-// The fewest bends of a shape with this outer face that keeps the edges of marked darts straight; -1 where there is none.
-static long fewest_bends(const Graph &graph, const std::vector<bool> &straight, int outer) {
-  using Net = lemon::SmartDigraph;
-  const int n = graph.vertices, darts = graph.darts(), faces = static_cast<int>(graph.degree.size());
-  Net net;
-  for (int v = 0; v < n + faces; ++v) net.addNode();
-  Net::ArcMap<int> upper(net), cost(net);
-  Net::NodeMap<int> supply(net);
-  for (int d = 0; d < darts; ++d) {
-    const auto corner = net.addArc(net.nodeFromId(graph.head[d] - 1), net.nodeFromId(n + graph.face[d]));
-    upper[corner] = 3;
-    cost[corner] = 0;
-    if (straight[d] || straight[graph.reverse[d]]) continue;
-    const auto crossing =
-        net.addArc(net.nodeFromId(n + graph.face[d]), net.nodeFromId(n + graph.face[graph.reverse[d]]));
-    upper[crossing] = 1 << 20;
-    cost[crossing] = 1;
-  }
-  for (int v = 1; v <= n; ++v) supply[net.nodeFromId(v - 1)] = 4 - static_cast<int>(graph.lists[v].size());
-  for (int f = 0; f < faces; ++f)
-    supply[net.nodeFromId(n + f)] = f == outer ? -(graph.degree[f] + 4) : 4 - graph.degree[f];
-  lemon::NetworkSimplex<Net> simplex(net);
-  simplex.upperMap(upper).costMap(cost).supplyMap(supply);
-  return simplex.run() == lemon::NetworkSimplex<Net>::OPTIMAL ? simplex.totalCost() : -1;
-}
 
 // What is asked for, and what LEMON makes of it.
 struct Case {
@@ -45,7 +17,7 @@ struct Case {
   long bends = -1;
 };
 
-static Case random_case(const Graph &graph, std::mt19937 &random) {
+static Case random_case(Graph graph, std::mt19937 &random) {
   const int darts = graph.darts(), faces = static_cast<int>(graph.degree.size());
   Case made;
   const unsigned some = random() % 5, inner = random() % 4;
@@ -61,10 +33,12 @@ static Case random_case(const Graph &graph, std::mt19937 &random) {
       continue;
     }
     made.result = PLANARBEND_NO_SHAPE;
-    const long bends = fewest_bends(graph, made.straight, f);
+    graph.outer = f;
+    const long bends = fewest_bends(graph, made.straight);
     if (bends >= 0 && (made.bends < 0 || bends < made.bends)) made.bends = bends, made.outer = f;
   }
-  if (!made.best && made.outer >= 0) made.bends = fewest_bends(graph, made.straight, made.outer);
+  graph.outer = made.outer;
+  if (!made.best && made.outer >= 0) made.bends = fewest_bends(graph, made.straight);
   if (made.outer >= 0) made.result = made.bends < 0 ? PLANARBEND_NO_SHAPE : PLANARBEND_OK;
   return made;
 }

@@ -5,8 +5,6 @@ packages. What stands there from an earlier version is replaced; a file is whole
 
 `planarbend --install PREFIX` runs it. It ends by status 0 if all is copied, and else by 1 and says why not.
 """
-import importlib.machinery
-import importlib.util
 import os
 import shutil
 import sys
@@ -15,6 +13,9 @@ from pathlib import Path
 
 sys.dont_write_bytecode = True
 from common import CRATE, ROOT, say, stop
+
+sys.path.append(os.path.join(ROOT, "c"))
+import make
 
 TOP = Path(ROOT)
 PROGRAM = Path(CRATE) / "out/planarbend"
@@ -26,14 +27,6 @@ from planarbend.command import run
 
 sys.exit(run())
 """
-
-
-def library_script():
-    """start/library, as a module."""
-    loader = importlib.machinery.SourceFileLoader("library", str(TOP / "start/library"))
-    module = importlib.util.module_from_spec(importlib.util.spec_from_loader("library", loader))
-    loader.exec_module(module)
-    return module
 
 
 def put(source, target, mode):
@@ -55,16 +48,16 @@ def put_text(text, target, mode):
     target.chmod(mode)
 
 
-def put_library(library, prefix):
+def put_library(prefix):
     """Copies both libraries and the header, with a planarbend.pc for where they stand."""
-    put(library.OUT / "libplanarbend.a", prefix / "lib/libplanarbend.a", 0o644)
-    put(library.OUT / library.SONAME, prefix / "lib" / library.SONAME, 0o755)
+    put(make.OUT / "libplanarbend.a", prefix / "lib/libplanarbend.a", 0o644)
+    put(make.OUT / make.SONAME, prefix / "lib" / make.SONAME, 0o755)
     link = prefix / "lib/libplanarbend.so"
     link.unlink(missing_ok=True)
-    link.symlink_to(library.SONAME)
-    text = library.package_text(prefix, "${prefix}/lib", "${prefix}/include")
+    link.symlink_to(make.SONAME)
+    text = make.package_text(prefix, "${prefix}/lib", "${prefix}/include")
     put_text(text, prefix / "lib/pkgconfig/planarbend.pc", 0o644)
-    put(library.SOURCE / "planarbend.h", prefix / "include/planarbend.h", 0o644)
+    put(make.SOURCE / "planarbend.h", prefix / "include/planarbend.h", 0o644)
 
 
 def put_package(prefix):
@@ -75,10 +68,10 @@ def put_package(prefix):
     return folder
 
 
-def install(library, prefix):
+def install(prefix):
     put(PROGRAM, prefix / "bin/planarbend", 0o755)
-    if (library.OUT / library.SONAME).is_file():
-        put_library(library, prefix)
+    if (make.OUT / make.SONAME).is_file():
+        put_library(prefix)
     else:
         say("no library for C stands here, so none is installed; planarbend --build makes it")
     put(TOP / "docs/planarbend.1", prefix / "share/man/man1/planarbend.1", 0o644)
@@ -89,11 +82,10 @@ def install(library, prefix):
 
 def main():
     prefix = Path(os.path.abspath(sys.argv[1]))
-    library = library_script()
     if not PROGRAM.is_file():
         stop("no proved program stands here yet", "planarbend --build proves and builds it")
     try:
-        install(library, prefix)
+        install(prefix)
     except OSError as error:
         stop(f"cannot install below {prefix}: {error.filename}: {error.strerror}")
 

@@ -1,13 +1,11 @@
 #!/usr/bin/env python3
 """Makes the library for C in out/: libplanarbend.a, libplanarbend.so.1 with the link libplanarbend.so, and planarbend.pc, by
 which pkg-config finds them here. Both libraries are the crate planarbend_c, which it proves over the libraries that
-start/build has proved, and c/planarbend.c. They export the names that c/planarbend.map lists and no others. It needs a C
+build.py has proved, and c/planarbend.c. They export the names that c/planarbend.map lists and no others. It needs a C
 compiler (CC, or cc) and binutils.
 
 `planarbend --build` runs it at last. With an archive as its one word it takes that in place of the proved crate.
 """
-import importlib.machinery
-import importlib.util
 import os
 import re
 import shutil
@@ -17,7 +15,9 @@ import tempfile
 from pathlib import Path
 
 sys.dont_write_bytecode = True
-from common import ROOT, end_on_signals, say, stop
+sys.path.append(str(Path(__file__).resolve().parent.parent / "checks/start"))
+import build
+from common import ROOT, START, end_on_signals, say, stop
 
 TOP = Path(ROOT)
 SOURCE, OUT = TOP / "c", TOP / "out"
@@ -25,15 +25,7 @@ SONAME = "libplanarbend.so.1"
 FLAGS = ["-std=c11", "-O2", "-fPIC", "-Wall", "-Wextra", "-Werror"]
 
 
-def script(name):
-    """A script of this folder, as a module."""
-    loader = importlib.machinery.SourceFileLoader(name, str(TOP / "start" / name))
-    module = importlib.util.module_from_spec(importlib.util.spec_from_loader(name, loader))
-    loader.exec_module(module)
-    return module
-
-
-def prove(build):
+def prove():
     """Proves the crate and compiles it to the archive, where that was not made of the texts of today."""
     crates = build.Crates(build.LIBRARY)
     missing = [name for name in crates.libraries if not crates.is_built(name)]
@@ -47,7 +39,7 @@ def prove(build):
 
 def version():
     """The version, without the program's name."""
-    return (TOP / "start/texts/version").read_text(encoding="utf-8").split()[1]
+    return Path(START, "texts/version").read_text(encoding="utf-8").split()[1]
 
 
 def exported():
@@ -92,14 +84,13 @@ def make(archive, out, folder):
 
 
 def main():
-    build = script("build")
     archive = Path(sys.argv[1] if len(sys.argv) > 1 else build.library_of(build.LIBRARY))
     for tool in (os.environ.get("CC") or "cc", "ld", "objcopy", "ar"):
         if shutil.which(tool) is None:
             stop(f"{tool} is not on the path, so the library for C cannot be made")
     if len(sys.argv) == 1:
         end_on_signals()
-        prove(build)
+        prove()
     elif not archive.is_file():
         stop(f"no archive {archive}")
     OUT.mkdir(exist_ok=True)

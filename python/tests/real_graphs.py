@@ -4,7 +4,7 @@
 The graphs are examples of Graphviz, demo boards of KiCad and graphs of networkx (Debian: graphviz-doc, kicad-demos,
 python3-networkx; the first two are fetched with apt-get where they are not installed, and nothing of them is kept). Each is
 drawn by `python3 -m planarbend draw` in a process of its own, and each drawing is checked by
-python/tests/drawing_checker.py. python/tests/real_graphs.csv has OGDF's figures, and those of a first try.
+drawing_checker.py. real_graphs.csv has OGDF's figures, and those of a first try.
 
 The graphs are as OGDF had them: a board with parallel connections once, no loops, and no parts without a connection; boxes
 with names alone, so that pixels compare (`--labels` draws them as they are). OGDF's figures are of its release 2012.07,
@@ -28,13 +28,14 @@ from dataclasses import dataclass
 from pathlib import Path
 
 sys.dont_write_bytecode = True
-ROOT = Path(__file__).resolve().parent.parent
-sys.path[:0] = [str(ROOT / "python"), str(ROOT / "python/tests")]
+TESTS = Path(__file__).resolve().parent
+PACKAGE = TESTS.parent
+sys.path.insert(0, str(PACKAGE))
 import drawing_checker
 from planarbend.graph import Arrow, Graph, Kind
 from planarbend.readers import read
 
-TABLE = ROOT / "python/tests/real_graphs.csv"
+TABLE = TESTS / "real_graphs.csv"
 PACKAGES = {"graphviz-doc": "usr/share/doc/graphviz/examples/graphs", "kicad-demos": "usr/share/kicad/demos"}
 BIG = "lesmis"  # the sums are without it
 WANTED = {"crossings": 680, "bends": 480, "boxes": 2, "room": 1.1, "room of --compact": 0.85, "median": 0.3, "worst": 20.0}
@@ -165,7 +166,7 @@ def drawn(name: str, words: argparse.Namespace, folder: Path) -> Result:
     options += ["--seed", words.seed] if words.seed else []
     began, used = time.perf_counter(), processor()
     ran = subprocess.run([sys.executable, "-m", "planarbend", "draw", str(source), "-o", str(out), *options],
-                         cwd=ROOT / "python", env=environment, capture_output=True, text=True)
+                         cwd=PACKAGE, env=environment, capture_output=True, text=True)
     seconds = processor() - used if words.processor else time.perf_counter() - began
     if ran.returncode:
         return Result(name, size, (ran.stderr.strip() or f"status {ran.returncode}").splitlines()[-1], seconds)
@@ -184,7 +185,7 @@ def compiled(folder: Path) -> dict[str, str]:
     environment = {**os.environ, "PYTHONPYCACHEPREFIX": str(folder / "compiled")}
     environment.pop("PYTHONDONTWRITEBYTECODE", None)
     if not (folder / "compiled").is_dir():
-        subprocess.run([sys.executable, "-m", "compileall", "-q", ROOT / "python/planarbend"], env=environment, check=True)
+        subprocess.run([sys.executable, "-m", "compileall", "-q", PACKAGE / "planarbend"], env=environment, check=True)
     return environment
 
 
@@ -272,7 +273,7 @@ def main() -> int:
     rows = [row for row in table() if not words.only or row["graph"] in words.only]
     unknown = set(words.only or ()) - {row["graph"] for row in rows}
     if unknown:
-        sys.exit(f"real-graphs: no such graph: {', '.join(sorted(unknown))}")
+        sys.exit(f"real_graphs.py: no such graph: {', '.join(sorted(unknown))}")
     with tempfile.TemporaryDirectory() as kept:
         folder = Path(words.keep or kept)
         folder.mkdir(parents=True, exist_ok=True)

@@ -1,5 +1,5 @@
-"""Shared by the scripts of bench/ and checks/: command lines, the programs they run, the library that is preloaded,
-copies of crates, files of graphs, runs of a program, and the sections of bench/RESULTS.md."""
+"""Shared by the scripts of bench/ and checks/: command lines, cases, the programs they run, the toolchain, the library
+that is preloaded, copies of crates, files of graphs, runs of a program, and the sections of bench/RESULTS.md."""
 from __future__ import annotations
 
 import argparse
@@ -13,13 +13,16 @@ import shutil
 import subprocess
 import sys
 import time
-from collections.abc import Iterable, Sequence
+from collections.abc import Callable, Iterable, Sequence
 from typing import Any, NamedTuple
 
+sys.dont_write_bytecode = True
 ROOT = os.path.dirname(os.path.dirname(os.path.abspath(__file__)))
+sys.path.append(os.path.join(ROOT, "python"))
+from planarbend.planar_code import HEADER, records
+
 DATA = os.path.join(ROOT, "crates/corpus/data")
 OUTSIDE = os.path.join(ROOT, "bench/outside")
-PARTS = os.path.join(ROOT, "bench/parts")
 
 KINDS = [("cubic", "250", "1"), ("medial", "249", "2"), ("grid", "250", "3"), ("tree", "250", "4")]
 SMALL = os.path.join(DATA, "planar_d4_n8.pc")
@@ -28,7 +31,6 @@ FAST = ["-O3", "-march=native", "-std=c++17"]  # for other programs; ours is bui
 
 RESULTS = os.path.join(ROOT, "bench/RESULTS.md")
 
-HEADER_SIZE = 15  # bytes of >>planar_code<<
 PIECE = 1 << 20  # bytes of output read at a time, at most
 
 
@@ -48,6 +50,31 @@ def parser_of(text: str | None) -> argparse.ArgumentParser:
 def add_write(parser: argparse.ArgumentParser) -> None:
     """Adds the option that stores the tables."""
     parser.add_argument("--write", action="store_true", help="replace this script's tables in bench/RESULTS.md")
+
+
+class Cases:
+    """Prints a line for each case, and counts those that failed."""
+
+    def __init__(self) -> None:
+        self.failed = 0
+
+    def look(self, name: str, well: bool, told: object = "") -> None:
+        """Prints the result of a case, and what there is to say of it."""
+        self.failed += not well
+        print(f"{'passed' if well else 'FAILED'}: {name}" + f": {told}" * bool(told), flush=True)
+
+    def run(self, name: str, case: Callable[..., object], *given: object) -> None:
+        """Runs a case, which fails by an exception."""
+        try:
+            case(*given)
+        except Exception as fault:
+            self.look(name, False, fault if isinstance(fault, AssertionError) else repr(fault))
+        else:
+            self.look(name, True)
+
+    def status(self) -> int:
+        """The exit status of the script."""
+        return 1 if self.failed else 0
 
 
 class Section:
@@ -162,11 +189,17 @@ def preload(folder: str) -> str:
     return library
 
 
-def outside(folder: str) -> str:
-    """Builds bench/outside/shapes.cc in a folder and returns the program's path."""
-    program = os.path.join(folder, "outside")
-    subprocess.run(["g++", *FAST, "-o", program, os.path.join(OUTSIDE, "shapes.cc")], check=True)
+def outside(folder: str, source: str = "lemon.cc", *more: str) -> str:
+    """Builds a program of bench/outside in a folder, with these words for the compiler, and returns its path."""
+    program = os.path.join(folder, os.path.basename(source).removesuffix(".cc"))
+    subprocess.run(["g++", *FAST, "-o", program, os.path.join(OUTSIDE, source), *more], check=True)
     return program
+
+
+def toolchain(name: str = "rt") -> Any:
+    """The toolchain's command `rt` as a module, or the module `rtlib` beside it, which knows crates."""
+    command = os.path.realpath(shutil.which("rt") or sys.exit("the Rattle kit's command rt is not on the path"))
+    return module(command if name == "rt" else os.path.join(os.path.dirname(command), name + ".py"))
 
 
 def read(path: str) -> bytes:
@@ -175,10 +208,24 @@ def read(path: str) -> bytes:
         return data.read()
 
 
-def libraries() -> dict[str, list[str]]:
-    """Each crate of the repository with the libraries it uses, lowest first."""
+def records_of(path: str) -> list[bytes]:
+    """The records of a file of planar_code."""
+    with open(path, "rb") as source:
+        return list(records(source))
+
+
+def write(path: str, graphs: Iterable[bytes]) -> str:
+    """This file of planar_code, with these records."""
+    with open(path, "wb") as out:
+        out.write(HEADER)
+        out.writelines(graphs)
+    return path
+
+
+def libraries(root: str = ROOT) -> dict[str, list[str]]:
+    """Each crate of a checkout with the libraries it uses, lowest first."""
     uses = {}
-    with open(os.path.join(ROOT, "crates.txt"), encoding="utf-8") as lines:
+    with open(os.path.join(root, "crates.txt"), encoding="utf-8") as lines:
         for line in lines:
             name, colon, rest = line.partition(":")
             if colon and not line.startswith("#"):
@@ -198,23 +245,23 @@ def closure(names: Iterable[str], uses: dict[str, list[str]]) -> list[str]:
     return [name for name in uses if name in found]
 
 
-def copy_crates(folder: str, top: str) -> str:
+def copy_crates(folder: str, top: str, root: str = ROOT) -> str:
     """Copies the sources and definitions of a crate and of all below it, and returns the copy of the crate."""
-    uses = libraries()
+    uses = libraries(root)
     crates = closure([top], uses)
     for crate in crates:
         for part in ("src", "specs"):
-            source = os.path.join(ROOT, "crates", crate, part)
+            source = os.path.join(root, "crates", crate, part)
             if os.path.isdir(source):
                 shutil.copytree(source, os.path.join(folder, "crates", crate, part))
-    shutil.copy(os.path.join(ROOT, "HANDLES"), folder)
+    shutil.copy(os.path.join(root, "HANDLES"), folder)
     with open(os.path.join(folder, "crates.txt"), "w", encoding="utf-8") as out:
         out.writelines(f"{crate}: {' '.join(uses[crate])}\n" for crate in crates)
     return os.path.join(folder, "crates", top)
 
 
 def plant(edit: str, crate: str) -> None:
-    """Makes the changes of an edit in a crate: lines `file:`, `old:` and `new:`, as in attacks/."""
+    """Makes the changes of an edit in a crate: lines `file:`, `old:` and `new:`."""
     with open(edit, encoding="utf-8") as lines:
         for line in lines:
             word, _, text = line.rstrip("\n").partition(": ")
@@ -272,11 +319,7 @@ def written(path: str, *words: str) -> str:
 
 def repeated(folder: str, path: str, times: int) -> str:
     """A file with the records of this one, this many times over."""
-    copy = os.path.join(folder, f"{times}_{os.path.basename(path)}")
-    with open(copy, "wb") as out:
-        text = read(path)
-        out.write(text[:HEADER_SIZE] + text[HEADER_SIZE:] * times)
-    return copy
+    return write(os.path.join(folder, f"{times}_{os.path.basename(path)}"), records_of(path) * times)
 
 
 def files(folder: str, count: int) -> list[str]:
@@ -284,10 +327,13 @@ def files(folder: str, count: int) -> list[str]:
     return [generated(folder, kind, vertices, count, seed) for kind, vertices, seed in KINDS] + [shutil.copy(SMALL, folder)]
 
 
-def enumerated(folder: str, orders: Iterable[int]) -> list[str]:
-    """Files of all connected planar graphs of degree at most 4 with these numbers of vertices; none without nauty."""
+def enumerated(folder: str, orders: Iterable[int], is_needed: bool = False) -> list[str]:
+    """Files of all connected planar graphs of degree at most 4 with these numbers of vertices. Without nauty there are
+    none, or the script ends if they are needed."""
     geng, planarg = (shutil.which("nauty-" + name) or shutil.which(name) for name in ("geng", "planarg"))
     if not geng or not planarg:
+        if is_needed:
+            sys.exit(f"{os.path.basename(sys.argv[0])}: needs nauty's geng and planarg (Debian: nauty)")
         return []
     paths = []
     for order in orders:

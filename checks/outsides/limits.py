@@ -1,19 +1,86 @@
-"""Limits on address space, in steps from too little to enough."""
+"""Limits on open files, threads and address space."""
 from __future__ import annotations
 
+import contextlib
 import ctypes
 import os
+import resource
 import signal
 import subprocess
 from collections.abc import Iterable
 from typing import Any, NamedTuple
 
-from answers import Ran, are_same, is_beginning, is_whole, lacks_memory
-from expected import COMMANDS, LOST, MEMORY, THREAD, TRIANGLE, TWO, Command, File, Wrong, expected_events, split
-from machine import Machine
+from machine import (
+    are_same, AS_NOBODY, Command, COMMANDS, events_of, expected_events, File, IO, is_beginning, is_fault, IS_ROOT,
+    is_whole, lacks_memory, LAYOUT, LAYOUT_JSON, LAYOUTS, limits, LOST, Machine, MEMORY, NOBODY, Ran, split, THREAD,
+    TRIANGLE, TWO, wait_for, waiting_bytes, Wrong)
 from planarbend.planar_code import HEADER
-from reading import events_of
-from system import limits
+
+
+# ---- Limits on open files: a file that cannot be opened is `io`.
+
+def check_open_files(machine: Machine) -> None:
+    """A lane has one file open, and each of its four threads for a moment one more: where a thread first asks for
+    memory, the C library may open one to count the processors."""
+    for command in COMMANDS:
+        paths = [machine.two] * (1 if command.frames else 64)
+        files = 3 + 5 * command.lanes
+        machine.whole(command, f"{files} open files", paths, [split(TWO)] * len(paths), preexec_fn=limits(NOFILE=files))
+    for command in LAYOUTS:
+        with machine.case(command, "4 open files, as many as one lane needs"):
+            one_at_a_time(machine, command)
+    for command in (LAYOUT, LAYOUT_JSON):
+        with machine.case(command, "no more open files from the second file on"):
+            is_whole(command, without_files(machine, command), [split(TWO), IO])
+
+
+def one_at_a_time(machine: Machine, command: Command) -> None:
+    """A run over 8 files that may have one of them open: each is whole or `io`."""
+    ran = machine.run([*command.words, *[machine.two] * 8], preexec_fn=limits(NOFILE=4))
+    marks = [text.split()[1] for _, text in events_of(command, ran.out)[0] if text.startswith("end ")]
+    is_whole(command, ran, [split(TWO) if mark == "complete" else IO for mark in marks])
+    if len(marks) != 8:
+        raise Wrong(f"{len(marks)} files in the report, not 8")
+
+
+def without_files(machine: Machine, command: Command) -> Ran:
+    """A run over a FIFO and a file, which may open no more files once it reads the FIFO."""
+    path = machine.fifo()
+    writer = os.open(path, os.O_RDWR)
+    with machine.started([*command.words, path, machine.two]) as child:
+        os.write(writer, TWO)
+        wait_for(lambda: not waiting_bytes(writer), "a read")
+        resource.prlimit(child.pid, resource.RLIMIT_NOFILE, (3, 3))
+        os.close(writer)
+        return machine.ended(child)
+
+
+# ---- Limits on threads: a run of so many lanes has four threads a lane beside its first, and `frames` one.
+
+def check_threads(machine: Machine) -> None:
+    """Where a thread cannot be started, the fault says so; a lane may end before the next one starts."""
+    alone = IS_ROOT and not is_in_use(NOBODY)
+    for command in COMMANDS:
+        enough = 2 if command.frames else 1 + 4 * command.lanes
+        for most in range(1, enough + 2):
+            with machine.case(command, f"ulimit -u {most} as {'nobody' if IS_ROOT else 'this user'}"):
+                ran = machine.run([*command.words, machine.two], preexec_fn=limits(NPROC=most), **AS_NOBODY)
+                if ran.status == 0 and most > 1 or most >= enough and alone:
+                    is_whole(command, ran, [split(TWO)])
+                else:
+                    is_fault(ran, 1, THREAD)
+
+
+def is_in_use(user: int) -> bool:
+    """Whether a process of this user runs."""
+    for name in filter(str.isdecimal, os.listdir("/proc")):
+        with contextlib.suppress(OSError):
+            if os.stat(f"/proc/{name}").st_uid == user:
+                return True
+    return False
+
+
+# ---- Limits on address space, in steps from too little to enough.
 
 MOST_TO_LOAD = 65_536  # kB of address space, with which any program loads
 TRACEME, CONTINUE = 0, 7  # of ptrace
@@ -103,9 +170,9 @@ def wants_memory(command: Command, ran: Ran, files: list[File]) -> None:
         return
     events, rest = events_of(command, ran.out)
     told = list(files)
-    for kind, number, *more in events:
-        if kind == "end" and more[0] == "memory" and number <= len(files):
-            told[number - 1] = File(files[number - 1].records[:more[1]], "memory")
+    for number, text in events:
+        if text.startswith("end memory ") and number <= len(files):
+            told[number - 1] = File(files[number - 1].records[:int(text.partition("=")[2])], "memory")
     expected = expected_events(command, told)
     lacking = any(lacks_memory(event) for event in events)
     status = 3 if lacking or any(file.mark != "complete" for file in told) else 0

@@ -11,32 +11,14 @@ import os
 import re
 import subprocess
 import sys
-import time
-import unittest
 from pathlib import Path
 
 sys.dont_write_bytecode = True
-ROOT = Path(__file__).resolve().parent.parent
+ROOT = Path(__file__).resolve().parents[2]
 PACKAGE = ROOT / "python"
 PROGRAM = ROOT / "crates/planarbend/out/planarbend"
 PYTHONS = (sys.executable, "/usr/bin/python3")
 ENDING = re.compile(r"(\d+) passed, (\d+) failed(?:, (\d+) skipped)?")
-
-
-class Counted(unittest.TextTestResult):
-    """A result that counts what passed, each test once."""
-
-    def __init__(self, *words, **options):
-        super().__init__(*words, **options)
-        self.passed = 0
-
-    def addSuccess(self, test):
-        super().addSuccess(test)
-        self.passed += 1
-
-    def addExpectedFailure(self, test, error):
-        super().addExpectedFailure(test, error)
-        self.passed += 1
 
 
 def counts(words: list[str], name: str, folder: Path, **variables: str) -> tuple[int, int, int]:
@@ -59,20 +41,6 @@ def counts(words: list[str], name: str, folder: Path, **variables: str) -> tuple
     return passed, failed, skipped
 
 
-def package_tests() -> int:
-    """Runs the package's tests in this process; the last line is theirs."""
-    began = time.monotonic()
-    sys.path.insert(0, str(PACKAGE))
-    suite = unittest.TestLoader().discover(str(PACKAGE / "tests"))
-    result = unittest.TextTestRunner(sys.stdout, resultclass=Counted).run(suite)
-    for test, reason in result.skipped:
-        print(f"skipped: {test.id()}: {reason}")
-    failed = len({test.id().partition(" ")[0] for test, _ in [*result.failures, *result.errors]}) + len(result.unexpectedSuccesses)
-    print(f"Python tests took {time.monotonic() - began:.0f} s, by {sys.executable}")
-    print(f"{result.passed} passed, {failed or not result.passed:d} failed, {len(result.skipped)} skipped")
-    return 0 if result.wasSuccessful() and result.passed else 1
-
-
 def python() -> str:
     """The Python that runs the package's tests."""
     has = "import sys, networkx; sys.exit(sys.version_info < (3, 11))"
@@ -81,12 +49,10 @@ def python() -> str:
 
 
 def main() -> int:
-    if sys.argv[1:] == ["--package"]:
-        return package_tests()
     passed, failed, skipped = counts(["rt", "ci"], "rt ci", ROOT)
     if not os.access(PROGRAM, os.X_OK):
         print(f"rt ci left no program {PROGRAM.relative_to(ROOT)}: the tests that need it fail")
-    ours = counts([python(), os.path.abspath(__file__), "--package"], "Python tests", PACKAGE, PLANARBEND=str(PROGRAM),
+    ours = counts([python(), str(PACKAGE / "tests/run.py")], "Python tests", PACKAGE, PLANARBEND=str(PROGRAM),
                   PYTHONDONTWRITEBYTECODE="1")
     passed, failed, skipped = passed + ours[0], failed + ours[1], skipped + ours[2]
     print(f"{passed} passed, {failed} failed, {skipped} skipped")

@@ -1,0 +1,346 @@
+// Answers of an outside program, to compare with, by its first argument. FILE is planar_code; `bends`, `best` and `planes`
+// print the lines of the report up to the bends, by LEMON's network simplex, and totals at last, which stand alone after
+// the word `quiet`.
+//
+//   bends FILE    the fewest bends of each graph
+//   best FILE     the fewest bends with whichever face as the outer one
+//   planes FILE   rules and faces alone
+//   many FILES    the fewest bends of the graphs of files, one after another in one process
+//   times FILE N  a line: the nanoseconds of building and solving the networks of all graphs, each the least of N times
+//   turning FILE  a line: how many vertices have degree 2, and how few of them turn in shapes with the fewest bends
+//   lengths       the least lengths of random drawings along one axis (crates/length_tests/src/random.rt)
+//   given         the least length of each drawing along one axis on standard input
+//   costs         the least costs of random networks, `-` if there is no flow (crates/base_tests/src/flows.rt)
+//   keep FILE     the lines of `planarbend frames`, once all records are gathered, each in a buffer of its own
+//   stream FILE   the same lines, and no record is kept
+#include "planar.hpp"
+#include <chrono>
+#include <cstdlib>
+#include <cstring>
+#include <iostream>
+#include <lemon/list_graph.h>
+#include <stdexcept>
+#include <utility>
+
+
+// The fewest bends with whichever face as the outer one.
+static long best_bends(Graph graph) {
+  long best = -1;
+  for (graph.outer = 0; graph.outer < static_cast<int>(graph.degree.size()); ++graph.outer) {
+    const long bends = fewest_bends(graph);
+    if (best < 0 || bends < best) best = bends;
+  }
+  return best;
+}
+
+// The nanoseconds of a network, built and solved: the least of so many times.
+static long least_time(const Graph &graph, int rounds) {
+  long least = -1;
+  for (int round = 0; round < rounds; ++round) {
+    const auto begin = std::chrono::steady_clock::now();
+    if (fewest_bends(graph) < 0) return -1;
+    const auto took = std::chrono::steady_clock::now() - begin;
+    const long time = std::chrono::duration_cast<std::chrono::nanoseconds>(took).count();
+    if (least < 0 || time < least) least = time;
+  }
+  return least;
+}
+
+static int print_times(const std::string &text, int rounds) {
+  size_t at = 15;
+  Graph graph;
+  long graphs = 0, sum = 0;
+  while (next_record(text, at, graph)) {
+    if (broken_rule(graph)) return 1;
+    ++graphs;
+    sum += least_time(graph, rounds);
+  }
+  std::printf("graphs=%ld networks=%ld\n", graphs, sum);
+  return 0;
+}
+
+static int print_turning(const std::string &text) {
+  const int bend = 1000;  // more than vertices can turn
+  size_t at = 15;
+  Graph graph;
+  long graphs = 0, two = 0, bends = 0, turning = 0;
+  while (next_record(text, at, graph)) {
+    if (broken_rule(graph)) return 1;
+    ++graphs;
+    for (const auto &neighbours : graph.lists) two += neighbours.size() == 2;
+    const long cost = least_cost(graph, bend, 1);
+    bends += cost / bend;
+    turning += cost % bend;
+  }
+  std::printf("graphs=%ld bends=%ld two=%ld turning=%ld\n", graphs, bends, two, turning);
+  return 0;
+}
+
+// What is printed of each file: how far its graphs are taken, and whether totals stand alone.
+struct Report {
+  bool planes = false, best = false, quiet = false;
+};
+
+static void print_report(const std::string &text, Report report) {
+  size_t at = 15;
+  Graph graph;
+  long number = 0, accepted = 0, all_faces = 0, all_bends = 0;
+  while (next_record(text, at, graph)) {
+    ++number;
+    const char *rule = broken_rule(graph);
+    if (rule) {
+      if (!report.quiet) std::printf("graph %ld refused %s\n", number, rule);
+      continue;
+    }
+    ++accepted;
+    all_faces += static_cast<long>(graph.degree.size());
+    const long bends = report.planes ? 0 : report.best ? best_bends(graph) : fewest_bends(graph);
+    all_bends += bends;
+    if (!report.quiet)
+      std::printf("graph %ld ok n=%d m=%d f=%zu bends=%ld\n", number, graph.vertices, graph.darts() / 2,
+                  graph.degree.size(), bends);
+  }
+  std::printf("graphs %ld accepted %ld faces %ld bends %ld\n", number, accepted, all_faces, all_bends);
+}
+
+// ---- Lengths of drawings along one axis.
+//
+// Segments keep their order on each level that two of them share, one unit apart at least: the dual of that linear
+// program sends units from segments where more edges begin to those where more end, over each such pair, and as many as
+// can be. A drawing on standard input is whole numbers: how many segments there are; how many wires, and the segments of
+// each, counted from 0, the lesser coordinate first; how many pairs that are one unit apart at least, and likewise their
+// segments. Wires are pairs too.
+
+struct Random {
+  uint64_t state;
+  int below(int count) {
+    state = state * 6364136223846793005u + 1442695040888963407u;
+    return static_cast<int>((state >> 33) % static_cast<uint64_t>(count));
+  }
+};
+
+struct Segment {
+  int low, high;
+};
+
+static bool share_a_level(const Segment &one, const Segment &other) {
+  return std::max(one.low, other.low) <= std::min(one.high, other.high);
+}
+
+// How many segments a drawing has, on how many levels and each on how many at most, and how many wires are tried.
+struct Size {
+  int count, levels, height, wires;
+};
+
+using Pairs = std::vector<std::pair<int, int>>;
+
+static long least_length(int count, const Pairs &wires, const Pairs &apart) {
+  lemon::ListDigraph graph;
+  std::vector<lemon::ListDigraph::Node> nodes;
+  for (int r = 0; r < count; ++r) nodes.push_back(graph.addNode());
+  lemon::ListDigraph::NodeMap<long> supply(graph, 0);
+  lemon::ListDigraph::ArcMap<long> cost(graph, -1);
+  for (const auto &[low, high] : wires) {
+    ++supply[nodes[low]];
+    --supply[nodes[high]];
+  }
+  for (const auto &[low, high] : apart) cost[graph.addArc(nodes[low], nodes[high])] = -1;
+  lemon::NetworkSimplex<lemon::ListDigraph, long, long> simplex(graph);
+  simplex.costMap(cost).supplyMap(supply);
+  if (simplex.run() != simplex.OPTIMAL) throw std::runtime_error("no least length");
+  return -simplex.totalCost<long>();
+}
+
+static long least_length(Random &random, const Size &size) {
+  const int count = size.count;
+  std::vector<Segment> segments;
+  for (int r = 0; r < count; ++r) {
+    random.below(3);  // how far behind the segment before it is drawn
+    const int low = random.below(size.levels);
+    segments.push_back({low, std::min(low + random.below(size.height), size.levels - 1)});
+  }
+  Pairs wires, apart;
+  for (int tried = 0; tried < size.wires; ++tried) {
+    const int one = random.below(count), other = random.below(count);
+    if (one == other || !share_a_level(segments[one], segments[other])) continue;
+    wires.push_back({std::min(one, other), std::max(one, other)});
+  }
+  for (int r = 0; r < count; ++r)
+    for (int s = r + 1; s < count; ++s)
+      if (share_a_level(segments[r], segments[s])) apart.push_back({r, s});
+  return least_length(count, wires, apart);
+}
+
+// The next pairs, and as many of them as are said to come.
+static Pairs next_pairs() {
+  int count = 0;
+  std::cin >> count;
+  Pairs pairs(count);
+  for (auto &[low, high] : pairs) std::cin >> low >> high;
+  return pairs;
+}
+
+static int print_given() {
+  std::ios::sync_with_stdio(false);
+  int count = 0;
+  while (std::cin >> count) {
+    const Pairs wires = next_pairs();
+    Pairs apart = next_pairs();
+    if (!std::cin) return 1;
+    apart.insert(apart.end(), wires.begin(), wires.end());
+    std::cout << least_length(count, wires, apart) << "\n";
+  }
+  return 0;
+}
+
+// Of a thousand small drawings the sums of a hundred each, and the lengths of three large ones, after their numbers.
+static int print_lengths() {
+  for (uint64_t first = 0; first < 1000; first += 100) {
+    long total = 0;
+    for (uint64_t drawing = first; drawing < first + 100; ++drawing) {
+      Random random{drawing};
+      const int count = random.below(30) + 2, levels = random.below(12) + 1;
+      total += least_length(random, {count, levels, levels, 2 * count});
+    }
+    std::cout << total << "\n";
+  }
+  for (const int count : {300, 600, 1000}) {
+    Random random{static_cast<uint64_t>(count)};
+    std::cout << count << " " << least_length(random, {count, 40, 8, 2 * count}) << "\n";
+  }
+  return 0;
+}
+
+// ---- Random networks, as crates/base_tests/src/flows.rt makes them.
+
+static std::string next_cost(Random &random) {
+  using Net = lemon::SmartDigraph;
+  const int nodes = 2 + random.below(7);
+  Net net;
+  for (int v = 0; v < nodes; ++v) net.addNode();
+  Net::NodeMap<long> supply(net, 0);
+  Net::ArcMap<long> upper(net), cost(net);
+  for (int pairs = 1 + random.below(5); pairs > 0; --pairs) {
+    const int units = 1 + random.below(3);
+    supply[net.nodeFromId(random.below(nodes))] += units;
+    supply[net.nodeFromId(random.below(nodes))] -= units;
+  }
+  if (random.below(16) == 0) supply[net.nodeFromId(0)] += 1;
+  for (int arcs = 2 * nodes + random.below(3 * nodes); arcs > 0; --arcs) {
+    const int from = random.below(nodes), to = random.below(nodes), limit = random.below(9);
+    const auto arc = net.addArc(net.nodeFromId(from), net.nodeFromId(to));
+    upper[arc] = limit < 6 ? limit : 1 << 20;
+    cost[arc] = std::min(1, random.below(4));
+  }
+  long sum = 0;
+  for (int v = 0; v < nodes; ++v) sum += supply[net.nodeFromId(v)];
+  lemon::NetworkSimplex<Net, long, long> simplex(net);
+  simplex.upperMap(upper).costMap(cost).supplyMap(supply);
+  if (sum != 0 || simplex.run() != simplex.OPTIMAL) return "-";
+  return std::to_string(simplex.totalCost<long>());
+}
+
+static int print_costs() {
+  Random random{20261122};
+  for (int network = 0; network < 1000; ++network) std::cout << next_cost(random) << "\n";
+  return 0;
+}
+
+// ---- Records.
+
+constexpr char kHeader[] = ">>planar_code<<";
+constexpr size_t kHeaderSize = 15;
+constexpr size_t kPiece = 65536;
+constexpr size_t kMostRecords = 1000000;
+
+struct Splitter {
+  bool keep = false;
+  size_t header_done = 0;
+  std::vector<unsigned char> open;            // bytes of the open record
+  unsigned left = 0, entries = 0;             // lists to come, entries of the open list
+  size_t records = 0;
+  std::vector<std::vector<unsigned char>> kept;
+  std::string out;
+
+  void line(unsigned order, size_t bytes, size_t number) {
+    char text[96];
+    int size = snprintf(text, sizeof text, "record %zu n=%u bytes=%zu\n", number, order, bytes);
+    out.append(text, static_cast<size_t>(size));
+    if (out.size() > kPiece) flush();
+  }
+  void flush() {
+    fwrite(out.data(), 1, out.size(), stdout);
+    out.clear();
+  }
+  void whole() {
+    ++records;
+    if (keep) kept.emplace_back(open);
+    else line(open[0], open.size(), records);
+    open.clear();
+  }
+  // Takes one piece; the word of a fault, or null.
+  const char *feed(const unsigned char *piece, size_t size) {
+    for (size_t i = 0; i < size; ++i) {
+      unsigned char byte = piece[i];
+      if (header_done < kHeaderSize) {
+        if (byte != static_cast<unsigned char>(kHeader[header_done])) return "header";
+        ++header_done;
+      } else if (open.empty()) {
+        if (records == kMostRecords) return "many";
+        if (byte == 0) return "large";
+        open.push_back(byte);
+        left = byte;
+        entries = 0;
+      } else if (byte == 0) {
+        open.push_back(byte);
+        entries = 0;
+        if (--left == 0) whole();
+      } else {
+        if (entries == 254) return "oversize";
+        open.push_back(byte);
+        ++entries;
+      }
+    }
+    return nullptr;
+  }
+};
+
+static int print_frames(const char *name, bool keep) {
+  Splitter splitter;
+  splitter.keep = keep;
+  FILE *file = fopen(name, "rb");
+  const char *end = file ? nullptr : "io";
+  static unsigned char piece[kPiece];
+  while (file && !end) {
+    size_t size = fread(piece, 1, sizeof piece, file);
+    if (size == 0) {
+      end = ferror(file)                          ? "io"
+            : splitter.header_done < kHeaderSize ? "header"
+            : splitter.open.empty()              ? "complete"
+                                                  : "truncated";
+      break;
+    }
+    end = splitter.feed(piece, size);
+  }
+  size_t number = 0;
+  for (const auto &record : splitter.kept) splitter.line(record[0], record.size(), ++number);
+  splitter.flush();
+  printf("end %s records=%zu\n", end, splitter.records);
+  return strcmp(end, "complete") == 0 ? 0 : 3;
+}
+
+int main(int count, char **words) {
+  const std::string mode = count > 1 ? words[1] : "";
+  if (mode == "lengths") return print_lengths();
+  if (mode == "given") return print_given();
+  if (mode == "costs") return print_costs();
+  if (count < 3) return 2;
+  if (mode == "keep" || mode == "stream") return print_frames(words[2], mode == "keep");
+  if (mode == "turning") return print_turning(bytes_of(words[2]));
+  if (mode == "times" && count > 3) return print_times(bytes_of(words[2]), std::atoi(words[3]));
+  const bool many = mode == "many", quiet = !many && count > 3 && std::strcmp(words[3], "quiet") == 0;
+  if (!many && mode != "bends" && mode != "best" && mode != "planes") return 2;
+  for (int file = 2; file < (many ? count : 3); ++file)
+    print_report(bytes_of(words[file]), {mode == "planes", mode == "best", quiet});
+  return 0;
+}
