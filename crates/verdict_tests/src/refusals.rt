@@ -98,7 +98,11 @@ fn records_are_refused(rt: HostRuntime) -> Result<(), Fail> {
 
 #[test]
 fn ends_are_told(rt: HostRuntime) -> Result<(), Fail> {
-    let found = verdict_on(rt.alloc(), EDGE, "{\"end\":\"complete\",\"file\":1,\"graphs\":2}")?;
+    let found = verdict_on(
+        rt.alloc(),
+        EDGE,
+        "{\"end\":\"complete\",\"file\":1,\"graphs\":2}",
+    )?;
     assert_eq!(rt; found, None);
     Ok(())
 }

@@ -23,11 +23,5 @@ pub(crate) fn verdict_on(
         return Ok(None);
     }
     let mut scratch = Scratch::empty(alloc);
-    Ok(Some(judge_record(
-        alloc,
-        &mut scratch,
-        true,
-        &records[0],
-        given,
-    )))
+    Ok(Some(judge_record(alloc, &mut scratch, true, &records[0], given)))
 }
