@@ -1,10 +1,10 @@
 -- What is told of a line tells whether it is the end of a run, unless memory ran out.
-use Rattle.std.proofs.Common.{◌≡◌, ◌≢◌, ◌<◌, ◌≤◌, ℕ, Bool, List, length, Option, None, Some, inl, inr, refl, ap, subst, sym, codes, arith}
+use Rattle.std.proofs.Common.{◌≡◌, ◌≢◌, ℕ, Bool, List, Option, None, Some, inl, inr, ap, subst, codes, arith}
 use Rattle.serde_json.specs.Data.{Data}
 use Rattle.serde_json.specs.Find.{get}
 use Rattle.drawn_lines.specs.declared.fault.LineFault.{LineFault}
 use Rattle.drawn_lines.specs.declared.fault.LineFault.TheVariants.{Memory}
-use Rattle.verdicts.specs.Said.{IsEndLine, SaysDrawing, Says, SaysNothing}
+use Rattle.verdicts.specs.Said.{IsEndLine, SaysDrawing, Says}
 use Rattle.verdicts.specs.Verdicts.{IsVerdict}
 use Rattle.verdicts.specs.declared.said.Given.{Given}
 use Rattle.verdicts.specs.declared.said.Given.TheVariants as given

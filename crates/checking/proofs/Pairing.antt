@@ -1,5 +1,5 @@
 -- One line more, and one verdict more.
-use Rattle.std.proofs.Common.{◌≡◌, ◌≤◌, ℕ, ◌+◌, Bool, List, [], ◌∷◌, ◌++◌, Option, None, Some, length, suc, inl, inr, refl, ap, sym, subst, arith}
+use Rattle.std.proofs.Common.{◌≡◌, ◌≤◌, ℕ, Bool, List, [], ◌∷◌, ◌++◌, None, Some, length, suc, inl, inr, refl, ap, sym, subst, arith}
 use Rattle.verdicts.specs.declared.verdict.Verdict.{Verdict}
 use Rattle.checking.specs.Pairs.{EndsRun, KeepsAllBut, IsVerdictOf, AreVerdicts}
 

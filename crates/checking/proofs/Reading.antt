@@ -1,6 +1,5 @@
 -- What a reader of lines keeps, step by step.
-use Rattle.std.proofs.Common.{◌≡◌, ◌≢◌, ◌≤◌, ◌<◌, ◌-◌, ◌^◌, min, ◌⊎◌, ℕ, ◌+◌, Bool, true, false, List, [], ◌∷◌, ◌++◌, Option, None, Some, length, inl, inr, refl, ap, sym, subst, ◌∙◌, append_assoc, append-nil, length-append, arith}
-use Rattle.std.specs.Prelude.{All}
+use Rattle.std.proofs.Common.{◌≡◌, ◌≢◌, ◌≤◌, ◌-◌, ◌^◌, min, ◌⊎◌, ℕ, ◌+◌, Bool, true, false, List, [], ◌∷◌, ◌++◌, Option, None, Some, length, inl, inr, refl, ap, sym, subst, ◌∙◌, append_assoc, append-nil, length-append, arith}
 use Rattle.std.proofs.lemmas.List.Elements.{All-nil, All-push}
 use Rattle.text_lines.specs.declared.TheConstants.{MAX_LINE}
 use Rattle.text_lines.specs.declared.lines.Lines.{Lines}
@@ -8,15 +7,14 @@ use Rattle.text_lines.specs.declared.lines.Next.TheVariants as next
 use Rattle.text_lines.specs.declared.lines.State.{State}
 use Rattle.text_lines.specs.declared.lines.State.TheVariants as state
 use Rattle.text_lines.specs.Lines.{HasGiven, GivesNext, StaysClosed, state_in, rest_in, fails_in, line_in}
-use Rattle.drawn_lines.specs.declared.fault.LineFault.{LineFault}
 use Rattle.drawn_lines.specs.declared.fault.LineFault.TheVariants.{Memory, Malformed}
-use Rattle.verdicts.specs.Said.{IsEndLine, SaysDrawing, SaysNothing}
+use Rattle.verdicts.specs.Said.{IsEndLine}
 use Rattle.verdicts.specs.Verdicts.{IsVerdict}
 use Rattle.verdicts.specs.declared.said.Given.{Given}
 use Rattle.verdicts.specs.declared.said.Given.TheVariants as given
 use Rattle.verdicts.specs.declared.verdict.Verdict.{Verdict}
 use Rattle.verdicts.specs.declared.verdict.Verdict.TheVariants as verdict
-use Rattle.checking.specs.Pairs.{EndsRun, KeepsAllBut, GivesNone, TellsOf, AreVerdicts, IsVerdictOf}
+use Rattle.checking.specs.Pairs.{EndsRun, TellsOf, AreVerdicts, IsVerdictOf}
 use Rattle.checking.specs.UnderWay.{MayFail, closed, Keeps, HasKept, KeepsNoMore, KeepsOneMore, KeepsNext, KeepsMore, KeepsRest}
 use Rattle.checking.proofs.Ends.{judged_as, told_goes_on}
 use Rattle.checking.proofs.Pairing.{one_kept, one_left, one_judged, one_missing}

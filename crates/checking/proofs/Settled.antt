@@ -1,5 +1,5 @@
 -- The lines of a source to its end, where a reader has given some.
-use Rattle.std.proofs.Common.{◌≡◌, ℕ, Bool, true, false, List, [], ◌∷◌, ◌++◌, Option, None, Some, length, refl, ap, sym, subst, ◌∙◌, append_assoc, append-nil}
+use Rattle.std.proofs.Common.{◌≡◌, ℕ, Bool, true, false, List, [], ◌++◌, Option, None, Some, length, refl, ap, sym, subst, ◌∙◌, append_assoc}
 use Rattle.std.specs.Prelude.{All}
 use Rattle.std.specs.List.{flat_map}
 use Rattle.std.specs.Io.KnownBytes.{Consumes}
@@ -14,7 +14,6 @@ use Rattle.text_lines.specs.declared.lines.State.TheVariants as state
 use Rattle.text_lines.specs.Lines.{IsNoEnd, IsOpenAfter, HasGivenAll, HasGiven, lines_of, ended_line, state_in, rest_in, fails_in}
 use Rattle.text_lines.proofs.Dividing.{lines-given, ended_lines-given}
 use Rattle.verdicts.specs.declared.verdict.Verdict.{Verdict}
-use Rattle.verdicts.specs.Text.{verdict_lines, last_line}
 use Rattle.checking.specs.declared.run.Asked.{Asked}
 use Rattle.checking.specs.Pairs.{KeepsAllBut, AreVerdicts}
 use Rattle.checking.specs.Runs.{verdicts_text}

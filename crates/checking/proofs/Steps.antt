@@ -1,5 +1,5 @@
 -- A judge before and after one more record.
-use Rattle.std.proofs.Common.{◌≡◌, ◌≢◌, ◌↔◌, ◌≤◌, ℕ, ◌+◌, Bool, true, false, List, [], ◌∷◌, ◌++◌, Option, Some, Ok, length, refl, ap, sym, subst, ◌∙◌, append-nil, length-append, arith}
+use Rattle.std.proofs.Common.{◌≡◌, ◌≢◌, ◌↔◌, ℕ, ◌+◌, Bool, true, false, List, [], ◌∷◌, ◌++◌, Option, Ok, length, refl, ap, sym, subst, ◌∙◌, length-append, arith}
 use Rattle.std.specs.Prelude.{All}
 use Rattle.std.proofs.lemmas.List.Elements.{All-nil, All-push}
 use Rattle.streams.specs.Sink.{AppendsPrefix, IsInTransit, StaysInTransit}
@@ -19,7 +19,7 @@ use Rattle.checking.specs.Pairs.{AreVerdicts}
 use Rattle.checking.specs.Runs.{IsOk, verdicts_text}
 use Rattle.checking.specs.UnderWay.{KeepsNext, IsUnderWay, IsCutShort}
 use Rattle.checking.proofs.Pairing.{as_many}
-use Rattle.checking.proofs.Reading.{exactly, some_failing, ArePaired, pairs_next}
+use Rattle.checking.proofs.Reading.{exactly, some_failing, pairs_next}
 use Rattle.checking.proofs.Settled.{settled, cut_short, longer}
 use Rattle.checking.proofs.Texts.{verdict_lines-next, all_next, line_added}
 

@@ -1,8 +1,8 @@
 -- The lines of verdicts, one after another, and what is true of each.
-use Rattle.std.proofs.Common.{◌≡◌, ◌<◌, ◌≤◌, ℕ, suc, ◌+◌, get_or, take, Bool, List, [], ◌∷◌, ◌++◌, All, Option, Ok, Err, length, refl, ap, subst, sym, ◌∙◌, append_assoc, append-nil, arith}
+use Rattle.std.proofs.Common.{◌≡◌, ◌<◌, ◌≤◌, ℕ, suc, ◌+◌, get_or, take, Bool, List, [], ◌∷◌, ◌++◌, All, Option, Ok, Err, length, ap, subst, sym, ◌∙◌, append_assoc, append-nil, arith}
 use Rattle.std.proofs.Math.Seq.{take-append_seam, take-suc}
 use Rattle.std.proofs.lemmas.List.{take_all}
-use Rattle.std.proofs.lemmas.List.Elements.{All-push, All-take, All-contains, Contains-push}
+use Rattle.std.proofs.lemmas.List.Elements.{All-take, All-contains, Contains-push}
 use Rattle.streams.specs.declared.faults.WriteFault.{WriteFault}
 use Rattle.streams.specs.declared.faults.WriteFault.TheVariants.{Write, Memory}
 use Rattle.streams.specs.Sink.{AppendsPrefix, IsInTransit, StaysInTransit, Writes}

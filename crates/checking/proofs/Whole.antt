@@ -1,5 +1,5 @@
 -- A whole run, or one that is cut short.
-use Rattle.std.proofs.Common.{◌≡◌, ◌≢◌, ◌↔◌, ◌≤◌, ◌-◌, ◌^◌, min, Result, Ok, Err, ℕ, Bool, true, false, List, [], ◌∷◌, ◌++◌, Option, None, Some, length, drop, inl, inr, refl, ap, sym, subst, ◌∙◌, append_assoc, append-nil, arith}
+use Rattle.std.proofs.Common.{◌≡◌, ◌≢◌, ◌↔◌, ◌≤◌, ◌-◌, ◌^◌, min, Result, Ok, Err, ℕ, Bool, true, false, List, [], ◌++◌, Option, None, Some, length, drop, inl, inr, refl, ap, sym, subst, ◌∙◌, append_assoc, append-nil}
 use Rattle.std.specs.Prelude.{All, IfOk, OnErr}
 use Rattle.std.proofs.Math.Seq.{drop-append_seam}
 use Rattle.std.proofs.lemmas.List.{drop_all}
@@ -19,8 +19,7 @@ use Rattle.streams.proofs.Marks.{beginning_stands}
 use Rattle.streams.proofs.Placed.{marked_first}
 use Rattle.text_lines.specs.declared.lines.Lines.{Lines}
 use Rattle.text_lines.specs.declared.lines.State.{State}
-use Rattle.text_lines.specs.declared.lines.State.TheVariants as state
-use Rattle.text_lines.specs.Lines.{HasGivenAll, HasGiven, lines_of, state_in, rest_in, fails_in}
+use Rattle.text_lines.specs.Lines.{HasGivenAll, HasGiven, lines_of, rest_in, fails_in}
 use Rattle.verdicts.specs.declared.verdict.Verdict.{Verdict}
 use Rattle.verdicts.specs.declared.verdict.Verdict.TheVariants as verdict
 use Rattle.checking.specs.declared.run.Asked.{Asked}
@@ -30,7 +29,7 @@ use Rattle.checking.specs.declared.judge.Judge.{Judge}
 use Rattle.checking.specs.declared.judge.Rest.{Rest}
 use Rattle.checking.specs.Pairs.{EndsRun, KeepsAllBut, AreVerdicts, AreSurplus}
 use Rattle.checking.specs.Runs.{IsOk, IsWhole, verdicts_text, IsTextOfVerdicts, IsBegunTextOfVerdicts}
-use Rattle.checking.specs.UnderWay.{MayFail, closed, Keeps, HasKept, KeepsRest, IsUnderWay, IsCutShort}
+use Rattle.checking.specs.UnderWay.{MayFail, closed, Keeps, KeepsRest, IsUnderWay, IsCutShort}
 use Rattle.checking.proofs.Pairing.{more_lines}
 use Rattle.checking.proofs.Reading.{at_most}
 
@@ -152,7 +151,7 @@ pub all_read : {L : Type 0} (to_come : L → Option (List ℕ)) (fails : L → B
     → KeepsRest to_come fails known known_fails before lines kept rest → AreAll known known_fails faces rest.failed records verdicts rest.surplus
 all_read to_come fails known known_fails faces before lines kept records verdicts rest many each is =
     let all = given_all rest.failed known (rest_in to_come lines) known_fails (fails_in fails lines) is.all.has_kept.given
-        (subst (λ (s : State). HasGiven known known_fails s (rest_in to_come lines) (fails_in fails lines) is.all.has_kept.given) is.ended is.all.has_kept.has_given) in
+    (subst (λ (s : State). HasGiven known known_fails s (rest_in to_come lines) (fails_in fails lines) is.all.has_kept.given) is.ended is.all.has_kept.has_given) in
     let more = is.all.more in
     record {
       line_bytes = all.bytes;
@@ -186,7 +185,7 @@ pub status_is : (found : Mark) (failed whole all_ok wants : Bool) (verdicts : Li
 status_is found failed whole all_ok wants verdicts surplus status oks wanted is_whole unread well other =
     let to : IsWhole found failed verdicts → whole ≡ true = λ is. is_whole.1 (is.complete, is.lines, wanted.1 is.memory) in
     let from : whole ≡ true → IsWhole found failed verdicts = λ is.
-        let all = is_whole.0 is in record { complete = all.0; lines = all.1; memory = wanted.0 all.2 } in
+    let all = is_whole.0 is in record { complete = all.0; lines = all.1; memory = wanted.0 all.2 } in
     record {
       ok = (
         λ is. well.0 (to is.0, oks.1 is.1, is.2),

@@ -1,5 +1,5 @@
 -- A run under way: what was said of the records so far. Only private contracts speak of it.
-use Rattle.std.specs.Prelude.{◌≡◌, ◌≢◌, ◌↔◌, ◌⊎◌, ◌≤◌, ◌-◌, ◌^◌, min, ℕ, Bool, true, false, List, [], ◌∷◌, ◌++◌, length, Option, Some, All, IsTrue, ⊤}
+use Rattle.std.specs.Prelude.{◌≡◌, ◌≢◌, ◌↔◌, ◌⊎◌, ◌≤◌, ◌-◌, ◌^◌, min, ℕ, Bool, true, false, List, [], ◌∷◌, ◌++◌, length, Option, Some, All, ⊤}
 use Rattle.text_lines.specs.declared.lines.Lines.{Lines}
 use Rattle.text_lines.specs.declared.lines.State.{State}
 use Rattle.text_lines.specs.declared.lines.State.TheVariants as state

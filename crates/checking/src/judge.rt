@@ -259,7 +259,13 @@ impl<L: Tap> Judge<L> {
             Ok(()) => {}
             Err(fault) => return Err(fault),
         }
-        push_end(&mut self.text, self.asked.json, mark, self.count, rest.surplus);
+        push_end(
+            &mut self.text,
+            self.asked.json,
+            mark,
+            self.count,
+            rest.surplus,
+        );
         match self.text.flush(out) {
             Ok(()) => {}
             Err(fault) => return Err(fault),

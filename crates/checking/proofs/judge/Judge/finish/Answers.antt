@@ -1,4 +1,4 @@
-use Rattle.std.proofs.Common.{◌≡◌, ◌≢◌, ◌↔◌, ℕ, Bool, true, false, List, [], Ok, refl, ap, subst, sym, ◌∙◌}
+use Rattle.std.proofs.Common.{◌≡◌, ◌≢◌, ◌↔◌, ℕ, Bool, true, false, List, Ok, subst, sym}
 use Rattle.std.specs.Prelude.{All}
 use Rattle.streams.specs.Sink.{IsInTransit}
 use Rattle.streams.proofs.Sinks.{flushed_whole}
@@ -14,11 +14,10 @@ use Rattle.checking.proofs.judge.Judge.finish.Goals as goal
 pub returns-in-Err-clause-begun : goal.returns-in-Err-clause-begun
 returns-in-Err-clause-begun g c = λ known fails start records u.
     let judge = c.args.self in
-    let out = g.S.Sink.taken c.args.out.now in
-    (
+    let out = g.S.Sink.taken c.args.out.now in (
       0,
       stops_before g.L.Tap.to_come g.L.Tap.fails known fails start out out judge records c.args.mark 0 u
-      (sent_only start out judge.text (verdict_lines judge.asked.json 1 u.verdicts) u.text),
+          (sent_only start out judge.text (verdict_lines judge.asked.json 1 u.verdicts) u.text),
     )
 
 pub returns-in-Err-make_room-clause-begun : goal.returns-in-Err-make_room-clause-begun
@@ -27,11 +26,10 @@ returns-in-Err-make_room-clause-begun g c = λ known fails start records u.
     let old_out = g.S.Sink.taken c.args.out.now in
     let new_out = g.S.Sink.taken c.make_room.new.sink in
     let said = verdict_lines judge.asked.json 1 u.verdicts in
-    let way : IsInTransit start old_out c.read_rest.new.self.text said = subst (λ (w : List ℕ). IsInTransit start old_out w said) (sym c.read_rest.ensures.text) u.text in
-    (
+    let way : IsInTransit start old_out c.read_rest.new.self.text said = subst (λ (w : List ℕ). IsInTransit start old_out w said) (sym c.read_rest.ensures.text) u.text in (
       0,
       stops_before g.L.Tap.to_come g.L.Tap.fails known fails start old_out new_out judge records c.args.mark 0 u
-      (room_lost start old_out new_out c.read_rest.new.self.text c.make_room.new.self said (g.S.Sink.failed c.make_room.new.sink) c.in-Err-make_room.fault c.in-Err-make_room.ensures.writes way),
+          (room_lost start old_out new_out c.read_rest.new.self.text c.make_room.new.self said (g.S.Sink.failed c.make_room.new.sink) c.in-Err-make_room.fault c.in-Err-make_room.ensures.writes way),
     )
 
 pub returns-in-Err-flush-clause-begun : goal.returns-in-Err-flush-clause-begun
@@ -43,11 +41,10 @@ returns-in-Err-flush-clause-begun g c = λ known fails start records u.
     let mid_out = g.S.Sink.taken c.make_room.new.sink in
     let new_out = g.S.Sink.taken c.flush.new.sink in
     let way = ends_text g.L.Tap.to_come g.L.Tap.fails known fails start old_out mid_out judge records after.asked after.text c.make_room.new.self c.push_end.new.lines after.count rest.surplus c.args.mark
-        (g.S.Sink.failed c.make_room.new.sink) u c.read_rest.ensures.asked c.read_rest.ensures.text c.read_rest.ensures.count c.in-Ok-make_room.ensures.writes c.push_end.ensures in
-    (
+    (g.S.Sink.failed c.make_room.new.sink) u c.read_rest.ensures.asked c.read_rest.ensures.text c.read_rest.ensures.count c.in-Ok-make_room.ensures.writes c.push_end.ensures in (
       rest.surplus,
       stops_short g.L.Tap.to_come g.L.Tap.fails known fails start old_out new_out judge records c.args.mark rest.surplus u
-      (flush_lost start mid_out new_out c.push_end.new.lines (verdicts_text judge.asked.json u.verdicts c.args.mark rest.surplus) (g.S.Sink.failed c.flush.new.sink) c.in-Err-flush.fault c.in-Err-flush.ensures.writes way),
+          (flush_lost start mid_out new_out c.push_end.new.lines (verdicts_text judge.asked.json u.verdicts c.args.mark rest.surplus) (g.S.Sink.failed c.flush.new.sink) c.in-Err-flush.fault c.in-Err-flush.ensures.writes way),
     )
 
 pub returns-clause-whole : goal.returns-clause-whole
@@ -59,7 +56,7 @@ returns-clause-whole g c = λ graphs cut known fails start records is u.
     let mid_out = g.S.Sink.taken c.make_room.new.sink in
     let new_out = g.S.Sink.taken c.flush.new.sink in
     let way = ends_text g.L.Tap.to_come g.L.Tap.fails known fails start old_out mid_out judge records after.asked after.text c.make_room.new.self c.push_end.new.lines after.count rest.surplus c.args.mark
-        (g.S.Sink.failed c.make_room.new.sink) u c.read_rest.ensures.asked c.read_rest.ensures.text c.read_rest.ensures.count c.in-Ok-make_room.ensures.writes c.push_end.ensures in
+    (g.S.Sink.failed c.make_room.new.sink) u c.read_rest.ensures.asked c.read_rest.ensures.text c.read_rest.ensures.count c.in-Ok-make_room.ensures.writes c.push_end.ensures in
     let written = flushed_whole start mid_out new_out c.push_end.new.lines (g.S.Sink.failed c.flush.new.sink) (verdicts_text judge.asked.json u.verdicts c.args.mark rest.surplus) (Ok tt) way c.in-Ok-flush.ensures.writes in
     let oks = subst (λ (b : Bool). (b ≡ true) ↔ All IsOk u.verdicts) (sym c.read_rest.ensures.ok) u.oks in
     let wants = subst (λ (b : Bool). (b ≡ false) ↔ All (λ v. v ≢ found.Memory) u.verdicts) (sym c.read_rest.ensures.wants) u.wants in

@@ -1,7 +1,6 @@
-use Rattle.std.proofs.Common.{◌≡◌, ◌≢◌, ◌++◌, true, false, refl, sym, subst, ◌∙◌}
+use Rattle.std.proofs.Common.{◌≢◌, ◌++◌, true, false, refl, subst, ◌∙◌}
 use Rattle.text_lines.specs.Lines.{state_in}
 use Rattle.drawn_lines.specs.declared.fault.LineFault.TheVariants.{Memory}
-use Rattle.verdicts.specs.declared.said.Given.{Given}
 use Rattle.verdicts.specs.declared.said.Given.TheVariants as told
 use Rattle.checking.specs.UnderWay.{KeepsNext}
 use Rattle.checking.proofs.Reading.{rest_none, rest_next, rest_all}
