@@ -1,7 +1,5 @@
 -- What is told of a line tells whether it is the end of a run, unless memory ran out.
-use Rattle.std.proofs.Common.{◌≡◌, ◌≢◌, ℕ, Bool, List, Option, None, Some, inl, inr, ap, subst, codes, arith}
-use Rattle.serde_json.specs.Data.{Data}
-use Rattle.serde_json.specs.Find.{get}
+use Rattle.std.proofs.Common.{◌≡◌, ◌≢◌, ℕ, Bool, List, Option, None, Some, inl, inr, ap, subst, arith}
 use Rattle.drawn_lines.specs.declared.fault.LineFault.{LineFault}
 use Rattle.drawn_lines.specs.declared.fault.LineFault.TheVariants.{Memory}
 use Rattle.verdicts.specs.Said.{IsEndLine, SaysDrawing, Says}
@@ -21,7 +19,7 @@ drawing_goes_on bytes it drawing end =
     let one = drawing.text.text in
     let other = end.text.text in
     let same : drawing.value ≡ end.value = cc in
-    end.named (subst (λ (value : Data). get (codes "end") value ≡ None) same drawing.goes_on)
+    end.named (rw same at drawing.goes_on)
 
 pub says_drawing : (line other : List ℕ) (says : Said) (drawing : SaidDrawing) → line ≡ other → says ≡ said.Drawing drawing → Says line says
     → SaysDrawing other drawing.points drawing.claims

@@ -8,6 +8,9 @@ use Rattle.text_lines.specs.declared.lines.State.{State}
 use Rattle.text_lines.specs.declared.lines.State.TheVariants as state
 use Rattle.text_lines.specs.Lines.{HasGiven, GivesNext, StaysClosed, state_in, rest_in, fails_in, line_in}
 use Rattle.drawn_lines.specs.declared.fault.LineFault.TheVariants.{Memory, Malformed}
+use Rattle.drawn_lines.specs.declared.fault.LineFault.{LineFault}
+use Rattle.drawn_lines.specs.declared.fault.LineFault.TheVariants as fault
+use Rattle.checking.specs.declared.judge.Behind.TheVariants as behind
 use Rattle.verdicts.specs.Said.{IsEndLine}
 use Rattle.verdicts.specs.Verdicts.{IsVerdict}
 use Rattle.verdicts.specs.declared.said.Given.{Given}
@@ -15,7 +18,7 @@ use Rattle.verdicts.specs.declared.said.Given.TheVariants as given
 use Rattle.verdicts.specs.declared.verdict.Verdict.{Verdict}
 use Rattle.verdicts.specs.declared.verdict.Verdict.TheVariants as verdict
 use Rattle.checking.specs.Pairs.{EndsRun, TellsOf, AreVerdicts, IsVerdictOf}
-use Rattle.checking.specs.UnderWay.{MayFail, closed, Keeps, HasKept, KeepsNoMore, KeepsOneMore, KeepsNext, KeepsMore, KeepsRest}
+use Rattle.checking.specs.UnderWay.{behind_of, MayFail, closed, Keeps, HasKept, KeepsNoMore, KeepsOneMore, KeepsNext, KeepsMore, KeepsRest}
 use Rattle.checking.proofs.Ends.{judged_as, told_goes_on}
 use Rattle.checking.proofs.Pairing.{one_kept, one_left, one_judged, one_missing}
 
@@ -67,6 +70,15 @@ at_most state.Failed kept records many = many
 closed_keeps : (failed : Bool) (kept records : ℕ) → kept ≤ records → Keeps (closed failed) kept records
 closed_keeps true kept records few = few
 closed_keeps false kept records few = few
+
+fault_behind : (f : LineFault) → (behind_of (given.Fault f) ≡ behind.Line) ⊎ (behind_of (given.Fault f) ≡ behind.Wanting)
+fault_behind fault.Malformed = inl refl
+fault_behind fault.Points = inl refl
+fault_behind fault.Number = inl refl
+fault_behind fault.Angles = inl refl
+fault_behind fault.Turns = inl refl
+fault_behind fault.Prices = inl refl
+fault_behind fault.Memory = inr refl
 
 pub some_failing : (s : State) → (failed : Bool) × MayFail s failed
 some_failing state.Open = (false, tt)
@@ -230,38 +242,49 @@ module _ {L : Type 0} (to_come : L → Option (List ℕ)) (fails : L → Bool) (
         opened = elim so_far.opened [ inl opened ↦ inl opened | inr same ↦ inl (sym same.0 ∙ step.opened) ];
       }
 
-  pub rest_next : (kept : List (List ℕ)) (first : State) (before : Lines L) (surplus next : ℕ) (told : Given) → told ≢ given.Missing → told ≢ given.Unread
-      → next ≡ min (surplus + 1) (2 ^ 64 - 1) → told ≢ given.Fault Memory → (so_far : KeepsMore to_come fails known known_fails first before kept surplus)
+  pub rest_next : (kept : List (List ℕ)) (first : State) (before : Lines L) (surplus next : ℕ) (told : Given) → behind_of told ≡ behind.Line
+      → next ≡ min (surplus + 1) (2 ^ 64 - 1) → (so_far : KeepsMore to_come fails known known_fails first before kept surplus)
       → KeepsNext to_come fails known known_fails (state_in before) lines (kept ++ so_far.more) told
       → KeepsMore to_come fails known known_fails first lines kept next
-  rest_next kept first before surplus next given.Missing some read is other so_far step = absurd (some refl)
-  rest_next kept first before surplus next given.Unread some read is other so_far step = absurd (read refl)
-  rest_next kept first before surplus next (given.Drawing said) some read is other so_far step =
-      rest_one kept first before surplus next (given.Drawing said) is other so_far step
-  rest_next kept first before surplus next (given.Fault fault) some read is other so_far step =
-      rest_one kept first before surplus next (given.Fault fault) is other so_far step
+  rest_next kept first before surplus next given.Missing here is so_far step = cc
+  rest_next kept first before surplus next given.Unread here is so_far step = cc
+  rest_next kept first before surplus next (given.Drawing said) here is so_far step =
+      rest_one kept first before surplus next (given.Drawing said) is (λ e. cc) so_far step
+  rest_next kept first before surplus next (given.Fault why) here is so_far step =
+      rest_one kept first before surplus next (given.Fault why) is (λ e. let other = ap behind_of e in cc) so_far step
 
   -- there is none
-  pub rest_all : (kept : List (List ℕ)) (first : State) (before : Lines L) (surplus : ℕ) (failed : Bool) → (so_far : KeepsMore to_come fails known known_fails first before kept surplus)
-      → KeepsNoMore to_come fails known known_fails failed (state_in before) lines (kept ++ so_far.more)
+  rest_none_told : (failed : Bool) (kept : List (List ℕ)) (before : State) (told : Given) → behind_of told ≡ behind.End failed
+      → KeepsNext to_come fails known known_fails before lines kept told → KeepsNoMore to_come fails known known_fails failed before lines kept
+  rest_none_told failed kept before given.Missing here step =
+      let same : false ≡ failed = cc in subst (λ (b : Bool). KeepsNoMore to_come fails known known_fails b before lines kept) same step
+  rest_none_told failed kept before given.Unread here step =
+      let same : true ≡ failed = cc in subst (λ (b : Bool). KeepsNoMore to_come fails known known_fails b before lines kept) same step
+  rest_none_told failed kept before (given.Drawing said) here step = cc
+  rest_none_told failed kept before (given.Fault why) here step = elim (fault_behind why) [ inl line ↦ cc | inr wanting ↦ cc ]
+
+  pub rest_all : (kept : List (List ℕ)) (first : State) (before : Lines L) (surplus : ℕ) (failed : Bool) (told : Given) → behind_of told ≡ behind.End failed
+      → (so_far : KeepsMore to_come fails known known_fails first before kept surplus) → KeepsNext to_come fails known known_fails (state_in before) lines (kept ++ so_far.more) told
       → KeepsRest to_come fails known known_fails first lines kept (record { surplus = surplus; failed = failed })
-  rest_all kept first before surplus failed so_far step = record {
-    all = record {
-      more = so_far.more;
-      has_kept = step.has_kept;
-      each = so_far.each;
-      counted = so_far.counted;
-      opened = elim so_far.opened [
-        | inl opened ↦ inl opened
-        | inr same ↦ elim (closed_or_open (state_in before) failed step.may_fail) [
-          | inl opened ↦ inl (sym same.0 ∙ opened)
-          | inr stays ↦ inr (step.ended ∙ stays ∙ same.0, same.1)
-        ]
-      ];
-    };
-    ended = step.ended;
-    may_fail = elim so_far.opened [
-      | inl opened ↦ subst (λ (s : State). MayFail s failed) (sym opened) tt
-      | inr same ↦ subst (λ (s : State). MayFail s failed) same.0 step.may_fail
-    ];
-  }
+  rest_all kept first before surplus failed told here so_far next =
+      let step = rest_none_told failed (kept ++ so_far.more) (state_in before) told here next in
+      record {
+        all = record {
+          more = so_far.more;
+          has_kept = step.has_kept;
+          each = so_far.each;
+          counted = so_far.counted;
+          opened = elim so_far.opened [
+            | inl opened ↦ inl opened
+            | inr same ↦ elim (closed_or_open (state_in before) failed step.may_fail) [
+              | inl opened ↦ inl (sym same.0 ∙ opened)
+              | inr stays ↦ inr (step.ended ∙ stays ∙ same.0, same.1)
+            ]
+          ];
+        };
+        ended = step.ended;
+        may_fail = elim so_far.opened [
+          | inl opened ↦ subst (λ (s : State). MayFail s failed) (sym opened) tt
+          | inr same ↦ subst (λ (s : State). MayFail s failed) same.0 step.may_fail
+        ];
+      }

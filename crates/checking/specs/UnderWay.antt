@@ -8,12 +8,15 @@ use Rattle.streams.specs.declared.frames.Mark.{Mark}
 use Rattle.streams.specs.Marks.{IsBeginningOf}
 use Rattle.streams.specs.Reading.{IsKnownOf}
 use Rattle.streams.specs.Sink.{AppendsPrefix, IsInTransit}
+use Rattle.drawn_lines.specs.declared.fault.LineFault.TheVariants as fault
 use Rattle.verdicts.specs.declared.said.Given.{Given}
 use Rattle.verdicts.specs.declared.said.Given.TheVariants as given
 use Rattle.verdicts.specs.declared.verdict.Verdict.{Verdict}
 use Rattle.verdicts.specs.declared.verdict.Verdict.TheVariants as verdict
 use Rattle.verdicts.specs.Text.{verdict_lines}
 use Rattle.checking.specs.declared.judge.Judge.{Judge}
+use Rattle.checking.specs.declared.judge.Behind.{Behind}
+use Rattle.checking.specs.declared.judge.Behind.TheVariants as behind
 use Rattle.checking.specs.declared.judge.Rest.{Rest}
 use Rattle.checking.specs.declared.run.Asked.{Asked}
 use Rattle.checking.specs.Pairs.{EndsRun, KeepsAllBut, TellsOf, AreVerdicts}
@@ -58,6 +61,14 @@ abbrev pub KeepsNext : {L : Type 0} → (L → Option (List ℕ)) → (L → Boo
 KeepsNext to_come fails known known_fails before lines kept given.Missing = KeepsNoMore to_come fails known known_fails false before lines kept
 KeepsNext to_come fails known known_fails before lines kept given.Unread = KeepsNoMore to_come fails known known_fails true before lines kept
 KeepsNext to_come fails known known_fails before lines kept told = KeepsOneMore to_come fails known known_fails before lines kept told
+
+-- what is given, behind the last record
+abbrev pub behind_of : Given → Behind
+behind_of (given.Drawing said) = behind.Line
+behind_of (given.Fault fault.Memory) = behind.Wanting
+behind_of (given.Fault other) = behind.Line
+behind_of given.Missing = behind.End false
+behind_of given.Unread = behind.End true
 
 -- a reader that had given the lines in `kept` has given so many more, none of which is the end of a run
 pub record KeepsMore {L : Type 0} (to_come : L → Option (List ℕ)) (fails : L → Bool) (known : Option (List ℕ)) (known_fails : Bool) (before : State) (lines : Lines L) (kept : List (List ℕ)) (surplus : ℕ) : Type 0 where

@@ -10,7 +10,7 @@ ghost use Rattle.verdicts.specs.declared.said.Given.TheVariants as told;
 ghost use Rattle.verdicts.specs.declared.verdict.Verdict.TheVariants as found;
 ghost use Rattle.verdicts.specs.Verdicts.{IsVerdict};
 ghost use Rattle.checking.specs.Runs.{IsOk, IsTextOfVerdicts};
-ghost use Rattle.checking.specs.UnderWay.{HasKept, KeepsNext, KeepsRest, IsUnderWay, IsCutShort, IsCutShortWithin};
+ghost use Rattle.checking.specs.UnderWay.{behind_of, HasKept, KeepsNext, KeepsRest, IsUnderWay, IsCutShort, IsCutShortWithin};
 
 use crate::run::{Asked, Checked};
 use drawn_lines::LineFault;
@@ -28,6 +28,17 @@ pub(crate) struct Rest {
     pub(crate) surplus: u64,
     /// Whether a read failed, and did not end.
     pub(crate) failed: bool,
+}
+
+/// What is given behind the last record.
+#[derive(Clone, Copy, Debug)]
+pub(crate) enum Behind {
+    /// A line that is not the end of a run.
+    Line,
+    /// No line, as there are no more, or as a read failed.
+    End { failed: bool },
+    /// Memory ran out for a line.
+    Wanting,
 }
 
 /// The lines that are left, and what was said so far.
@@ -211,25 +222,10 @@ impl<L: Tap> Judge<L> {
     {
         let mut surplus = 0u64;
         for _ in rt.forever() {
-            let given = self.give(rt);
-            if is_wanting(&given) {
-                return Err(WriteFault::Memory);
-            }
-            match given {
-                Given::Drawing(_) => surplus = surplus.saturating_add(1),
-                Given::Fault(_) => surplus = surplus.saturating_add(1),
-                Given::Missing => {
-                    return Ok(Rest {
-                        surplus,
-                        failed: false,
-                    });
-                }
-                Given::Unread => {
-                    return Ok(Rest {
-                        surplus,
-                        failed: true,
-                    });
-                }
+            match follows(self.give(rt)) {
+                Behind::Line => surplus = surplus.saturating_add(1),
+                Behind::End { failed } => return Ok(Rest { surplus, failed }),
+                Behind::Wanting => return Err(WriteFault::Memory),
             }
         }
         unreachable!()
@@ -286,6 +282,19 @@ fn is_wanting(given: &Given) -> bool
     match given {
         Given::Fault(LineFault::Memory) => true,
         _ => false,
+    }
+}
+
+/// What is given behind the last record.
+fn follows(given: Given) -> Behind
+    ensures { result ≡ behind_of given }
+{
+    match given {
+        Given::Drawing(_) => Behind::Line,
+        Given::Fault(LineFault::Memory) => Behind::Wanting,
+        Given::Fault(_) => Behind::Line,
+        Given::Missing => Behind::End { failed: false },
+        Given::Unread => Behind::End { failed: true },
     }
 }
 
