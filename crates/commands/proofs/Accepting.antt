@@ -1,6 +1,5 @@
 -- Lanes that print lines take the files whose meaning they know.
-use Rattle.std.proofs.Common.{◌≡◌, ℕ, List, sym, subst}
-use Rattle.streams.specs.declared.frames.Mark.{Mark}
+use Rattle.std.proofs.Common.{◌≡◌, ℕ, sym, subst}
 use Rattle.lanes.specs.Opening.{Meaning, IsPlacedAt, IsEndAt}
 use Rattle.lane_runs.specs.Accepting.{AcceptsFiles}
 

@@ -1,5 +1,5 @@
 -- No command writes of a graph without a drawing.
-use Rattle.std.proofs.Common.{◌≡◌, ◌⊎◌, ℕ, zero, suc, ◌+◌, ◌≤◌, Bool, List, [], ◌∷◌, ◌++◌, length, slice_index, codes, decimal, Option, Result, Ok, Err, refl, sym, ap, subst, arith, inl, inr, append_assoc}
+use Rattle.std.proofs.Common.{◌≡◌, ◌⊎◌, ℕ, zero, suc, ◌+◌, ◌≤◌, Bool, List, [], ◌∷◌, ◌++◌, length, slice_index, codes, decimal, Option, Result, Ok, Err, refl, sym, ap, subst, arith, inl, inr}
 use Rattle.std.specs.Io.KnownBytes.{Appends}
 use Rattle.planar_code.specs.declared.ending.Ending.TheVariants as ending
 use Rattle.streams.specs.declared.frames.Mark.{Mark}
@@ -10,19 +10,17 @@ use Rattle.streams.specs.declared.faults.WriteFault.TheVariants.{Write, Memory}
 use Rattle.streams.specs.Sink.{AppendsPrefix, Writes}
 use Rattle.streams.specs.Text as marks
 use Rattle.streams.specs.Text.{record_line, record_lines, frames_end_line, frames_text}
-use Rattle.common.specs.declared.choice.Choice.{Choice}
 use Rattle.lanes.specs.Opening.{Meaning}
-use Rattle.reports.specs.declared.form.Form.{Form}
 use Rattle.reports.specs.Forms.{text_in}
 use Rattle.reports.proofs.FirstBytes.{first}
 use Rattle.printing.specs.Telling.{AddsNoneUndrawn}
 use Rattle.printing.proofs.Apart.{IsApart, concatenated, counted}
 use Rattle.printing.proofs.TextBytes.{text_apart}
-use Rattle.printing.proofs.Added.{text_added, front_added, none_added, from_some}
+use Rattle.printing.proofs.Added.{text_added, front_added, none_added}
 use Rattle.commands.proofs.TextDrawing.{all_drawn, begun_drawn}
 use Rattle.command_line.specs.declared.request.Request.{Request}
 use Rattle.command_line.specs.declared.request.Request.TheVariants.{Frames, Layout, Check}
-use Rattle.commands.specs.Statuses.{IsTextOfRecords, IsTextOfBooks, IsBegunTextOfRecords, IsBegunTextOfBooks, IsDone, IsBegunToBeDone, IsJudged, IsNoText, IsPrinted, version_text}
+use Rattle.commands.specs.Statuses.{IsDone, IsBegunToBeDone, IsJudged, IsNoText, IsPrinted, version_text}
 use Rattle.commands.proofs.NoText.{no_text}
 use Rattle.commands.proofs.Verdicts.{verdicts_drawn, begun_verdicts_drawn}
 

@@ -1,5 +1,5 @@
 -- Runs hand out and write only graphs that are drawn.
-use Rattle.std.proofs.Common.{◌≡◌, ℕ, ◌+◌, List, ◌++◌, length, Option, Result, Ok, Err, IfOk, OnErr, inl, inr}
+use Rattle.std.proofs.Common.{ℕ, ◌+◌, List, ◌++◌, length, Option, Result, Ok, Err, IfOk, OnErr, inl, inr}
 use Rattle.common.specs.declared.choice.Choice.{Choice}
 use Rattle.lanes.specs.Opening.{Meaning}
 use Rattle.entries.specs.Books.{BookModel}

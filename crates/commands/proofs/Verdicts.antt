@@ -1,5 +1,5 @@
 -- The text of verdicts.
-use Rattle.std.proofs.Common.{◌≡◌, ◌∙◌, ◌≤◌, ℕ, ◌+◌, Bool, true, false, List, [], ◌∷◌, ◌++◌, length, codes, decimal, lit≤, Option, Some, refl, sym, subst}
+use Rattle.std.proofs.Common.{◌≡◌, ◌∙◌, ◌≤◌, ℕ, ◌+◌, Bool, true, false, List, [], ◌∷◌, ◌++◌, length, codes, lit≤, Option, Some, refl, sym, subst}
 use Rattle.planar_code.specs.declared.ending.Ending.TheVariants as ending
 use Rattle.embedding.specs.declared.rules.Rule.{Rule}
 use Rattle.embedding.specs.declared.rules.Rule.TheVariants as rule

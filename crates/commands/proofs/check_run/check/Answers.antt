@@ -11,6 +11,6 @@ returns-clause-written g c =
 pub returns-in_err-checked-clause-begun : goal.returns-in_err-checked-clause-begun
 returns-in_err-checked-clause-begun g c =
     on_err c.from_residual-in_err-checked.result (inr (
-      begun_verdicts_less _ _ (ap (λ json. record { json = json; faces = c.args.asked.faces }) c.is_json.ensures) _ _ _ _ _ _ _ _ _ _
-          c.in_ok-graphs.ensures.known c.in_ok-lines.ensures.known c.in_err-checked.ensures.begun
+    begun_verdicts_less _ _ (ap (λ json. record { json = json; faces = c.args.asked.faces }) c.is_json.ensures) _ _ _ _ _ _ _ _ _ _
+    c.in_ok-graphs.ensures.known c.in_ok-lines.ensures.known c.in_err-checked.ensures.begun
     ))
