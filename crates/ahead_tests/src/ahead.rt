@@ -65,7 +65,7 @@ impl Seen {
 
     /// Waits for a while, and notes where the next part was then seen more than so often.
     fn hold(&self, next: &AtomicU32, most: u32) {
-        for _ in 0..20_000 {
+        for _ in 0..4_000 {
             thread::yield_now();
         }
         if next.load(Ordering::SeqCst) > most {
