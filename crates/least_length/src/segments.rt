@@ -3,6 +3,9 @@
 /// The maximum number of wires.
 pub const MAX_WIRES: usize = 65_536;
 
+/// The maximum number of segments of a search.
+pub(crate) const MAX_SEGMENTS: usize = 65_533;
+
 /// The maximum number of pairs of segments that have a weight.
 pub const MAX_SIGHTS: usize = 4_096;
 

@@ -1,0 +1,9 @@
+use Rattle.std.proofs.Common.{◌<◌, ◌≤◌, vec_len}
+use Rattle.least_length.proofs.pulling.Pulling.measure.Given as goal
+
+abbrev pub invariant-loop : goal.invariant-loop
+invariant-loop l = record {
+  segment : l.segment < vec_len l.self.coordinates;
+  spare : l.units ≤ l.spare;
+  wanted : l.units ≤ l.wanted;
+}
