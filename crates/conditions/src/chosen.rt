@@ -20,8 +20,7 @@ use flow_network::has_mark;
 use ortho_rep::{Prices, Scratch, Shape, ShapeFault, best_shape_keeping, least_shape_keeping_in};
 use std::alloc::{AllocError, Global};
 
-/// Makes the chosen face among those that may be outside the outer one, and gives a least shape among those that keep the
-/// edges straight, with prices that prove it.
+/// Makes the chosen face the outer one, and returns a least shape that keeps the conditions, with prices that prove it.
 ///
 /// `First` is the face with the most darts of those that may be outside; `Best` the one with which the fewest bends are
 /// needed to keep the edges straight; among equals both are the one with the least number, which has the least dart.

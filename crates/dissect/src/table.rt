@@ -8,7 +8,7 @@ use std::alloc::Global;
 /// The value for a missing dart.
 pub const NO_DART: u32 = u32::MAX;
 
-/// The number of darts for which a table needs additional room if a rectangle is put round its map.
+/// The additional room, in darts, that a table needs for a rectangle round its map.
 ///
 /// These are 8 for the sides, and 4 for each of the four right turns at its corners, as for each other right turn.
 pub const RECTANGLE_ROOM: u32 = 24;

@@ -17,7 +17,7 @@ pub struct Scratch {
     /// The ranks of coordinates.
     pub(crate) columns: Vec<usize>,
     pub(crate) rows: Vec<usize>,
-    /// The faces east of upright parts, and the face of each cell as the level ones tell.
+    /// The faces east of upright parts, and the face of each cell by the level ones.
     pub(crate) marks: Vec<u16>,
     pub(crate) cells: Vec<u16>,
 }

@@ -78,9 +78,10 @@ impl FaceNet {
         FaceNet::build_keeping_in(alloc, scratch, plane, &[])
     }
 
-    /// The network of a plane where the edges of marked darts are to stay straight: nothing crosses them. Darts past
-    /// the end of the list are not marked, and an edge is to stay straight where one of its two darts is. There need
-    /// not be a flow, unless no dart is marked. Linear in the darts.
+    /// The flow network of a plane in which nothing crosses the edges of marked darts, so that these stay straight.
+    ///
+    /// An edge stays straight if one of its two darts is marked; darts past the end of the list are not marked. There
+    /// need not be a flow, unless no dart is marked. Linear in the darts. It reuses the caller's scratch.
     ///
     /// # Errors
     ///

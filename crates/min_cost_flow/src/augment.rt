@@ -1,7 +1,7 @@
 //! Augmenting along the path that a search found (Ahuja, Magnanti and Orlin, Network Flows, 1993, section 9.7): as
 //! many units as fit along it, but no more than the excess where it starts or the deficit where it ends.
 //!
-//! It goes over the residual arcs of the path twice, and takes no memory. Potentials stay: along the path reduced
+//! It goes over the residual arcs of the path twice, and allocates nothing. Potentials stay: along the path reduced
 //! costs are 0, so the residual arcs back, which it gives capacity, have reduced costs of 0 too. Amounts are at
 //! most 2,048 units.
 ghost use Rattle.std.specs.Prelude.{◌≡◌, ◌<◌, ◌≤◌, ℕ, length, pos, ◌≤ℤ◌, ◌<ℤ◌, ◌+ℤ◌};

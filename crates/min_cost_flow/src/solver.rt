@@ -168,10 +168,9 @@ impl Solver {
     }
 }
 
-/// Searches for a shortest path from a node with an excess to the nearest one with a deficit, and
-/// updates the potentials. It gives back the last residual arc of the path; each node before has the one by which it
-/// was reached. `None` where there is no such path; the nodes that were reached keep their labels then, and supply more
-/// than can leave them.
+/// Searches for a shortest path from a node with an excess to the nearest one with a deficit, and updates the
+/// potentials. Returns the last residual arc of the path; each node before has the one by which it was reached. `None`
+/// if there is no such path; the nodes that were reached then keep their labels, and supply more than can leave them.
 pub(crate) fn find_path(
     residual: &Residual,
     nodes: &mut Nodes,
@@ -251,7 +250,7 @@ pub(crate) fn has_deficit(excess: &[i32]) -> bool
 }
 
 /// Scores each node, to pick one of those that are equally near: its supply, and what is supplied where arcs of
-/// cost 0 to it start. The least score comes first. No clause rests on it, but it tells which of
+/// cost 0 to it start. The least score comes first. No clause rests on it, but it decides which of
 /// several flows of least cost is found.
 fn score_nodes(network: &Network, scores: &mut [i32])
     requires { IsNetwork network.now }

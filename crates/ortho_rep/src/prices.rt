@@ -18,7 +18,7 @@ pub struct Prices {
 #[derive(Debug, Drop)]
 enum PriceStore {
     InTwoLists { vertices: Vec<i32>, faces: Vec<i32> },
-    // those of so many vertices, and behind them those of the faces
+    // those of this many vertices, followed by those of the faces
     Concatenated { prices: Vec<i32>, vertices: usize },
 }
 
@@ -44,7 +44,7 @@ impl Prices {
         }
     }
 
-    /// The prices of so many vertices, and behind them those of the faces, in one list.
+    /// The prices of this many vertices, followed by those of the faces, in one list.
     pub(crate) fn concatenated(prices: Vec<i32>, vertices: usize) -> Prices
         requires { vertices ≤ length prices.items }
         ensures { result ≡ record { vertices = take vertices prices.items; faces = drop vertices prices.items } }

@@ -1,4 +1,4 @@
-//! Memory that one call after another is lent.
+//! The buffers that one call after another reuses.
 
 use crate::repeats::DartShape;
 use std::alloc::Global;
@@ -35,7 +35,7 @@ pub(crate) struct ShapeLists {
 }
 
 impl ShapeLists {
-    /// Lists without memory.
+    /// Empty lists.
     pub(crate) fn empty(alloc: Global) -> ShapeLists {
         ShapeLists {
             darts: Vec::new(alloc),
