@@ -61,7 +61,7 @@ impl<T: Drop, S: Drop> Shell<T, S> {
         *self.slot = Slot::Spent(spent);
     }
 
-    /// Takes what is done with out of the holder, where there is any.
+    /// Takes the spent value out of the holder, if there is one.
     pub(crate) fn unload(&mut self) -> Option<S> {
         match mem::replace(&mut *self.slot, Slot::Empty) {
             Slot::Spent(spent) => Some(spent),

@@ -30,7 +30,7 @@ impl EmbedScratch {
         }
     }
 
-    /// Takes in the holder of a plane, and the lists of one that is done with, where they have come back.
+    /// Takes in the holder of a plane and the lists of a spent one, if they have returned.
     pub(crate) fn restock<R: Wait>(&mut self, rt: &R) {
         if let Some(mut shell) = self.spent.receive(rt) {
             if let Some(plane) = shell.unload() {
@@ -40,7 +40,7 @@ impl EmbedScratch {
         }
     }
 
-    /// The plane in a holder, where there is memory for one.
+    /// The plane in a holder, if there is memory for one.
     pub(crate) fn hold(
         &mut self,
         alloc: Global,

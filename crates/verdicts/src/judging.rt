@@ -33,10 +33,10 @@ impl Scratch {
     }
 }
 
-/// The verdict on a record and what is given for it; with `faces` also on the regions of a drawing.
+/// The verdict on a record and its line; with `faces`, also on the regions of the drawing.
 ///
-/// `Ok` is said exactly where the record breaks no rule, and points are given that draw a representation of its
-/// embedding, with whatever outer face, of which all claims hold; unless memory runs out.
+/// `Ok` exactly if, unless memory runs out, the record breaks no rule, and points are given that draw a representation
+/// of its embedding, with whatever outer face, of which all claims hold.
 pub fn judge_record(
     alloc: Global,
     scratch: &mut Scratch,
@@ -107,7 +107,7 @@ fn judge_drawing(
     }
 }
 
-/// Whether each region of a drawing is its face, where faces are asked for.
+/// Whether each region of a drawing is its face, if faces are asked for; otherwise true.
 fn keeps_faces(
     scratch: &mut Scratch,
     faces: bool,
