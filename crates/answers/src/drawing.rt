@@ -26,7 +26,7 @@ use std::mem;
 use std::sync::Wait;
 use visibility::compact_by_visibility_in;
 
-/// Buffers that the drawing of one shape after another reuses.
+/// The buffers of the stage that draws shapes, reused for the next shape.
 #[derive(Drop)]
 pub struct DrawScratch {
     boxes: BoxesScratch,
@@ -41,7 +41,7 @@ pub struct DrawScratch {
 }
 
 impl DrawScratch {
-    /// An empty scratch, through which nothing returns. It allocates nothing.
+    /// An empty scratch, without queues on which buffers return. It allocates nothing.
     pub fn empty(alloc: Global) -> DrawScratch {
         DrawScratch {
             boxes: BoxesScratch::empty(alloc),

@@ -18,7 +18,7 @@ enum Slot<T: Drop, S: Drop> {
     Spent(S),
 }
 
-/// An empty holder, in which lists that are no longer needed may return.
+/// An empty holder. Lists that are no longer needed may return to an earlier stage in it.
 #[derive(Drop)]
 pub struct Shell<T: Drop, S: Drop> {
     slot: Box<Slot<T, S>>,

@@ -22,7 +22,7 @@ use ortho_rep::Points;
 use planar_code::Record;
 use std::alloc::{AllocError, Global};
 
-/// Buffers that all stages reuse for one record after another.
+/// The buffers of all stages, reused for the next record.
 #[derive(Drop)]
 pub struct RecordScratch {
     planes: faces::Scratch,
@@ -124,11 +124,11 @@ impl RecordScratch {
         )
     }
 
-    /// The plane of a record with the chosen outer face, a least shape that keeps the conditions, and prices that prove
-    /// it.
+    /// The plane of a record, a least shape of it that keeps the conditions, and prices that prove it.
     ///
-    /// `First` is the face with the most darts of those that may be outside; `Best` the one with which the fewest bends
-    /// are needed; among equals both are the one with the least number, which has the least dart. Nothing is drawn.
+    /// The outer face is the chosen one of those that may be outside. `First` is the face with the most darts, and
+    /// `Best` the one that minimises bends; among equals both are the one with the least number, which has the least
+    /// dart. Nothing is drawn.
     ///
     /// # Errors
     ///
@@ -153,8 +153,9 @@ impl RecordScratch {
         }
     }
 
-    /// A drawing of a shape that keeps conditions, made as by [`RecordScratch::draw`]. An edge without turns has no
-    /// corners.
+    /// A drawing of a shape that keeps conditions, in which an edge without turns has no corners.
+    ///
+    /// It is made as by [`RecordScratch::draw`].
     ///
     /// # Errors
     ///

@@ -11,7 +11,7 @@ use faces::Plane;
 use std::alloc::{AllocError, Global};
 use std::sync::Wait;
 
-/// Buffers that reading the graph and tracing the faces of one record after another reuse.
+/// The buffers of the stage that makes planes, reused for the next record.
 #[derive(Drop)]
 pub struct EmbedScratch {
     pub(crate) planes: faces::Scratch,
@@ -21,7 +21,7 @@ pub struct EmbedScratch {
 }
 
 impl EmbedScratch {
-    /// An empty scratch, through which nothing returns. It allocates nothing.
+    /// An empty scratch, without queues on which buffers return. It allocates nothing.
     pub fn empty(alloc: Global) -> EmbedScratch {
         EmbedScratch {
             planes: faces::Scratch::empty(alloc),
@@ -59,7 +59,7 @@ impl EmbedScratch {
     }
 }
 
-/// The scratch of each stage of a lane, through which holders and lists return from each stage to the one before.
+/// The scratches of the stages of a lane, joined by queues on which each stage returns buffers to the one before.
 #[derive(Drop)]
 pub struct StageScratch {
     pub embed: EmbedScratch,

@@ -24,7 +24,7 @@ use std::mem;
 use std::sync::Wait;
 use straightening::straighten_in;
 
-/// Buffers that finding the shape of one plane after another reuses.
+/// The buffers of the stage that finds shapes, reused for the next plane.
 #[derive(Drop)]
 pub struct ShapeScratch {
     shapes: ortho_rep::Scratch,
@@ -48,7 +48,7 @@ pub(crate) struct Passages {
 }
 
 impl ShapeScratch {
-    /// An empty scratch, through which nothing returns. It allocates nothing.
+    /// An empty scratch, without queues on which buffers return. It allocates nothing.
     pub fn empty(alloc: Global) -> ShapeScratch {
         ShapeScratch {
             shapes: ortho_rep::Scratch::empty(alloc),

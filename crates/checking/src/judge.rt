@@ -209,7 +209,7 @@ impl<L: Tap> Judge<L> {
     ///
     /// # Errors
     ///
-    /// `Memory` if there is no memory to tell whether a line is the end of a run.
+    /// `Memory` if memory runs out before it is known whether a line is the end of a run.
     fn read_rest<R: Wait>(&mut self, rt: &R) -> Result<Rest, WriteFault>
         ensures reads { IfOk result (λ rest. (known : Option (List ℕ)) (fails : Bool) (kept : List (List ℕ))
             → HasKept L.to_come L.fails known fails self.old.lines kept

@@ -39,8 +39,8 @@ pub struct Checked {
 ///
 /// # Errors
 ///
-/// `Write` if a write to the sink fails. `Memory` if there is no memory for the buffers, or to tell whether a line
-/// after the last record is the end of a run. A prefix of the text was then written.
+/// `Write` if a write to the sink fails. `Memory` if memory runs out for the buffers, or before it is known whether a
+/// line after the last record is the end of a run. A prefix of the text was then written.
 pub fn check_files<R: AllocGlobal + Wait, G: Tap, L: Tap, S: Sink>(
     rt: &R,
     mut graphs: G,

@@ -20,7 +20,7 @@ pub fn is_input(name: &str) -> bool
     name == INPUT
 }
 
-/// Standard input, as the only file of an opener. Nothing is known of its bytes.
+/// An opener whose only file is standard input. Nothing is known of its bytes.
 #[derive(Drop)]
 pub struct StandardInput<I> {
     input: I,

@@ -5,8 +5,9 @@ ghost use Rattle.planarbend_c.specs.Cuts.{HoldsCut, HoldsMarks, cut_contents};
 
 use conditions::Unkept;
 
-/// The output of a call if no shape keeps the edges straight: a set of vertices and faces that turn more than can leave
-/// it.
+/// The output of a call if no shape keeps the edges straight: marks of a cut that proves it.
+///
+/// The cut is a set of vertices and faces that turn more than can leave it.
 ///
 /// An entry is 1 for each vertex or face of the set, and otherwise 0.
 #[repr(C)]

@@ -14,7 +14,7 @@ use planar_code::Record;
 use referee::{Claims, Fault, Judged, false_claim, fewest_in, judge_in};
 use std::alloc::{AllocError, Global};
 
-/// Buffers that one verdict after another reuses. Their contents between two calls do not matter.
+/// The buffers of `judge_record`, reused for the next record. Their contents between two calls do not matter.
 #[derive(Drop)]
 pub struct Scratch {
     planes: faces::Scratch,

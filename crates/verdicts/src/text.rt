@@ -8,8 +8,9 @@ use crate::words::word_of;
 use referee::Fault;
 use streams::{Mark, TextBuffer, mark_word};
 
-/// Appends the verdict on the graph with this number, as a line of a report or a JSON object. There must be room for
-/// it.
+/// Appends the verdict on the graph with this number, as a line of a report or a JSON object.
+///
+/// There must be room for a line.
 pub fn push_verdict(lines: &mut TextBuffer, json: bool, number: u64, verdict: Verdict)
     requires { length lines.old + LINE ≤ ROOM }
     ensures { lines.new ≡ lines.old ++ verdict_line json number verdict }
@@ -20,8 +21,7 @@ pub fn push_verdict(lines: &mut TextBuffer, json: bool, number: u64, verdict: Ve
     push_tail(lines, json);
 }
 
-/// Appends the last line: the mark of the graph file, the number of its graphs, and the number of lines without a
-/// graph.
+/// Appends the last line: the graph file's mark, its number of graphs, and the number of lines without a graph.
 ///
 /// There must be room for a line.
 pub fn push_end(lines: &mut TextBuffer, json: bool, mark: Mark, graphs: u64, surplus: u64)
