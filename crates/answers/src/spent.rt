@@ -1,24 +1,24 @@
-//! What goes back, by a bounded queue, from a stage of a lane to the one that fills it anew.
+//! A bounded queue by which a stage of a lane returns buffers to the one that fills them anew.
 ghost use Rattle.std.specs.Prelude.{◌<◌};
 
 use crossbeam_queue::ArrayQueue;
 use std::alloc::{AllocError, Global};
 use std::sync::{Arc, Wait};
 
-/// One end of a way on which things go back from a thread to another one, or of none. What stands on the way says
-/// nothing about results: it is only memory to be filled anew.
+/// One end of a queue on which buffers return from one thread to another, or of none. The items in the queue have no
+/// influence on results: they are only buffers to be reused.
 #[derive(Drop)]
 pub(crate) struct ReturnQueue<T: Drop> {
     queue: Option<Arc<ArrayQueue<T>>>,
 }
 
 impl<T: Drop + Send> ReturnQueue<T> {
-    /// No way: what is sent is dropped, and nothing comes.
+    /// No queue: what is sent is dropped, and nothing arrives.
     pub(crate) fn none() -> ReturnQueue<T> {
         ReturnQueue { queue: None }
     }
 
-    /// Both ends of a way with room for so many things.
+    /// Both ends of a queue with room for this many items.
     pub(crate) fn new(
         alloc: Global,
         room: usize,
@@ -33,7 +33,7 @@ impl<T: Drop + Send> ReturnQueue<T> {
         ))
     }
 
-    /// Sends a thing back. Where the way is full, or there is none, it is dropped.
+    /// Sends an item back. If the queue is full, or there is none, the item is dropped.
     pub(crate) fn send<R: Wait>(&self, rt: &R, thing: T) {
         if let Some(queue) = &self.queue {
             match queue.push(rt, thing) {
@@ -43,7 +43,7 @@ impl<T: Drop + Send> ReturnQueue<T> {
         }
     }
 
-    /// What has come back first, where there is any.
+    /// The item that has returned first, if there is any.
     pub(crate) fn receive<R: Wait>(&self, rt: &R) -> Option<T> {
         match &self.queue {
             Some(queue) => queue.pop(rt),

@@ -18,7 +18,7 @@ use dissect::Boxes;
 use geometry::Direction;
 use std::alloc::AllocError;
 
-/// An axis, by the direction in which its coordinates grow.
+/// One of the two axes along which coordinates are computed.
 #[derive(Clone, Copy, Debug)]
 pub enum Axis {
     /// x, which grows to the east.

@@ -7,7 +7,7 @@ use crate::neighbours::NO_VERTEX;
 use ortho_rep::MAX_COORDINATE;
 use std::alloc::{AllocError, Global};
 
-/// The neighbours of each vertex, and the directions along an axis and across it in which to look them up.
+/// The neighbours of each vertex, with the numbers of the four directions as seen along an axis.
 #[derive(Clone, Copy)]
 pub struct Neighbours<'a> {
     /// The next vertex of each vertex in each of the four directions, out of range if there is none.

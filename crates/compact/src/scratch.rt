@@ -7,7 +7,7 @@ use crate::longest_paths::SegmentsByAxis;
 use ortho_rep::{Point, Points};
 use std::alloc::Global;
 
-/// Buffers that finding points for one dissection after another reuses. Their contents between two calls do not matter.
+/// The buffers of `compact_in`, reused for the next dissection. Their contents between two calls do not matter.
 ///
 /// The points take their list with them. If it is returned before the next ones are found, these allocate no list
 /// unless they have more vertices, edges or corners; if it is not, they allocate one for just what it holds.

@@ -27,10 +27,10 @@ use std::alloc::{AllocError, Global};
 ///
 /// # Errors
 ///
-/// `NoEdge` exactly if two vertices that are named are no neighbours, otherwise `NoOuter` exactly if no face may be
-/// outside, otherwise `NoShape` exactly if no shape with a chosen face keeps the edges straight, memory aside, with vertices
-/// and faces that show it of the face with the most darts; `Memory` if memory runs out. The outer face may then be another
-/// one.
+/// `NoEdge` exactly if two vertices that are named are not adjacent; otherwise `NoOuter` exactly if no face may be
+/// outside; otherwise `NoShape` exactly if, memory aside, no shape with a chosen face keeps the edges straight. It has
+/// vertices and faces that show this for the face with the most darts. `Memory` if memory runs out. The outer face may
+/// have changed.
 pub fn shape_keeping_in(
     alloc: Global,
     scratch: &mut Scratch,

@@ -6,7 +6,7 @@ use thiserror::Error;
 /// The reason why there is no shape that keeps the conditions.
 #[derive(Debug, Drop, Error)]
 pub enum KeepFault {
-    /// Two vertices that name an edge or a face are no neighbours.
+    /// Two vertices that name an edge or a face are not adjacent.
     #[error("two vertices are no neighbours")]
     NoEdge,
     /// All faces are to stay inside.

@@ -121,7 +121,9 @@ impl Boxes {
         Direction::from_quarters(self.table.direction[dart as usize])
     }
 
-    /// The head of each dart, by number. The slice may be longer than the number of darts.
+    /// The head of each dart, by number.
+    ///
+    /// The slice may be longer than the number of darts.
     pub fn heads(&self) -> &[u32]
         ensures value { result.now ≡ self.now.head }
         ensures count { self.now.darts ≤ length result.now }
@@ -130,7 +132,9 @@ impl Boxes {
         self.table.head.as_slice()
     }
 
-    /// The reverse of each dart, by number. The slice may be longer than the number of darts.
+    /// The reverse of each dart, by number.
+    ///
+    /// The slice may be longer than the number of darts.
     pub fn reverse_darts(&self) -> &[u32]
         ensures value { result.now ≡ self.now.reverse_dart }
         ensures count { self.now.darts ≤ length result.now }
@@ -138,8 +142,9 @@ impl Boxes {
         self.table.reverse_dart.as_slice()
     }
 
-    /// The direction of each dart, by number, in quarter turns to the left from east. The slice may be longer than the
-    /// number of darts.
+    /// The direction of each dart, by number, in quarter turns to the left from east.
+    ///
+    /// The slice may be longer than the number of darts.
     pub fn directions(&self) -> &[u8]
         ensures value { result.now ≡ self.now.direction }
         ensures count { self.now.darts ≤ length result.now }
@@ -169,7 +174,7 @@ impl Boxes {
         self.old
     }
 
-    /// The number here of a vertex of the plane, whose vertices are numbered from 1.
+    /// The number, among the vertices of the boxes, of a vertex of the plane, which is numbered from 1.
     pub fn old(&self, vertex: u8) -> u32
         requires from { 1 ≤ vertex }
         requires to { vertex ≤ self.now.old }

@@ -6,7 +6,7 @@ use crate::parts::Part;
 use geometry::Rectangle;
 use std::alloc::Global;
 
-/// Buffers that the check of one drawing after another reuses. Their contents between two calls do not matter.
+/// The buffers of a check, reused for the next drawing. Their contents between two calls do not matter.
 #[derive(Drop)]
 pub struct Scratch {
     pub(crate) rectangles: Vec<Rectangle>,

@@ -14,8 +14,9 @@ use std::alloc::{AllocError, Global};
 use std::marker::Model;
 use std::mem;
 
-/// The flow network of a plane (Tamassia 1987). A unit on a corner arc is a right angle beyond the first, and
-/// a unit on a crossing arc is a bend.
+/// The flow network of a plane (Tamassia 1987), whose flows give its orthogonal representations.
+///
+/// A unit on a corner arc is a right angle beyond the first, and a unit on a crossing arc is a bend.
 ///
 /// For a plane with n vertices and D darts:
 ///
@@ -24,7 +25,7 @@ use std::mem;
 /// | node of vertex v | v - 1; it supplies 4 less its degree |
 /// | node of face f | n + f; an inner face supplies 4 less its degree, the outer face -4 less its degree |
 /// | corner arc of dart d | d, from its head to its face, at most 3 units, cost 0 |
-/// | crossing arc of dart d | D + d, from its face to the face across, any number of units, cost 1 each; none where its edge is to stay straight |
+/// | crossing arc of dart d | D + d, from its face to the face across, any number of units, cost 1 each; none if its edge is to stay straight |
 #[derive(Debug, Drop)]
 pub struct FaceNet {
     network: Network,

@@ -12,7 +12,7 @@ pub const MAX_RESIDUAL_ARCS: usize = 2 * MAX_ARCS;
 /// The amount that is added to the cost of a residual arc while it is saturated.
 pub const SATURATED: i16 = 16_000;
 
-/// The end of a residual arc, and its cost, plus `SATURATED` if it is saturated: what a search reads.
+/// The end and the cost of a residual arc, as a search reads them; `SATURATED` is added to the cost if it is saturated.
 #[derive(Clone, Copy, Debug, Default, PartialEq, Eq)]
 pub struct ResidualArc {
     pub end: u16,

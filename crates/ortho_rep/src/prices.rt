@@ -34,8 +34,9 @@ impl Model for Prices {
 }
 
 impl Prices {
-    /// The prices with these lists: `vertices[v - 1]` is that of vertex v, `faces[f]` that of face f. It allocates
-    /// nothing.
+    /// The prices with these lists: `vertices[v - 1]` is that of vertex v, `faces[f]` that of face f.
+    ///
+    /// It allocates nothing.
     pub fn new(vertices: Vec<i32>, faces: Vec<i32>) -> Prices
         ensures { result ≡ record { vertices = vertices.items; faces = faces.items } }
     {

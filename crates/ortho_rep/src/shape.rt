@@ -148,8 +148,9 @@ impl Shape {
         }
     }
 
-    /// The number of bends: half the sum of the lengths of all strings, rounded down. Linear
-    /// in the strings.
+    /// The number of bends: half the sum of the lengths of all strings, rounded down.
+    ///
+    /// Linear in the strings.
     pub fn bends(&self) -> u32
         ensures { result ≡ bends_of (length self.now.strings) (turns_at self.now) }
     {

@@ -23,10 +23,10 @@ ghost use Rattle.drawing_check.specs.Draws.{Draws};
 ghost use Rattle.drawing_check.specs.Regions.{PassesNorth, HasRegions};
 ghost use Rattle.region_laws.specs.Outside.{IsWestmost, IsLevel};
 
-/// The regions of a drawing of a shape are its faces if and only if one dart has the outer face on its left.
+/// The regions of a drawing of a shape are its faces if and only if a certain dart has the outer face on its left.
 ///
-/// The dart may be any that goes north with no dart to the west of it in some row that it crosses. If all parts of
-/// edges are level, it may be any dart.
+/// It is any dart that goes north with no dart to the west of it in some row that it crosses. If all parts of
+/// edges are level, it is any dart at all.
 pub fn regions_are_told_at_one_place()
     ensures westmost { (p : PlaneModel) (shape : ShapeModel) (points : PointsModel) → IsPlane p → IsShape p shape
         → length points.vertices ≡ vertices p → Draws p shape points

@@ -17,7 +17,7 @@ use ortho_rep::{Prices, Shape};
 use std::alloc::{AllocError, Global};
 use std::boxed::Box;
 
-/// The buffers of straightening, which one shape after another reuses. Their contents between two calls do not matter.
+/// The buffers of `straighten_in`, reused for the next shape. Their contents between two calls do not matter.
 ///
 /// It allocates nothing until a shape has a vertex that may be made straight, and 5 KB from then on.
 #[derive(Drop)]
