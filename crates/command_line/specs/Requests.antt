@@ -143,9 +143,10 @@ IsWaitingIn words n = IsNumberOf 64 (number_text_in number.Waiting words) n
 
 -- the arguments ask for a layout of these files, of which at most one is standard input, under this choice and in this
 -- style, over this many lanes, with this limit on buffered text in megabytes. A kind of drawing is named for JSON lines
--- alone
+-- alone. Here and below, arguments that ask for help ask for nothing else
 pub record AsksLayout (words : List (String Global)) (names : Vec (Bor (List ℕ)) Global) (choice : Choice) (style : Style) (lanes waiting : ℕ) : Type 0 where
   pub command : asks_in keyword.Layout words ≡ true
+  pub no_help : asks_in keyword.Help words ≡ false
   pub files : map (λ name. name.now) names.items ≡ files_in words
   pub some : 0 < vec_len names
   pub once : inputs_in words ≤ 1
@@ -159,12 +160,14 @@ pub record AsksLayout (words : List (String Global)) (names : Vec (Bor (List ℕ
 -- the arguments ask for the records of this file
 pub record AsksFrames (words : List (String Global)) (name : List ℕ) : Type 0 where
   pub command : asks_in keyword.Frames words ≡ true
+  pub no_help : asks_in keyword.Help words ≡ false
   pub file : files_in words ≡ name ∷ []
 
 -- the arguments ask for the verdicts on the drawings in one file, line by line, of the graphs in another one, of which at
 -- most one is standard input, in this form; `faces` says whether each region must also be its face
 pub record AsksCheck (words : List (String Global)) (graphs lines : List ℕ) (form : Form) (faces : Bool) : Type 0 where
   pub command : asks_in keyword.Check words ≡ true
+  pub no_help : asks_in keyword.Help words ≡ false
   pub files : files_in words ≡ graphs ∷ lines ∷ []
   pub once : inputs_in words ≤ 1
   pub json : (form ≡ Form.Json) ↔ (asks_in keyword.Json words ≡ true)

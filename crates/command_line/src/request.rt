@@ -117,13 +117,14 @@ fn read<'a>(alloc: Global, words: &'a [String]) -> Result<Request<'a>, Error>
     }
     match request_of(words, files, &matches) {
         Some(request) => Ok(request),
-        // The files are required, so accepted arguments name them.
+        // Clap accepts only arguments that name the files, and none that ask for help.
         None => Err(program.error(ErrorKind::MissingRequiredArgument, "a file is missing")?),
     }
 }
 
 /// The request made by arguments that clap has accepted and that name these files; `None` if they name too few or too
-/// many. Clap's own reading gives the progress; the rest is taken from the arguments, as `command` promises.
+/// many, or ask for help. Clap's own reading gives the progress; the rest is taken from the arguments, as `command`
+/// promises.
 fn request_of<'a>(
     words: &[String],
     files: Vec<&'a str>,
@@ -135,6 +136,9 @@ fn request_of<'a>(
         → asks_in Keyword.Json words.now ≡ true }
     ensures { IfSome result (IsAskedBy words.now) }
 {
+    if asks(Keyword::Help, words) {
+        return None;
+    }
     if asks(Keyword::Frames, words) {
         let name = only_file(files.as_slice())?;
         return Some(Request::Frames { name });

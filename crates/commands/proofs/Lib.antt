@@ -1,10 +1,7 @@
 pub mod Layouts
 pub mod FaultStatus
 pub mod ReportBegun
-pub mod NoText
 pub mod Verdicts
 pub mod Judged
-pub mod Drawing
 pub mod Begun
 pub mod Accepting
-pub mod TextDrawing

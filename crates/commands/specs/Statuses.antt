@@ -1,5 +1,5 @@
 -- The meaning of the program's exit status.
-use Rattle.std.specs.Prelude.{◌≡◌, ◌≢◌, ◌<◌, ◌≤◌, ◌↔◌, ◌⊎◌, ℕ, Bool, true, false, String, List, ◌++◌, Option, Some, All, codes, slice_index, vec_len}
+use Rattle.std.specs.Prelude.{◌≡◌, ◌≢◌, ◌<◌, ◌≤◌, ◌↔◌, ◌⊎◌, ℕ, Bool, true, false, String, List, Option, Some, All, codes, vec_len}
 use Rattle.std.specs.Io.KnownBytes.{Appends}
 use Rattle.std.specs.declared.alloc.Global.{Global}
 use Rattle.planar_code.specs.declared.ending.Ending.{Ending}
@@ -16,8 +16,7 @@ use Rattle.reports.specs.declared.form.Form.{Form}
 use Rattle.reports.specs.declared.form.Form.TheVariants.{Report, Json}
 use Rattle.reports.specs.Forms.{text_in}
 use Rattle.reports.specs.FlawlessBooks.{IsFlawlessBook}
-use Rattle.verdicts.specs.declared.verdict.Verdict.{Verdict}
-use Rattle.checking.specs.Runs.{IsTextOfVerdicts, IsBegunTextOfVerdicts, verdicts_text}
+use Rattle.checking.specs.Runs.{IsTextOfVerdicts, IsBegunTextOfVerdicts}
 use Rattle.checking.specs.declared.run.Asked.{Asked}
 use Rattle.commands.specs.TextRuns.{IsBegun}
 use Rattle.command_line.specs.Naming.{meanings_in}
@@ -25,7 +24,6 @@ use Rattle.command_line.specs.Requests.{IsAskedBy, AsksCheck, asks_in}
 use Rattle.command_line.specs.declared.reading.Keyword.{Keyword}
 use Rattle.entries.specs.declared.limits.TheConstants.{MAX_FILES}
 use Rattle.ruled_lanes.specs.declared.limits.TheConstants.{LANES}
-use Rattle.printing.specs.Telling.{AddsNoneUndrawn}
 use Rattle.command_line.specs.declared.request.Request.{Request}
 use Rattle.command_line.specs.declared.request.Request.TheVariants.{Frames, Layout, Check}
 use Rattle.command_line.specs.declared.request.CheckRequest.{CheckRequest}
@@ -33,15 +31,6 @@ use Rattle.command_line.specs.declared.request.CheckRequest.{CheckRequest}
 -- the output of '--version'
 abbrev pub version_text : List ℕ
 version_text = codes "planarbend 0.3.0\nproved with rattle-kit-13 logic dac8208d650f15bf\n"
-
--- The text begins with a capital letter, and is no prefix of what a run writes: neither of the text of some books or of
--- some verdicts, in any format, nor of the lines of some records. (Books have right entries alone, so a text that only
--- resembles one is told apart by its first byte.)
-pub record IsNoText (text : List ℕ) : Type 0 where
-  pub capital : (65 ≤ slice_index text 0) × (slice_index text 0 ≤ 90)
-  pub no_books : (form : Form) (books : List BookModel) (rest : List ℕ) → text_in form books ≡ text ++ rest → ⊥
-  pub no_verdicts : (json : Bool) (verdicts : List Verdict) (mark : Mark) (surplus : ℕ) (rest : List ℕ) → verdicts_text json verdicts mark surplus ≡ text ++ rest → ⊥
-  pub no_records : (found : FramesModel) (rest : List ℕ) → frames_text found ≡ text ++ rest → ⊥
 
 -- this text and nothing else was added to the output, with status 0; or the output failed, with a prefix of it and
 -- status 1
@@ -134,12 +123,13 @@ IsBegunToBeDone files (Layout asked) old new =
     IsBegunTextOfBooks asked.choice asked.style.form (meanings_in files asked.names.items) (vec_len asked.names) old new
 IsBegunToBeDone files (Check asked) old new = IsBegunTextOfChecked files asked old new
 
--- The meaning of status 0 or 3: the version, or help, which begins with a capital letter and as no text of a run does,
--- was added to the output, or the text of all files that the arguments name, as they ask for it.
+-- The meaning of status 0 or 3: the version was asked for, with status 0; or help was, and some text was added to the
+-- output, with status 0; or the text of all files that the arguments name was added, as they ask for it. Arguments that
+-- ask for help make no request, so help is never such a text.
 abbrev pub IsDoneFor : (List ℕ → Meaning) → List (String Global) → Option (List ℕ) → Option (List ℕ) → Bool → ℕ → Type 0
 IsDoneFor files words old new failed status =
     ((status ≡ 0) × (asks_in Keyword.Version words ≡ true))
-    ⊎ (((status ≡ 0) × (asks_in Keyword.Help words ≡ true) × ((text : List ℕ) × IsNoText text × Appends old new text))
+    ⊎ (((status ≡ 0) × (asks_in Keyword.Help words ≡ true) × ((text : List ℕ) × Appends old new text))
     ⊎ ((request : Request) × IsAskedBy words request × IsDone files request old new failed status))
 
 -- The meaning of status 4: the command line asks for verdicts on two files, and their whole text was added to the
@@ -166,5 +156,3 @@ pub record IsOutcome {S : Type 0} (files : List ℕ → Meaning) (words : List (
   pub judged : status ≡ 4 → IsJudgedFor files words (taken old) (taken new) (failed new)
   pub begun : status ≡ 1 → asks_in Keyword.Version words ≡ false → asks_in Keyword.Help words ≡ false
       → (new ≡ old) ⊎ ((request : Request) × IsAskedBy words request × IsBegunToBeDone files request (taken old) (taken new))
-  pub drawn : AddsNoneUndrawn (taken old) (taken new)
-      ⊎ ((asks_in Keyword.Help words ≡ true) × ((text : List ℕ) × IsNoText text × Appends (taken old) (taken new) text))

@@ -1,5 +1,5 @@
 //! The program as a function of its arguments.
-ghost use Rattle.std.specs.Prelude.{◌≡◌, ◌<◌, ◌≤◌, ◌⊎◌, ℕ, List, length, vec_len, slice_index, true, false, IfOk, IfErr, IsTrue, OnErr};
+ghost use Rattle.std.specs.Prelude.{◌≡◌, ◌<◌, ◌≤◌, ◌⊎◌, ℕ, List, length, vec_len, true, false, IfOk, IfErr, OnErr};
 ghost use Rattle.std.specs.Borrow.{Bor};
 ghost use Rattle.std.specs.Io.KnownBytes.{Appends};
 ghost use Rattle.common.specs.declared.choice.Choice.{Choice};
@@ -13,9 +13,8 @@ ghost use Rattle.clap.specs.declared.error.kind.ErrorKind.{ErrorKind};
 ghost use Rattle.command_line.specs.declared.reading.Keyword.{Keyword};
 ghost use Rattle.command_line.specs.declared.request.Request.{Request};
 ghost use Rattle.command_line.specs.declared.request.CheckRequest.{CheckRequest};
-ghost use Rattle.commands.specs.Statuses.{IsTextOfRecords, IsTextOfBooks, IsTextOfChecked, IsDone, IsDoneFor, IsBegunTextOfBooks, IsBegunTextOfRecords, IsBegunToBeDone, IsJudged, IsJudgedFor, IsNoText, IsPrinted, IsRefusable, version_text};
+ghost use Rattle.commands.specs.Statuses.{IsTextOfRecords, IsTextOfBooks, IsTextOfChecked, IsDone, IsDoneFor, IsBegunTextOfBooks, IsBegunTextOfRecords, IsBegunToBeDone, IsJudged, IsJudgedFor, IsPrinted, IsRefusable, version_text};
 ghost use Rattle.command_line.specs.Requests.{IsAskedBy, asks_in};
-ghost use Rattle.printing.specs.Telling.{AddsNoneUndrawn};
 
 use crate::check_run::check;
 use crate::layout::{CAPACITY, layout};
@@ -71,9 +70,8 @@ pub fn command<
     ensures version { asks_in Keyword.Version words.now ≡ true
         → IsPrinted version_text (S.taken out.old) (S.taken out.new) (S.failed out.new) result }
 
-    // With status 0 and 3 the output is the version, or help, which begins with a capital letter and as no text of a
-    // run does, or the text of all files that the arguments name, as they ask for it, each of what the file with its
-    // name gives.
+    // With status 0 and 3 the output is the version, or help, or the text of all files that the arguments name, as they
+    // ask for it, each of what the file with its name gives. Arguments that ask for help ask for no such text.
     ensures done { (result ≡ 0) ⊎ (result ≡ 3)
         → IsDoneFor (N.meaning files.now) words.now (S.taken out.old) (S.taken out.new) (S.failed out.new) result }
 
@@ -88,12 +86,6 @@ pub fn command<
         → (out.new ≡ out.old)
         ⊎ ((request : Request) × IsAskedBy words.now request
         × IsBegunToBeDone (N.meaning files.now) request (S.taken out.old) (S.taken out.new)) }
-
-    // Whatever the status, the output reports no graph without a drawing, as the line `drawn=no` of a report would. If
-    // help is asked for, it is known of it that it begins with a capital letter, and as no text of a run does.
-    ensures drawn { AddsNoneUndrawn (S.taken out.old) (S.taken out.new)
-        ⊎ ((asks_in Keyword.Help words.now ≡ true)
-        × ((text : List ℕ) × IsNoText text × Appends (S.taken out.old) (S.taken out.new) text)) }
 {
     if asks(Keyword::Version, words) {
         return show_version(out, err);
@@ -255,7 +247,7 @@ fn show_version<S: Sink + KeepsReason, E: Sink>(out: &mut S, err: &mut E) -> u8
     }
 }
 
-/// Writes the help that was asked for, and returns the exit status. Output that does not begin like help is refused.
+/// Writes the help that was asked for, and returns the exit status.
 fn show_help<S: Sink + KeepsReason, E: Sink>(
     alloc: Global,
     help: &Error,
@@ -264,36 +256,15 @@ fn show_help<S: Sink + KeepsReason, E: Sink>(
 ) -> u8
     requires out_is_intact { S.failed out.old ≡ false }
     requires err_is_intact { E.failed err.old ≡ false }
-    ensures in_range { result ≤ 2 }
-    ensures shown { result ≡ 0 → ((text : List ℕ) × IsNoText text × Appends (S.taken out.old) (S.taken out.new) text) }
-    ensures refused { result ≡ 2 → out.new ≡ out.old }
+    ensures in_range { result ≤ 1 }
+    ensures shown { result ≡ 0 → ((text : List ℕ) × Appends (S.taken out.old) (S.taken out.new) text) }
     ensures failed_write { S.failed out.new ≡ true → result ≡ 1 }
-    ensures drawn { AddsNoneUndrawn (S.taken out.old) (S.taken out.new)
-        ⊎ ((text : List ℕ) × IsNoText text × Appends (S.taken out.old) (S.taken out.new) text) }
 {
     let Ok(text) = help.to_string(alloc) else {
         return end_by(Fault::Memory, Reason::UNKNOWN, err);
     };
-    if !begins_as_help(text.as_bytes()) {
-        return refuse(alloc, help, err);
-    }
     match put_all(out, text.as_bytes()) {
         Ok(()) => 0,
         Err(fault) => end_by(Fault::Write(fault), out.reason(), err),
     }
-}
-
-/// Whether output begins like help, and like no text of a run.
-fn begins_as_help(text: &[u8]) -> bool
-    ensures no_text { IsTrue result → IsNoText text.now }
-    ensures capital { IsTrue result → (65 ≤ slice_index text.now 0) × (slice_index text.now 0 ≤ 90) }
-{
-    begins_with_capital(text)
-}
-
-/// Whether output begins with a capital letter.
-fn begins_with_capital(text: &[u8]) -> bool
-    ensures { IsTrue result → (65 ≤ slice_index text.now 0) × (slice_index text.now 0 ≤ 90) }
-{
-    !text.is_empty() && b'A' <= text[0] && text[0] <= b'Z'
 }

@@ -7,7 +7,6 @@ ghost use Rattle.lanes.specs.Files.{AreToldWhole};
 ghost use Rattle.lane_runs.specs.Faults.{HoldsOnRunFault};
 ghost use Rattle.lane_runs.specs.Accepting.{AcceptsFiles};
 ghost use Rattle.printing.specs.Whole.{IsAllWritten, IsBegun};
-ghost use Rattle.printing.specs.Telling.{AddsNoneUndrawn};
 ghost use Rattle.commands.specs.TextRuns.{IsMisuseOfRun};
 
 use crate::line_lanes::LineLanes;
@@ -73,7 +72,6 @@ pub fn write_batch<R: Threads + Wait + Sync, O: Opener, G: Gate, S: Sink>(
     requires stands { S.failed sink.old ≡ false }
     ensures written { IfOk result (IsAllWritten choice (O.meaning opener.now) style.form files (S.taken sink.old) (S.taken sink.new)) }
     ensures begun { OnErr result ∥ IsBegun choice (O.meaning opener.now) style.form files (S.taken sink.old) (S.taken sink.new) ∥₁ }
-    ensures drawn { AddsNoneUndrawn (S.taken sink.old) (S.taken sink.new) }
     ensures status { IfOk result (λ status. (status ≡ 0) ⊎ (status ≡ 3)) }
     ensures too_many { (MAX_FILES < files) ↔ (result ≡ Err (TextFault.Run BatchFault.TooManyFiles)) }
     ensures bad_lanes { (((lanes ≡ 0) ⊎ (LANES < lanes)) × (files ≤ MAX_FILES))
@@ -115,7 +113,6 @@ pub(crate) fn write_watched<R: Threads + Wait + Sync, O: Opener, G: Gate + Watch
     requires stands { S.failed sink.old ≡ false }
     ensures written { IfOk result (IsAllWritten choice (O.meaning opener.now) style.form files (S.taken sink.old) (S.taken sink.new)) }
     ensures begun { OnErr result ∥ IsBegun choice (O.meaning opener.now) style.form files (S.taken sink.old) (S.taken sink.new) ∥₁ }
-    ensures drawn { AddsNoneUndrawn (S.taken sink.old) (S.taken sink.new) }
     ensures status { IfOk result (λ status. (status ≡ 0) ⊎ (status ≡ 3)) }
     ensures too_many { (MAX_FILES < files) ↔ (result ≡ Err (TextFault.Run BatchFault.TooManyFiles)) }
     ensures bad_lanes { (((lanes ≡ 0) ⊎ (LANES < lanes)) × (files ≤ MAX_FILES))

@@ -1,4 +1,4 @@
-//! The reasons why a shape is not drawn.
+//! The reasons why a shape is not drawn: by proof none ever occurs (`answers_are_drawn`), but the formats name them.
 
 ghost use Rattle.std.specs.Prelude.{◌≡◌};
 

@@ -1,12 +1,5 @@
 pub mod BookTexts
-pub mod Apart
-pub mod Data
-pub mod LineBytes
-pub mod JsonLines
-pub mod TextBytes
-pub mod Added
 pub mod Books
-pub mod Undrawn
 pub mod Notes
 pub mod FlawlessBooks
 pub mod Waits

@@ -1,7 +1,6 @@
 pub mod Answered
 pub mod FormLines
 pub mod Spelt
-pub mod Telling
 pub mod DrawnBooks
 pub mod Concatenated
 pub mod Came

@@ -1,35 +1,25 @@
-//! Theorems that no graph is left without a drawing, and that the text would say so.
+//! Theorems that each graph of a run's books is drawn if it is laid out, and that its line says so.
+//!
+//! What a run writes is the text of such books, or if it fails a prefix of that and of the lines of such entries: so say
+//! clauses `written` and `begun` of `write_batch`. So it has no line of a shape without a drawing.
 
-ghost use Rattle.std.specs.Prelude.{ℕ, List, ◌++◌};
+ghost use Rattle.std.specs.Prelude.{ℕ, List};
 ghost use Rattle.common.specs.declared.choice.Choice.{Choice};
 ghost use Rattle.lanes.specs.Opening.{Meaning};
 ghost use Rattle.entries.specs.declared.answer.Answer.{Answer};
-ghost use Rattle.entries.specs.Books.{BookModel};
-ghost use Rattle.entries.specs.AllBooks.{AreAllBooks};
-ghost use Rattle.reports.specs.declared.form.Form.{Form};
-ghost use Rattle.reports.specs.LineData.{answer_data, line_of};
-ghost use Rattle.reports.specs.Forms.{text_in};
-ghost use Rattle.reports.specs.Report.{answer_text};
-ghost use Rattle.printing.specs.Telling.{TellsNoneUndrawn};
-ghost use Rattle.printing.specs.DrawnBooks.{AreDrawnBooks, IsUndrawn};
+ghost use Rattle.entries.specs.Books.{AreBooks, BookModel, IsBook};
+ghost use Rattle.drawing_laws.specs.Drawings.{IsDrawnIfLaid};
+ghost use Rattle.printing.specs.DrawnBooks.{AreDrawnBooks, IsDrawnBook, TellsDrawingIfLaid};
 
 /// In books that are right for their files, each entry that has a shape has a drawing of it.
 pub fn books_are_drawn()
-    ensures { (choice : Choice) (meaning : ℕ → Meaning) (files : ℕ) (books : List BookModel)
-        → AreAllBooks choice meaning files books → AreDrawnBooks books }
+    ensures one { (choice : Choice) (meaning : Meaning) (file : ℕ) (book : BookModel)
+        → IsBook choice meaning file book → IsDrawnBook book }
+    ensures all { (choice : Choice) (meaning : ℕ → Meaning) (first : ℕ) (books : List BookModel)
+        → AreBooks choice meaning first books → AreDrawnBooks books }
 {}
 
-/// If each shape in books has a drawing, the output of the books reports no graph as undrawn.
-pub fn texts_tell_none_undrawn()
-    ensures { (form : Form) (books : List BookModel) → AreDrawnBooks books → TellsNoneUndrawn (text_in form books) }
-{}
-
-/// Output that contains the answer of an undrawn graph, in either format, reports an undrawn graph.
-///
-/// This holds whatever precedes and follows the answer.
-pub fn undrawn_is_told()
-    ensures report { (answer : Answer) (before behind : List ℕ) → IsUndrawn answer
-        → TellsNoneUndrawn (before ++ answer_text answer ++ behind) → ⊥ }
-    ensures json { (answer : Answer) (file graph : ℕ) (before behind : List ℕ) → IsUndrawn answer
-        → TellsNoneUndrawn (before ++ line_of (answer_data file graph answer) ++ behind) → ⊥ }
+/// The line of an answer that has a drawing says so, in either format.
+pub fn lines_tell_drawings()
+    ensures { (answer : Answer) → IsDrawnIfLaid answer → TellsDrawingIfLaid answer }
 {}

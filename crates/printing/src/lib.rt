@@ -16,7 +16,7 @@ mod waiting;
 mod writing;
 
 pub use chunks::Chunks;
-pub use drawn_texts::{books_are_drawn, texts_tell_none_undrawn, undrawn_is_told};
+pub use drawn_texts::{books_are_drawn, lines_tell_drawings};
 pub use line::Line;
 pub use lines::entry_text;
 pub use meant::{KnownEnd, Meant, known_end};

@@ -1,4 +1,3 @@
 pub mod Steps
 pub mod TextParts
 pub mod Lacks
-pub mod FirstBytes

@@ -18,6 +18,5 @@ returns-in-Ok-clause-outcome g c =
             done = is.done;
             judged = is.judged;
             begun = is.begun;
-            drawn = is.drawn;
           }),
     )

@@ -1,5 +1,8 @@
-use Rattle.printing.proofs.Books.{drawn_books}
+use Rattle.printing.proofs.Books.{drawn_book, drawn_books}
 use Rattle.printing.proofs.drawn_texts.books_are_drawn.Goals as goal
 
-pub returns : goal.returns
-returns c = λ choice meaning files books are. drawn_books choice meaning 0 books are.each
+pub returns-clause-one : goal.returns-clause-one
+returns-clause-one c = drawn_book
+
+pub returns-clause-all : goal.returns-clause-all
+returns-clause-all c = drawn_books
