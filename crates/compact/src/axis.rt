@@ -130,9 +130,8 @@ fn low_along(
     ensures count { IfOk result (λ coordinates. length coordinates.items ≡ boxes.now.vertices) }
     ensures under { IfOk result (λ coordinates. (y : ℕ → ℕ) → IsAlong (dart_map boxes.now) (growth axis) y → AreUnder boxes.now.vertices coordinates.items y) }
 {
-    let places = boxes.vertices() as usize;
-    let mut coordinates = filled(coordinates, places, 0)?;
-    segments.resize(places, 0)?;
+    let mut coordinates = filled(coordinates, boxes.vertices() as usize, 0)?;
+    segments.resize(coordinates.len(), 0)?;
     raise_to_longest_paths(
         segments.as_mut_slice(),
         neighbours_along(around, axis),
