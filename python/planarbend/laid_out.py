@@ -306,7 +306,7 @@ def layouts(graphs: Iterable[Any], outer: str = "first", words: Iterable[str] = 
     Raises
     ------
     TypeError
-        `graphs` is a single graph.
+        `graphs` is a single graph. (With the library, `next` raises this.)
     NoProgram
         The program is needed, and there is none.
 
