@@ -1,4 +1,4 @@
-"""planarbend from Python: layouts of embedded graphs, and drawings of any graph.
+"""Layouts of embedded planar graphs, and drawings of any graph.
 
     from planarbend import layouts
     for layout in layouts([{"a": ["b"], "b": ["a"]}], outer="best"):
@@ -20,7 +20,7 @@ __all__ = ["Arrow", "Edge", "Graph", "GraphError", "GraphLost", "GraphRefused", 
 
 
 def __getattr__(name: str) -> Any:
-    """What comes from `planarbend.laid_out`, which is loaded when it is first needed: drawing does without."""
+    """Return a name of `planarbend.laid_out`, which is loaded on first use: drawing does not need it."""
     if name not in __all__:
         raise AttributeError(f"module 'planarbend' has no attribute {name!r}")
     import importlib

@@ -27,11 +27,11 @@ COMPACT_WEIGHT = 0.25  # the same where the least room is wanted
 
 
 class DrawError(Exception):
-    """Why a graph cannot be drawn."""
+    """The graph cannot be drawn; the message says why."""
 
 
 class NotStraight(DrawError):
-    """No drawing was found in which all edges are straight that must be; another embedding may have one."""
+    """No drawing was found in which all required edges are straight; another embedding may have one."""
 
 
 @dataclass(frozen=True, slots=True)
@@ -43,13 +43,13 @@ class Options:
     outer : sequence of int
         Vertices that must lie on the outer face.
     compact : bool
-        Whether vertices above degree 4 have their sides fixed beforehand, which takes less room and more bends.
+        Whether to fix the sides of vertices of degree over 4 beforehand, which takes less room and more bends.
     effort : int
-        How long to look for fewer crossings and bends.
+        How long to search for fewer crossings and bends (0 is fastest).
     seed : int
-        Of the random choices.
+        The seed of the random choices.
     straight : sequence of int
-        Edges that must not bend; for these the library is needed, the program does not do.
+        Edges that must not bend. They need the library; the program cannot keep them straight.
     """
 
     outer: Sequence[int] = ()
@@ -111,7 +111,7 @@ def draw(graph: Graph, options: Options = Options(), engine: Engine | None = Non
     graph : Graph
     options : Options
     engine : Engine, optional
-        What lays out embedded graphs; the program by default.
+        What lays out embedded graphs; by default the library or, without one, the program.
 
     Returns
     -------
@@ -120,10 +120,11 @@ def draw(graph: Graph, options: Options = Options(), engine: Engine | None = Non
     Raises
     ------
     DrawError
-        If a component would need more than 255 vertices, the vertices of `outer` lie in several components, or no drawing
-        was found in which the edges of `straight` are straight.
+        A component would need more than 255 vertices; the vertices of `outer` lie in several components or on no common
+        face; or the edges of `straight` cannot be kept straight (there is no library, an edge is a loop, or no such
+        drawing was found).
     PlanarbendError
-        If the program is missing or fails.
+        The program is missing or fails.
     """
     engine = engine or default_engine()
     look_at_straight(graph, options, engine)

@@ -1,4 +1,4 @@
-"""The one door to planarbend that drawing goes through: neighbour lists in, shapes and points out."""
+"""The interface between drawing and planarbend: neighbour lists in, bends and points out."""
 from __future__ import annotations
 
 import json
@@ -15,16 +15,16 @@ GridPoint = tuple[int, int]
 
 @dataclass(frozen=True, slots=True)
 class Answer:
-    """The drawing of one embedded graph on the grid, y to the north.
+    """The drawing of one embedded graph on the grid; y grows to the north.
 
     Attributes
     ----------
     bends : int
-        The fewest for its outer face.
+        The fewest bends for its outer face.
     points : list of (x, y)
-        Of each vertex.
+        The point of each vertex.
     corners : list of list of (x, y)
-        Of each edge, from its lesser vertex to its greater. Edges count as they are first met in the neighbour lists.
+        The corners of each edge, along its lesser dart. Edges are numbered as they first occur in the neighbour lists.
     """
 
     bends: int
@@ -34,14 +34,14 @@ class Answer:
 
 @dataclass(frozen=True, slots=True)
 class Conditions:
-    """What a layout is to keep. Vertices are counted from 1.
+    """Conditions on a layout. Vertices are numbered from 1.
 
     Attributes
     ----------
     straight : sequence of (u, v)
-        Edges that stay straight, each by its ends.
+        Edges that must be straight, each given by its ends.
     inner : sequence of (u, v)
-        Faces that are not the outer one, each by a dart from u to v that has it on its left.
+        Faces that must not be the outer one, each given by a dart from u to v with the face on its left.
     """
 
     straight: Sequence[tuple[int, int]] = ()
@@ -50,16 +50,16 @@ class Conditions:
 
 @dataclass(frozen=True, slots=True)
 class Cut:
-    """Why no shape keeps edges straight: vertices and faces that turn more than can leave them.
+    """Why no shape keeps the edges straight: a set of vertices and faces that turn more than can leave it.
 
     Attributes
     ----------
     vertices : tuple of int
-        Counted from 1.
+        Numbered from 1.
     faces : tuple of int
-        Counted from 0, in the order of their least darts.
+        Numbered from 0, in the order of their lowest darts.
     outer : int
-        The outer face with which it is so.
+        The outer face for which the cut shows this.
     """
 
     vertices: tuple[int, ...]
@@ -78,10 +78,10 @@ class NotKept(PlanarbendError):
     Attributes
     ----------
     word : str
-        "noshape" (no shape does), "noedge" (two vertices are no neighbours), "noouter" (all faces are to be inner) or
-        "wide" (the drawing does not fit the grid).
+        "noshape" (no shape keeps them), "noedge" (two vertices are not neighbours), "noouter" (all faces must be inner)
+        or "wide" (the drawing does not fit the grid).
     cut : Cut or None
-        With "noshape" why.
+        With "noshape", the reason.
     """
 
     def __init__(self, word: str, cut: Cut | None = None) -> None:
@@ -100,11 +100,11 @@ class Engine(Protocol):
         Parameters
         ----------
         graphs : sequence of neighbour lists
-            Vertices are counted from 1, neighbours clockwise; at most 255 vertices of degree at most 4, connected,
-            with an edge, without loops and parallel edges.
+            Vertices are numbered from 1, neighbours in clockwise order. A graph has at most 255 vertices of degree at
+            most 4; it is connected and has an edge, but no loops or parallel edges.
         outer : {"first", "best"}
-            The outer face: the one with the longest boundary (of several the one with the least dart), or one that
-            allows the fewest bends.
+            The outer face: the one with the longest boundary (among several, the one with the lowest number), or the
+            one that minimises bends.
 
         Returns
         -------
@@ -135,7 +135,7 @@ class ProcessEngine:
 
 
 def answer_of(line: dict[str, Any]) -> Answer:
-    """What a JSON line says of its graph."""
+    """Return the answer in a JSON line. Raises `PlanarbendError` if the graph is not drawn."""
     if line["status"] != "ok" or line["points"] is None:
         raise PlanarbendError(f"planarbend does not draw a graph: {line}")
     points = [(x, y) for x, y in line["points"]["vertices"]]
@@ -144,9 +144,9 @@ def answer_of(line: dict[str, Any]) -> Answer:
 
 
 def default_engine() -> Engine:
-    """The engine to use: the library where it is found, and else the program. Both answer the same.
+    """Return the engine to use: the library if there is one, otherwise the program. Both answer the same.
 
-    If PLANARBEND names a program, that is used.
+    If PLANARBEND is set, the program that it names is used.
     """
     if "PLANARBEND" in os.environ:
         return ProcessEngine()
@@ -158,5 +158,5 @@ def default_engine() -> Engine:
 
 
 def keeps_conditions(engine: Engine) -> bool:
-    """Whether an engine can be asked for layouts that keep conditions, by `lay_keeping`: the library can."""
+    """Whether an engine has `lay_keeping`, for layouts under conditions. The library's does."""
     return bool(getattr(engine, "keeps", False))

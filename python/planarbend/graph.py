@@ -1,6 +1,6 @@
-"""The graph that is drawn: vertices with a label and a kind, edges with a label and an arrow.
+"""The graph to draw: vertices with a label and a kind, edges with a label and an arrow.
 
-Vertices and edges have the numbers of their places in the lists. Loops and parallel edges are allowed.
+Vertices and edges are numbered by their positions in the lists, from 0. Loops and parallel edges are allowed.
 """
 from __future__ import annotations
 
@@ -11,7 +11,7 @@ from dataclasses import dataclass, field
 
 
 class Kind(enum.Enum):
-    """What a vertex is, which settles how it is drawn."""
+    """The kind of a vertex, which determines how it is drawn."""
 
     VERTEX = "vertex"  # a box with its label
     PART = "part"  # a part of a circuit: a box with square corners
@@ -20,7 +20,7 @@ class Kind(enum.Enum):
 
 
 class Arrow(enum.Enum):
-    """Where an edge has an arrowhead."""
+    """The arrowheads of an edge."""
 
     NONE = "none"
     FORWARD = "forward"  # at its head
@@ -39,7 +39,7 @@ class Vertex:
 
 @dataclass(slots=True)
 class Edge:
-    """An edge between the vertices with these numbers."""
+    """An edge between the vertices with the numbers `tail` and `head`."""
 
     tail: int
     head: int
@@ -49,7 +49,7 @@ class Edge:
 
 @dataclass(slots=True)
 class Graph:
-    """A graph; `directed` says whether its file calls it so."""
+    """A graph; `directed` is true if its file says that it is directed."""
 
     vertices: list[Vertex] = field(default_factory=list)
     edges: list[Edge] = field(default_factory=list)
@@ -57,7 +57,7 @@ class Graph:
 
 
 def split(graph: Graph, vertices: Collection[int]) -> Graph:
-    """A graph in which some vertices, such as power nets, are split into one flag for each of their connections.
+    """Return a graph in which some vertices, such as power nets, are split into one flag for each of their connections.
 
     Parameters
     ----------
@@ -68,8 +68,8 @@ def split(graph: Graph, vertices: Collection[int]) -> Graph:
     Returns
     -------
     Graph
-        Its edges are those of `graph`, in the same order. The first flag of a vertex has the vertex's number, further
-        ones come after all vertices.
+        Its edges are those of `graph`, in the same order. The first flag of a vertex has the vertex's number; further
+        flags come after all vertices.
     """
     found = Graph([Vertex(one.name, one.label, Kind.FLAG if number in vertices else one.kind)
                    for number, one in enumerate(graph.vertices)], [], graph.directed)

@@ -1,14 +1,14 @@
-"""planarbend from Python: hands it a stream of embedded graphs, and gives back one object a graph.
+"""Layouts of a stream of embedded graphs: one object for each graph.
 
     for layout in layouts([{"a": ["b"], "b": ["a"]}], outer="best"):
         print(layout.bends, layout.points["a"], layout.path("a", "b"), layout.outer_face)
 
 A graph is a mapping from each vertex to its neighbours in clockwise order, a networkx `PlanarEmbedding`, or a
-`Record`. Graphs are taken and layouts given while the program runs, so memory does not grow with their number; after a
-million graphs another run goes on. Python's standard library alone.
+`Record`. Graphs are read and layouts returned while the program runs, so memory does not grow with their number. After a
+million graphs, another run continues. Only Python's standard library is needed.
 
-What goes wrong is an exception in the words of the tool: `NoProgram`, `RunFailed`, and for a single graph
-`GraphRefused`, `GraphUndrawn` or `GraphLost`, behind which `next` goes on with the next graph.
+Errors are exceptions: `NoProgram` and `RunFailed`, and for a single graph `GraphRefused`, `GraphUndrawn` or `GraphLost`.
+After an error of a single graph, `next` continues with the next graph.
 """
 from __future__ import annotations
 
@@ -33,7 +33,7 @@ Point = tuple[int, int]
 
 
 class GraphError(PlanarbendError):
-    """What is said of one graph, counted from 1, in place of its layout."""
+    """One graph has no layout; `number` is its number in the stream, from 1."""
 
     def __init__(self, number: int, said: str) -> None:
         super().__init__(f"graph {number}: {said}")
@@ -41,7 +41,7 @@ class GraphError(PlanarbendError):
 
 
 class GraphRefused(GraphError):
-    """The graph breaks a rule: its word, as docs/FORMAT.md has it."""
+    """The graph breaks a rule; `rule` is the rule's word in docs/FORMAT.md."""
 
     def __init__(self, number: int, rule: str) -> None:
         super().__init__(number, f"refused {rule}")
@@ -49,7 +49,7 @@ class GraphRefused(GraphError):
 
 
 class GraphUndrawn(GraphError):
-    """The graph has no drawing: the word of the cause."""
+    """The graph has no drawing; `cause` is the word of the cause. It is proved that this does not occur."""
 
     def __init__(self, number: int, cause: str) -> None:
         super().__init__(number, f"drawn=no cause={cause}")
@@ -57,7 +57,7 @@ class GraphUndrawn(GraphError):
 
 
 class GraphLost(GraphError):
-    """There was no memory for the graph."""
+    """Memory ran out for the graph."""
 
     def __init__(self, number: int) -> None:
         super().__init__(number, "memory")
@@ -65,13 +65,21 @@ class GraphLost(GraphError):
 
 @dataclasses.dataclass(frozen=True)
 class Record:
-    """A graph as planar_code has it, with the names of its vertices, vertex 1 first."""
+    """A graph as in planar_code: the names of its vertices, vertex 1 first, and their neighbour lists, by numbers."""
     names: tuple[Vertex, ...]
     lists: Lists
 
     @staticmethod
     def of(graph: Record | Mapping[Vertex, Iterable[Vertex]] | Any) -> Record:
-        """The record of a graph. Raises `ValueError` if it has none, and `TypeError` if it is no embedded graph."""
+        """Return the record of a graph.
+
+        Raises
+        ------
+        ValueError
+            The graph has 0 or over 255 vertices, a vertex has over 254 neighbours, or a neighbour is not a vertex.
+        TypeError
+            The argument is not an embedded graph.
+        """
         if isinstance(graph, Record):
             return graph
         if hasattr(graph, "neighbors_cw_order"):  # a PlanarEmbedding of networkx
@@ -96,7 +104,7 @@ class Record:
 
     @staticmethod
     def read(record: bytes) -> Record:
-        """The record of these bytes; its vertices are named 1, 2, and so on."""
+        """Return the record that these bytes are; its vertices are named 1, 2, and so on."""
         lists = lists_of(record)
         return Record(tuple(range(1, len(lists) + 1)), lists)
 
@@ -106,15 +114,15 @@ class Record:
 
 @dataclasses.dataclass(frozen=True)
 class Layout:
-    """What planarbend says of one graph. Vertices are those of the graph that was given."""
+    """The layout of one graph. Vertices are those of the given graph."""
     number: int  # of the graph in the stream, counted from 1
     record: Record
     bends: int  # the fewest
     outer: int  # the number of the outer face
     faces: list[list[Vertex]]  # the vertices of each face, in walking order with the face on the left
     points: dict[Vertex, Point]  # x grows to the east, y to the north
-    corners: dict[tuple[Vertex, Vertex], list[Point]]  # of each edge, from its first vertex to its second, both ways
-    line: dict[str, Any]  # the JSON line that it was made of: docs/JSON.md
+    corners: dict[tuple[Vertex, Vertex], list[Point]]  # of each edge in both directions, from tail to head
+    line: dict[str, Any]  # the JSON line of the layout: docs/JSON.md
 
     @property
     def outer_face(self) -> list[Vertex]:
@@ -122,12 +130,12 @@ class Layout:
         return self.faces[self.outer]
 
     def path(self, tail: Vertex, head: Vertex) -> list[Point]:
-        """The points along an edge, its ends included."""
+        """Return the points along the edge from `tail` to `head`, both ends included."""
         return [self.points[tail], *self.corners[tail, head], self.points[head]]
 
     @staticmethod
     def of(number: int, record: Record, line: dict[str, Any]) -> Layout:
-        """What the JSON line of a record says. Raises a `GraphError` where that is no layout."""
+        """Return the layout in the JSON line of a record. Raises `GraphError` if the line has no layout."""
         if line["status"] == "refused":
             raise GraphRefused(number, line["rule"])
         if line["status"] != "ok":
@@ -147,7 +155,7 @@ class Layout:
 
 
 def outer_of(plane: Plane, line: dict[str, Any]) -> int:
-    """The outer face of a line: the one face whose sum of 2 less each angle, plus left and less right turns, is -4."""
+    """Return the outer face of a line: around it, the sum of 2 minus the angle, plus left, minus right turns, is -4."""
     sums = [0] * plane.faces
     for dart, face in enumerate(plane.face):
         turns = line["turns"][dart]
@@ -159,7 +167,7 @@ def outer_of(plane: Plane, line: dict[str, Any]) -> int:
 
 
 class Run:
-    """One run of `layout --json -`: records go in by a thread of their own, lines come out."""
+    """One run of `layout --json -`. A thread writes the records; `lines` yields the lines."""
 
     def __init__(self, words: list[str], records: Iterator[Record], most: int) -> None:
         self.given: collections.deque[Record] = collections.deque()  # those without a line so far
@@ -193,7 +201,7 @@ class Run:
             self.failed = error
 
     def lines(self) -> Iterator[tuple[Record, dict[str, Any]]]:
-        """Each record with its line, in order. Raises what went wrong after the last of them."""
+        """Yield each record with its line, in order. An error is raised after the last line."""
         ended = False
         for text in self.output:
             try:
@@ -207,7 +215,7 @@ class Run:
         self.end(ended)
 
     def end(self, is_whole: bool) -> None:
-        """Waits for the end of the run. Raises what the caller's graphs raised, or `RunFailed`."""
+        """Wait for the end of the run. Raises what the caller's graphs raised, or `RunFailed`."""
         self.output.close()
         status = self.child.wait()
         self.feeder.join()
@@ -220,7 +228,7 @@ class Run:
             raise RunFailed(status, said)
 
     def stop(self) -> None:
-        """Ends the run before its end."""
+        """Stop the run."""
         self.child.kill()
         self.output.close()
         self.child.wait()
@@ -228,7 +236,7 @@ class Run:
 
 
 class Layouts:
-    """The layouts of a stream of graphs, one after another. Behind a `GraphError` it goes on with the next graph."""
+    """An iterator over the layouts of a stream of graphs. After a `GraphError`, it continues with the next graph."""
 
     def __init__(self, graphs: Iterable[Any], outer: str = "first", words: Iterable[str] = (),
                  most: int = MOST_RECORDS) -> None:
@@ -263,7 +271,7 @@ class Layouts:
         raise StopIteration
 
     def close(self) -> None:
-        """Ends the run where it is."""
+        """Stop the run; no layouts follow."""
         self.is_over = True
         if self.run is not None:
             self.run.stop()
@@ -281,9 +289,30 @@ class Layouts:
 
 
 def layouts(graphs: Iterable[Any], outer: str = "first", words: Iterable[str] = ()) -> Layouts | LibraryLayouts:
-    """The layouts of a stream of graphs, with the outer face that `layout --outer` chooses, `first` or `best`; further
-    words go to `layout` as they are. If there is a library and no word but `--drawing KIND`, it answers in place of the
-    program, unless PLANARBEND names one; the layouts are the same."""
+    """Return an iterator over the layouts of a stream of graphs.
+
+    Uses the library if there is one, PLANARBEND is not set, and `words` is empty or `--drawing KIND`; otherwise runs the
+    program. The layouts are the same.
+
+    Parameters
+    ----------
+    graphs : iterable
+        Mappings from each vertex to its neighbours in clockwise order, networkx `PlanarEmbedding`s, or `Record`s.
+    outer : {"first", "best"}
+        The outer face, as in `layout --outer`.
+    words : iterable of str, optional
+        Further arguments for `layout`.
+
+    Raises
+    ------
+    TypeError
+        `graphs` is a single graph. (With the library, `next` raises this.)
+    NoProgram
+        The program is needed, and there is none.
+
+    `next` raises a `GraphError` for a graph without a layout, what `Record.of` raises, and `RunFailed` if the program
+    fails.
+    """
     from planarbend import library  # which uses this module
 
     words = list(words)
@@ -294,6 +323,6 @@ def layouts(graphs: Iterable[Any], outer: str = "first", words: Iterable[str] = 
 
 
 def layout_of(graph: Any, outer: str = "first") -> Layout:
-    """The layout of one graph."""
+    """Return the layout of one graph. Arguments and errors are those of `layouts`, for a single graph."""
     with layouts([graph], outer) as found:
         return next(found)

@@ -1,9 +1,9 @@
-"""planarbend as a library: libplanarbend by `ctypes`, without a process and without JSON in between.
+"""Calls of libplanarbend through `ctypes`, without a process or JSON.
 
     with Library() as library:
         print(library.line(record, outer="best", drawing="none")["bends"])
 
-A `Library` holds memory that it keeps from call to call, so each thread wants one of its own.
+A `Library` object reuses its memory from call to call, so each thread needs its own.
 """
 from __future__ import annotations
 
@@ -49,7 +49,7 @@ class Buffer(ctypes.Structure):
 
 
 class Room(ctypes.Structure):
-    """`planarbend_lists` of planarbend.h: of each list where it is, and for how many items it has room."""
+    """`planarbend_lists` of planarbend.h: the address of each list, and the number of items that it has room for."""
 
     _fields_ = [field for name in ("angles", "turns", "vertex_prices", "face_prices", "points", "corner_starts", "corners")
                 for field in ((name, ctypes.c_void_p), (f"{name}_room", ctypes.c_size_t))]
@@ -69,7 +69,7 @@ class Marks(ctypes.Structure):
                 ("outer_face", ctypes.c_uint32)]
 
     def cut(self) -> Cut:
-        """The vertices and faces that are marked."""
+        """The cut: the marked vertices and faces, and the outer face."""
         vertices = tuple(vertex for vertex, mark in enumerate(self.vertices, 1) if mark)
         return Cut(vertices, tuple(face for face, mark in enumerate(self.faces) if mark), self.outer_face)
 
@@ -78,8 +78,8 @@ Darts = Iterable[tuple[int, int]]
 
 
 def path() -> str | None:
-    """Where the library is: PLANARBEND_LIBRARY (none, if it is empty), or the one that is built or installed with this
-    package, or the system's; None if there is none."""
+    """Return the path of the library: PLANARBEND_LIBRARY (None if that is empty), or the library built here or installed with
+    this package, or the system's; None if there is none."""
     named = os.environ.get("PLANARBEND_LIBRARY")
     if named is not None:
         return named or None
@@ -94,7 +94,7 @@ def path() -> str | None:
 
 
 def is_wanted() -> bool:
-    """Whether the library is to be used: there is one, and PLANARBEND names no program to be used in its place."""
+    """Whether to use the library: there is one, and PLANARBEND does not name a program to use instead."""
     return "PLANARBEND" not in os.environ and path() is not None
 
 
@@ -104,12 +104,14 @@ class Library:
     Parameters
     ----------
     name : str, optional
-        Where it is; else `path` says so.
+        The path of the library; by default that of `path`.
 
     Raises
     ------
     NoProgram
         There is no library, or it cannot be loaded.
+    MemoryError
+        Memory ran out.
     """
 
     def __init__(self, name: str | None = None) -> None:
@@ -148,26 +150,26 @@ class Library:
         self.close()
 
     def close(self) -> None:
-        """Gives the memory back. No call may follow."""
+        """Free the memory. No call may follow."""
         held, self._object = self._object, ctypes.c_void_p()
         if held:
             self._library.planarbend_free(held)
 
     def version(self) -> str:
-        """The version of the library."""
+        """Return the version of the library, such as "1.0.0"."""
         return bytes(self._library.planarbend_version()).decode()
 
     def word(self, result: int) -> str:
-        """The word of a result."""
+        """Return the word of a result of planarbend.h, such as "ok" or "range"."""
         return bytes(self._library.planarbend_word(result)).decode()
 
     def bends(self, records: Iterable[bytes], outer: str = "first") -> Iterator[int | None]:
-        """The fewest bends of each record, and None for one that is refused. Nothing is drawn.
+        """Yield the fewest bends of each record, or None if the record is refused. Nothing is drawn.
 
         Raises
         ------
         ValueError
-            Bytes are not one record.
+            An item is not exactly one record.
         MemoryError
             Memory ran out.
         """
@@ -180,14 +182,14 @@ class Library:
             yield counts.bends if result == OK else None
 
     def _look_at(self, result: int) -> None:
-        """Raises what is no rule that a graph breaks."""
+        """Raise the error of a result that is not a broken rule."""
         if result == NOT_A_RECORD:
             raise ValueError("the bytes are not one record of planar_code")
         if result == MEMORY:
             raise MemoryError("planarbend_layout")
 
     def _called(self, record: bytes, outer: str, drawing: str, straight: Darts, inner: Darts) -> int:
-        """The result of a call, with conditions where there are any."""
+        """Return the result of a call, under the conditions, if any."""
         kept = [b"".join(map(bytes, darts)) for darts in (straight, inner)]
         given = self._object, record, len(record), OUTER[outer], DRAWING[drawing]
         if not any(kept):
@@ -199,7 +201,7 @@ class Library:
 
     def line(self, record: bytes, outer: str = "first", drawing: str = "short", straight: Darts = (),
              inner: Darts = ()) -> dict[str, Any]:
-        """What `planarbend layout --json` says of a record, but for "file" and "graph".
+        """Return the line of `planarbend layout --json` for a record, without "file" and "graph".
 
         Parameters
         ----------
@@ -210,13 +212,15 @@ class Library:
         drawing : {"none", "quick", "short"}
             The drawing. With "none", "points" is None and "drawn" is "no".
         straight, inner : iterables of (u, v), optional
-            See `planarbend.engine.Conditions`. Where they cannot be kept, "status" is "noshape", "noedge", "noouter" or
-            "wide", and there is nothing else but, with "noshape", "cut" (see `planarbend.engine.Cut`).
+            See `planarbend.engine.Conditions`. If they cannot be kept, "status" is "noshape", "noedge", "noouter" or
+            "wide", and the only other key is "cut" (see `planarbend.engine.Cut`), with "noshape" alone.
 
         Raises
         ------
         ValueError
-            The bytes are not one record.
+            The bytes are not exactly one record.
+        PlanarbendError
+            There are conditions, and the library is too old for them.
         """
         result = self._called(record, outer, drawing, straight, inner)
         if result == NO_SHAPE:
@@ -243,14 +247,14 @@ class Library:
         }
 
     def answer(self, record: bytes, outer: str, straight: Darts = (), inner: Darts = ()) -> Answer:
-        """The bends and the points of a record, as drawing wants them.
+        """Return the bends, points and corners of a record, for `planarbend.draw`.
 
         Raises
         ------
         NotKept
             The conditions cannot be kept.
         PlanarbendError
-            The record is refused, or memory ran out.
+            The record is refused, memory ran out, or the library is too old for conditions.
         """
         result = self._called(record, outer, "short", straight, inner)
         if NO_SHAPE <= result <= WIDE:
@@ -267,7 +271,7 @@ class Library:
         return Answer(counts.bends, points, [corners[start:end] for start, end in itertools.pairwise(starts)])
 
     def _points(self) -> dict[str, Any]:
-        """The points of the record that was laid out last."""
+        """Return the points of the last record laid out."""
         counts, buffer = self._counts, self._buffer
         points = pairs(buffer.points[:2 * counts.vertices])
         if not counts.corners:
@@ -277,7 +281,7 @@ class Library:
 
 
 def pairs(numbers: list[int]) -> list[list[int]]:
-    """Numbers two by two."""
+    """Return consecutive numbers as pairs."""
     return [[x, y] for x, y in zip(numbers[::2], numbers[1::2])]
 
 
@@ -304,9 +308,9 @@ class LibraryEngine:
 
 
 class LibraryLayouts:
-    """The layouts of a stream of graphs, one after another, as `Layouts` gives them, by calls of the library.
+    """An iterator over the layouts of a stream of graphs, as `Layouts`, by calls of the library.
 
-    Behind a `GraphError` it goes on with the next graph.
+    After a `GraphError`, it continues with the next graph.
     """
 
     def __init__(self, graphs: Iterable[Any], outer: str = "first", drawing: str = "short") -> None:
@@ -332,7 +336,7 @@ class LibraryLayouts:
         return self.layout_of(self.number, record, line | {"file": 1, "graph": self.number})
 
     def close(self) -> None:
-        """Ends the stream where it is."""
+        """Stop; no layouts follow."""
         self.records = iter(())
         self.library.close()
 

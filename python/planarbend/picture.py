@@ -101,14 +101,14 @@ def net_label_elements(drawing: Drawing) -> list[str]:
 
 
 def look_at_output(path: str) -> None:
-    """Find out before a graph is drawn what would keep its picture from being written.
+    """Check, before a graph is drawn, that its picture can be written.
 
     Raises
     ------
     NoConverter
-        If PNG or PDF is wanted and rsvg-convert is missing.
+        The file is PNG or PDF, and rsvg-convert is missing.
     OSError
-        If the file's folder is missing.
+        The file's folder is missing.
     """
     folder = os.path.dirname(os.path.abspath(path))
     if not os.path.isdir(folder):
@@ -121,12 +121,14 @@ def look_at_output(path: str) -> None:
 
 
 def write_picture(text: str, path: str, scale: float = 1.0) -> None:
-    """Write an SVG text as what the file's name says; the file gets its name once it is whole.
+    """Write an SVG text in the format of the file's extension. The file gets its name once it is complete.
 
     Raises
     ------
     NoConverter
-        If PNG or PDF is wanted and rsvg-convert is missing or fails.
+        The file is PNG or PDF, and rsvg-convert is missing or fails.
+    OSError
+        The file's folder is missing, or the file cannot be written.
     """
     import subprocess  # this, and the next one, take long to load
     import tempfile

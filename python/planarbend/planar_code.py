@@ -18,8 +18,7 @@ Lists = list[list[int]]
 
 
 class Unreadable(Exception):
-    """The bytes are not planar_code to their end: the word that the report has for such an end, and a text that says
-    where they stop being so, and why."""
+    """The bytes are not planar_code to their end; `ending` is the report's word for this ending, `why` says where and why."""
 
     def __init__(self, ending: str, why: str) -> None:
         super().__init__(f"{ending}: {why}")
@@ -27,10 +26,10 @@ class Unreadable(Exception):
 
 
 def records(source: BinaryIO) -> Iterator[bytes]:
-    """Each whole record of a stream, as its bytes, in order. It holds one record and one piece of the stream.
+    """Yield the bytes of each whole record of a stream, in order. It holds one record and one piece of the stream.
 
-    Raises `Unreadable` behind the last whole record where the stream does not end there, by the word that
-    the report has for such an end: header, truncated, large or oversize.
+    Raises `Unreadable` after the last whole record if the stream does not end there; its ending is then `header`,
+    `truncated`, `large` or `oversize`.
     """
     if source.read(len(HEADER)) != HEADER:
         raise Unreadable("header", f"it does not begin with {HEADER.decode()}")
@@ -54,7 +53,7 @@ def records(source: BinaryIO) -> Iterator[bytes]:
 
 
 def split(text: bytes) -> tuple[list[bytes], str]:
-    """The records and the ending of the bytes of a whole file, as docs/FORMAT.md has them."""
+    """Return the records and the ending of the bytes of a whole file, as defined in docs/FORMAT.md."""
     found: list[bytes] = []
     try:
         for record in records(io.BytesIO(text)):
@@ -67,7 +66,7 @@ def split(text: bytes) -> tuple[list[bytes], str]:
 
 
 def end_of_record(held: bytes, start: int) -> int | None:
-    """Where the record that begins at `start` ends, or None where it goes on behind `held`."""
+    """Return where the record that begins at `start` ends, or None if it continues after `held`."""
     if start == len(held):
         return None
     if held[start] == 0:
@@ -84,7 +83,7 @@ def end_of_record(held: bytes, start: int) -> int | None:
 
 
 def lists_of(record: bytes) -> Lists:
-    """The neighbour lists of a record: for each vertex its neighbours, counted from 1, clockwise."""
+    """Return the neighbour lists of a record: for each vertex its neighbours in clockwise order, numbered from 1."""
     return [list(neighbours) for neighbours in record[1:-1].split(b"\0")]
 
 

@@ -10,15 +10,15 @@ INSTALLED = os.path.join(os.path.dirname(os.path.dirname(ROOT)), "bin/planarbend
 
 
 class PlanarbendError(Exception):
-    """What planarbend says in place of a layout."""
+    """Base class of this package's errors."""
 
 
 class NoProgram(PlanarbendError):
-    """There is no program to run."""
+    """There is no program to run, or no library to load."""
 
 
 class RunFailed(PlanarbendError):
-    """The run ended before its last graph: its status, and all that it wrote on standard error (`said`)."""
+    """The run ended before its last graph; `status` is its exit status, `said` its whole standard error."""
 
     def __init__(self, status: int, said: str) -> None:
         super().__init__(said or f"planarbend ended with status {status}")
@@ -26,8 +26,8 @@ class RunFailed(PlanarbendError):
 
 
 def program() -> str:
-    """The program to run: PLANARBEND, or the one that is built here, or ./planarbend, or the one installed with this package,
-    or the one on the path. Raises `NoProgram` where there is none."""
+    """Return the path of the program to run: the one that PLANARBEND names, or the first that exists of the one built here,
+    ./planarbend, the one installed with this package, and the one on the path. Raises `NoProgram` if there is none."""
     named = os.environ.get("PLANARBEND")
     for path in [named] if named else [BUILT, SCRIPT, INSTALLED]:
         if path and is_program(path):
@@ -42,5 +42,5 @@ def program() -> str:
 
 
 def is_program(path: str) -> bool:
-    """Whether a file can be run."""
+    """Whether the file can be executed."""
     return os.path.isfile(path) and os.access(path, os.X_OK)

@@ -42,7 +42,7 @@ class Record:
 
     @property
     def answer(self) -> str:
-        """What stands behind the number."""
+        """The text after the number."""
         return f"n={self.vertices} bytes={self.size}"
 
     def __str__(self) -> str:
@@ -51,8 +51,7 @@ class Record:
 
 @dataclasses.dataclass(frozen=True)
 class Graph:
-    """What is said of one graph: its size and fewest bends, or the rule that it breaks, or neither where there was
-    no memory for it."""
+    """The line of one graph: its size and fewest bends, or the rule that it breaks, or neither if memory ran out."""
     number: int
     size: tuple[int, int, int] | None = None  # vertices, edges, faces
     bends: int | None = None
@@ -61,7 +60,7 @@ class Graph:
 
     @property
     def answer(self) -> str:
-        """What stands behind the number; without a word on the drawing where nothing is known of it."""
+        """The text after the number, without `drawn` if that is not known."""
         if self.rule is not None:
             return f"refused {self.rule}"
         if self.size is None:
@@ -88,7 +87,7 @@ Line = File | Record | Graph | End
 
 
 def line_of(text: str) -> Line:
-    """What a line of a report says, without its line end. Raises `NoLine` where no report has it."""
+    """Return what a line of a report says, given without its line end. Raises `NoLine` if it is not such a line."""
     if match := RECORD.fullmatch(text):
         return Record(*map(int, match.groups()))
     if match := FILE.fullmatch(text):
@@ -102,7 +101,7 @@ def line_of(text: str) -> Line:
 
 
 def figures_of(text: str) -> Graph:
-    """What the line of a graph says, which may end behind the fewest bends, as outside programs print it."""
+    """Return what the line of a graph says. The line may end after the bends, as other programs print it."""
     match = GRAPH.fullmatch(text)
     if match is None:
         raise NoLine(f"a line that no report has: {text[:80]!r}")
@@ -113,7 +112,7 @@ def figures_of(text: str) -> Graph:
 
 
 def json_line(text: str) -> dict[str, Any]:
-    """The object of a JSON line. Raises `NoLine` where it has not the keys of one, in order."""
+    """Return the object of a JSON line. Raises `NoLine` if it does not have the keys of one, in order."""
     try:
         line: dict[str, Any] = json.loads(text)
         status = line.get("status")
@@ -125,7 +124,7 @@ def json_line(text: str) -> dict[str, Any]:
 
 
 def of_json(line: dict[str, Any]) -> Graph | End:
-    """What the object of a JSON line says, as the report does."""
+    """Return what the object of a JSON line says, as a line of the report."""
     if "end" in line:
         return End(line["end"], int(line["graphs"]))
     if line["status"] == "ok":

@@ -24,20 +24,20 @@ def read(data: bytes, name: str, form: str | None = None) -> Graph:
     data : bytes
         The whole file.
     name : str
-        Its name, for messages, and for its ending where the content has no mark of its own (graph6 without its header).
+        Its name, for messages; its extension identifies graph6 without a header.
     form : str, optional
         One of `FORMS`; found from the content by default.
 
     Returns
     -------
     Graph
-        With at least one vertex, vertices and edges in the file's order where its format keeps one.
+        It has at least one vertex; vertices and edges are in the file's order if the format keeps one.
 
     Raises
     ------
     ReadError
-        The file is not of this format, or of none that is known, or names no vertex; or the library or program that
-        reads its format is missing.
+        The file is not of this format or of any known one, it names no vertex, or the library or program that reads its
+        format is missing.
     ValueError
         `form` is not one of `FORMS`.
     """
