@@ -3,10 +3,10 @@
 ghost use Rattle.std.specs.Prelude.{◌↔◌, IsTrue, All};
 ghost use Rattle.geometry.specs.Rectangles.{IsNonempty};
 
-use crate::known::same;
 use geometry::{Rectangle, all_apart_in};
 use std::alloc::{AllocError, Global};
 use std::process::Abort;
+use test_tools::same;
 
 fn are_filled(rectangles: &[Rectangle]) -> bool
     ensures { IsTrue result ↔ All IsNonempty rectangles.now }
@@ -64,7 +64,7 @@ const CASES: [([[u32; 4]; 3], bool); 8] = [
 fn count_lacking(rt: &impl Abort, found: Result<bool, AllocError>, apart: bool) -> u8 {
     match found {
         Ok(found) => {
-            same(rt, found, apart);
+            same!(rt, found, apart);
             0
         }
         Err(AllocError) => 1,

@@ -1,9 +1,10 @@
 //! Files that are cut behind each byte and fed in two pieces, beside a plain reading of the whole.
 
-use crate::known::{EDGE, OCTAHEDRON, STAR, TETRAHEDRON, TETRAHEDRON_ON_A_TORUS, TRIANGLE, same};
 use planar_code::{Ending, Framer, HEADER, Record};
 use std::alloc::Global;
 use std::process::Abort;
+use test_tools::records::{EDGE, OCTAHEDRON, STAR, TETRAHEDRON, TETRAHEDRON_ON_A_TORUS, TRIANGLE};
+use test_tools::same;
 
 /// Behind which place the record ends that begins here, or else how the text ends.
 fn end_of_record(text: &[u8], start: usize) -> Result<usize, Ending> {
@@ -58,10 +59,10 @@ fn feed_both(rt: &impl Abort, alloc: Global, one: &[u8], two: &[u8]) -> (Vec<Rec
 
 /// The records are the parts of the text that end in these places.
 fn are_parts(rt: &impl Abort, records: &[Record], text: &[u8], ends: &[usize]) {
-    same(rt, records.len(), ends.len());
+    same!(rt, records.len(), ends.len());
     let mut start = HEADER.len();
     for (record, end) in records.iter().zip(ends) {
-        same(rt, Some(record.bytes()), text.get(start..*end));
+        same!(rt, Some(record.bytes()), text.get(start..*end));
         start = *end;
     }
 }
@@ -72,7 +73,7 @@ fn divide(rt: &impl Abort, alloc: Global, text: &[u8]) {
     for place in 0..=text.len() {
         let (one, two) = text.split_at(place);
         let (records, found) = feed_both(rt, alloc, one, two);
-        same(rt, found, ending);
+        same!(rt, found, ending);
         are_parts(rt, records.as_slice(), text, ends.as_slice());
     }
 }
@@ -89,14 +90,14 @@ fn cut(rt: &impl Abort, alloc: Global, bytes: &[u8]) {
 
 /// Graphs, records that break a rule, and bytes that end badly.
 const FILES: [&[u8]; 17] = [
-    &EDGE,
+    EDGE,
     &[1, 0],
     &[2, 0, 0],
-    &TRIANGLE,
-    &TETRAHEDRON,
-    &TETRAHEDRON_ON_A_TORUS,
-    &OCTAHEDRON,
-    &STAR,
+    TRIANGLE,
+    TETRAHEDRON,
+    TETRAHEDRON_ON_A_TORUS,
+    OCTAHEDRON,
+    STAR,
     &[6, 2, 3, 4, 5, 6, 0, 1, 0, 1, 0, 1, 0, 1, 0, 1, 0],
     &[2, 3, 0, 1, 0],
     &[2, 2, 0, 0],

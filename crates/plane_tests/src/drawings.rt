@@ -1,14 +1,12 @@
 //! Drawings by hand, each with the first condition that it breaks, and refused allocations.
 
-use crate::known;
-use crate::known::{plane_in, same};
 use drawing_check::{CheckFault, Drawing, check};
 use faces::Plane;
-use ortho_rep::{Point, Points, Shape, Turn, is_shape};
-use std::alloc::{AllocError, Global};
+use ortho_rep::{Points, Shape, Turn, is_shape};
+use std::alloc::Global;
 use std::process::Abort;
-
-pub(crate) type Place = (u32, u32);
+use test_inputs::{L, Place, R, plane_in, points_in};
+use test_tools::{records, same};
 
 /// The record of a plane, and the angles and strings of a shape of it.
 pub(crate) struct Figure {
@@ -17,48 +15,44 @@ pub(crate) struct Figure {
     pub(crate) strings: &'static [&'static [Turn]],
 }
 
-const LEFT: Turn = Turn::Left;
-
-const RIGHT: Turn = Turn::Right;
-
 /// The strings of four edges without bends.
 const STRAIGHT: [&[Turn]; 8] = [&[]; 8];
 
 const EDGE: Figure = Figure {
-    record: &known::EDGE,
+    record: records::EDGE,
     angles: &[4, 4],
     strings: &[&[], &[]],
 };
 
 /// The edge that turns to the left three times.
 pub(crate) const BENT_EDGE: Figure = Figure {
-    record: &known::EDGE,
+    record: records::EDGE,
     angles: &[4, 4],
-    strings: &[&[LEFT, LEFT, LEFT], &[RIGHT, RIGHT, RIGHT]],
+    strings: &[&[L, L, L], &[R, R, R]],
 };
 
 /// The triangle with one bend, on the edge from 1 to 3.
 pub(crate) const TRIANGLE: Figure = Figure {
-    record: &known::TRIANGLE,
+    record: records::TRIANGLE,
     angles: &[3, 1, 3, 1, 3, 1],
-    strings: &[&[], &[LEFT], &[], &[], &[RIGHT], &[]],
+    strings: &[&[], &[L], &[], &[], &[R], &[]],
 };
 
 /// The path 1, 2, 3, 4, 5, which turns to the left at each vertex.
 pub(crate) const PATH: Figure = Figure {
-    record: &known::PATH,
+    record: records::PATH,
     angles: &[1, 4, 1, 3, 1, 3, 4, 3],
     strings: &STRAIGHT,
 };
 
 pub(crate) const SQUARE: Figure = Figure {
-    record: &[4, 2, 4, 0, 3, 1, 0, 4, 2, 0, 1, 3, 0],
+    record: records::SQUARE,
     angles: &[3, 1, 3, 1, 3, 1, 3, 1],
     strings: &STRAIGHT,
 };
 
 pub(crate) const STAR: Figure = Figure {
-    record: &known::STAR,
+    record: records::STAR,
     angles: &[4, 4, 4, 4, 1, 1, 1, 1],
     strings: &STRAIGHT,
 };
@@ -66,43 +60,9 @@ pub(crate) const STAR: Figure = Figure {
 /// The corners of four edges without bends.
 pub(crate) const FOUR: [&[Place]; 4] = [&[]; 4];
 
-fn strings_in(alloc: Global, strings: &[&[Turn]]) -> Result<Vec<Vec<Turn>>, AllocError> {
-    let mut lists = Vec::new(alloc);
-    for turns in strings {
-        lists.push(turns.to_vec(alloc)?)?;
-    }
-    Ok(lists)
-}
-
 /// The shape of a figure, or nothing where memory is refused.
 pub(crate) fn shape_in(alloc: Global, figure: &Figure) -> Option<Shape> {
-    let strings = strings_in(alloc, figure.strings).ok()?;
-    let angles = figure.angles.to_vec(alloc).ok()?;
-    if Shape::have_few_turns(&strings) {
-        Some(Shape::new(angles, strings))
-    } else {
-        None
-    }
-}
-
-fn list_in(alloc: Global, places: &[Place]) -> Result<Vec<Point>, AllocError> {
-    places
-        .iter()
-        .map(|p| Point { x: p.0, y: p.1 })
-        .collect(alloc)
-}
-
-/// The points of vertices and of the corners of edges.
-pub(crate) fn points_in(
-    alloc: Global,
-    vertices: &[Place],
-    corners: &[&[Place]],
-) -> Result<Points, AllocError> {
-    let mut lists = Vec::new(alloc);
-    for places in corners {
-        lists.push(list_in(alloc, places)?)?;
-    }
-    Ok(Points::new(list_in(alloc, vertices)?, lists))
+    test_inputs::shape_in(alloc, figure.angles, figure.strings)
 }
 
 /// What `check` answers where its conditions hold.
@@ -246,7 +206,7 @@ const DRAWINGS: [(&Figure, &[Place], &[&[Place]], Option<CheckFault>); 15] = [
 fn drawings_by_hand(rt: HostRuntime) {
     for (figure, vertices, corners, fault) in DRAWINGS {
         let found = faults_at(&rt, rt.alloc(), figure, vertices, corners);
-        same(&rt, found, Some([fault; 2]));
+        same!(&rt, found, Some([fault; 2]));
     }
 }
 
@@ -259,7 +219,7 @@ fn refused_memory_gives_the_points_back(rt: HostRuntime) {
         return;
     };
     if found[0].is_some() {
-        same(&rt, found, [Some(CheckFault::Memory), None]);
+        same!(&rt, found, [Some(CheckFault::Memory), None]);
     }
 }
 
@@ -286,6 +246,6 @@ fn three_conditions_need_no_memory(rt: HostRuntime) {
         let Some(found) = faults_at(&rt, rt.alloc(), &PATH, vertices, &FOUR) else {
             return;
         };
-        same(&rt, found, [Some(fault); 2]);
+        same!(&rt, found, [Some(fault); 2]);
     }
 }

@@ -1,9 +1,10 @@
 //! Streams whose records and endings are known, the limit of a million records, and refused allocations.
 
-use crate::known::{TRIANGLE, same};
 use planar_code::{Ending, FeedFault, Framer, HEADER, frame, split};
 use std::alloc::Global;
 use std::process::Abort;
+use test_tools::records::TRIANGLE;
+use test_tools::same;
 
 /// How many records the framer finds in a text, and how it ends.
 fn framed(rt: &impl Abort, alloc: Global, text: &[u8]) -> (usize, Ending) {
@@ -21,8 +22,8 @@ fn divided(rt: &impl Abort, alloc: Global, text: &[u8]) -> (usize, Ending) {
 
 /// Sees that both find so many records and this ending.
 fn expect(rt: &impl Abort, alloc: Global, text: &[u8], want: (usize, Ending)) {
-    same(rt, framed(rt, alloc, text), want);
-    same(rt, divided(rt, alloc, text), want);
+    same!(rt, framed(rt, alloc, text), want);
+    same!(rt, divided(rt, alloc, text), want);
 }
 
 /// Texts, how many records they have, and how they end.
@@ -56,9 +57,9 @@ fn tells_the_endings(rt: HostRuntime) {
 /// A file of one triangle, cut behind each byte: in the header, right behind it, in the record, and not at all.
 #[test]
 fn a_triangle_is_cut_anywhere(rt: HostRuntime) {
-    let text = [HEADER.as_slice(), TRIANGLE.as_slice()].concat(rt.alloc());
+    let text = [HEADER.as_slice(), TRIANGLE].concat(rt.alloc());
     let text = text.expect(&rt, "memory");
-    same(&rt, text.len(), 25);
+    same!(&rt, text.len(), 25);
     for count in 0..=text.len() {
         let want = match count {
             0..15 => (0, Ending::Header),
@@ -78,10 +79,10 @@ fn expect_feeds(rt: &impl Abort, alloc: Global, feeds: &[Feed<'_>], ending: Endi
     let mut framer = Framer::new(alloc).expect(rt, "memory");
     let mut out = Vec::new(alloc);
     for (piece, answer, count) in feeds {
-        same(rt, framer.feed(alloc, piece, &mut out), *answer);
-        same(rt, out.len(), *count);
+        same!(rt, framer.feed(alloc, piece, &mut out), *answer);
+        same!(rt, out.len(), *count);
     }
-    same(rt, framer.finish(), ending);
+    same!(rt, framer.finish(), ending);
 }
 
 /// Pieces that end in the header and in a record; a piece with another header, and one behind it; a record that is
@@ -152,18 +153,18 @@ fn names_a_want_of_memory(rt: HostRuntime) {
         return;
     };
     let mut out = Vec::new(alloc);
-    same(&rt, framer.feed(alloc, &HEADER, &mut out), Ok(()));
+    same!(&rt, framer.feed(alloc, &HEADER, &mut out), Ok(()));
     match framer.feed(alloc, &[1, 0, 2, 0, 0], &mut out) {
-        Ok(()) => same(&rt, (out.len(), framer.finish()), (2, Ending::Complete)),
+        Ok(()) => same!(&rt, (out.len(), framer.finish()), (2, Ending::Complete)),
         Err(fault) => {
             let again = framer.feed(alloc, &[1, 0], &mut out);
-            same(
+            same!(
                 &rt,
                 (fault, again),
                 (FeedFault::Memory, Err(FeedFault::Memory)),
             );
             assert!(rt; out.len() < 2);
-            same(&rt, framer.finish(), Ending::Memory);
+            same!(&rt, framer.finish(), Ending::Memory);
         }
     }
 }
@@ -177,7 +178,7 @@ fn begun_records_take_no_memory(rt: HostRuntime) {
     };
     let mut out = Vec::new(alloc);
     for piece in [&HEADER[..9], &HEADER[9..], &[255], &[1; 254]] {
-        same(&rt, framer.feed(alloc, piece, &mut out), Ok(()));
+        same!(&rt, framer.feed(alloc, piece, &mut out), Ok(()));
     }
-    same(&rt, (out.len(), framer.finish()), (0, Ending::Truncated));
+    same!(&rt, (out.len(), framer.finish()), (0, Ending::Truncated));
 }

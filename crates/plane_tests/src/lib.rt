@@ -13,8 +13,6 @@ mod framing;
 #[cfg(test)]
 mod graphs;
 #[cfg(test)]
-mod known;
-#[cfg(test)]
 mod parsing;
 #[cfg(test)]
 mod planes;

@@ -1,8 +1,9 @@
 //! Bytes that are one record, and bytes that are none, also where allocations are refused.
 
-use crate::known::{STAR, TRIANGLE, same};
 use planar_code::{ParseFault, Record};
 use std::alloc::Global;
+use test_tools::records::{STAR, TRIANGLE};
+use test_tools::same;
 
 /// Why these bytes are no record, if they are none.
 fn fault_of(alloc: Global, bytes: &[u8]) -> Option<ParseFault> {
@@ -12,10 +13,10 @@ fn fault_of(alloc: Global, bytes: &[u8]) -> Option<ParseFault> {
 /// To be run with each allocation refused in turn: the next call has memory.
 #[test]
 fn refused_memory_is_told(rt: HostRuntime) {
-    for bytes in [TRIANGLE.as_slice(), STAR.as_slice()] {
+    for bytes in [TRIANGLE, STAR] {
         if let Some(fault) = fault_of(rt.alloc(), bytes) {
-            same(&rt, fault, ParseFault::Memory);
-            same(&rt, fault_of(rt.alloc(), bytes), None);
+            same!(&rt, fault, ParseFault::Memory);
+            same!(&rt, fault_of(rt.alloc(), bytes), None);
         }
     }
 }
@@ -31,6 +32,6 @@ fn faults_take_no_memory(rt: HostRuntime) {
         (&[1, 0, 0], ParseFault::Long),
     ];
     for (bytes, fault) in cases {
-        same(&rt, fault_of(rt.alloc(), bytes), Some(fault));
+        same!(&rt, fault_of(rt.alloc(), bytes), Some(fault));
     }
 }

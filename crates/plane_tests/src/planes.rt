@@ -1,13 +1,14 @@
 //! Records whose planes were worked out by hand, and refused allocations.
 
-use crate::known::{
-    CUBE, EDGE, OCTAHEDRON, PATH, STAR, TETRAHEDRON, TETRAHEDRON_ON_A_TORUS, TRIANGLE, plane_in,
-    read, same,
-};
 use embedding::Graph;
 use faces::{Plane, TraceFault};
 use std::alloc::Global;
 use std::process::Abort;
+use test_inputs::{plane_in, read};
+use test_tools::records::{
+    CUBE, EDGE, OCTAHEDRON, PATH, STAR, TETRAHEDRON, TETRAHEDRON_ON_A_TORUS, TRIANGLE,
+};
+use test_tools::same;
 
 /// How many vertices, edges and faces there are, which face is the outer one, and its degree.
 fn counts(plane: &Plane) -> (u8, u16, u16, u16, u16) {
@@ -29,15 +30,15 @@ fn counts_of(alloc: Global, bytes: &[u8]) -> Option<(u8, u16, u16, u16, u16)> {
 #[test]
 fn known_planes_have_their_counts(rt: HostRuntime) {
     let known = [
-        (EDGE.as_slice(), (2, 1, 1, 0, 2)),
-        (&PATH, (5, 4, 1, 0, 8)),
-        (&TETRAHEDRON, (4, 6, 4, 0, 3)),
-        (&OCTAHEDRON, (6, 12, 8, 0, 3)),
-        (&STAR, (5, 4, 1, 0, 8)),
-        (&CUBE, (8, 12, 6, 0, 4)),
+        (EDGE, (2, 1, 1, 0, 2)),
+        (PATH, (5, 4, 1, 0, 8)),
+        (TETRAHEDRON, (4, 6, 4, 0, 3)),
+        (OCTAHEDRON, (6, 12, 8, 0, 3)),
+        (STAR, (5, 4, 1, 0, 8)),
+        (CUBE, (8, 12, 6, 0, 4)),
     ];
     for (bytes, want) in known {
-        same(&rt, counts_of(rt.alloc(), bytes), Some(want));
+        same!(&rt, counts_of(rt.alloc(), bytes), Some(want));
     }
 }
 
@@ -55,7 +56,7 @@ fn plane_at_last(rt: &impl Abort, alloc: Global, graph: Graph) -> Plane {
 // test, or in it, and then the graph that comes back gives the plane.
 #[test]
 fn memory_hands_the_graph_back(rt: HostRuntime) {
-    if let Ok(graph) = read(rt.alloc(), &TRIANGLE) {
+    if let Ok(graph) = read(rt.alloc(), TRIANGLE) {
         expect_triangle(&rt, plane_at_last(&rt, rt.alloc(), graph));
     }
 }
@@ -65,25 +66,25 @@ const NEXTS: [u16; 6] = [2, 5, 4, 1, 0, 3];
 
 /// The darts and faces of the triangle, of which the other one can be made the outer one. None of it takes memory.
 fn expect_triangle(rt: &impl Abort, mut plane: Plane) {
-    same(rt, counts(&plane), (3, 3, 2, 0, 3));
+    same!(rt, counts(&plane), (3, 3, 2, 0, 3));
     for dart in 0..plane.graph().darts() {
         let next = NEXTS.get(usize::from(dart)).copied();
-        same(rt, Some(plane.next(dart)), next);
-        same(rt, plane.face_of(dart), dart % 2);
+        same!(rt, Some(plane.next(dart)), next);
+        same!(rt, plane.face_of(dart), dart % 2);
     }
     assert!(rt; plane.face_count() == 2);
     plane.set_outer(1);
-    same(rt, (plane.outer(), plane.degree(1)), (1, 3));
+    same!(rt, (plane.outer(), plane.degree(1)), (1, 3));
 }
 
 /// A graph that is no plane is refused as such, whatever memory there is.
 #[test]
 fn tori_take_no_memory(rt: HostRuntime) {
-    let Ok(graph) = read(rt.alloc(), &TETRAHEDRON_ON_A_TORUS) else {
+    let Ok(graph) = read(rt.alloc(), TETRAHEDRON_ON_A_TORUS) else {
         return;
     };
     match Plane::trace(rt.alloc(), graph) {
-        Err(TraceFault::Genus(graph)) => same(&rt, graph.edges(), 6),
+        Err(TraceFault::Genus(graph)) => same!(&rt, graph.edges(), 6),
         _ => assert!(rt; false),
     }
 }

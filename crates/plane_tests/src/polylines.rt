@@ -1,10 +1,11 @@
 //! Ten thousand lines through five places, against a plain reading of the conditions.
 
-use crate::drawings::{BENT_EDGE, FOUR, PATH, Place, faults_at};
-use crate::known::same;
+use crate::drawings::{BENT_EDGE, FOUR, PATH, faults_at};
 use drawing_check::CheckFault;
 use std::alloc::Global;
 use std::process::Abort;
+use test_inputs::Place;
+use test_tools::same;
 
 /// Where the line begins: two columns to the left of the last one.
 const START: Place = (65_533, 9);
@@ -84,10 +85,10 @@ fn plain_fault(line: [Place; 5]) -> Option<CheckFault> {
 fn fault_of(rt: &impl Abort, alloc: Global, line: [Place; 5]) -> Option<CheckFault> {
     let fault = plain_fault(line);
     let path = faults_at(rt, alloc, &PATH, &line, &FOUR);
-    same(rt, path, Some([fault; 2]));
+    same!(rt, path, Some([fault; 2]));
     let ends = [line[0], line[4]];
     let edge = faults_at(rt, alloc, &BENT_EDGE, &ends, &[&line[1..4]]);
-    same(rt, edge, Some([fault; 2]));
+    same!(rt, edge, Some([fault; 2]));
     fault
 }
 
@@ -109,5 +110,5 @@ fn lines_have_the_plain_fault(rt: HostRuntime) {
             *times = times.wrapping_add(1);
         }
     }
-    same(&rt, seen, [28, 1775, 4756, 3405, 36, 0]);
+    same!(&rt, seen, [28, 1775, 4756, 3405, 36, 0]);
 }

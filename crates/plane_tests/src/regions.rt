@@ -1,17 +1,15 @@
 //! Whether the regions of drawings by hand are the faces: of their own plane, of one that is embedded otherwise, and under
 //! each choice of the outer face.
 
-use crate::drawings::{
-    FOUR, Figure, PATH, Place, SQUARE, STAR, TRIANGLE, answer, points_in, shape_in,
-};
-use crate::known;
-use crate::known::{plane_in, same};
+use crate::drawings::{FOUR, Figure, PATH, SQUARE, STAR, TRIANGLE, answer, shape_in};
 use drawing_check::has_regions;
 use faces::Plane;
 use ortho_rep::Turn;
 use region_laws::outside_is_outer;
 use std::alloc::Global;
 use std::process::Abort;
+use test_inputs::{Place, plane_in, points_in};
+use test_tools::{records, same};
 
 const STRAIGHT: [&[Turn]; 20] = [&[]; 20];
 
@@ -77,8 +75,6 @@ const BLOCKS_PLACES: [Place; 9] = [
     (3, 3),
     (2, 3),
 ];
-
-const SQUARE_RECORD: [u8; 13] = [4, 2, 4, 0, 3, 1, 0, 4, 2, 0, 1, 3, 0];
 
 /// The star with two of its leaves exchanged round its centre.
 const STAR_EXCHANGED: [u8; 14] = [5, 2, 4, 3, 5, 0, 1, 0, 1, 0, 1, 0, 1, 0];
@@ -167,12 +163,12 @@ const ROWS: [(&Drawn, &[u8], &[bool]); 10] = [
     (&NESTED_DRAWN, &NESTED_MIRRORED, &[false, false, false]),
     (&BLOCKS_DRAWN, &BLOCKS_RECORD, &[false, false, true]),
     (&BLOCKS_DRAWN, &SIDE_BY_SIDE, &[false, false, false]),
-    (&TRIANGLE_DRAWN, &known::TRIANGLE, &[true, false]),
-    (&SQUARE_DRAWN, &SQUARE_RECORD, &[true, false]),
+    (&TRIANGLE_DRAWN, records::TRIANGLE, &[true, false]),
+    (&SQUARE_DRAWN, records::SQUARE, &[true, false]),
     // A tree has one face, however it is embedded.
-    (&STAR_DRAWN, &known::STAR, &[true]),
+    (&STAR_DRAWN, records::STAR, &[true]),
     (&STAR_DRAWN, &STAR_EXCHANGED, &[true]),
-    (&PATH_DRAWN, &known::PATH, &[true]),
+    (&PATH_DRAWN, records::PATH, &[true]),
 ];
 
 /// Whether the outer face lies on the west of a drawing, where the outer one is this face of its own plane.
@@ -203,7 +199,7 @@ fn outsides_by_hand(rt: HostRuntime) {
         for outer in 0..3u16 {
             if let Some(is_outer) = due.get(usize::from(outer)) {
                 let found = outside(&rt, rt.alloc(), drawn, outer);
-                same(&rt, found, Some(*is_outer));
+                same!(&rt, found, Some(*is_outer));
             }
         }
     }
@@ -215,7 +211,7 @@ fn regions_by_hand(rt: HostRuntime) {
         for outer in 0..3u16 {
             if let Some(has) = due.get(usize::from(outer)) {
                 let found = regions(&rt, rt.alloc(), drawn, record, outer);
-                same(&rt, found, Some(*has));
+                same!(&rt, found, Some(*has));
             }
         }
     }
@@ -225,9 +221,9 @@ fn regions_by_hand(rt: HostRuntime) {
 #[test]
 fn regions_without_memory(rt: HostRuntime) {
     if let Some(has) = regions(&rt, rt.alloc(), &NESTED_DRAWN, &NESTED_RECORD, 0) {
-        same(&rt, has, true);
+        same!(&rt, has, true);
     }
     if let Some(has) = regions(&rt, rt.alloc(), &NESTED_DRAWN, &TURNED_OUT, 0) {
-        same(&rt, has, false);
+        same!(&rt, has, false);
     }
 }

@@ -1,9 +1,11 @@
 //! Each of the eight rules, by records that break it first.
 
-use crate::known::{EDGE, TETRAHEDRON, TETRAHEDRON_ON_A_TORUS, read, record_of, same};
 use embedding::{Graph, ReadFault, Rule, broken_rule};
 use faces::{Plane, TraceFault};
 use std::alloc::{AllocError, Global};
+use test_inputs::{read, record_of};
+use test_tools::records::{EDGE, TETRAHEDRON, TETRAHEDRON_ON_A_TORUS};
+use test_tools::same;
 
 /// The rule that a graph's faces break, if any.
 fn broken_by_faces(alloc: Global, graph: Graph) -> Result<Option<Rule>, AllocError> {
@@ -25,8 +27,8 @@ fn broken(alloc: Global, bytes: &[u8]) -> Result<Option<Rule>, AllocError> {
 
 /// Records, and the rule that each breaks first, if any.
 const RECORDS: [(&[u8], Option<Rule>); 16] = [
-    (&EDGE, None),
-    (&TETRAHEDRON, None),
+    (EDGE, None),
+    (TETRAHEDRON, None),
     (&[2, 3, 0, 1, 0], Some(Rule::Range)),
     (&[2, 1, 0, 0], Some(Rule::Loop)),
     (&[2, 2, 2, 0, 1, 1, 0], Some(Rule::Multi)),
@@ -38,7 +40,7 @@ const RECORDS: [(&[u8], Option<Rule>); 16] = [
         Some(Rule::Degree),
     ),
     (&[4, 2, 0, 1, 0, 4, 0, 3, 0], Some(Rule::Disconnected)),
-    (&TETRAHEDRON_ON_A_TORUS, Some(Rule::Genus)),
+    (TETRAHEDRON_ON_A_TORUS, Some(Rule::Genus)),
     // These break later rules too.
     (&[4, 9, 1, 1, 3, 3, 0, 0, 0, 0], Some(Rule::Range)),
     (&[4, 1, 2, 2, 3, 3, 0, 0, 0, 0], Some(Rule::Loop)),
@@ -56,7 +58,7 @@ const RECORDS: [(&[u8], Option<Rule>); 16] = [
 #[test]
 fn each_rule_is_named(rt: HostRuntime) {
     for (bytes, rule) in RECORDS {
-        same(&rt, broken(rt.alloc(), bytes), Ok(rule));
+        same!(&rt, broken(rt.alloc(), bytes), Ok(rule));
     }
 }
 
@@ -65,7 +67,7 @@ fn each_rule_is_named(rt: HostRuntime) {
 fn rules_are_found_in_no_memory(rt: HostRuntime) {
     for (bytes, rule) in RECORDS {
         let record = record_of(rt.alloc(), bytes).expect(&rt, "a record");
-        same(&rt, broken_rule(&record), rule);
+        same!(&rt, broken_rule(&record), rule);
     }
 }
 
@@ -115,8 +117,8 @@ fn torus(alloc: Global, columns: u8, rows: u8) -> Result<Vec<u8>, AllocError> {
 fn a_large_torus_breaks_the_last_rule(rt: HostRuntime) {
     let bytes = torus(rt.alloc(), 15, 17).expect(&rt, "memory");
     let record = record_of(rt.alloc(), &bytes).expect(&rt, "a record");
-    same(&rt, broken_rule(&record), Some(Rule::Genus));
-    same(&rt, broken(rt.alloc(), &bytes), Ok(Some(Rule::Genus)));
+    same!(&rt, broken_rule(&record), Some(Rule::Genus));
+    same!(&rt, broken(rt.alloc(), &bytes), Ok(Some(Rule::Genus)));
 }
 
 #[test]
@@ -132,6 +134,6 @@ fn rules_have_their_words(rt: HostRuntime) {
         (Rule::Genus, "genus"),
     ];
     for (rule, word) in words {
-        same(&rt, rule.word(), word);
+        same!(&rt, rule.word(), word);
     }
 }

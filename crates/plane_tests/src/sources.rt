@@ -1,19 +1,16 @@
 //! Runs over sources in memory, sources that fail, and writers that take little. The bytes and the
 //! texts come from the description of the format and of the report.
-ghost use Rattle.std.specs.Prelude.{◌<◌, ◌≤◌, false, None};
+ghost use Rattle.std.specs.Prelude.{◌<◌, ◌≤◌};
 ghost use Rattle.ruled_lanes.specs.declared.limits.TheConstants.{MAX_CAPACITY};
 
-use crate::known::same;
 use planar_code::Ending;
-use std::io;
-use std::io::{ErrorKind, Write};
 use std::process::Abort;
 use std::sync::Wait;
 use std::sync::atomic::{AtomicU32, Ordering};
 use std::thread::Threads;
-use streams::{
-    BatchFault, Frames, IoSink, Mark, MemTap, Tap, TapFault, WriteFault, run_frames, write_frames,
-};
+use streams::{BatchFault, Frames, IoSink, Mark, MemTap, WriteFault, run_frames, write_frames};
+use test_inputs::Failing;
+use test_tools::{Narrow, same};
 
 const EDGES: &[u8] = b">>planar_code<<\x02\x02\x00\x01\x00\x02\x02\x00\x01\x00";
 
@@ -76,34 +73,6 @@ fn finds_the_same_in_pieces_of_every_size(rt: HostRuntime) {
     check(&rt, &long, "end oversize records=0\n");
 }
 
-/// A source that gives one byte a read, and fails at a read, counted from 0. It counts the reads.
-#[derive(Drop)]
-struct Failing<'c> {
-    bytes: &'static [u8],
-    fails_at: u32,
-    reads: &'c AtomicU32,
-}
-
-impl Tap for Failing<'_> {
-    ghost to_come = { λ _. None };
-
-    ghost fails = { λ _. false };
-
-    fn read(&mut self, buf: &mut [u8]) -> Result<usize, TapFault> {
-        let read = self.reads.fetch_add(1, Ordering::SeqCst);
-        if read == self.fails_at {
-            return Err(TapFault);
-        }
-        match (buf.first_mut(), self.bytes.get(read as usize)) {
-            (Some(place), Some(byte)) => {
-                *place = *byte;
-                Ok(1)
-            }
-            _ => Ok(0),
-        }
-    }
-}
-
 /// How many records are found in these bytes where the source fails at a read, the mark, and how many reads there were.
 fn found_before<R: AllocGlobal + Threads + Wait + Sync>(
     rt: &R,
@@ -127,7 +96,7 @@ fn keeps_what_came_before_a_failing_read(rt: HostRuntime) {
         let count = if fails_at < 20 { 0 } else { fails_at / 5 - 3 };
         let found = found_before(&rt, EDGES, fails_at);
         let wanted = (count as usize, Mark::Io, fails_at + 1);
-        same(&rt, found, Some(wanted));
+        same!(&rt, found, Some(wanted));
     }
 }
 
@@ -136,52 +105,7 @@ fn keeps_what_came_before_a_failing_read(rt: HostRuntime) {
 fn reads_once_up_to_a_fault(rt: HostRuntime) {
     let bytes = b">>planar_code<<\x02\x02\x00\x01\x00\x00\x02\x02\x00\x01\x00";
     let found = found_before(&rt, bytes, 21);
-    same(&rt, found, Some((1, Mark::Ended(Ending::Large), 21)));
-}
-
-/// A writer that takes at most `most` bytes a write. Once it has `room` bytes, 80 at most, it fails or takes nothing.
-#[derive(Drop)]
-struct Narrow {
-    taken: [u8; 80],
-    len: usize,
-    room: usize,
-    most: usize,
-    fails: bool,
-    ghost within: { len ≤ 80 },
-}
-
-impl Narrow {
-    fn new(room: usize, most: usize, fails: bool) -> Narrow {
-        Narrow {
-            taken: [0; 80],
-            len: 0,
-            room,
-            most,
-            fails,
-        }
-    }
-
-    fn text(&self) -> &[u8] {
-        &self.taken[..self.len]
-    }
-}
-
-impl Write for Narrow {
-    fn write(&mut self, buf: &[u8]) -> io::Result<usize> {
-        let left = self.room.min(80).saturating_sub(self.len);
-        if left == 0 && self.fails {
-            return Err(io::Error::from(ErrorKind::Other));
-        }
-        let count = buf.len().min(left).min(self.most);
-        let end = self.len + count;
-        self.taken[self.len..end].copy_from_slice(&buf[..count]);
-        self.len = end;
-        Ok(count)
-    }
-
-    fn flush(&mut self) -> io::Result<()> {
-        Ok(())
-    }
+    same!(&rt, found, Some((1, Mark::Ended(Ending::Large), 21)));
 }
 
 /// Writes what was found into a writer, and looks at the answer and at what is written.
@@ -193,9 +117,9 @@ fn check_writer(
     text: &[u8],
 ) {
     let mut sink = IoSink::new(narrow);
-    same(rt, write_frames(found, &mut sink), answer);
+    same!(rt, write_frames(found, &mut sink), answer);
     let written = sink.into_writer();
-    same(rt, written.text(), text);
+    same!(rt, written.text(), text);
 }
 
 const OF_AN_EDGE: &[u8] = b"record 1 n=2 bytes=5\nend complete records=1\n";
@@ -226,7 +150,7 @@ fn writes_a_beginning_before_a_fault(rt: HostRuntime) {
 fn check_records(rt: &impl Abort, found: &Frames) {
     match found.mark() {
         Mark::Ended(Ending::Memory) => assert!(rt; found.records().len() < 2),
-        mark => same(
+        mark => same!(
             rt,
             (mark, found.records().len()),
             (Mark::Ended(Ending::Complete), 2),
@@ -238,8 +162,8 @@ fn check_records(rt: &impl Abort, found: &Frames) {
 /// The report is written, whatever memory there is.
 fn check_lines(rt: &impl Abort, found: &Frames) {
     let mut sink = IoSink::new(Narrow::new(80, 80, true));
-    same(rt, write_frames(found, &mut sink), Ok(()));
-    same(rt, sink.into_writer().text().ends_with(b"\n"), true);
+    same!(rt, write_frames(found, &mut sink), Ok(()));
+    same!(rt, sink.into_writer().text().ends_with(b"\n"), true);
 }
 
 /// With each allocation refused in turn, a run ends in a mark or a fault that names it. Where a

@@ -3,11 +3,11 @@
 ghost use Rattle.std.specs.Prelude.{◌<◌};
 ghost use Rattle.networks.specs.Flow.{Solves};
 
-use crate::compared::same;
 use crate::plain;
 use min_cost_flow::{Arc, Cap, NetFault, Network, SolveFault, Solved, solve};
 use std::alloc::Global;
 use std::process::Abort;
+use test_tools::{Random, same};
 
 /// The network of supplies and arcs given as `(from, to, cap, cost)`.
 pub(crate) fn network(
@@ -57,15 +57,15 @@ pub(crate) fn cost_of(network: &Network, solved: &Solved) -> u64
 fn expect_free_way(rt: &impl Abort, network: &Network, solved: &Solved)
     requires { Solves network.now solved.now }
 {
-    same(rt, (network.arc_count(), network.node_count()), (3, 3));
+    same!(rt, (network.arc_count(), network.node_count()), (3, 3));
     for arc in 0..network.arc_count() {
-        same(rt, (arc, solved.flow(arc as u32)), (arc, 1));
+        same!(rt, (arc, solved.flow(arc as u32)), (arc, 1));
     }
     for node in 0..network.node_count() {
         let potential = solved.potential(node as u32);
-        same(rt, (node, potential.max(0)), (node, 0));
+        same!(rt, (node, potential.max(0)), (node, 0));
     }
-    same(rt, (solved.searches(), solved.looks()), (2, 6));
+    same!(rt, (solved.searches(), solved.looks()), (2, 6));
 }
 
 /// Arcs of three nodes: an expensive one from the first to the last, and a free way for one unit.
@@ -110,7 +110,7 @@ fn work_of(rt: &impl Abort, alloc: Global, network: &Network) -> (u32, u64) {
 fn looks_are_told_exactly(rt: HostRuntime) {
     for (units, looks) in [(1, 3), (9, 99), (10, 120), (300, 90_600), (1000, 1_002_000)] {
         let network = fountain(&rt, rt.alloc(), units);
-        same(&rt, work_of(&rt, rt.alloc(), &network), (units, looks));
+        same!(&rt, work_of(&rt, rt.alloc(), &network), (units, looks));
     }
 }
 
@@ -127,7 +127,7 @@ fn the_least_score_is_found(rt: HostRuntime) {
         ];
         let network = network(&rt, rt.alloc(), &[1, 1, -1, -1], &arcs);
         let network = network.expect(&rt, "a network");
-        same(&rt, work_of(&rt, rt.alloc(), &network), (2, 3));
+        same!(&rt, work_of(&rt, rt.alloc(), &network), (2, 3));
     }
 }
 
@@ -167,7 +167,7 @@ const COSTS: [(&[i32], &[(u32, u32, Cap, u32)], Result<u64, SolveFault>); 13] = 
 fn special_arcs_serve(rt: HostRuntime) {
     for (supplies, arcs, expected) in COSTS {
         let network = network(&rt, rt.alloc(), supplies, arcs).expect(&rt, "a network");
-        same(&rt, least_cost(rt.alloc(), &network), expected);
+        same!(&rt, least_cost(rt.alloc(), &network), expected);
     }
 }
 
@@ -183,7 +183,7 @@ const FAULTS: [(&[i32], (u32, u32, Cap, u32), NetFault); 4] = [
 fn the_first_fault_is_named(rt: HostRuntime) {
     for (supplies, arc, expected) in FAULTS {
         let fault = network(&rt, rt.alloc(), supplies, &[arc]).err();
-        same(&rt, fault, Some(expected));
+        same!(&rt, fault, Some(expected));
     }
 }
 
@@ -191,68 +191,58 @@ fn the_first_fault_is_named(rt: HostRuntime) {
 fn faults_say_what_is_wrong(rt: HostRuntime) {
     let text = format!(in rt.alloc(); "{}, {}", NetFault::BadEnd, SolveFault::Memory);
     let want = "an arc has an end that is no node, out of memory";
-    same(&rt, text.expect(&rt, "memory").as_str(), want);
+    same!(&rt, text.expect(&rt, "memory").as_str(), want);
 }
 
-/// A linear congruential generator (Knuth's MMIX constants), its upper 31 bits.
-#[derive(Drop)]
-pub(crate) struct Numbers {
-    pub state: u64,
-}
-
-impl Numbers {
-    /// The next random number below `bound`.
-    pub fn below(&mut self, bound: u32) -> u32
-        requires { 0 < bound }
-        ensures { result < bound }
-    {
-        let next = self.state.wrapping_mul(6_364_136_223_846_793_005);
-        self.state = next.wrapping_add(1_442_695_040_888_963_407);
-        ((self.state >> 33) % u64::from(bound)) as u32
-    }
+/// The next random number below `bound`.
+fn below(random: &mut Random, bound: u32) -> u32
+    requires { 0 < bound }
+    ensures { result < bound }
+{
+    random.below(u64::from(bound)) as u32
 }
 
 /// The supplies of the next random network with this many nodes.
-fn random_supplies(rt: &impl Abort, alloc: Global, numbers: &mut Numbers, nodes: u32) -> Vec<i32>
+fn random_supplies(rt: &impl Abort, alloc: Global, random: &mut Random, nodes: u32) -> Vec<i32>
     requires { 1 < nodes }
 {
     let mut supplies = vec![in alloc; 0i32; nodes as usize].expect(rt, "memory");
-    for _ in 0..1 + numbers.below(5) {
-        let units = 1 + numbers.below(3) as i32;
-        let start = numbers.below(nodes) as usize;
+    for _ in 0..1 + below(random, 5) {
+        let units = 1 + below(random, 3) as i32;
+        let start = below(random, nodes) as usize;
         supplies[start] = supplies[start].saturating_add(units);
-        let end = numbers.below(nodes) as usize;
+        let end = below(random, nodes) as usize;
         supplies[end] = supplies[end].saturating_sub(units);
     }
-    if numbers.below(16) == 0 {
+    if below(random, 16) == 0 {
         supplies[0] = supplies[0].saturating_add(1);
     }
     supplies
 }
 
 /// The next of the random networks, made as `bench/outside/lemon.cc` makes it.
-pub(crate) fn random_network(rt: &impl Abort, alloc: Global, numbers: &mut Numbers) -> Network {
-    let nodes = 2 + numbers.below(7);
-    let supplies = random_supplies(rt, alloc, numbers, nodes);
+pub(crate) fn random_network(rt: &impl Abort, alloc: Global, random: &mut Random) -> Network {
+    let nodes = 2 + below(random, 7);
+    let supplies = random_supplies(rt, alloc, random, nodes);
     let mut arcs = Vec::new(alloc);
-    for _ in 0..2 * nodes + numbers.below(3 * nodes) {
-        arcs.push(random_arc(numbers, nodes)).expect(rt, "memory");
+    for _ in 0..2 * nodes + below(random, 3 * nodes) {
+        arcs.push(random_arc(random, nodes)).expect(rt, "memory");
     }
     Network::new(supplies, arcs).expect(rt, "a network")
 }
 
-fn random_arc(numbers: &mut Numbers, nodes: u32) -> Arc
+fn random_arc(random: &mut Random, nodes: u32) -> Arc
     requires { 0 < nodes }
 {
-    let from = numbers.below(nodes);
-    let to = numbers.below(nodes);
-    let limit = numbers.below(9);
+    let from = below(random, nodes);
+    let to = below(random, nodes);
+    let limit = below(random, 9);
     let cap = if limit < 6 {
         Cap::AtMost(limit)
     } else {
         Cap::Any
     };
-    let cost = numbers.below(4).min(1);
+    let cost = below(random, 4).min(1);
     Arc {
         from,
         to,
@@ -272,20 +262,20 @@ fn expect_random(
     let found = least_cost(alloc, network);
     let slow = plain::least_cost(rt, alloc, network);
     let due = expected.ok_or(SolveFault::Infeasible);
-    same(rt, (count, found, slow), (count, due, expected));
+    same!(rt, (count, found, slow), (count, due, expected));
 }
 
 #[test]
 fn random_networks_cost_what_other_solvers_found(rt: HostRuntime) {
-    let mut numbers = Numbers { state: 20_261_122 };
+    let mut random = Random { state: 20_261_122 };
     let mut count = 0u32;
     for word in LEAST_COSTS.split_whitespace() {
-        let network = random_network(&rt, rt.alloc(), &mut numbers);
+        let network = random_network(&rt, rt.alloc(), &mut random);
         let expected = word.parse::<u64>().ok();
         expect_random(&rt, rt.alloc(), &network, count, expected);
         count = count.saturating_add(1);
     }
-    same(&rt, count, 1000);
+    same!(&rt, count, 1000);
 }
 
 /// The least costs that networkx and LEMON found, `-` if there is no flow (`checks/drawings networks`).

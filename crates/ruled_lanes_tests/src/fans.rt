@@ -2,7 +2,7 @@
 ghost use Rattle.std.specs.Prelude.{◌≤◌};
 ghost use Rattle.ruled_lanes.specs.declared.limits.TheConstants.{MAX_CAPACITY};
 
-use crate::compared::{answer, joins, same};
+use crate::ends::{answer, joins};
 use ruled_lanes::{Gatherer, LANES, LaneGiver, MAX_CAPACITY, Memory, fan_in};
 use std::alloc::Global;
 use std::process::Abort;
@@ -10,6 +10,7 @@ use std::sync::Wait;
 use std::test::*;
 use std::thread;
 use std::thread::{JoinHandle, Threads};
+use test_tools::same;
 
 /// A refused allocation is a fault, and a second call makes the fan. Items arrive in order with their lanes, and then
 /// no more arrive once all givers are gone.
@@ -21,25 +22,25 @@ fn refused_memory_is_told(rt: HostRuntime) {
     };
     let items = [(0, 10), (2, 20), (0, 11)];
     for (lane, item) in items {
-        same(&rt, givers[lane].give(&rt, item), Ok(()));
+        same!(&rt, givers[lane].give(&rt, item), Ok(()));
     }
     drop(givers);
     for (lane, item) in items {
-        same(&rt, gatherer.take(&rt), Ok((lane as u32, item)));
+        same!(&rt, gatherer.take(&rt), Ok((lane as u32, item)));
     }
-    same(&rt, answer(gatherer.take(&rt)), Err(()));
+    same!(&rt, answer(gatherer.take(&rt)), Err(()));
 }
 
 /// Items arrive in order with their lanes, and then the gatherer takes all givers in.
 #[test]
 fn all_givers_are_taken_in(rt: HostRuntime) {
     let (mut givers, mut gatherer) = fan_in(rt.alloc(), 8).expect(&rt, "memory");
-    same(&rt, givers[0].give(&rt, 10), Ok(()));
-    same(&rt, givers[2].give(&rt, 20), Ok(()));
-    same(&rt, givers[0].give(&rt, 11), Ok(()));
-    same(&rt, gatherer.take(&rt), Ok((0, 10)));
-    same(&rt, gatherer.take(&rt), Ok((2, 20)));
-    same(&rt, gatherer.take(&rt), Ok((0, 11)));
+    same!(&rt, givers[0].give(&rt, 10), Ok(()));
+    same!(&rt, givers[2].give(&rt, 20), Ok(()));
+    same!(&rt, givers[0].give(&rt, 11), Ok(()));
+    same!(&rt, gatherer.take(&rt), Ok((0, 10)));
+    same!(&rt, gatherer.take(&rt), Ok((2, 20)));
+    same!(&rt, gatherer.take(&rt), Ok((0, 11)));
     gatherer.settle(&rt, givers);
 }
 
@@ -48,7 +49,7 @@ fn the_gatherer_is_gone(rt: HostRuntime) {
     let (mut givers, gatherer) = fan_in(rt.alloc(), 4).expect(&rt, "memory");
     drop(gatherer);
     for giver in &mut givers {
-        same(&rt, answer(giver.give(&rt, 7u32)), Err(7));
+        same!(&rt, answer(giver.give(&rt, 7u32)), Err(7));
     }
 }
 
@@ -86,11 +87,11 @@ fn take_all<R: Wait + Abort>(rt: &R, mut gatherer: Gatherer<u32>) {
     for _ in 0..LANES * 250 {
         let (lane, item) = gatherer.take(rt).expect(rt, "an item");
         let due = &mut next[lane as usize];
-        same(rt, item, *due);
+        same!(rt, item, *due);
         *due = due.saturating_add(1);
     }
-    same(rt, next, [250; LANE_COUNT]);
-    same(rt, answer(gatherer.take(rt)), Err(()));
+    same!(rt, next, [250; LANE_COUNT]);
+    same!(rt, answer(gatherer.take(rt)), Err(()));
 }
 
 // Each lane gives from a thread of its own, and the numbers of each arrive in order.
@@ -121,7 +122,7 @@ fn givers_that_wait_are_refused(rt: HostRuntime) {
     let (givers, mut gatherer) = fan_in(rt.alloc(), 1).expect(&rt, "memory");
     let children = start(rt, rt.alloc(), givers, 1000);
     let (_, item) = gatherer.take(&rt).expect(&rt, "an item");
-    same(&rt, item, 0);
+    same!(&rt, item, 0);
     drop(gatherer);
     for child in children {
         joins(&rt, child, 0, 2);

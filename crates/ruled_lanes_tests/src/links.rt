@@ -2,7 +2,7 @@
 ghost use Rattle.std.specs.Prelude.{◌≤◌};
 ghost use Rattle.ruled_lanes.specs.declared.limits.TheConstants.{MAX_CAPACITY};
 
-use crate::compared::{answer, joins, same};
+use crate::ends::{answer, joins};
 use ruled_lanes::{Giver, MAX_CAPACITY, Memory, Taker, link};
 use std::alloc::Global;
 use std::process::Abort;
@@ -10,13 +10,14 @@ use std::sync::Wait;
 use std::test::*;
 use std::thread;
 use std::thread::Threads;
+use test_tools::same;
 
 // Takes the numbers below `count`, and then no more arrive.
 pub(crate) fn take_below<R: Wait + Abort>(rt: &R, mut taker: Taker<u32>, count: u32) {
     for item in 0..count {
-        same(rt, taker.take(rt), Ok(item));
+        same!(rt, taker.take(rt), Ok(item));
     }
-    same(rt, answer(taker.take(rt)), Err(()));
+    same!(rt, answer(taker.take(rt)), Err(()));
 }
 
 // Gives the numbers below `count`, until one is refused; returns that one, or `count`.
@@ -32,7 +33,7 @@ pub(crate) fn give_below(rt: &impl Wait, mut giver: Giver<u32>, count: u32) -> u
 #[test]
 fn the_giver_is_gone(rt: HostRuntime) {
     let (giver, taker) = link(rt.alloc(), 4).expect(&rt, "memory");
-    same(&rt, give_below(&rt, giver, 3), 3);
+    same!(&rt, give_below(&rt, giver, 3), 3);
     take_below(&rt, taker, 3);
 }
 
@@ -40,7 +41,7 @@ fn the_giver_is_gone(rt: HostRuntime) {
 fn the_taker_is_gone(rt: HostRuntime) {
     let (mut giver, taker) = link(rt.alloc(), 4).expect(&rt, "memory");
     drop(taker);
-    same(&rt, answer(giver.give(&rt, 7u32)), Err(7));
+    same!(&rt, answer(giver.give(&rt, 7u32)), Err(7));
 }
 
 // A thousand numbers go from one thread to another.
@@ -61,7 +62,7 @@ fn pass_through<R: Threads + Wait + Abort + Copy + Send + 'static>(
 fn a_giver_that_waits_is_refused(rt: HostRuntime) {
     let (giver, mut taker) = link(rt.alloc(), 1).expect(&rt, "memory");
     let child = thread::spawn(&rt, move || give_below(&rt, giver, 1000)).expect(&rt, "a thread");
-    same(&rt, taker.take(&rt), Ok(0));
+    same!(&rt, taker.take(&rt), Ok(0));
     drop(taker);
     joins(&rt, child, 1, 2);
 }
@@ -80,8 +81,8 @@ fn refused_memory_is_told(rt: HostRuntime) {
         Ok(ends) => ends,
         Err(Memory) => link(rt.alloc(), 2).expect(&rt, "memory"),
     };
-    same(&rt, giver.give(&rt, 5u32), Ok(()));
-    same(&rt, taker.take(&rt), Ok(5));
+    same!(&rt, giver.give(&rt, 5u32), Ok(()));
+    same!(&rt, taker.take(&rt), Ok(5));
 }
 
 #[test]
@@ -92,5 +93,5 @@ fn messages(rt: HostRuntime) {
     let told = format!(in rt.alloc(); "{closed} {closed:?} {Memory}");
     let told = told.expect(&rt, "memory");
     let wanted = "the other end of the channel is gone Closed(..) out of memory";
-    same(&rt, told.as_str(), wanted);
+    same!(&rt, told.as_str(), wanted);
 }

@@ -1,15 +1,9 @@
-//! Comparisons that the tests share. (An `assert_eq!` in each place would make the tests' proofs several times
-//! as long.)
+//! How tests look at answers of ends, and at threads that have one.
 
 use ruled_lanes::Closed;
-use std::fmt::Debug;
 use std::process::Abort;
 use std::thread::{JoinHandle, Threads};
-
-/// Checks that two values are the same.
-pub(crate) fn same<T: PartialEq + Debug + Drop>(rt: &impl Abort, got: T, want: T) {
-    assert_eq!(rt; got, want);
-}
+use test_tools::same;
 
 /// The answer of a call on a link or a fan, or the value that a refused call returned.
 pub(crate) fn answer<T, U>(got: Result<T, Closed<U>>) -> Result<T, U> {
@@ -22,5 +16,5 @@ pub(crate) fn answer<T, U>(got: Result<T, Closed<U>>) -> Result<T, U> {
 /// Waits for a thread, and checks that its number is between these two, inclusive.
 pub(crate) fn joins<R: Threads + Abort>(rt: &R, child: JoinHandle<u32>, least: u32, most: u32) {
     let number = child.join(rt);
-    same(rt, number.max(least).min(most), number);
+    same!(rt, number.max(least).min(most), number);
 }

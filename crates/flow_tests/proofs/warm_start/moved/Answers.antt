@@ -3,8 +3,8 @@ use Rattle.std.proofs.lemmas.Int.{to_z-of_z}
 use mir.Val.{SFits}
 use Rattle.std.specs.Prelude.{ℤ, pos, negsuc, ◌≤ℤ◌}
 use Rattle.networks.specs.Networks.{NetworkModel, shifted, HasSuppliesInRange}
-use Rattle.base_tests.proofs.FairSupplies.{still_fair}
-use Rattle.base_tests.proofs.warm_start.moved.Goals as goal
+use Rattle.flow_tests.proofs.FairSupplies.{still_fair}
+use Rattle.flow_tests.proofs.warm_start.moved.Goals as goal
 
 pub shift-requires-clause-in_range : goal.shift-requires-clause-in_range
 shift-requires-clause-in_range c =

@@ -3,12 +3,12 @@ ghost use Rattle.std.specs.Prelude.{◌≡◌, ◌<◌, ◌≤◌, All, vec_len}
 ghost use Rattle.ruled_lanes.specs.declared.limits.TheConstants.{LANES};
 ghost use Rattle.ruled_lanes.specs.TicketSeats.{IsSeatOf};
 
-use crate::compared::same;
 use ruled_lanes::{MAX_TICKETS, Memory, Seat, Tickets};
 use std::process::Abort;
 use std::sync::atomic::{AtomicU32, Ordering};
 use std::test::*;
 use std::thread::{Threads, for_each_mut};
+use test_tools::same;
 
 // Draws at the seat of a number, and checks the answer.
 fn draws(
@@ -23,7 +23,7 @@ fn draws(
     ensures count { vec_len seats.new ≡ vec_len seats.old }
     ensures seats { All (IsSeatOf tickets.now) seats.new.items }
 {
-    same(rt, tickets.draw(&mut seats[number]), answer);
+    same!(rt, tickets.draw(&mut seats[number]), answer);
 }
 
 /// A refused allocation is a fault, and a second call makes the tickets. Two seats draw on one thread.
@@ -39,7 +39,7 @@ fn refused_memory_is_told(rt: HostRuntime) {
     draws(&rt, &tickets, &mut seats, 0, None);
     draws(&rt, &tickets, &mut seats, 0, None);
     draws(&rt, &tickets, &mut seats, 1, None);
-    same(&rt, tickets.close(seats), 5);
+    same!(&rt, tickets.close(seats), 5);
 }
 
 #[test]
@@ -47,7 +47,7 @@ fn nothing_to_draw(rt: HostRuntime) {
     let (tickets, mut seats) = Tickets::new(rt.alloc(), 0, 1).expect(&rt, "memory");
     draws(&rt, &tickets, &mut seats, 0, None);
     draws(&rt, &tickets, &mut seats, 0, None);
-    same(&rt, tickets.close(seats), 1);
+    same!(&rt, tickets.close(seats), 1);
 }
 
 // Draws until there is nothing left, and adds the numbers to a sum.
@@ -89,8 +89,8 @@ fn deals<R: Abort + AllocGlobal + Threads + Sync>(rt: &R, lanes: u32, word: u32)
     let (tickets, mut seats) = Tickets::new(rt.alloc(), 256, lanes).expect(rt, "memory");
     let sum = AtomicU32::new(0);
     draw_in_threads(rt, &tickets, &mut seats, &sum);
-    same(rt, tickets.close(seats), word);
-    same(rt, sum.load(Ordering::SeqCst), 32_640);
+    same!(rt, tickets.close(seats), word);
+    same!(rt, sum.load(Ordering::SeqCst), 32_640);
 }
 
 #[test]

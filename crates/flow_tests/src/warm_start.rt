@@ -2,9 +2,9 @@
 ghost use Rattle.std.specs.Prelude.{◌≡◌, ◌<◌, ◌≤◌, ◌≤ℤ◌, pos, negsuc, true, IfSome};
 ghost use Rattle.networks.specs.Networks.{node_count, supply_at};
 
-use crate::compared::same;
 use crate::flows::{FREE_WAY, cost_of, network};
 use min_cost_flow::{Network, WarmStart};
+use test_tools::same;
 
 /// Whether one supply may grow by 40 and another may fall by as much.
 fn is_within(more: i32, less: i32) -> bool
@@ -61,7 +61,7 @@ fn moved_supplies_have_their_costs(rt: HostRuntime) {
     let free = warm_start.least_cost().0;
     let solved = warm_start.solved(rt.alloc()).expect(&rt, "memory");
     let read_off = cost_of(warm_start.network(), &solved);
-    same(&rt, (dear, free, read_off), (1, 0, 0));
+    same!(&rt, (dear, free, read_off), (1, 0, 0));
     assert!(rt; twin.node_count() == 3);
     assert!(rt; moved(warm_start, &mut twin, 0, 1, 3).is_none());
 }
