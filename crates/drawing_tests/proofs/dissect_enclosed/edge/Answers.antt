@@ -1,5 +1,5 @@
 use Rattle.drawing_tests.proofs.StraightEdge.{edge_sound}
-use Rattle.drawing_tests.proofs.enclosed.edge.Goals as goal
+use Rattle.drawing_tests.proofs.dissect_enclosed.edge.Goals as goal
 
 pub returns-clause-sound : goal.returns-clause-sound
 returns-clause-sound c =

@@ -5,10 +5,10 @@ ghost use Rattle.dissect.specs.FaceNumbers.{HasTurns};
 ghost use Rattle.dissect.specs.Tables.{room, dart_map_of};
 ghost use Rattle.dissect.specs.DartMaps.{IsSound, reflex_turns};
 
-use crate::planes::same;
 use dissect::{DartTable, Faces, NO_DART, refine_in};
 use std::alloc::{AllocError, Global};
 use std::process::Abort;
+use test_tools::same;
 
 const TABLE_ROOM: usize = 42;
 
@@ -68,9 +68,9 @@ fn count_of(angles: &[u8], width: u8) -> usize {
 
 /// What the table of four boxes round an edge holds.
 fn expect_boxes(rt: &impl Abort, table: &DartTable) {
-    same(rt, (table.vertices, table.darts), (10, 26));
+    same!(rt, (table.vertices, table.darts), (10, 26));
     let angles = &table.angle.as_slice()[..table.darts as usize];
-    same(rt, (count_of(angles, 1), count_of(angles, 3)), (16, 4));
+    same!(rt, (count_of(angles, 1), count_of(angles, 3)), (16, 4));
 }
 
 // Four boxes lie round the edge: below and above it, and beyond each of its ends. Run with each allocation refused in
@@ -82,7 +82,7 @@ fn refused_memory_leaves_the_edge(rt: HostRuntime) {
         return;
     };
     if refine_in(&mut table, 0, Faces::empty(alloc)).is_err() {
-        same(&rt, (table.darts, table.vertices), (2, 2));
+        same!(&rt, (table.darts, table.vertices), (2, 2));
         assert!(rt; refine_in(&mut table, 0, Faces::empty(alloc)).is_ok());
     }
     expect_boxes(&rt, &table);

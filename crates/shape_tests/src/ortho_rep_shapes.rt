@@ -1,82 +1,19 @@
 //! Small planes by hand, and a thousand random shapes and prices against a plain reading of the rules.
 
-ghost use Rattle.std.specs.Prelude.{◌<◌};
 ghost use Rattle.ortho_rep.specs.Representation.{HasDarts};
 
-use crate::compared::same;
-use embedding::Graph;
 use faces::Plane;
 use ortho_rep::{Prices, Shape, Turn, certify, is_shape, least_shape};
-use planar_code::{Framer, HEADER, Record};
 use std::alloc::{AllocError, Global};
 use std::process::Abort;
-
-pub(crate) const L: Turn = Turn::Left;
-
-pub(crate) const R: Turn = Turn::Right;
-
-/// A record, the angles and strings of a shape, and prices.
-#[derive(Clone, Copy)]
-pub(crate) struct Case<'a> {
-    pub(crate) record: &'a [u8],
-    pub(crate) angles: &'a [u8],
-    pub(crate) strings: &'a [&'a [Turn]],
-    pub(crate) vertices: &'a [i32],
-    pub(crate) faces: &'a [i32],
-}
-
-pub(crate) const TRIANGLE: [u8; 10] = [3, 2, 3, 0, 3, 1, 0, 1, 2, 0];
-
-pub(crate) const PATH: [u8; 14] = [5, 2, 0, 1, 3, 0, 2, 4, 0, 3, 5, 0, 4, 0];
-
-pub(crate) const EDGE: [u8; 5] = [2, 2, 0, 1, 0];
-
-/// The record of these bytes.
-fn record_of(alloc: Global, bytes: &[u8]) -> Option<Record> {
-    let mut framer = Framer::new(alloc).ok()?;
-    let mut records = Vec::new(alloc);
-    framer.feed(alloc, &HEADER, &mut records).ok()?;
-    framer.feed(alloc, bytes, &mut records).ok()?;
-    records.pop()
-}
-
-/// The plane of these bytes, if they are a record of one and there is memory.
-pub(crate) fn plane_in(alloc: Global, bytes: &[u8]) -> Option<Plane> {
-    let record = record_of(alloc, bytes)?;
-    let graph = Graph::read(alloc, &record).ok()?;
-    Plane::trace(alloc, graph).ok()
-}
-
-/// The plane of these bytes, which are a record of one, where memory suffices.
-pub(crate) fn plane_of(rt: &impl Abort, alloc: Global, bytes: &[u8]) -> Plane {
-    plane_in(alloc, bytes).expect(rt, "a plane")
-}
-
-/// These strings, each in memory of its own.
-fn strings_of(alloc: Global, strings: &[&[Turn]]) -> Result<Vec<Vec<Turn>>, AllocError> {
-    let mut lists = Vec::new(alloc);
-    for turns in strings {
-        lists.push(turns.to_vec(alloc)?)?;
-    }
-    Ok(lists)
-}
+use test_inputs::{Case, L, ONE_BEND, R, plane_in, prices_in, shape_in, strings_in};
+use test_tools::records::{CUBE, EDGE, OCTAHEDRON, PATH, SQUARE, STAR, TETRAHEDRON, TRIANGLE};
+use test_tools::{Random, same};
 
 /// The shape of these angles and strings, which are short.
 fn shape_of(rt: &impl Abort, angles: Vec<u8>, strings: Vec<Vec<Turn>>) -> Shape {
     assert!(rt; Shape::have_few_turns(&strings));
     Shape::new(angles, strings)
-}
-
-/// The shape of a case, where memory suffices.
-pub(crate) fn shape_in(rt: &impl Abort, alloc: Global, case: &Case<'_>) -> Shape {
-    let strings = strings_of(alloc, case.strings).expect(rt, "memory");
-    let angles = case.angles.to_vec(alloc).expect(rt, "memory");
-    shape_of(rt, angles, strings)
-}
-
-pub(crate) fn prices_in(alloc: Global, case: &Case<'_>) -> Result<Prices, AllocError> {
-    let vertices = case.vertices.to_vec(alloc)?;
-    Ok(Prices::new(vertices, case.faces.to_vec(alloc)?))
 }
 
 /// What both tests say.
@@ -86,7 +23,7 @@ pub(crate) fn answers(plane: &Plane, shape: &Shape, prices: &Prices) -> (bool, b
 
 /// What both tests say of a shape with the prices of a case.
 fn answers_in(rt: &impl Abort, alloc: Global, case: &Case<'_>, shape: &Shape) -> (bool, bool) {
-    let plane = plane_of(rt, alloc, case.record);
+    let plane = plane_in(alloc, case.record).expect(rt, "a plane");
     let prices = prices_in(alloc, case).expect(rt, "memory");
     answers(&plane, shape, &prices)
 }
@@ -97,24 +34,15 @@ type Row = (Case<'static>, (bool, bool), u32);
 /// Sees that the tests say this of each case, and that it has so many bends.
 fn expect(rt: &impl Abort, alloc: Global, rows: &[Row]) {
     for (case, right, bends) in rows {
-        let shape = shape_in(rt, alloc, case);
+        let shape = shape_in(alloc, case.angles, case.strings).expect(rt, "a shape");
         let found = answers_in(rt, alloc, case, &shape);
-        same(rt, (found, shape.bends()), (*right, *bends));
+        same!(rt, (found, shape.bends()), (*right, *bends));
     }
 }
 
-// The edge from 1 to 3 bends once.
-pub(crate) const ONE_BEND: Case<'static> = Case {
-    record: &TRIANGLE,
-    angles: &[3, 1, 3, 1, 3, 1],
-    strings: &[&[], &[L], &[], &[], &[R], &[]],
-    vertices: &[1, 1, 1],
-    faces: &[1, 0],
-};
-
 // Each edge bends once.
 const THREE_BENDS: Case<'static> = Case {
-    record: &TRIANGLE,
+    record: TRIANGLE,
     angles: &[2, 2, 2, 1, 3, 2],
     strings: &[&[R], &[L], &[R], &[L], &[R], &[L]],
     vertices: &[1, 1, 1],
@@ -123,7 +51,7 @@ const THREE_BENDS: Case<'static> = Case {
 
 // Three corners to the left.
 const ROLLED: Case<'static> = Case {
-    record: &PATH,
+    record: PATH,
     angles: &[1, 4, 1, 3, 1, 3, 4, 3],
     strings: &[&[], &[], &[], &[], &[], &[], &[], &[]],
     vertices: &[0, 0, 0, 0, 0],
@@ -132,7 +60,7 @@ const ROLLED: Case<'static> = Case {
 
 // Four bends on a single edge.
 const STAIR: Case<'static> = Case {
-    record: &EDGE,
+    record: EDGE,
     angles: &[4, 4],
     strings: &[&[L, L, R, L], &[R, L, R, R]],
     vertices: &[0, 0],
@@ -214,27 +142,11 @@ fn strings_of_a_million_turns(rt: HostRuntime) {
     let angles = [4, 4].to_vec(alloc).expect(&rt, "memory");
     let strings = spiral(alloc, 1_000_000).expect(&rt, "memory");
     let shape = shape_of(&rt, angles, strings);
-    same(&rt, is_shape(&plane_of(&rt, alloc, &EDGE), &shape), true);
-}
-
-/// Numbers that look random, the same at each run.
-#[derive(Drop)]
-struct Random {
-    state: u64,
-}
-
-impl Random {
-    /// A number below a bound that is not 0.
-    fn below(&mut self, bound: u64) -> u64
-        requires { 0 < bound }
-        ensures { result < bound }
-    {
-        self.state = self
-            .state
-            .wrapping_mul(6_364_136_223_846_793_005)
-            .wrapping_add(1_442_695_040_888_963_407);
-        (self.state >> 33) % bound
-    }
+    same!(
+        &rt,
+        is_shape(&plane_in(alloc, EDGE).expect(&rt, "a plane"), &shape),
+        true
+    );
 }
 
 /// The rules for representations, read plainly: each sum over all darts, with its sign.
@@ -396,7 +308,7 @@ fn random_strings(
     random: &mut Random,
     strings: &[&[Turn]],
 ) -> Result<Vec<Vec<Turn>>, AllocError> {
-    let mut strings = strings_of(alloc, strings)?;
+    let mut strings = strings_in(alloc, strings)?;
     spoil_string(random, &mut strings)?;
     spoil_length(random, &mut strings);
     Ok(strings)
@@ -434,7 +346,7 @@ fn answers_as_read(rt: &impl Abort, plane: &Plane, shape: &Shape, prices: &Price
         plainly_is_shape(plane, shape),
         plainly_certifies(plane, shape, prices),
     );
-    same(rt, got, read);
+    same!(rt, got, read);
     got
 }
 
@@ -454,7 +366,7 @@ fn random_answers(
 /// How often the test of shapes says yes of 250 random shapes and prices like those of a case. Both tests say always
 /// what the plain reading says.
 fn count_random(rt: &impl Abort, alloc: Global, seed: u64, case: &Case<'_>) -> u32 {
-    let plane = plane_of(rt, alloc, case.record);
+    let plane = plane_in(alloc, case.record).expect(rt, "a plane");
     let mut random = Random { state: seed };
     let mut shapes = 0u32;
     for _ in 0..250 {
@@ -481,35 +393,20 @@ fn figures_of_least(rt: &impl Abort, alloc: Global, plane: &Plane) -> (u32, (boo
 
 /// A least shape of these bytes has so many bends, and passes both tests with its prices.
 pub(crate) fn expect_least(rt: &impl Abort, alloc: Global, bytes: &[u8], bends: u32) {
-    let plane = plane_of(rt, alloc, bytes);
+    let plane = plane_in(alloc, bytes).expect(rt, "a plane");
     let found = figures_of_least(rt, alloc, &plane);
-    same(rt, found, (bends, (true, true)));
+    same!(rt, found, (bends, (true, true)));
 }
-
-pub(crate) const K4: [u8; 17] = [4, 3, 4, 2, 0, 1, 4, 3, 0, 2, 4, 1, 0, 3, 2, 1, 0];
-
-pub(crate) const OCTAHEDRON: [u8; 31] = [
-    6, 2, 3, 4, 5, 0, 6, 3, 1, 5, 0, 2, 6, 4, 1, 0, 1, 3, 6, 5, 0, 2, 1, 4, 6, 0, 2, 5, 4, 3, 0,
-];
-
-pub(crate) const STAR: [u8; 14] = [5, 2, 3, 4, 5, 0, 1, 0, 1, 0, 1, 0, 1, 0];
-
-pub(crate) const FOUR_CYCLE: [u8; 13] = [4, 2, 4, 0, 3, 1, 0, 4, 2, 0, 1, 3, 0];
-
-pub(crate) const CUBE: [u8; 33] = [
-    8, 2, 5, 4, 0, 3, 6, 1, 0, 4, 7, 2, 0, 1, 8, 3, 0, 1, 6, 8, 0, 2, 7, 5, 0, 3, 8, 6, 0, 4, 5, 7,
-    0,
-];
 
 /// Graphs and their fewest bends.
 const BENDS: [(&[u8], u32); 7] = [
-    (&EDGE, 0),
-    (&TRIANGLE, 1),
-    (&STAR, 0),
-    (&FOUR_CYCLE, 0),
-    (&K4, 4),
-    (&OCTAHEDRON, 12),
-    (&CUBE, 4),
+    (EDGE, 0),
+    (TRIANGLE, 1),
+    (STAR, 0),
+    (SQUARE, 0),
+    (TETRAHEDRON, 4),
+    (OCTAHEDRON, 12),
+    (CUBE, 4),
 ];
 
 #[test]
@@ -517,16 +414,4 @@ fn fewest_bends(rt: HostRuntime) {
     for (bytes, bends) in BENDS {
         expect_least(&rt, rt.alloc(), bytes, bends);
     }
-}
-
-/// The record of a cycle on 255 vertices.
-pub(crate) fn long_cycle(alloc: Global) -> Result<Vec<u8>, AllocError> {
-    let mut bytes = Vec::new(alloc);
-    bytes.push(255)?;
-    for vertex in 0..255u8 {
-        bytes.push(if vertex == 254 { 1 } else { vertex + 2 })?;
-        bytes.push(if vertex == 0 { 255 } else { vertex })?;
-        bytes.push(0)?;
-    }
-    Ok(bytes)
 }

@@ -1,11 +1,14 @@
 //! Directions worked out by hand, and refused allocations.
 
-use crate::planes::{EDGE, TRIANGLE, bent_triangle_in, plane_in, same, shape_in};
+use crate::planes::bent_triangle_in;
 use dissect::{DirectionSearch, directions_in};
 use faces::Plane;
 use ortho_rep::{Shape, Turn, is_shape};
 use std::alloc::{AllocError, Global};
 use std::process::Abort;
+use test_inputs::{plane_in, shape_in};
+use test_tools::records::{EDGE, TRIANGLE};
+use test_tools::same;
 
 /// The directions of a shape, by the second call where the first finds no memory.
 fn headings_at_last(rt: &impl Abort, alloc: Global, plane: &Plane, shape: &Shape) -> Vec<u8> {
@@ -47,8 +50,8 @@ const EDGES: [([&[Turn]; 2], [u8; 2]); 4] = [
 fn worked_out_by_hand(rt: HostRuntime) {
     for (strings, want) in EDGES {
         let shape = shape_in(rt.alloc(), &[4, 4], &strings).expect(&rt, "a shape");
-        let found = has_headings(&rt, rt.alloc(), &EDGE, &shape, &want);
-        same(&rt, found, Some(true));
+        let found = has_headings(&rt, rt.alloc(), EDGE, &shape, &want);
+        same!(&rt, found, Some(true));
     }
 }
 
@@ -60,6 +63,6 @@ fn refused_allocations(rt: HostRuntime) {
         return;
     };
     let want = [0, 0, 3, 2, 1, 1];
-    let found = has_headings(&rt, rt.alloc(), &TRIANGLE, &shape, &want);
-    same(&rt, found.unwrap_or(true), true);
+    let found = has_headings(&rt, rt.alloc(), TRIANGLE, &shape, &want);
+    same!(&rt, found.unwrap_or(true), true);
 }

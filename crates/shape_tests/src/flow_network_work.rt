@@ -3,14 +3,16 @@
 ghost use Rattle.std.specs.Prelude.{◌≤◌};
 ghost use Rattle.ortho_rep.specs.Representation.{HasDarts};
 
-use crate::compared::same;
-use crate::tests::{EDGE, OCTAHEDRON, TRIANGLE, expect_least, long_cycle, plane_of};
+use crate::ortho_rep_shapes::expect_least;
 use faces::Plane;
 use flow_network::FaceNet;
 use min_cost_flow::{Arc, Cap, Network, SolveFault, solve};
 use ortho_rep::{Shape, least_shape};
 use std::alloc::{AllocError, Global};
 use std::process::Abort;
+use test_inputs::plane_in;
+use test_tools::records::{EDGE, OCTAHEDRON, TRIANGLE, longest_cycle};
+use test_tools::same;
 
 /// How many units are supplied in a network.
 fn supplied_in(network: &Network) -> u64 {
@@ -31,7 +33,7 @@ fn work_of(alloc: Global, network: &Network) -> Result<(u64, u64), SolveFault> {
 /// in each search no more looks than twice the number of arcs; there is at least one search and one look.
 fn expect_work(rt: &impl Abort, alloc: Global, network: &Network, supplied: u64, arcs: u64) {
     let counts = (supplied_in(network), network.arc_count() as u64);
-    same(rt, counts, (supplied, arcs));
+    same!(rt, counts, (supplied, arcs));
     let (searches, looks) = work_of(alloc, network).expect(rt, "a flow");
     expect_between(rt, searches, supplied);
     expect_between(rt, looks, supplied.wrapping_mul(2).wrapping_mul(arcs));
@@ -44,7 +46,7 @@ fn expect_between(rt: &impl Abort, number: u64, most: u64) {
 
 /// The same of the network of a plane.
 fn expect_plane_work(rt: &impl Abort, alloc: Global, bytes: &[u8], supplied: u64, arcs: u64) {
-    let plane = plane_of(rt, alloc, bytes);
+    let plane = plane_in(alloc, bytes).expect(rt, "a plane");
     let net = FaceNet::build(alloc, &plane).expect(rt, "memory");
     expect_work(rt, alloc, net.network(), supplied, arcs);
 }
@@ -81,11 +83,11 @@ fn free_way(rt: &impl Abort, alloc: Global) -> Network {
 fn little_work(rt: HostRuntime) {
     let alloc = rt.alloc();
     expect_work(&rt, alloc, &free_way(&rt, alloc), 2, 3);
-    let cycle = long_cycle(alloc).expect(&rt, "memory");
+    let cycle = longest_cycle(alloc).expect(&rt, "memory");
     for (bytes, supplied, arcs) in [
-        (EDGE.as_slice(), 6, 4),
-        (&TRIANGLE, 7, 12),
-        (&OCTAHEDRON, 7, 48),
+        (EDGE, 6, 4),
+        (TRIANGLE, 7, 12),
+        (OCTAHEDRON, 7, 48),
         (&cycle, 510, 1020),
     ] {
         expect_plane_work(&rt, alloc, bytes, supplied, arcs);
@@ -133,7 +135,7 @@ fn most_turns(plane: &Plane, shape: &Shape) -> usize
 
 /// The most bends of an edge in a least shape of these bytes.
 fn most_bends(rt: &impl Abort, alloc: Global, bytes: &[u8]) -> usize {
-    let plane = plane_of(rt, alloc, bytes);
+    let plane = plane_in(alloc, bytes).expect(rt, "a plane");
     let (shape, _prices) = least_shape(alloc, &plane).expect(rt, "memory");
     most_turns(&plane, &shape)
 }
@@ -141,6 +143,6 @@ fn most_bends(rt: &impl Abort, alloc: Global, bytes: &[u8]) -> usize {
 /// The octahedron has no drawing with at most two bends an edge.
 #[test]
 fn an_edge_bends_three_times(rt: HostRuntime) {
-    let most = most_bends(&rt, rt.alloc(), &OCTAHEDRON);
+    let most = most_bends(&rt, rt.alloc(), OCTAHEDRON);
     assert!(rt; 3 <= most, "{most} bends");
 }

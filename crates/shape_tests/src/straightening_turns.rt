@@ -3,13 +3,15 @@
 ghost use Rattle.ortho_rep.specs.Representation.{HasDarts, IsShape, IsLeast};
 ghost use Rattle.ortho_rep.specs.Prices.{IsProof};
 
-use crate::compared::same;
-use crate::tests::{Case, EDGE, L, PATH, R, TRIANGLE, answers, plane_of, prices_in, shape_in};
+use crate::ortho_rep_shapes::answers;
 use faces::Plane;
 use ortho_rep::{Prices, Shape, certify, is_shape, least_shape};
 use std::alloc::{AllocError, Global};
 use std::process::Abort;
 use straightening::{Scratch, straighten_in};
+use test_inputs::{Case, L, R, plane_in, prices_in, shape_in};
+use test_tools::records::{EDGE, PATH, TRIANGLE};
+use test_tools::same;
 
 /// How many vertices of degree 2 turn, bends, and what both tests say.
 pub(crate) type Figures = (u16, u32, (bool, bool));
@@ -41,11 +43,11 @@ pub(crate) fn figures(plane: &Plane, shape: &Shape, prices: &Prices) -> Figures
 /// How many vertices of degree 2 of this record turn, once its least shape is straightened. That has as many bends
 /// as before, and passes both tests.
 fn turning_of(rt: &impl Abort, alloc: Global, scratch: &mut Scratch, record: &[u8]) -> u16 {
-    let plane = plane_of(rt, alloc, record);
+    let plane = plane_in(alloc, record).expect(rt, "a plane");
     let (shape, prices) = least_shape(alloc, &plane).expect(rt, "memory");
     let found = straightened(alloc, scratch, &plane, shape, &prices);
     let ((_, bends, _), (turning, kept, right)) = found.expect(rt, "memory");
-    same(rt, (kept, right), (bends, (true, true)));
+    same!(rt, (kept, right), (bends, (true, true)));
     turning
 }
 
@@ -67,10 +69,10 @@ const THETA: [u8; 24] = [
 const TURNING: [(&[u8], u16); 8] = [
     (&SPIDER, 0),
     (&THETA, 4),
-    (&PATH, 0),
+    (PATH, 0),
     (&CYCLE, 4),
-    (&TRIANGLE, 3),
-    (&EDGE, 0),
+    (TRIANGLE, 3),
+    (EDGE, 0),
     (&THETA, 4),
     (&SPIDER, 0),
 ];
@@ -81,7 +83,7 @@ fn fewest_turning(rt: HostRuntime) {
     let mut scratch = Scratch::new();
     for (record, turning) in TURNING {
         let found = turning_of(&rt, rt.alloc(), &mut scratch, record);
-        same(&rt, found, turning);
+        same!(&rt, found, turning);
     }
 }
 
@@ -133,8 +135,8 @@ fn figures_of(
     scratch: &mut Scratch,
     case: &Case<'_>,
 ) -> (Figures, Figures) {
-    let plane = plane_of(rt, alloc, case.record);
-    let shape = shape_in(rt, alloc, case);
+    let plane = plane_in(alloc, case.record).expect(rt, "a plane");
+    let shape = shape_in(alloc, case.angles, case.strings).expect(rt, "a shape");
     let prices = prices_in(alloc, case).expect(rt, "memory");
     assert!(rt; is_shape(&plane, &shape) && certify(&plane, &shape, &prices));
     straightened(alloc, scratch, &plane, shape, &prices).expect(rt, "memory")
@@ -171,6 +173,6 @@ fn units_move(rt: HostRuntime) {
     let mut scratch = Scratch::new();
     for (case, before, after, bends) in MOVED {
         let found = figures_of(&rt, rt.alloc(), &mut scratch, &case);
-        same(&rt, found, ((before, bends, right), (after, bends, right)));
+        same!(&rt, found, ((before, bends, right), (after, bends, right)));
     }
 }

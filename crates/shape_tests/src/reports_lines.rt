@@ -1,15 +1,15 @@
 //! The triangle's line by hand, with a shape, prices and points that were worked out on paper, and the line
 //! of an end. Prices that prove a shape still do when the same is taken from all of them.
 
-use crate::compared::same;
-use crate::tests::{Case, ONE_BEND, plane_of, prices_in, shape_in};
 use drawing_check::{Drawing, check};
 use entries::Cause;
 use faces::Plane;
-use ortho_rep::{Point, Points, Shape, certify, is_shape};
+use ortho_rep::{Shape, certify, is_shape};
 use reports::{LaidGraph, end_line, laid_line};
-use std::alloc::{AllocError, Global};
+use std::alloc::Global;
 use std::process::Abort;
+use test_inputs::{Case, ONE_BEND, Place, plane_in, points_in, prices_in, shape_in};
+use test_tools::same;
 
 const DRAWN: &[u8] =
     b"{\"angles\":[3,1,3,1,3,1],\"bends\":1,\"drawn\":\"yes\",\"f\":2,\"file\":3,\"graph\":7,\"m\":3,\"n\":3,\
@@ -29,22 +29,14 @@ const PRICED: Case<'static> = Case {
     ..ONE_BEND
 };
 
-fn points(alloc: Global) -> Result<Points, AllocError> {
-    let vertices = [
-        Point { x: 0, y: 0 },
-        Point { x: 0, y: 1 },
-        Point { x: 1, y: 1 },
-    ];
-    let mut corners = Vec::new(alloc);
-    for places in [&[][..], &[Point { x: 1, y: 0 }], &[]] {
-        corners.push(places.to_vec(alloc)?)?;
-    }
-    Ok(Points::new(vertices.to_vec(alloc)?, corners))
-}
+/// The places of its vertices, and of its corners.
+const VERTICES: [Place; 3] = [(0, 0), (0, 1), (1, 1)];
+
+const CORNERS: [&[Place]; 3] = [&[], &[(1, 0)], &[]];
 
 /// The drawing of the triangle by these points.
 fn drawing(alloc: Global, plane: &Plane, shape: &Shape) -> Option<Drawing> {
-    let points = points(alloc).ok()?;
+    let points = points_in(alloc, &VERTICES, &CORNERS).ok()?;
     let counts = usize::from(plane.graph().vertices()) == points.vertex_count()
         && usize::from(plane.graph().edges()) == points.edge_count();
     if !counts || !is_shape(plane, shape) {
@@ -83,14 +75,14 @@ fn check_cause<R: AllocGlobal + Abort>(
 ) {
     let line = triangle_line(rt.alloc(), plane, shape, &Err(cause)).expect(rt, "a line");
     let text = [TO_THE_CAUSE, word.as_bytes(), FROM_THE_CAUSE].concat(rt.alloc());
-    same(rt, line, text.expect(rt, "memory"));
+    same!(rt, line, text.expect(rt, "memory"));
 }
 
 /// The line of the triangle with its drawing.
 fn check_drawn<R: AllocGlobal + Abort>(rt: &R, plane: &Plane, shape: &Shape) {
     let drawing = drawing(rt.alloc(), plane, shape).expect(rt, "a drawing");
     let line = triangle_line(rt.alloc(), plane, shape, &Ok(drawing)).expect(rt, "a line");
-    same(rt, line.as_slice(), DRAWN);
+    same!(rt, line.as_slice(), DRAWN);
 }
 
 /// Causes and their words.
@@ -104,8 +96,8 @@ const CAUSES: [(Cause, &str); 5] = [
 
 #[test]
 fn shows_a_triangle(rt: HostRuntime) {
-    let plane = plane_of(&rt, rt.alloc(), PRICED.record);
-    let shape = shape_in(&rt, rt.alloc(), &PRICED);
+    let plane = plane_in(rt.alloc(), PRICED.record).expect(&rt, "a plane");
+    let shape = shape_in(rt.alloc(), PRICED.angles, PRICED.strings).expect(&rt, "a shape");
     for (cause, word) in CAUSES {
         check_cause(&rt, &plane, &shape, cause, word);
     }
@@ -116,5 +108,5 @@ fn shows_a_triangle(rt: HostRuntime) {
 fn shows_an_end(rt: HostRuntime) {
     let text = end_line(rt.alloc(), 64, "truncated", 1_000_000).expect(&rt, "memory");
     let expected = "{\"end\":\"truncated\",\"file\":64,\"graphs\":1000000}\n";
-    same(&rt, text.as_slice(), expected.as_bytes());
+    same!(&rt, text.as_slice(), expected.as_bytes());
 }

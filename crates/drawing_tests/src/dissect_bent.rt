@@ -1,6 +1,6 @@
 //! A drawing worked out by hand, and refused allocations.
 
-use crate::planes::{EDGE, TRIANGLE, bent_triangle_in, plane_in, plane_of, same, spiral_in};
+use crate::planes::{bent_triangle_in, spiral_in};
 use dissect::{
     DartTable, DirectionSearch, NO_DART, directions_in, lesser_darts_of, normalize_into,
 };
@@ -9,6 +9,9 @@ use ortho_rep::{Shape, is_shape};
 use std::alloc::{AllocError, Global};
 use std::fmt::Debug;
 use std::process::Abort;
+use test_inputs::plane_in;
+use test_tools::records::{EDGE, TRIANGLE};
+use test_tools::same;
 
 /// The drawing of a shape, which is an orthogonal representation.
 fn bend_of(
@@ -36,7 +39,7 @@ fn begins<T: PartialEq + Debug>(rt: &impl Abort, list: &[T], want: &[T]) {
 
 /// The numbers of the edge with one bend: dart 2 stands in front of dart 0, and dart 3 in front of dart 1.
 fn expect_bent_edge(rt: &impl Abort, table: &DartTable) {
-    same(
+    same!(
         rt,
         (table.darts, table.vertices, table.next.len()),
         (4, 3, 48),
@@ -56,7 +59,7 @@ fn expect_bent_edge(rt: &impl Abort, table: &DartTable) {
 
 /// The drawing of a shape of an edge.
 fn bent_edge(rt: &impl Abort, alloc: Global, shape: &Shape) -> DartTable {
-    let plane = plane_of(rt, alloc, &EDGE);
+    let plane = plane_in(alloc, EDGE).expect(rt, "a plane");
     bend_of(rt, alloc, &plane, shape).expect(rt, "memory")
 }
 
@@ -83,10 +86,10 @@ fn darts_at_last(
 /// they were.
 #[test]
 fn refused_allocations(rt: HostRuntime) {
-    let Some(plane) = plane_in(rt.alloc(), &TRIANGLE) else {
+    let Some(plane) = plane_in(rt.alloc(), TRIANGLE) else {
         return;
     };
     if let Some(shape) = bent_triangle_in(rt.alloc()) {
-        same(&rt, darts_at_last(&rt, rt.alloc(), &plane, &shape), Ok(8));
+        same!(&rt, darts_at_last(&rt, rt.alloc(), &plane, &shape), Ok(8));
     }
 }

@@ -1,23 +1,20 @@
 //! Compaction by visibility: drawings by hand, known graphs, memory that is lent, and refused allocations.
 
-use crate::families::{ANTIPRISM, OCTAHEDRON, PRISM, grid, rings};
-use crate::planes::{
-    EDGE, TRIANGLE, expect_drawing, plane_in, plane_of, points_of, same, shape_of, spiral_in,
-};
+use crate::families::{ANTIPRISM, PRISM, grid, rings};
+use crate::planes::{expect_drawing, points_of, shape_of, spiral_in};
 use faces::Plane;
 use ortho_rep::{Point, Points, Shape};
 use std::alloc::{AllocError, Global};
 use std::process::Abort;
+use test_inputs::{Place, plane_in, points_in};
+use test_tools::records::{EDGE, OCTAHEDRON, PATH, TRIANGLE};
+use test_tools::same;
 use visibility::{Scratch, compact_by_visibility_in};
-
-type Place = (u32, u32);
 
 /// The points of vertices, and the corners of edges.
 type Figure = (&'static [Place], &'static [&'static [Place]]);
 
 const PATH_OF_3: [u8; 8] = [3, 2, 0, 1, 3, 0, 2, 0];
-
-const PATH_OF_5: [u8; 14] = [5, 2, 0, 1, 3, 0, 2, 4, 0, 3, 5, 0, 4, 0];
 
 /// A box, and on its sides and within it paths of two edges from the left and the right side and from the top. Its
 /// vertices, clockwise around each other, are
@@ -73,12 +70,12 @@ const NONE: [&[Place]; 4] = [&[]; 4];
 /// Drawings by hand, and what compaction makes of them.
 const BY_HAND: [(&[u8], Figure, Figure); 5] = [
     (
-        &EDGE,
+        EDGE,
         (&[(0, 0), (5, 0)], &[&[]]),
         (&[(0, 0), (1, 0)], &[&[]]),
     ),
     (
-        &EDGE,
+        EDGE,
         (&[(1, 0), (5, 4)], &[&[(3, 0), (3, 4)]]),
         (&[(0, 0), (2, 1)], &[&[(1, 0), (1, 1)]]),
     ),
@@ -89,13 +86,13 @@ const BY_HAND: [(&[u8], Figure, Figure); 5] = [
     ),
     // Vertex 5 sees no other segment to its left, and comes above vertex 2.
     (
-        &PATH_OF_5,
+        PATH,
         (&[(0, 0), (0, 3), (2, 3), (2, 5), (1, 5)], &NONE),
         (&[(0, 0), (0, 1), (1, 1), (1, 2), (0, 2)], &NONE),
     ),
     // Vertex 5 falls no further, and is pulled to where its edge is shorter.
     (
-        &PATH_OF_5,
+        PATH,
         (&[(0, 0), (1, 0), (2, 0), (2, 1), (0, 1)], &NONE),
         (&[(0, 0), (1, 0), (2, 0), (2, 1), (1, 1)], &NONE),
     ),
@@ -103,28 +100,12 @@ const BY_HAND: [(&[u8], Figure, Figure); 5] = [
 
 /// Drawings whose edges compaction leaves as long as they are.
 const AS_SHORT: [(&[u8], Figure); 2] = [
-    (&EDGE, (&[(7, 3), (7, 4)], &[&[]])),
+    (EDGE, (&[(7, 3), (7, 4)], &[&[]])),
     (
-        &TRIANGLE,
+        TRIANGLE,
         (&[(1, 2), (2, 2), (1, 1)], &[&[], &[], &[(2, 1)]]),
     ),
 ];
-
-fn list_in(alloc: Global, places: &[Place]) -> Result<Vec<Point>, AllocError> {
-    places
-        .iter()
-        .map(|p| Point { x: p.0, y: p.1 })
-        .collect(alloc)
-}
-
-/// The points of a figure.
-fn points_in(alloc: Global, figure: Figure) -> Result<Points, AllocError> {
-    let mut lists = Vec::new(alloc);
-    for places in figure.1 {
-        lists.push(list_in(alloc, places)?)?;
-    }
-    Ok(Points::new(list_in(alloc, figure.0)?, lists))
-}
 
 /// What compaction makes of points, as many as the plane has.
 fn compacted(
@@ -179,8 +160,8 @@ fn figure_of(
     bytes: &[u8],
     figure: Figure,
 ) -> Option<Points> {
-    let plane = plane_of(rt, alloc, bytes);
-    let points = points_in(alloc, figure).expect(rt, "memory");
+    let plane = plane_in(alloc, bytes).expect(rt, "a plane");
+    let points = points_in(alloc, figure.0, figure.1).expect(rt, "memory");
     compacted(rt, alloc, lent, &plane, &points).expect(rt, "memory")
 }
 
@@ -190,11 +171,11 @@ fn figures_by_hand(rt: HostRuntime) {
     let mut lent = Scratch::empty(alloc);
     for (bytes, figure, want) in BY_HAND {
         let found = figure_of(&rt, alloc, &mut lent, bytes, figure);
-        same(&rt, is_wanted(found.as_ref(), Some(want)), true);
+        same!(&rt, is_wanted(found.as_ref(), Some(want)), true);
     }
     for (bytes, figure) in AS_SHORT {
         let found = figure_of(&rt, alloc, &mut lent, bytes, figure);
-        same(&rt, is_wanted(found.as_ref(), None), true);
+        same!(&rt, is_wanted(found.as_ref(), None), true);
     }
 }
 
@@ -238,11 +219,11 @@ fn vertex_of(points: &Points, vertex: u8) -> Point {
 fn boxes_are_shortened_along_both_axes(rt: HostRuntime) {
     let alloc = rt.alloc();
     let mut lent = Scratch::empty(alloc);
-    let plane = plane_of(&rt, alloc, &BOX_OF_PATHS);
-    let points = points_in(alloc, BOXED).expect(&rt, "memory");
+    let plane = plane_in(alloc, &BOX_OF_PATHS).expect(&rt, "a plane");
+    let points = points_in(alloc, BOXED.0, BOXED.1).expect(&rt, "memory");
     let found = compacted(&rt, alloc, &mut lent, &plane, &points).expect(&rt, "memory");
     let shortest = found.expect(&rt, "shorter edges");
-    same(&rt, length_of(&plane, &shortest), BOX_LENGTH);
+    same!(&rt, length_of(&plane, &shortest), BOX_LENGTH);
 }
 
 /// The memory that the tests lend.
@@ -266,14 +247,14 @@ fn expect_shorter(
         return false;
     };
     let is_shorter = length_of(plane, &shorter) < length_of(plane, &points);
-    same(rt, is_shorter, true);
+    same!(rt, is_shorter, true);
     expect_drawing(rt, alloc, &mut lent.checks, plane, shape, shorter);
     true
 }
 
 /// The same of a least shape of these bytes.
 fn expect_compacted(rt: &impl Abort, alloc: Global, lent: &mut Lent, bytes: &[u8]) -> bool {
-    let plane = plane_of(rt, alloc, bytes);
+    let plane = plane_in(alloc, bytes).expect(rt, "a plane");
     let shape = shape_of(rt, alloc, &plane);
     expect_shorter(rt, alloc, lent, &plane, &shape)
 }
@@ -307,7 +288,7 @@ fn expect_rings(rt: &impl Abort, alloc: Global, lent: &mut Lent) {
 /// The same of a spiral.
 fn expect_spiral(rt: &impl Abort, alloc: Global, lent: &mut Lent) {
     let spiral = spiral_in(alloc, 300).expect(rt, "a shape");
-    let plane = plane_of(rt, alloc, &EDGE);
+    let plane = plane_in(alloc, EDGE).expect(rt, "a plane");
     let _found = expect_shorter(rt, alloc, lent, &plane, &spiral);
 }
 
@@ -319,13 +300,13 @@ fn known_graphs_are_compacted(rt: HostRuntime) {
         checks: drawing_check::Scratch::empty(alloc),
     };
     for bytes in TREES {
-        same(&rt, expect_compacted(&rt, alloc, &mut lent, bytes), true);
+        same!(&rt, expect_compacted(&rt, alloc, &mut lent, bytes), true);
     }
     expect_rings(&rt, alloc, &mut lent);
-    let _found = expect_compacted(&rt, alloc, &mut lent, &OCTAHEDRON);
+    let _found = expect_compacted(&rt, alloc, &mut lent, OCTAHEDRON);
     // All edges of a grid have length 1.
     let bytes = grid(alloc, 5, 6).expect(&rt, "memory");
-    same(&rt, expect_compacted(&rt, alloc, &mut lent, &bytes), false);
+    same!(&rt, expect_compacted(&rt, alloc, &mut lent, &bytes), false);
     expect_spiral(&rt, alloc, &mut lent);
 }
 
@@ -345,8 +326,8 @@ fn compacted_at_last(
 
 /// The same of a figure of the edge; nothing where memory is wanting before.
 fn edge_at_last(rt: &impl Abort, alloc: Global, figure: Figure) -> Option<Option<Points>> {
-    let points = points_in(alloc, figure).ok()?;
-    let plane = plane_in(alloc, &EDGE)?;
+    let points = points_in(alloc, figure.0, figure.1).ok()?;
+    let plane = plane_in(alloc, EDGE)?;
     Some(compacted_at_last(rt, alloc, &plane, &points))
 }
 
@@ -402,7 +383,7 @@ fn are_small_stairs(points: &Points) -> bool {
 /// What compaction makes of stairs of size 3, if memory suffices for them, in the first of two calls or in the second.
 fn stairs_at_last(rt: &impl Abort, alloc: Global) -> Option<Option<Points>> {
     let points = stairs(alloc, 3).ok()?;
-    let plane = plane_in(alloc, &EDGE)?;
+    let plane = plane_in(alloc, EDGE)?;
     Some(compacted_at_last(rt, alloc, &plane, &points))
 }
 
@@ -412,9 +393,9 @@ fn stairs_at_last(rt: &impl Abort, alloc: Global) -> Option<Option<Points>> {
 fn refused_allocations(rt: HostRuntime) {
     let (_, figure, want) = BY_HAND[1];
     if let Some(found) = edge_at_last(&rt, rt.alloc(), figure) {
-        same(&rt, is_wanted(found.as_ref(), Some(want)), true);
+        same!(&rt, is_wanted(found.as_ref(), Some(want)), true);
     }
     if let Some(found) = stairs_at_last(&rt, rt.alloc()) {
-        same(&rt, found.as_ref().is_some_and(are_small_stairs), true);
+        same!(&rt, found.as_ref().is_some_and(are_small_stairs), true);
     }
 }

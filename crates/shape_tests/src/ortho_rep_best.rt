@@ -1,30 +1,16 @@
 //! Least shapes where the outer face is chosen too.
 
-use crate::compared::same;
-use crate::tests::{
-    CUBE, EDGE, FOUR_CYCLE, K4, OCTAHEDRON, STAR, TRIANGLE, answers, long_cycle, plane_of,
-};
+use crate::ortho_rep_shapes::answers;
 use faces::{Choice, Plane};
 use ortho_rep::{best_shape, least_shape};
 use std::alloc::Global;
 use std::process::Abort;
-
-/// A cube with a ninth vertex, joined to the four of a face.
-pub(crate) const NINTH: [u8; 42] = [
-    9, 5, 4, 2, 0, 3, 6, 1, 0, 4, 7, 2, 0, 1, 8, 3, 0, 1, 6, 9, 8, 0, 2, 7, 9, 5, 0, 3, 8, 9, 6, 0,
-    4, 5, 9, 7, 0, 5, 6, 7, 8, 0,
-];
-
-/// The same with a tenth vertex on an edge.
-const TENTH: [u8; 45] = [
-    10, 10, 4, 2, 0, 3, 6, 1, 0, 4, 7, 2, 0, 1, 8, 3, 0, 10, 6, 9, 8, 0, 2, 7, 9, 5, 0, 3, 8, 9, 6,
-    0, 4, 5, 9, 7, 0, 5, 6, 7, 8, 0, 1, 5, 0,
-];
-
-/// One of all planar graphs of maximum degree at most 4 on 6 vertices, as nauty's `geng` and `planarg` list them.
-const SIX: [u8; 25] = [
-    6, 4, 5, 6, 0, 5, 4, 6, 0, 6, 0, 6, 2, 5, 1, 0, 1, 4, 2, 0, 3, 1, 2, 4, 0,
-];
+use test_inputs::plane_in;
+use test_tools::records::{
+    CAPPED_CUBE, CUBE, EDGE, LONGER_CUBE, OCTAHEDRON, SIX, SQUARE, STAR, TETRAHEDRON, TRIANGLE,
+    longest_cycle,
+};
+use test_tools::same;
 
 /// One on 7 vertices.
 const SEVEN: [u8; 24] = [
@@ -45,13 +31,13 @@ fn bends_as_it_is(rt: &impl Abort, alloc: Global, plane: &Plane) -> u32 {
 /// How many bends are needed with the best outer face. The shape passes both tests with its prices.
 fn bends_at_best(rt: &impl Abort, alloc: Global, plane: &mut Plane) -> u32 {
     let (shape, prices) = best_shape(alloc, plane).expect(rt, "memory");
-    same(rt, answers(plane, &shape, &prices), (true, true));
+    same!(rt, answers(plane, &shape, &prices), (true, true));
     shape.bends()
 }
 
 /// How many bends are needed with the first outer face and with the best one, and which face that is.
 fn bends_of(rt: &impl Abort, alloc: Global, bytes: &[u8]) -> (u32, u32, u16) {
-    let mut plane = plane_of(rt, alloc, bytes);
+    let mut plane = plane_in(alloc, bytes).expect(rt, "a plane");
     let first = bends_as_it_is(rt, alloc, &plane);
     let best = bends_at_best(rt, alloc, &mut plane);
     (first, best, plane.outer())
@@ -60,29 +46,29 @@ fn bends_of(rt: &impl Abort, alloc: Global, bytes: &[u8]) -> (u32, u32, u16) {
 /// Graphs of which another face is better, and others, whose faces are all alike, or there is one: both numbers of
 /// bends and the best face.
 const BEST: [(&[u8], (u32, u32, u16)); 9] = [
-    (&NINTH, (10, 8, 2)),
-    (&TENTH, (9, 8, 2)),
-    (&EDGE, (0, 0, 0)),
-    (&TRIANGLE, (1, 1, 0)),
-    (&STAR, (0, 0, 0)),
-    (&FOUR_CYCLE, (0, 0, 0)),
-    (&K4, (4, 4, 0)),
-    (&OCTAHEDRON, (12, 12, 0)),
-    (&CUBE, (4, 4, 0)),
+    (CAPPED_CUBE, (10, 8, 2)),
+    (LONGER_CUBE, (9, 8, 2)),
+    (EDGE, (0, 0, 0)),
+    (TRIANGLE, (1, 1, 0)),
+    (STAR, (0, 0, 0)),
+    (SQUARE, (0, 0, 0)),
+    (TETRAHEDRON, (4, 4, 0)),
+    (OCTAHEDRON, (12, 12, 0)),
+    (CUBE, (4, 4, 0)),
 ];
 
 #[test]
 fn best_faces(rt: HostRuntime) {
     for (bytes, want) in BEST {
-        same(&rt, bends_of(&rt, rt.alloc(), bytes), want);
+        same!(&rt, bends_of(&rt, rt.alloc(), bytes), want);
     }
-    let bytes = long_cycle(rt.alloc()).expect(&rt, "memory");
-    same(&rt, bends_of(&rt, rt.alloc(), &bytes), (0, 0, 0));
+    let bytes = longest_cycle(rt.alloc()).expect(&rt, "memory");
+    same!(&rt, bends_of(&rt, rt.alloc(), &bytes), (0, 0, 0));
 }
 
 /// Bends that LEMON's network simplex found, with the first outer face and with the best one.
 const OF_AN_ORACLE: [(&[u8], u32, u32); 3] = [
-    (&SIX, 6, 5),
+    (SIX, 6, 5),
     (&SEVEN, 2, 1),
     (&SEVEN_WITH_FIVE_FACES, 5, 4),
 ];
@@ -91,21 +77,21 @@ const OF_AN_ORACLE: [(&[u8], u32, u32); 3] = [
 fn bends_of_an_oracle(rt: HostRuntime) {
     for (bytes, first, best) in OF_AN_ORACLE {
         let (one, other, _face) = bends_of(&rt, rt.alloc(), bytes);
-        same(&rt, (one, other), (first, best));
+        same!(&rt, (one, other), (first, best));
     }
 }
 
 #[test]
 fn a_face_turned_out(rt: HostRuntime) {
-    let mut plane = plane_of(&rt, rt.alloc(), &TENTH);
-    same(&rt, (plane.outer(), plane.face_count()), (0, 9));
+    let mut plane = plane_in(rt.alloc(), LONGER_CUBE).expect(&rt, "a plane");
+    same!(&rt, (plane.outer(), plane.face_count()), (0, 9));
     if 2 < plane.face_count() {
         plane.set_outer(2);
     }
-    same(&rt, (plane.outer(), plane.face_count()), (2, 9));
+    same!(&rt, (plane.outer(), plane.face_count()), (2, 9));
 }
 
 #[test]
 fn choices(rt: HostRuntime) {
-    same(&rt, Choice::default(), Choice::First);
+    same!(&rt, Choice::default(), Choice::First);
 }
