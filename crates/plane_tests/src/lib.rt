@@ -3,24 +3,24 @@
 #![tactic(auto)]
 
 #[cfg(test)]
-mod apart;
+mod drawing_check_faults;
 #[cfg(test)]
-mod cuts;
+mod drawing_check_polylines;
 #[cfg(test)]
-mod drawings;
+mod embedding_graphs;
 #[cfg(test)]
-mod framing;
+mod embedding_rules;
 #[cfg(test)]
-mod graphs;
+mod faces_planes;
 #[cfg(test)]
-mod parsing;
+mod geometry_rectangles;
 #[cfg(test)]
-mod planes;
+mod planar_code_cuts;
 #[cfg(test)]
-mod polylines;
+mod planar_code_framing;
 #[cfg(test)]
-mod regions;
+mod planar_code_parsing;
 #[cfg(test)]
-mod rules;
+mod region_laws_regions;
 #[cfg(test)]
-mod sources;
+mod streams_frames;

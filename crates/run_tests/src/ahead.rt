@@ -3,8 +3,8 @@
 ghost use Rattle.std.specs.Prelude.{false, None};
 ghost use Rattle.lanes.specs.Opening.{Silent};
 
-use crate::reported::{QUICK, same};
-use crate::waiting::{AHEAD, EDGE, HEADER, tell_file};
+use crate::reported::QUICK;
+use crate::waiting::{AHEAD, tell_file};
 use collector::{Choice, IoSink, OpenFault, OpenGate, Opener, Tap, TapFault};
 use commands::{TextFault, write_batch};
 use std::alloc::{AllocError, Global};
@@ -12,6 +12,8 @@ use std::sync::Wait;
 use std::sync::atomic::{AtomicBool, AtomicU32, AtomicU64, Ordering};
 use std::thread::Threads;
 use std::time::Duration;
+use test_tools::records::{EDGE, HEADER};
+use test_tools::same;
 
 /// How many records each file has.
 const RECORDS: [u32; 4] = [1, 3, 1_000, 1_000];
@@ -225,17 +227,17 @@ fn later_files_are_read_until_so_much_waits(rt: HostRuntime) {
         ran_out: AtomicBool::new(false),
     };
     let (ended, text) = run(&rt, &seen);
-    same(
+    same!(
         &rt,
         (ended, seen.ran_out.load(Ordering::SeqCst)),
         (Ok(0), false),
     );
-    same(&rt, text.as_slice(), report.as_bytes());
+    same!(&rt, text.as_slice(), report.as_bytes());
     let (third, last) = (
         seen.third_held.load(Ordering::SeqCst),
         seen.last_held.load(Ordering::SeqCst),
     );
     let most = AHEAD.saturating_add(2);
-    same(&rt, third <= IN_TWO.saturating_add(most), true);
-    same(&rt, last <= most, true);
+    same!(&rt, third <= IN_TWO.saturating_add(most), true);
+    same!(&rt, last <= most, true);
 }

@@ -1,11 +1,12 @@
 //! Texts that leave as they are made: their bytes, writers that take little, and refused allocations.
 
-use crate::reported::{QUICK, REPORT, SHORT, THREE, same, written};
+use crate::reported::{QUICK, REPORT, SHORT, THREE, written};
 use collector::{BatchFault, MAX_LANES, OpenGate, Style};
 use commands::TextFault;
 use std::process::Abort;
 use std::sync::Wait;
 use std::thread::Threads;
+use test_tools::same;
 
 /// Over so many lanes and in this style, the writer took all of the report of three files, or the first `room` bytes before it failed.
 fn check_writer<R: AllocGlobal + Threads + Wait + Sync + Abort>(
@@ -16,13 +17,13 @@ fn check_writer<R: AllocGlobal + Threads + Wait + Sync + Abort>(
     most: usize,
 ) {
     let (ended, writer) = written(rt, &THREE, 3, lanes, style, &OpenGate, (room, most));
-    same(rt, writer.text(), &REPORT[..room.min(211)]);
+    same!(rt, writer.text(), &REPORT[..room.min(211)]);
     let due = if room < 211 {
         Err(TextFault::Write)
     } else {
         Ok(3)
     };
-    same(rt, ended, due);
+    same!(rt, ended, due);
 }
 
 /// Which drawings are made changes nothing in the report.
@@ -53,8 +54,8 @@ fn bad_numbers_take_no_memory(rt: HostRuntime) {
     ];
     for (files, lanes, fault) in cases {
         let (ended, writer) = written(&rt, &THREE, files, lanes, SHORT, &OpenGate, (211, 211));
-        same(&rt, ended, Err(TextFault::Run(fault)));
-        same(&rt, writer.text().len(), 0);
+        same!(&rt, ended, Err(TextFault::Run(fault)));
+        same!(&rt, writer.text().len(), 0);
     }
 }
 
@@ -102,5 +103,5 @@ fn names_want_of_memory(rt: HostRuntime) {
         Err(TextFault::Run(fault)) => fault == BatchFault::Memory || fault == BatchFault::Thread,
         Err(TextFault::Write) => false,
     };
-    same(&rt, (named, is_allowed(writer.text())), (true, true));
+    same!(&rt, (named, is_allowed(writer.text())), (true, true));
 }

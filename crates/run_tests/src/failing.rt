@@ -1,6 +1,6 @@
 //! Sources that fail, files that do not open, and writers that take little: what came before stays.
 
-use crate::reported::{EDGES, Files, Narrow, QUICK, REPORT, THREE, same, written};
+use crate::reported::{EDGES, Files, QUICK, REPORT, THREE, written};
 use collector::{
     Batch, BatchFault, Choice, IoSink, OpenFault, OpenGate, WriteFault, run_batch, run_plain,
     write_report,
@@ -8,6 +8,7 @@ use collector::{
 use std::process::Abort;
 use std::sync::Wait;
 use std::thread::Threads;
+use test_tools::{Narrow, same};
 
 /// Writes the report of a batch to a writer of so much room: how that ended, and the writer.
 fn report_in(
@@ -30,12 +31,12 @@ fn check<R: AllocGlobal + Threads + Wait + Sync + Abort>(
 ) {
     let (alloc, choice) = (rt.alloc(), Choice::First);
     let plain = run_plain(alloc, opener, files, choice).expect(rt, "a batch");
-    same(rt, report_in(&plain, 211, 211, true).1.text(), report);
+    same!(rt, report_in(&plain, 211, 211, true).1.text(), report);
     let lanes = run_batch(rt, alloc, opener, files, 2, 1, choice, &OpenGate).expect(rt, "a batch");
-    same(rt, report_in(&lanes, 211, 211, true).1.text(), report);
+    same!(rt, report_in(&lanes, 211, 211, true).1.text(), report);
     let room = (211, 211);
     let (_, text) = written(rt, opener, files, 2, QUICK, &OpenGate, room);
-    same(rt, text.text(), report);
+    same!(rt, text.text(), report);
 }
 
 /// The reports of these two edges after a read that failed: none came before it, or one, or both.
@@ -93,8 +94,8 @@ fn other_files_than_a_refused_one_stay(rt: HostRuntime) {
 /// The writer took all of the report, or the first `room` bytes before it failed.
 fn check_writer(rt: &impl Abort, batch: &Batch, room: usize, most: usize, fails: bool) {
     let (ended, writer) = report_in(batch, room, most, fails);
-    same(rt, writer.text(), &REPORT[..room.min(211)]);
-    same(rt, ended.is_ok(), room >= 211);
+    same!(rt, writer.text(), &REPORT[..room.min(211)]);
+    same!(rt, ended.is_ok(), room >= 211);
 }
 
 /// Writes to writers of every room that fail or take nothing more, some of which take one byte a write; and to
@@ -116,12 +117,12 @@ fn a_beginning_is_written_before_a_fault(rt: HostRuntime) {
 fn reports_take_no_memory(rt: HostRuntime) {
     let (alloc, choice) = (rt.alloc(), Choice::First);
     let many = run_plain(alloc, &THREE, 257, choice).err();
-    same(&rt, many, Some(BatchFault::TooManyFiles));
+    same!(&rt, many, Some(BatchFault::TooManyFiles));
     let lanes = run_batch(&rt, alloc, &THREE, 3, 9, 1, choice, &OpenGate).err();
-    same(&rt, lanes, Some(BatchFault::BadLanes));
+    same!(&rt, lanes, Some(BatchFault::BadLanes));
     if let Ok(batch) = run_plain(alloc, &THREE, 3, choice) {
         let (ended, writer) = report_in(&batch, 211, 211, true);
-        same(&rt, ended, Ok(()));
-        same(&rt, writer.text().starts_with(b"file 1\n"), true);
+        same!(&rt, ended, Ok(()));
+        same!(&rt, writer.text().starts_with(b"file 1\n"), true);
     }
 }

@@ -1,16 +1,18 @@
 //! Files in memory, and openers that refuse or whose sources fail. The bytes come from the description of the format.
-ghost use Rattle.std.specs.Prelude.{map, false, None, ⊤};
+ghost use Rattle.std.specs.Prelude.{map, ⊤};
 ghost use Rattle.lanes.specs.Opening.{Silent};
 ghost use Rattle.lanes.specs.Notes.{Item};
 
-use crate::reported::{EDGES, same};
+use crate::reported::EDGES;
 use common::Choice;
 use lanes::{Keep, MemOpener, OpenFault, Opener, read_file};
 use planar_code::{Ending, Record};
 use std::alloc::{AllocError, Global};
 use std::process::Abort;
 use std::sync::atomic::{AtomicU32, Ordering};
-use streams::{Mark, SourceEnd, Tap, TapFault, piece_buffer};
+use streams::{Mark, SourceEnd, piece_buffer};
+use test_inputs::Failing;
+use test_tools::same;
 
 const CUT: &[u8] = b">>planar_code<<\x02\x02\x00\x01\x00\x02\x02\x00\x01";
 
@@ -87,34 +89,6 @@ impl<'c> Opener for &'c Breaking {
     }
 }
 
-/// A source that gives one byte a read.
-#[derive(Drop)]
-struct Failing<'c> {
-    bytes: &'static [u8],
-    fails_at: u32,
-    reads: &'c AtomicU32,
-}
-
-impl Tap for Failing<'_> {
-    ghost to_come = { λ _. None };
-
-    ghost fails = { λ _. false };
-
-    fn read(&mut self, buf: &mut [u8]) -> Result<usize, TapFault> {
-        let read = self.reads.fetch_add(1, Ordering::SeqCst);
-        if read == self.fails_at {
-            return Err(TapFault);
-        }
-        match (buf.first_mut(), self.bytes.get(read as usize)) {
-            (Some(place), Some(byte)) => {
-                *place = *byte;
-                Ok(1)
-            }
-            _ => Ok(0),
-        }
-    }
-}
-
 fn files(alloc: Global) -> Result<Vec<Vec<u8>>, AllocError> {
     let mut files = Vec::new(alloc);
     for bytes in [EDGES, CUT, LARGE] {
@@ -147,8 +121,8 @@ fn check_file<O: Opener, R: AllocGlobal + Abort>(
     count: u32,
 ) {
     let (found, kept) = shelf_of(rt.alloc(), opener, file).expect(rt, "memory");
-    same(rt, found.ok(), Some(SourceEnd { count, mark }));
-    same(rt, kept, count as usize);
+    same!(rt, found.ok(), Some(SourceEnd { count, mark }));
+    same!(rt, kept, count as usize);
 }
 
 /// Files by their numbers, the mark and how many records each has.
@@ -182,7 +156,7 @@ fn check_breaking<R: AllocGlobal + Abort>(
         reads: AtomicU32::new(0),
     };
     check_file(rt, &&opener, 7, found.0, found.1);
-    same(rt, opener.reads.load(Ordering::SeqCst), reads);
+    same!(rt, opener.reads.load(Ordering::SeqCst), reads);
 }
 
 /// What came before a failing read stays, and a file is read once for each byte up to one with a fault, and not again.
@@ -216,6 +190,6 @@ fn names_want_of_memory(rt: HostRuntime) {
     };
     let opener = MemOpener::new(files, 4);
     if let Some((found, kept)) = shelf_of(rt.alloc(), &opener, 0) {
-        same(&rt, is_allowed(found, kept), true);
+        same!(&rt, is_allowed(found, kept), true);
     }
 }

@@ -1,13 +1,10 @@
 //! Runs whose four stages are held at once. The bytes and the texts come from the descriptions of the format and of the
 //! report.
 
-use crate::reported::{Files, QUICK, same, written};
+use crate::reported::{Files, QUICK, written};
 use collector::{Choice, Gate, Stage, run_batch};
 use std::sync::atomic::{AtomicBool, AtomicU32, Ordering};
-use std::thread;
-
-/// The number of yields of each turn of a wait: on a shared machine a thread may be away for a million yields.
-pub const YIELDS: u32 = 16;
+use test_tools::{same, wait_for_count};
 
 /// Holds a call of each stage, at a record of its own, until all four were made.
 #[derive(Drop)]
@@ -27,15 +24,7 @@ impl HoldsEach {
     /// Waits until four calls were made, and notes where a million turns were too few.
     fn meet(&self) {
         self.calls.fetch_add(1, Ordering::SeqCst);
-        for _ in 0..1_000_000 {
-            if self.calls.load(Ordering::SeqCst) == 4 {
-                return;
-            }
-            for _ in 0..YIELDS {
-                thread::yield_now();
-            }
-        }
-        self.ran_out.store(true, Ordering::SeqCst);
+        wait_for_count(&self.calls, 4, &self.ran_out);
     }
 
     /// How many calls were made, and whether one waited too long.
@@ -78,8 +67,8 @@ fn gate_holds_each(rt: HostRuntime) {
     let gate = HoldsEach::new();
     let (alloc, choice) = (rt.alloc(), Choice::First);
     let run = run_batch(&rt, alloc, &FOUR_TRIANGLES, 1, 1, 1, choice, &gate);
-    same(&rt, run.expect(&rt, "a batch").files(), 1);
-    same(&rt, gate.told(), (4, false));
+    same!(&rt, run.expect(&rt, "a batch").files(), 1);
+    same!(&rt, gate.told(), (4, false));
 }
 
 /// So they do where the text leaves as it is made.
@@ -88,7 +77,7 @@ fn gate_holds_each_of_a_text(rt: HostRuntime) {
     let gate = HoldsEach::new();
     let room = (211, 211);
     let (ended, text) = written(&rt, &FOUR_TRIANGLES, 1, 1, QUICK, &gate, room);
-    same(&rt, ended, Ok(0));
-    same(&rt, text.text(), OF_FOUR_TRIANGLES);
-    same(&rt, gate.told(), (4, false));
+    same!(&rt, ended, Ok(0));
+    same!(&rt, text.text(), OF_FOUR_TRIANGLES);
+    same!(&rt, gate.told(), (4, false));
 }

@@ -1,13 +1,14 @@
 //! The two kinds of drawings, stage by stage, of trees, whose drawings have no bends.
 
 use crate::records::staged;
-use crate::reported::{record_of, same};
 use answers::Answer;
 use common::{Choice, DrawingKind};
 use faces::Plane;
 use ortho_rep::Point;
 use std::alloc::{AllocError, Global};
 use std::process::Abort;
+use test_inputs::record_of;
+use test_tools::same;
 
 /// The point of a vertex, and the origin where there is none.
 fn place_of(places: &[Point], vertex: u8) -> Point {
@@ -61,10 +62,10 @@ fn figures_of(
 /// The short drawing of a tree has this length, taken twice, and the quick one is longer, if it is to be.
 fn check(rt: &impl Abort, alloc: Global, bytes: &[u8], twice: u32, quick_is_longer: bool) {
     let short = figures_of(rt, alloc, bytes, DrawingKind::Short);
-    same(rt, short, Some((0, twice)));
+    same!(rt, short, Some((0, twice)));
     let quick = figures_of(rt, alloc, bytes, DrawingKind::Quick);
     let is_longer = quick.is_some_and(|(bends, length)| bends == 0 && length > twice);
-    same(rt, is_longer || !quick_is_longer, true);
+    same!(rt, is_longer || !quick_is_longer, true);
 }
 
 /// A path of so many vertices, at least 2.
@@ -98,7 +99,7 @@ fn is_path_of_four(rt: &impl Abort, answer: &Answer) -> bool {
     if let Answer::NoMemory = answer {
         return false;
     }
-    same(rt, figures(answer), Some((0, 6)));
+    same!(rt, figures(answer), Some((0, 6)));
     true
 }
 
@@ -118,7 +119,7 @@ fn answers_path_of_four(rt: &impl Abort, alloc: Global) -> bool {
 #[test]
 fn refused_allocations(rt: HostRuntime) {
     if !answers_path_of_four(&rt, rt.alloc()) {
-        same(&rt, answers_path_of_four(&rt, rt.alloc()), true);
+        same!(&rt, answers_path_of_four(&rt, rt.alloc()), true);
     }
 }
 

@@ -1,6 +1,5 @@
 //! Known graphs and refused records, answered as a whole and stage by stage.
 
-use crate::reported::{TRIANGLE, record_of, same};
 use answers::{Answer, Cause, Entry, Framed, Keeping, Task, answer};
 use common::{Choice, DrawingKind};
 use embedding::Rule;
@@ -8,6 +7,11 @@ use lanes::{Numbered, Staged};
 use planar_code::Record;
 use std::alloc::Global;
 use std::process::Abort;
+use test_inputs::record_of;
+use test_tools::records::{
+    CAPPED_CUBE, LONGER_CUBE, OCTAHEDRON, STAR, TETRAHEDRON, TETRAHEDRON_ON_A_TORUS, TRIANGLE,
+};
+use test_tools::same;
 
 /// What a record's entry is to say.
 #[derive(Clone, Copy)]
@@ -17,32 +21,17 @@ enum Said {
     Refused(Rule),
 }
 
-/// A tetrahedron on a torus: the last list runs the other way round.
-const TORUS: [u8; 17] = [4, 3, 4, 2, 0, 1, 4, 3, 0, 2, 4, 1, 0, 1, 2, 3, 0];
-
 /// Records by hand. The bends of the octahedron are those of seven faces at distances 1, 1, 1, 2, 2, 2 and 3
 /// from the outer one.
 const CASES: [(&[u8], Said); 15] = [
     (&[2, 2, 0, 1, 0], Said::Drawn(2, 1, 1, 0)),
     (&[1, 0], Said::Refused(Rule::Edgeless)),
     (&[2, 0, 0], Said::Refused(Rule::Edgeless)),
-    (&TRIANGLE, Said::Drawn(3, 3, 2, 1)),
-    (
-        &[4, 3, 4, 2, 0, 1, 4, 3, 0, 2, 4, 1, 0, 3, 2, 1, 0],
-        Said::Drawn(4, 6, 4, 4),
-    ),
-    (&TORUS, Said::Refused(Rule::Genus)),
-    (
-        &[
-            6, 2, 3, 4, 5, 0, 6, 3, 1, 5, 0, 2, 6, 4, 1, 0, 1, 3, 6, 5, 0, 2, 1, 4, 6, 0, 2, 5, 4,
-            3, 0,
-        ],
-        Said::Drawn(6, 12, 8, 12),
-    ),
-    (
-        &[5, 2, 3, 4, 5, 0, 1, 0, 1, 0, 1, 0, 1, 0],
-        Said::Drawn(5, 4, 1, 0),
-    ),
+    (TRIANGLE, Said::Drawn(3, 3, 2, 1)),
+    (TETRAHEDRON, Said::Drawn(4, 6, 4, 4)),
+    (TETRAHEDRON_ON_A_TORUS, Said::Refused(Rule::Genus)),
+    (OCTAHEDRON, Said::Drawn(6, 12, 8, 12)),
+    (STAR, Said::Drawn(5, 4, 1, 0)),
     (
         &[6, 2, 3, 4, 5, 6, 0, 1, 0, 1, 0, 1, 0, 1, 0, 1, 0],
         Said::Refused(Rule::Degree),
@@ -73,10 +62,10 @@ fn expect(rt: &impl Abort, answer: &Answer, said: Said) {
         ) => {
             let graph = plane.graph();
             let sizes = (graph.vertices(), graph.edges(), plane.face_count());
-            same(rt, (sizes, shape.bends()), ((n, m, f), bends));
-            same(rt, drawn.points().vertex_count(), usize::from(n));
+            same!(rt, (sizes, shape.bends()), ((n, m, f), bends));
+            same!(rt, drawn.points().vertex_count(), usize::from(n));
         }
-        (Answer::Refused(rule), Said::Refused(first)) => same(rt, *rule, first),
+        (Answer::Refused(rule), Said::Refused(first)) => same!(rt, *rule, first),
         _ => assert!(rt; false),
     }
 }
@@ -131,27 +120,14 @@ fn answers_known_records(rt: HostRuntime) {
     }
 }
 
-/// A cube with a ninth vertex that is joined to all corners of one face.
-const CAPPED_CUBE: [u8; 42] = [
-    9, 5, 4, 2, 0, 3, 6, 1, 0, 4, 7, 2, 0, 1, 8, 3, 0, 1, 6, 9, 8, 0, 2, 7, 9, 5, 0, 3, 8, 9, 6, 0,
-    4, 5, 9, 7, 0, 5, 6, 7, 8, 0,
-];
-
-/// The same with a vertex on the edge from 1 to 5, so that the face with fewest bends is not among those
-/// with most darts.
-const LONGER_CUBE: [u8; 45] = [
-    10, 10, 4, 2, 0, 3, 6, 1, 0, 4, 7, 2, 0, 1, 8, 3, 0, 10, 6, 9, 8, 0, 2, 7, 9, 5, 0, 3, 8, 9, 6,
-    0, 4, 5, 9, 7, 0, 5, 6, 7, 8, 0, 1, 5, 0,
-];
-
 /// Another face than the widest one needs fewer bends.
 #[test]
 fn chooses_the_outer_face(rt: HostRuntime) {
     let cases: [(&[u8], Choice, Said); 4] = [
-        (&CAPPED_CUBE, Choice::First, Said::Drawn(9, 16, 9, 10)),
-        (&CAPPED_CUBE, Choice::Best, Said::Drawn(9, 16, 9, 8)),
-        (&LONGER_CUBE, Choice::First, Said::Drawn(10, 17, 9, 9)),
-        (&LONGER_CUBE, Choice::Best, Said::Drawn(10, 17, 9, 8)),
+        (CAPPED_CUBE, Choice::First, Said::Drawn(9, 16, 9, 10)),
+        (CAPPED_CUBE, Choice::Best, Said::Drawn(9, 16, 9, 8)),
+        (LONGER_CUBE, Choice::First, Said::Drawn(10, 17, 9, 9)),
+        (LONGER_CUBE, Choice::Best, Said::Drawn(10, 17, 9, 8)),
     ];
     for (bytes, choice, said) in cases {
         check(&rt, rt.alloc(), bytes, choice, said);
@@ -168,7 +144,7 @@ fn names_all_causes(rt: HostRuntime) {
         (Cause::Meet, "meet"),
     ];
     for (cause, word) in words {
-        same(&rt, cause.word(), word);
+        same!(&rt, cause.word(), word);
     }
 }
 
@@ -183,10 +159,10 @@ fn is_of_a_triangle(rt: &impl Abort, answer: &Answer) -> bool {
 
 /// The same of the entry of a triangle. Where memory is wanting for its record, nothing is answered, and it says yes.
 fn answers_a_triangle(rt: &impl Abort, alloc: Global) -> bool {
-    match record_of(alloc, &TRIANGLE) {
+    match record_of(alloc, TRIANGLE) {
         Some(rec) => {
             let entry = answer(alloc, 1, 2, rec, Choice::Best);
-            same(rt, (entry.file(), entry.ordinal()), (1, 2));
+            same!(rt, (entry.file(), entry.ordinal()), (1, 2));
             is_of_a_triangle(rt, &entry.answer)
         }
         None => true,
@@ -198,7 +174,7 @@ fn answers_a_triangle(rt: &impl Abort, alloc: Global) -> bool {
 #[test]
 fn refused_allocations(rt: HostRuntime) {
     if !answers_a_triangle(&rt, rt.alloc()) {
-        same(&rt, answers_a_triangle(&rt, rt.alloc()), true);
+        same!(&rt, answers_a_triangle(&rt, rt.alloc()), true);
     }
 }
 
@@ -206,7 +182,7 @@ fn refused_allocations(rt: HostRuntime) {
 /// refused with it all the same.
 #[test]
 fn genus_is_named_in_no_memory(rt: HostRuntime) {
-    let rec = record_of(rt.alloc(), &TORUS).expect(&rt, "a record");
+    let rec = record_of(rt.alloc(), TETRAHEDRON_ON_A_TORUS).expect(&rt, "a record");
     let entry = answer(rt.alloc(), 1, 2, rec, Choice::First);
     expect_entry(&rt, entry, Said::Refused(Rule::Genus));
 }

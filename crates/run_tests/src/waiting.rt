@@ -3,8 +3,7 @@
 ghost use Rattle.std.specs.Prelude.{false, None};
 ghost use Rattle.lanes.specs.Opening.{Silent};
 
-use crate::held::YIELDS;
-use crate::reported::{Narrow, QUICK, same};
+use crate::reported::QUICK;
 use collector::{
     Choice, Gate, IoSink, MAX_LANES, OpenFault, OpenGate, Opener, Stage, Tap, TapFault,
 };
@@ -16,6 +15,8 @@ use std::sync::Wait;
 use std::sync::atomic::{AtomicBool, AtomicU32, Ordering};
 use std::thread;
 use std::thread::Threads;
+use test_tools::records::{EDGE, HEADER};
+use test_tools::{Narrow, same, wait_for_count};
 
 /// How many records the first file has, and each later one.
 const FIRST: u32 = 450;
@@ -45,10 +46,6 @@ struct EdgesTap<'r> {
     records: u32,
 }
 
-pub(crate) const HEADER: &[u8] = b">>planar_code<<";
-
-pub(crate) const EDGE: &[u8] = b"\x02\x02\x00\x01\x00";
-
 impl EdgesTap<'_> {
     /// The next byte, where there is one.
     fn next(&mut self) -> Option<u8> {
@@ -66,15 +63,7 @@ impl EdgesTap<'_> {
 
     /// Waits until the last file was read often enough, and notes where a million turns were too few.
     fn wait(&self) {
-        for _ in 0..1_000_000 {
-            if self.of.reads_of_last.load(Ordering::SeqCst) >= self.of.awaited {
-                return;
-            }
-            for _ in 0..YIELDS {
-                thread::yield_now();
-            }
-        }
-        self.of.ran_out.store(true, Ordering::SeqCst);
+        wait_for_count(self.of.reads_of_last, self.of.awaited, self.of.ran_out);
     }
 }
 
@@ -174,8 +163,8 @@ fn check<R: AllocGlobal + Threads + Wait + Sync + Abort, G: Gate>(
     report: &str,
 ) {
     let (ended, text, ran_out) = run(rt, counts, most, gate);
-    same(rt, (ended, ran_out), (Ok(0), false));
-    same(rt, text.as_slice(), report.as_bytes());
+    same!(rt, (ended, ran_out), (Ok(0), false));
+    same!(rt, text.as_slice(), report.as_bytes());
 }
 
 /// The text is that of all files, however little may wait, and no source waited too long.
@@ -237,15 +226,7 @@ impl HoldsFirst {
         if self.seen.load(Ordering::SeqCst) == 0 {
             return;
         }
-        for _ in 0..1_000_000 {
-            if self.came.load(Ordering::SeqCst) >= self.met {
-                return;
-            }
-            for _ in 0..YIELDS {
-                thread::yield_now();
-            }
-        }
-        self.ran_out.store(true, Ordering::SeqCst);
+        wait_for_count(&self.came, self.met, &self.ran_out);
     }
 }
 
@@ -271,7 +252,7 @@ fn gate_holds_the_first_until_others_pause(rt: HostRuntime) {
         let gate = HoldsFirst::until(0);
         check(&rt, (8, lanes, 0), 1, &gate, report.as_str());
         let most = AHEAD.saturating_mul(lanes).saturating_add(301);
-        same(&rt, gate.seen.load(Ordering::SeqCst) <= most, true);
+        same!(&rt, gate.seen.load(Ordering::SeqCst) <= most, true);
     }
 }
 
@@ -282,7 +263,7 @@ fn room_comes_where_a_file_ends(rt: HostRuntime) {
     let report = report(rt.alloc(), 3).expect(&rt, "memory");
     let gate = HoldsFirst::until(3);
     check(&rt, (3, 3, 0), 32_768, &gate, report.as_str());
-    same(&rt, gate.ran_out.load(Ordering::SeqCst), false);
+    same!(&rt, gate.ran_out.load(Ordering::SeqCst), false);
 }
 
 /// How a run over eight files and so many lanes ended whose sink takes a hundred bytes.
@@ -310,7 +291,7 @@ fn ended_in_a_narrow_sink<R: AllocGlobal + Threads + Wait + Sync>(
 #[test]
 fn a_sink_may_fail_while_lanes_pause(rt: HostRuntime) {
     for lanes in [2, 4, MAX_LANES] {
-        same(
+        same!(
             &rt,
             ended_in_a_narrow_sink(&rt, lanes),
             Err(TextFault::Write),

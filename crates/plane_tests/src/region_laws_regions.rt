@@ -1,7 +1,7 @@
 //! Whether the regions of drawings by hand are the faces: of their own plane, of one that is embedded otherwise, and under
 //! each choice of the outer face.
 
-use crate::drawings::{FOUR, Figure, PATH, SQUARE, STAR, TRIANGLE, answer, shape_in};
+use crate::drawing_check_faults::{FOUR, Figure, PATH, SQUARE, STAR, TRIANGLE, answer, shape_in};
 use drawing_check::has_regions;
 use faces::Plane;
 use ortho_rep::Turn;

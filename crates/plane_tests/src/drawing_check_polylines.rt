@@ -1,6 +1,6 @@
 //! Ten thousand lines through five places, against a plain reading of the conditions.
 
-use crate::drawings::{BENT_EDGE, FOUR, PATH, faults_at};
+use crate::drawing_check_faults::{BENT_EDGE, FOUR, PATH, faults_at};
 use drawing_check::CheckFault;
 use std::alloc::Global;
 use std::process::Abort;
