@@ -3,12 +3,12 @@
 use crate::shared::{NoConsole, make_file, no_input, run_words, words_of};
 use std::alloc::{Allocator, Global};
 use std::fs::{Metadata, OpenOptions};
+use std::io;
 use std::process::Abort;
 use std::rt::Files;
 use std::sync::Wait;
 use std::sync::atomic::{AtomicBool, AtomicU32, Ordering};
 use std::thread::Threads;
-use std::{io, thread};
 use test_tools::records::{EDGE, HEADER};
 use test_tools::{same, wait_for_count};
 
