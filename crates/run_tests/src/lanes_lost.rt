@@ -4,7 +4,6 @@ ghost use Rattle.ruled_lanes.specs.declared.limits.TheConstants.{LANES};
 ghost use Rattle.ruled_lanes.specs.LinkEnds.{taken};
 ghost use Rattle.ruled_lanes.specs.FanEnds.{given_at, gathered};
 
-use crate::reported::same;
 use answers::{Embedded, Entry, Framed, Shaped};
 use lanes::{
     Drafts, GatherFault, Message, OpenGate, StageWork, Staged, gather, run_last_stage, run_stage,
@@ -14,6 +13,7 @@ use std::alloc::{AllocError, Global};
 use std::process::Abort;
 use std::sync::Wait;
 use streams::Mark;
+use test_tools::same;
 
 /// The end of a link whose giver is gone.
 fn left_alone<T: Send + Drop>(alloc: Global) -> Result<Taker<T>, Memory>
@@ -100,7 +100,7 @@ fn lose_the_stage_before<R: AllocGlobal + Wait + Abort>(
 fn a_lane_that_lost_gives_its_stop(rt: HostRuntime) {
     let (mut givers, gatherer) = fan_in::<Message<Entry, ()>>(rt.alloc(), 4).expect(&rt, "memory");
     lose_the_stage_before(&rt, &mut givers[0]);
-    same(&rt, end_of_gathering(&rt, gatherer, 1), Ended::Well);
+    same!(&rt, end_of_gathering(&rt, gatherer, 1), Ended::Well);
 }
 
 /// Gathers from so many lanes, all of whose givers are gone.
@@ -113,6 +113,6 @@ fn gathered_of_none<R: AllocGlobal + Wait + Abort>(rt: &R, lanes: u32) -> Ended
 
 #[test]
 fn gathering_ends_where_all_lanes_are_gone(rt: HostRuntime) {
-    same(&rt, gathered_of_none(&rt, 1), Ended::Lost);
-    same(&rt, gathered_of_none(&rt, LANES), Ended::Lost);
+    same!(&rt, gathered_of_none(&rt, 1), Ended::Lost);
+    same!(&rt, gathered_of_none(&rt, LANES), Ended::Lost);
 }

@@ -3,8 +3,8 @@
 ghost use Rattle.std.specs.Prelude.{false, None};
 ghost use Rattle.lanes.specs.Opening.{Silent};
 
+use crate::printing_pauses::{AHEAD, tell_file};
 use crate::reported::QUICK;
-use crate::waiting::{AHEAD, tell_file};
 use collector::{Choice, IoSink, OpenFault, OpenGate, Opener, Tap, TapFault};
 use commands::{TextFault, write_batch};
 use std::alloc::{AllocError, Global};

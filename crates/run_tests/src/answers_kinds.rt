@@ -1,6 +1,6 @@
 //! The two kinds of drawings, stage by stage, of trees, whose drawings have no bends.
 
-use crate::records::staged;
+use crate::answers_records::staged;
 use answers::Answer;
 use common::{Choice, DrawingKind};
 use faces::Plane;
