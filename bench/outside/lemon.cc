@@ -10,7 +10,7 @@
 //   turning FILE  a line: how many vertices have degree 2, and how few of them turn in shapes with the fewest bends
 //   lengths       the least lengths of random drawings along one axis (crates/length_tests/src/random.rt)
 //   given         the least length of each drawing along one axis on standard input
-//   costs         the least costs of random networks, `-` if there is no flow (crates/base_tests/src/flows.rt)
+//   costs         the least costs of random networks, `-` if there is no flow (crates/flow_tests/src/flows.rt)
 //   keep FILE     the lines of `planarbend frames`, once all records are gathered, each in a buffer of its own
 //   stream FILE   the same lines, and no record is kept
 #include "planar.hpp"
@@ -211,7 +211,7 @@ static int print_lengths() {
   return 0;
 }
 
-// ---- Random networks, as crates/base_tests/src/flows.rt makes them.
+// ---- Random networks, as crates/flow_tests/src/flows.rt makes them.
 
 static std::string next_cost(Random &random) {
   using Net = lemon::SmartDigraph;

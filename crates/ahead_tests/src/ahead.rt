@@ -4,7 +4,6 @@
 ghost use Rattle.std.specs.Prelude.{false, None};
 ghost use Rattle.lanes.specs.Opening.{Silent};
 
-use crate::compared::same;
 use collector::{
     Choice, DrawingKind, Form, Gate, IoSink, OpenFault, Opener, Stage, Style, Tap, TapFault,
 };
@@ -16,6 +15,7 @@ use std::sync::Wait;
 use std::sync::atomic::{AtomicBool, AtomicU32, Ordering};
 use std::thread::Threads;
 use std::{io, thread};
+use test_tools::{same, wait_for_count};
 
 /// What was seen of a run: how often each stage has passed the gate, the sink had bytes, and had a full buffer of them (one
 /// that is not full leaves where no line comes for a while); whether one part waited too long for another; and whether
@@ -54,13 +54,7 @@ impl Seen {
 
     /// Waits until a part was seen so often, and notes where a million turns were too few.
     fn wait_for(&self, part: &AtomicU32, least: u32) {
-        for _ in 0..1_000_000 {
-            if part.load(Ordering::SeqCst) >= least {
-                return;
-            }
-            thread::yield_now();
-        }
-        self.ran_out.store(true, Ordering::SeqCst);
+        wait_for_count(part, least, &self.ran_out);
     }
 
     /// Waits for a while, and notes where the next part was then seen more than so often.
@@ -224,11 +218,11 @@ fn check<R: AllocGlobal + Threads + Wait + Sync + Abort>(
 ) {
     let (ended, text) = run(rt, seen, form);
     let ran_out = seen.ran_out.load(Ordering::SeqCst);
-    same(rt, (ended, ran_out), (Ok(3), false));
-    same(rt, seen.strayed.load(Ordering::SeqCst), false);
-    same(rt, text.as_slice().ends_with(ends), true);
+    same!(rt, (ended, ran_out), (Ok(3), false));
+    same!(rt, seen.strayed.load(Ordering::SeqCst), false);
+    same!(rt, text.as_slice().ends_with(ends), true);
     let found = text.as_slice().split(|byte| *byte == b'\n').count();
-    same(rt, found, lines);
+    same!(rt, found, lines);
 }
 
 /// The lines of the first 372 records take 15,888 bytes, so that 496 are left where a line is to have 512. While these

@@ -2,12 +2,11 @@
 ghost use Rattle.std.specs.Prelude.{false, None};
 ghost use Rattle.lanes.specs.Opening.{Silent};
 
-use crate::compared::same;
 use collector::{Choice, Gate, OpenFault, Opener, Stage, Tap, TapFault, run_batch};
 use std::alloc::Global;
 use std::sync::atomic::{AtomicBool, AtomicU32, Ordering};
 use std::test::Fail;
-use std::thread;
+use test_tools::{same, wait_for_count};
 
 /// How often each stage of a lane has passed the gate.
 #[derive(Drop)]
@@ -62,13 +61,7 @@ impl Gate for Lanes {
             _ => (&self.second, &self.first),
         };
         own.of(stage).fetch_add(1, Ordering::SeqCst);
-        for _ in 0..1_000_000 {
-            if other.read.load(Ordering::SeqCst) > 0 {
-                return;
-            }
-            thread::yield_now();
-        }
-        self.ran_out.store(true, Ordering::SeqCst);
+        wait_for_count(&other.read, 1, &self.ran_out);
     }
 }
 
@@ -119,11 +112,11 @@ fn stages_pass_on_their_lane(rt: HostRuntime) -> Result<(), Fail> {
         ran_out: AtomicBool::new(false),
     };
     let run = run_batch(&rt, rt.alloc(), &Edges, 2, 2, 16, Choice::First, &lanes);
-    same(&rt, run.is_ok(), true);
-    same(&rt, lanes.ran_out.load(Ordering::SeqCst), false);
+    same!(&rt, run.is_ok(), true);
+    same!(&rt, lanes.ran_out.load(Ordering::SeqCst), false);
     let [graphs, _, _, _] = lanes.first.counts();
     let others = 3u32.saturating_sub(graphs);
-    same(&rt, lanes.first.counts(), [graphs; 4]);
-    same(&rt, lanes.second.counts(), [others; 4]);
+    same!(&rt, lanes.first.counts(), [graphs; 4]);
+    same!(&rt, lanes.second.counts(), [others; 4]);
     Ok(())
 }

@@ -2,7 +2,6 @@
 ghost use Rattle.std.specs.Prelude.{false, None};
 ghost use Rattle.lanes.specs.Opening.{Silent};
 
-use crate::compared::same;
 use commands::{Console, FilesAndInput, KeepsReason, Reason, SystemFiles, command};
 use lanes::{OpenFault, Opener};
 use std::alloc::Global;
@@ -10,12 +9,10 @@ use std::rt::Files;
 use std::sync::Wait;
 use std::sync::atomic::{AtomicBool, AtomicU32, Ordering};
 use std::test::Fail;
-use std::thread::{self, Threads};
+use std::thread::Threads;
 use streams::{IoSink, Tap, TapFault};
-
-const HEADER: &[u8] = b">>planar_code<<";
-
-const EDGE: &[u8] = b"\x02\x02\x00\x01\x00";
+use test_tools::records::{EDGE, HEADER};
+use test_tools::{same, wait_for_count};
 
 /// A source of this many edges, a read each, whose reads are counted.
 #[derive(Drop)]
@@ -100,13 +97,7 @@ impl Console for Held<'_> {
         if !self.is_begun.swap(true, Ordering::SeqCst) {
             return 0;
         }
-        for _ in 0..1_000_000 {
-            if self.reads.load(Ordering::SeqCst) >= 150 {
-                return 0;
-            }
-            thread::yield_now();
-        }
-        self.ran_out.store(true, Ordering::SeqCst);
+        wait_for_count(self.reads, 150, &self.ran_out);
         0
     }
 
@@ -150,9 +141,9 @@ fn links_hold_many_messages(rt: HostRuntime) -> Result<(), Fail> {
         words.push(String::from_str(rt.alloc(), word)?)?;
     }
     let (status, text) = ran(&rt, words.as_slice(), &input, &console);
-    same(&rt, status, 0);
-    same(&rt, console.ran_out.load(Ordering::SeqCst), false);
+    same!(&rt, status, 0);
+    same!(&rt, console.ran_out.load(Ordering::SeqCst), false);
     let end = b"graph 400 ok n=2 m=1 f=1 bends=0 drawn=yes\nend complete graphs=400\n";
-    same(&rt, text.as_slice().ends_with(end), true);
+    same!(&rt, text.as_slice().ends_with(end), true);
     Ok(())
 }

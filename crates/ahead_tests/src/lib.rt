@@ -7,5 +7,3 @@ mod ahead;
 mod by_lane;
 #[cfg(test)]
 mod commanded;
-#[cfg(test)]
-mod compared;

@@ -1,13 +1,11 @@
 //! JSON lines of files in memory. The bytes, the texts and the beginnings and ends of lines come from the
 //! descriptions of the format and of the lines.
-ghost use Rattle.std.specs.Prelude.{◌≤◌};
 
-use crate::shared::{plain_batch, same};
+use crate::shared::plain_batch;
 use collector::{Batch, Choice, IoSink, WriteFault, write_json};
 use std::alloc::Global;
-use std::io;
-use std::io::{ErrorKind, Write};
 use std::process::Abort;
+use test_tools::{Narrow, same};
 
 const EDGE: &[u8] = b">>planar_code<<\x02\x02\x00\x01\x00";
 
@@ -46,8 +44,8 @@ fn shows_refused_graphs_and_ends(rt: HostRuntime) {
         {\"file\":2,\"graph\":2,\"rule\":\"edgeless\",\"status\":\"refused\"}\n\
         {\"end\":\"complete\",\"file\":2,\"graphs\":2}\n\
         {\"end\":\"complete\",\"file\":3,\"graphs\":0}\n";
-    same(&rt, lines.as_slice(), text.as_bytes());
-    same(&rt, lines_of(&rt, rt.alloc(), &[]).len(), 0);
+    same!(&rt, lines.as_slice(), text.as_bytes());
+    same!(&rt, lines_of(&rt, rt.alloc(), &[]).len(), 0);
 }
 
 #[test]
@@ -58,54 +56,11 @@ fn shows_a_single_edge(rt: HostRuntime) {
     let ends =
         b"\"status\":\"ok\",\"turns\":[\"\",\"\"]}\n{\"end\":\"complete\",\"file\":1,\"graphs\":1}\n";
     let text = text.as_slice();
-    same(
+    same!(
         &rt,
         (text.starts_with(begins), text.ends_with(ends)),
         (true, true),
     );
-}
-
-/// A writer that takes so many bytes a call, and fails when it is full.
-#[derive(Drop)]
-struct Narrow {
-    taken: [u8; 2048],
-    len: usize,
-    room: usize,
-    most: usize,
-    ghost in_range: { room ≤ 2048 },
-    ghost within: { len ≤ room },
-}
-
-impl Narrow {
-    fn new(room: usize, most: usize) -> Narrow {
-        Narrow {
-            taken: [0; 2048],
-            len: 0,
-            room: room.min(2048),
-            most,
-        }
-    }
-
-    fn text(&self) -> &[u8] {
-        &self.taken[..self.len]
-    }
-}
-
-impl Write for Narrow {
-    fn write(&mut self, buf: &[u8]) -> io::Result<usize> {
-        let count = buf.len().min(self.room - self.len).min(self.most);
-        if count == 0 {
-            return Err(io::Error::from(ErrorKind::Other));
-        }
-        let end = self.len + count;
-        self.taken[self.len..end].copy_from_slice(&buf[..count]);
-        self.len = end;
-        Ok(count)
-    }
-
-    fn flush(&mut self) -> io::Result<()> {
-        Ok(())
-    }
 }
 
 /// Writes into so much room, and looks at the answer and at what was written of the text.
@@ -113,24 +68,22 @@ fn check_room<R: AllocGlobal + Abort>(
     rt: &R,
     batch: &Batch,
     text: &[u8],
-    narrow: Narrow,
+    (room, most): (usize, usize),
     answer: Result<(), WriteFault>,
 ) {
-    let room = narrow.room.min(text.len());
-    let mut sink = IoSink::new(narrow);
-    same(rt, write_json(rt.alloc(), batch, &mut sink), answer);
+    let mut sink = IoSink::new(Narrow::new(room, most, true));
+    same!(rt, write_json(rt.alloc(), batch, &mut sink), answer);
     let written = sink.into_writer();
-    same(rt, written.text(), &text[..room]);
+    same!(rt, written.text(), &text[..room.min(text.len())]);
 }
 
 /// A writer that fails after so many bytes has just these, and one that takes a byte a call has all.
 fn check_rooms<R: AllocGlobal + Abort>(rt: &R, batch: &Batch, text: &[u8]) {
     assert!(rt; text.len() <= 2048);
     for room in 0..text.len() {
-        let narrow = Narrow::new(room, 100);
-        check_room(rt, batch, text, narrow, Err(WriteFault::Write));
+        check_room(rt, batch, text, (room, 100), Err(WriteFault::Write));
     }
-    check_room(rt, batch, text, Narrow::new(2048, 1), Ok(()));
+    check_room(rt, batch, text, (2048, 1), Ok(()));
 }
 
 #[test]
@@ -142,7 +95,7 @@ fn writes_a_beginning_before_a_fault(rt: HostRuntime) {
 
 /// What is written of a batch into a writer that takes at most 100 bytes a call, and the answer.
 fn narrow_text(alloc: Global, batch: &Batch) -> (Narrow, Result<(), WriteFault>) {
-    let mut sink = IoSink::new(Narrow::new(2048, 100));
+    let mut sink = IoSink::new(Narrow::new(2048, 100, true));
     let found = write_json(alloc, batch, &mut sink);
     (sink.into_writer(), found)
 }
@@ -159,7 +112,7 @@ fn is_written(alloc: Global, batch: &Batch) -> bool {
 #[test]
 fn names_want_of_memory(rt: HostRuntime) {
     if let Some(batch) = batch_of(rt.alloc(), &THREE_FILES) {
-        same(&rt, is_written(rt.alloc(), &batch), true);
+        same!(&rt, is_written(rt.alloc(), &batch), true);
     }
 }
 

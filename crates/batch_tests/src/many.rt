@@ -2,7 +2,7 @@
 ghost use Rattle.std.specs.Prelude.{◌≤◌};
 ghost use Rattle.ruled_lanes.specs.declared.limits.TheConstants.{MAX_CAPACITY};
 
-use crate::shared::{opener_of, report_of, same, text_of_lanes};
+use crate::shared::{opener_of, report_of, text_of_lanes};
 use collector::{
     Choice, Form, IoSink, MAX_LANES, MemOpener, OpenGate, run_batch, run_plain, write_json,
 };
@@ -11,6 +11,7 @@ use std::process::Abort;
 use std::sync::Wait;
 use std::thread::Threads;
 use streams::MAX_CAPACITY;
+use test_tools::same;
 
 const TRIANGLE: &[u8] = b">>planar_code<<\x03\x02\x03\x00\x03\x01\x00\x01\x02\x00";
 
@@ -64,7 +65,7 @@ fn check_lanes<R: AllocGlobal + Threads + Wait + Sync + Abort>(
 fn reports_64_files_the_same_over_lanes(rt: HostRuntime) {
     let opener = triangles(rt.alloc(), 64).expect(&rt, "memory");
     let report = report_of_plain(rt.alloc(), &opener, 64).expect(&rt, "a report");
-    same(&rt, report.len(), 4_535);
+    same!(&rt, report.len(), 4_535);
     for lanes in 1..=MAX_LANES {
         for capacity in [1, MAX_CAPACITY] {
             check_lanes(&rt, &opener, 64, lanes, capacity, report.as_slice());
@@ -119,12 +120,12 @@ fn json_lines_are_those_of_books(rt: HostRuntime) {
     let opener = different(rt.alloc(), 48).expect(&rt, "memory");
     let due = lines_of_books(rt.alloc(), &opener, 48).expect(&rt, "lines");
     let lines = due.as_slice().split(|byte| *byte == b'\n').count();
-    same(&rt, lines, 16 * 2 + 16 * 5 + 16 + 1);
+    same!(&rt, lines, 16 * 2 + 16 * 5 + 16 + 1);
     let (choice, form) = (Choice::First, Form::Json);
     for lanes in 1..=MAX_LANES {
         let found = text_of_lanes(&rt, &opener, 48, lanes, choice, form, &OpenGate);
         let found = found.expect(&rt, "a text");
-        same(&rt, found.as_slice() == due.as_slice(), true);
+        same!(&rt, found.as_slice() == due.as_slice(), true);
     }
 }
 
@@ -132,6 +133,6 @@ fn json_lines_are_those_of_books(rt: HostRuntime) {
 fn reports_256_files_the_same_over_eight_lanes(rt: HostRuntime) {
     let opener = triangles(rt.alloc(), 256).expect(&rt, "memory");
     let report = report_of_plain(rt.alloc(), &opener, 256).expect(&rt, "a report");
-    same(&rt, report.len(), 18_324);
+    same!(&rt, report.len(), 18_324);
     check_lanes(&rt, &opener, 256, 8, 1, report.as_slice());
 }

@@ -4,8 +4,8 @@ ghost use Rattle.std.specs.Prelude.{◌<◌, ◌≤◌, false, None};
 ghost use Rattle.lanes.specs.Opening.{Silent};
 
 use crate::shared::{
-    CUT, HEADER, OF_THREE, THREE_FILES, TRIANGLES, WAYS, Way, check_report, check_three,
-    lanes_report, opener_of, plain_batch, same,
+    CUT, OF_THREE, THREE_FILES, TRIANGLES, WAYS, Way, check_report, check_three, lanes_report,
+    opener_of, plain_batch,
 };
 use collector::{
     Batch, BatchFault, Choice, Gate, MAX_LANES, MemOpener, MemTap, OpenFault, OpenGate, Opener,
@@ -16,8 +16,9 @@ use std::fmt::Write;
 use std::process::Abort;
 use std::sync::Wait;
 use std::sync::atomic::{AtomicBool, AtomicU32, Ordering};
-use std::thread;
 use std::thread::Threads;
+use test_tools::records::{CAPPED_CUBE, HEADER};
+use test_tools::{same, wait_for_count};
 
 const EDGELESS: &[u8] = b">>planar_code<<\x01\x00";
 
@@ -67,7 +68,7 @@ fn check_chosen<R: AllocGlobal + Threads + Wait + Sync + Abort, G: Gate>(
     report: &str,
 ) {
     let text = lanes_report(rt, way, files, lanes, choice, gate).expect(rt, "a report");
-    same(rt, text.as_slice(), report.as_bytes());
+    same!(rt, text.as_slice(), report.as_bytes());
 }
 
 /// Runs the files on one thread, and looks at the report.
@@ -98,12 +99,6 @@ fn reports_the_same_under_either_choice(rt: HostRuntime) {
     check_plain(&rt, &files, best, OF_THREE);
 }
 
-/// A cube with a ninth vertex that is joined to all corners of one face: that face's opposite one needs
-/// fewest bends, and the widest face with the least dart needs two more.
-const CAPPED_CUBE: &[u8] = b">>planar_code<<\
-    \x09\x05\x04\x02\0\x03\x06\x01\0\x04\x07\x02\0\x01\x08\x03\0\x01\x06\x09\x08\0\
-    \x02\x07\x09\x05\0\x03\x08\x09\x06\0\x04\x05\x09\x07\0\x05\x06\x07\x08\0";
-
 const CAPPED_BY_FIRST: &str = "file 1\n\
     graph 1 ok n=9 m=16 f=9 bends=10 drawn=yes\n\
     end complete graphs=1\n";
@@ -112,9 +107,13 @@ const CAPPED_BY_BEST: &str = "file 1\n\
     graph 1 ok n=9 m=16 f=9 bends=8 drawn=yes\n\
     end complete graphs=1\n";
 
+/// The face of a capped cube that lies opposite to its cap needs fewest bends, and the widest face with the least dart
+/// needs two more.
 #[test]
 fn chooses_the_outer_face(rt: HostRuntime) {
-    let files = [CAPPED_CUBE];
+    let file = [HEADER, CAPPED_CUBE].concat(rt.alloc());
+    let file = file.expect(&rt, "memory");
+    let files = [file.as_slice()];
     for (choice, report) in [
         (Choice::First, CAPPED_BY_FIRST),
         (Choice::Best, CAPPED_BY_BEST),
@@ -206,9 +205,9 @@ fn fault_of<R: AllocGlobal + Threads + Wait + Sync>(
 
 #[test]
 fn refuses_bad_numbers(rt: HostRuntime) {
-    same(&rt, fault_of(&rt, 257, 0), Some(BatchFault::TooManyFiles));
-    same(&rt, fault_of(&rt, 256, 9), Some(BatchFault::BadLanes));
-    same(&rt, fault_of(&rt, 256, 0), Some(BatchFault::BadLanes));
+    same!(&rt, fault_of(&rt, 257, 0), Some(BatchFault::TooManyFiles));
+    same!(&rt, fault_of(&rt, 256, 9), Some(BatchFault::BadLanes));
+    same!(&rt, fault_of(&rt, 256, 0), Some(BatchFault::BadLanes));
 }
 
 #[test]
@@ -218,22 +217,6 @@ fn no_files_have_an_empty_report(rt: HostRuntime) {
             check(&rt, way, &[], lanes, &OpenGate, "");
         }
     }
-}
-
-/// How often each turn of a wait yields: on a shared machine a thread may be away for a million yields.
-const YIELDS: u32 = 16;
-
-/// Waits until a number of calls is reached, and notes where a million turns were too few.
-fn wait_for_calls(calls: &AtomicU32, least: u32, ran_out: &AtomicBool) {
-    for _ in 0..1_000_000 {
-        if calls.load(Ordering::SeqCst) >= least {
-            return;
-        }
-        for _ in 0..YIELDS {
-            thread::yield_now();
-        }
-    }
-    ran_out.store(true, Ordering::SeqCst);
 }
 
 /// Two calls, of which each is held up until the other is made.
@@ -255,12 +238,12 @@ impl Meeting {
 
     fn come_first(&self) {
         self.first.fetch_add(1, Ordering::SeqCst);
-        wait_for_calls(&self.second, 1, &self.ran_out);
+        wait_for_count(&self.second, 1, &self.ran_out);
     }
 
     fn come_second(&self) {
         self.second.fetch_add(1, Ordering::SeqCst);
-        wait_for_calls(&self.first, 1, &self.ran_out);
+        wait_for_count(&self.first, 1, &self.ran_out);
     }
 
     /// Both calls were made, and neither waited too long.
@@ -298,7 +281,7 @@ fn gate_holds_stages(rt: HostRuntime) {
             meeting: Meeting::new(),
         };
         check(&rt, way, &[TRIANGLES], 1, &gate, OF_TRIANGLES);
-        same(&rt, gate.meeting.took_place(), true);
+        same!(&rt, gate.meeting.took_place(), true);
     }
 }
 
@@ -326,7 +309,7 @@ fn gate_holds_two(rt: HostRuntime) {
             meeting: Meeting::new(),
         };
         check(&rt, way, &[EDGE, EDGE], 2, &gate, OF_EDGES);
-        same(&rt, gate.meeting.took_place(), true);
+        same!(&rt, gate.meeting.took_place(), true);
     }
 }
 
@@ -366,7 +349,7 @@ impl Gate for HoldsFan {
         }
         let earlier = calls_of(&self.calls, lane).fetch_add(1, Ordering::SeqCst);
         if lane == self.held && earlier == 0 {
-            wait_for_calls(
+            wait_for_count(
                 calls_of(&self.calls, other_than(self.held)),
                 12,
                 &self.ran_out,
@@ -412,7 +395,7 @@ fn check_fan<R: AllocGlobal + Threads + Wait + Sync + Abort>(
     for way in WAYS {
         let gate = HoldsFan::of(held);
         check(rt, way, &[bytes, bytes], 2, &gate, report);
-        same(rt, gate.ran_out.load(Ordering::SeqCst), false);
+        same!(rt, gate.ran_out.load(Ordering::SeqCst), false);
     }
 }
 
@@ -444,7 +427,7 @@ impl Gate for HoldsDeal {
             return;
         }
         let least = if lane == 0 { 12 } else { 1 };
-        wait_for_calls(
+        wait_for_count(
             calls_of(&self.calls, other_than(lane)),
             least,
             &self.ran_out,
@@ -465,9 +448,9 @@ fn check_deal<R: AllocGlobal + Threads + Wait + Sync + Abort>(
         ran_out: AtomicBool::new(false),
     };
     check(rt, way, &[bytes, bytes, bytes, bytes], 2, &gate, report);
-    same(rt, gate.ran_out.load(Ordering::SeqCst), false);
+    same!(rt, gate.ran_out.load(Ordering::SeqCst), false);
     for (lane, calls) in [(0, 4), (1, 12)] {
-        same(
+        same!(
             rt,
             calls_of(&gate.calls, lane).load(Ordering::SeqCst),
             calls,
@@ -528,7 +511,7 @@ fn names_want_of_memory(rt: HostRuntime) {
     };
     let counts = Counts::new();
     let (run, (opened, dropped)) = counted_run(&rt, files, 3, 2, &counts);
-    same(&rt, opened, dropped);
+    same!(&rt, opened, dropped);
     check_named(&rt, &counts, run);
 }
 
@@ -543,7 +526,7 @@ fn check_named(rt: &impl Abort, counts: &Counts, run: Result<Batch, BatchFault>)
 /// Each stage has passed the gate so often.
 fn check_passed(rt: &impl Abort, counts: &Counts, count: usize) {
     for stage in [Stage::Read, Stage::Embed, Stage::Shape, Stage::Draw] {
-        same(rt, (stage, counts.passed(stage) as usize), (stage, count));
+        same!(rt, (stage, counts.passed(stage) as usize), (stage, count));
     }
 }
 
@@ -644,7 +627,7 @@ fn check_let_go<R: AllocGlobal + Threads + Wait + Sync + Abort>(rt: &R, lanes: u
         rt, "memory",
     );
     let (run, counts) = counted_run(rt, files, 6, lanes, &OpenGate);
-    same(rt, counts, (5, 5));
+    same!(rt, counts, (5, 5));
     check_report(rt, &run.expect(rt, "a batch"), OF_FAULTS.as_bytes());
 }
 

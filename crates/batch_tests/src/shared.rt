@@ -9,22 +9,16 @@ use collector::{
 use commands::write_batch;
 use planar_code::Ending;
 use std::alloc::{AllocError, Global};
-use std::fmt::Debug;
 use std::process::Abort;
 use std::sync::Wait;
 use std::thread::Threads;
-
-/// Sees that two values are the same. (An `assert_eq!` in each place would make the tests' proofs several times as long.)
-pub(crate) fn same<T: PartialEq + Debug + Drop>(rt: &impl Abort, got: T, want: T) {
-    assert_eq!(rt; got, want);
-}
+use test_tools::records::HEADER;
+use test_tools::same;
 
 pub(crate) const TRIANGLES: &[u8] =
     b">>planar_code<<\x03\x02\x03\x00\x03\x01\x00\x01\x02\x00\x03\x02\x03\x00\x03\x01\x00\x01\x02\x00";
 
 pub(crate) const CUT: &[u8] = b">>planar_code<<\x02\x02\x00\x01\x00\x02\x02\x00\x01";
-
-pub(crate) const HEADER: &[u8] = b">>planar_code<<";
 
 /// Two triangles; an edge and a record that is cut; no record.
 pub(crate) const THREE_FILES: [&[u8]; 3] = [TRIANGLES, CUT, HEADER];
@@ -172,7 +166,7 @@ pub(crate) fn report_of(alloc: Global, batch: &Batch) -> Result<Vec<u8>, WriteFa
 /// The report of a batch is this text.
 pub(crate) fn check_report<R: AllocGlobal + Abort>(rt: &R, batch: &Batch, report: &[u8]) {
     let text = report_of(rt.alloc(), batch).expect(rt, "a report");
-    same(rt, text.as_slice(), report);
+    same!(rt, text.as_slice(), report);
 }
 
 /// The numbers of vertices, edges, faces and bends of a drawn record.
@@ -199,7 +193,7 @@ fn wants_of(rt: &impl Abort, answer: &Answer, sizes: Sizes) -> usize {
         Answer::Refused(_) => None,
         Answer::NoMemory => return 1,
     };
-    same(rt, found, Some(sizes));
+    same!(rt, found, Some(sizes));
     0
 }
 
@@ -212,10 +206,10 @@ fn wants_in(rt: &impl Abort, book: &Book, records: &[Sizes], mark: Mark) -> (usi
         wants = wants.saturating_add(wants_of(rt, &entry.answer, *sizes));
     }
     if book.mark() == mark {
-        same(rt, entries.len(), records.len());
+        same!(rt, entries.len(), records.len());
     } else {
-        same(rt, book.mark(), Mark::Ended(Ending::Memory));
-        same(rt, entries.len() <= records.len(), true);
+        same!(rt, book.mark(), Mark::Ended(Ending::Memory));
+        same!(rt, entries.len() <= records.len(), true);
         wants = wants.saturating_add(1);
     }
     (wants, entries.len())
@@ -232,6 +226,6 @@ pub(crate) fn check_three(rt: &impl Abort, batch: &Batch) -> usize {
     let second = wants_in(rt, batch.book(1), &[(2, 1, 1, 0)], cut);
     let third = wants_in(rt, batch.book(2), &[], complete);
     let wants = first.0.saturating_add(second.0).saturating_add(third.0);
-    same(rt, wants <= 1, true);
+    same!(rt, wants <= 1, true);
     first.1.saturating_add(second.1).saturating_add(third.1)
 }

@@ -1,21 +1,17 @@
 //! Reports of files in memory. The bytes, the sizes and the texts come from the description of the format
 //! and of the report.
-ghost use Rattle.std.specs.Prelude.{◌≤◌};
 
-use crate::shared::{
-    HEADER, OF_THREE, THREE_FILES, check_report, check_three, opener_of, plain_batch, same,
-};
+use crate::shared::{OF_THREE, THREE_FILES, check_report, check_three, opener_of, plain_batch};
 use collector::{
     BatchFault, Cause, Choice, IoSink, MemOpener, ReportLine, WriteFault, run_plain, write_report,
 };
 use std::alloc::{AllocError, Global};
-use std::io;
-use std::io::{ErrorKind, Write};
 use std::process::Abort;
-
-const EDGE: &[u8] = b"\x02\x02\x00\x01\x00";
-
-const TRIANGLE: &[u8] = b"\x03\x02\x03\x00\x03\x01\x00\x01\x02\x00";
+use test_tools::records::{
+    CUBE, EDGE, HEADER, OCTAHEDRON, SQUARE, STAR, TETRAHEDRON, TETRAHEDRON_ON_A_TORUS, TRIANGLE,
+    longest_cycle,
+};
+use test_tools::{Narrow, same};
 
 /// Records, each with what its line says after the number. The bends of the octahedron, which has six
 /// vertices, are the distances of its inner faces from the outer one: 1, 1, 1, 2, 2, 2 and 3.
@@ -24,22 +20,10 @@ const RECORDS: [(&[u8], &str); 17] = [
     (b"\x01\x00", "refused edgeless"),
     (b"\x02\x00\x00", "refused edgeless"),
     (TRIANGLE, "ok n=3 m=3 f=2 bends=1 drawn=yes"),
-    (
-        b"\x04\x03\x04\x02\x00\x01\x04\x03\x00\x02\x04\x01\x00\x03\x02\x01\x00",
-        "ok n=4 m=6 f=4 bends=4 drawn=yes",
-    ),
-    (
-        b"\x04\x03\x04\x02\x00\x01\x04\x03\x00\x02\x04\x01\x00\x01\x02\x03\x00",
-        "refused genus",
-    ),
-    (
-        b"\x06\x02\x03\x04\x05\x00\x06\x03\x01\x05\x00\x02\x06\x04\x01\x00\x01\x03\x06\x05\x00\x02\x01\x04\x06\x00\x02\x05\x04\x03\x00",
-        "ok n=6 m=12 f=8 bends=12 drawn=yes",
-    ),
-    (
-        b"\x05\x02\x03\x04\x05\x00\x01\x00\x01\x00\x01\x00\x01\x00",
-        "ok n=5 m=4 f=1 bends=0 drawn=yes",
-    ),
+    (TETRAHEDRON, "ok n=4 m=6 f=4 bends=4 drawn=yes"),
+    (TETRAHEDRON_ON_A_TORUS, "refused genus"),
+    (OCTAHEDRON, "ok n=6 m=12 f=8 bends=12 drawn=yes"),
+    (STAR, "ok n=5 m=4 f=1 bends=0 drawn=yes"),
     (
         b"\x06\x02\x03\x04\x05\x06\x00\x01\x00\x01\x00\x01\x00\x01\x00\x01\x00",
         "refused degree",
@@ -54,16 +38,8 @@ const RECORDS: [(&[u8], &str); 17] = [
     ),
     // A vertex past the last one stands in one list, and a vertex in its own.
     (b"\x02\x03\x00\x02\x00", "refused range"),
-    // A cycle of four.
-    (
-        b"\x04\x02\x04\x00\x03\x01\x00\x04\x02\x00\x01\x03\x00",
-        "ok n=4 m=4 f=2 bends=0 drawn=yes",
-    ),
-    // A cube.
-    (
-        b"\x08\x02\x05\x04\x00\x03\x06\x01\x00\x04\x07\x02\x00\x01\x08\x03\x00\x01\x06\x08\x00\x02\x07\x05\x00\x03\x08\x06\x00\x04\x05\x07\x00",
-        "ok n=8 m=12 f=6 bends=4 drawn=yes",
-    ),
+    (SQUARE, "ok n=4 m=4 f=2 bends=0 drawn=yes"),
+    (CUBE, "ok n=8 m=12 f=6 bends=4 drawn=yes"),
 ];
 
 fn joined(alloc: Global, parts: &[&[u8]]) -> Result<Vec<u8>, AllocError> {
@@ -111,22 +87,11 @@ fn tells_sizes_and_rules(rt: HostRuntime) {
     }
 }
 
-/// A file of the longest cycle that a record can hold.
-fn longest_cycle(alloc: Global) -> Result<Vec<u8>, AllocError> {
-    let mut bytes = joined(alloc, &[HEADER, &[255]])?;
-    for vertex in 1..=255u8 {
-        let after = if vertex == 255 { 1 } else { vertex + 1 };
-        let before = if vertex == 1 { 255 } else { vertex - 1 };
-        bytes.extend_from_slice(&[after, before, 0])?;
-    }
-    Ok(bytes)
-}
-
 #[test]
 fn draws_a_cycle_of_most_vertices(rt: HostRuntime) {
     let bytes = longest_cycle(rt.alloc()).expect(&rt, "memory");
     let lines = "graph 1 ok n=255 m=255 f=2 bends=0 drawn=yes\nend complete graphs=1\n";
-    check_file(&rt, &[bytes.as_slice()], lines);
+    check_file(&rt, &[HEADER, bytes.as_slice()], lines);
 }
 
 /// Parts of a file, and the lines after the first.
@@ -162,38 +127,10 @@ fn tells_of_all_files_in_order(rt: HostRuntime) {
     check_files(&rt, &[], b"");
 }
 
-/// A writer that takes ten bytes and then fails.
-#[derive(Drop)]
-struct Narrow {
-    taken: [u8; 10],
-    len: usize,
-    ghost within: { len ≤ 10 },
-}
-
-impl Write for Narrow {
-    fn write(&mut self, buf: &[u8]) -> io::Result<usize> {
-        let count = buf.len().min(10 - self.len);
-        if count == 0 {
-            return Err(io::Error::from(ErrorKind::Other));
-        }
-        let end = self.len + count;
-        self.taken[self.len..end].copy_from_slice(&buf[..count]);
-        self.len = end;
-        Ok(count)
-    }
-
-    fn flush(&mut self) -> io::Result<()> {
-        Ok(())
-    }
-}
-
 /// What of the report of three files goes into ten bytes, and the answer.
 fn narrow_report(alloc: Global) -> Option<(Narrow, Result<(), WriteFault>)> {
     let batch = plain_batch(alloc, &THREE_FILES, 65_536, Choice::First)?;
-    let mut sink = IoSink::new(Narrow {
-        taken: [0; 10],
-        len: 0,
-    });
+    let mut sink = IoSink::new(Narrow::new(10, usize::MAX, true));
     let found = write_report(&batch, &mut sink);
     Some((sink.into_writer(), found))
 }
@@ -201,8 +138,8 @@ fn narrow_report(alloc: Global) -> Option<(Narrow, Result<(), WriteFault>)> {
 #[test]
 fn writes_a_beginning_before_a_fault(rt: HostRuntime) {
     let (narrow, found) = narrow_report(rt.alloc()).expect(&rt, "a batch");
-    same(&rt, found, Err(WriteFault::Write));
-    same(&rt, &narrow.taken, b"file 1\ngra");
+    same!(&rt, found, Err(WriteFault::Write));
+    same!(&rt, narrow.text(), b"file 1\ngra".as_slice());
 }
 
 /// How many books a run of files that do not open has, or why it came to nothing.
@@ -214,12 +151,12 @@ fn books_of_run(alloc: Global, files: u32) -> Result<u32, BatchFault> {
 
 #[test]
 fn takes_at_most_256_files(rt: HostRuntime) {
-    same(
+    same!(
         &rt,
         books_of_run(rt.alloc(), 257),
         Err(BatchFault::TooManyFiles),
     );
-    same(&rt, books_of_run(rt.alloc(), 256), Ok(256));
+    same!(&rt, books_of_run(rt.alloc(), 256), Ok(256));
 }
 
 #[test]
@@ -234,7 +171,7 @@ fn marks_a_file_that_does_not_open(rt: HostRuntime) {
 fn check_cause<R: Abort>(rt: &R, cause: Cause, text: &str) {
     let mut line = ReportLine::new();
     line.push_cause(cause);
-    same(rt, line.as_slice(), text.as_bytes());
+    same!(rt, line.as_slice(), text.as_bytes());
 }
 
 #[test]
@@ -262,6 +199,6 @@ fn names_want_of_memory(rt: HostRuntime) {
         Ok(batch) => {
             let _entries = check_three(&rt, &batch);
         }
-        Err(fault) => same(&rt, fault, BatchFault::Memory),
+        Err(fault) => same!(&rt, fault, BatchFault::Memory),
     }
 }

@@ -2,15 +2,12 @@
 
 ghost use Rattle.std.specs.Prelude.{◌<◌};
 
-use crate::planes::{EDGE, TRIANGLE, draw, plane_of, same, shape_of};
+use crate::planes::{draw, shape_of};
 use std::alloc::{AllocError, Global};
 use std::process::Abort;
-
-const K4: [u8; 17] = [4, 3, 4, 2, 0, 1, 4, 3, 0, 2, 4, 1, 0, 3, 2, 1, 0];
-
-pub(crate) const OCTAHEDRON: [u8; 31] = [
-    6, 2, 3, 4, 5, 0, 6, 3, 1, 5, 0, 2, 6, 4, 1, 0, 1, 3, 6, 5, 0, 2, 1, 4, 6, 0, 2, 5, 4, 3, 0,
-];
+use test_inputs::plane_in;
+use test_tools::records::{EDGE, OCTAHEDRON, TETRAHEDRON, TRIANGLE};
+use test_tools::same;
 
 /// A grid of so many rows and columns, at most 255 places. Neighbours to the north, east, south and west.
 pub(crate) fn grid(alloc: Global, rows: u8, columns: u8) -> Result<Vec<u8>, AllocError>
@@ -87,18 +84,18 @@ pub(crate) fn rings(alloc: Global, rings: &[&[Beside]], count: u8) -> Result<Vec
 
 /// A least shape of these bytes has so many bends, and is drawn.
 fn expect_drawn(rt: &impl Abort, alloc: Global, bytes: &[u8], bends: u32) {
-    let plane = plane_of(rt, alloc, bytes);
+    let plane = plane_in(alloc, bytes).expect(rt, "a plane");
     let shape = shape_of(rt, alloc, &plane);
-    same(rt, shape.bends(), bends);
+    same!(rt, shape.bends(), bends);
     draw(rt, alloc, &plane, &shape);
 }
 
 /// The single edge, the triangle, the complete graph on 4 vertices, the octahedron, and stars.
 const SOLIDS: [(&[u8], u32); 7] = [
-    (&EDGE, 0),
-    (&TRIANGLE, 1),
-    (&K4, 4),
-    (&OCTAHEDRON, 12),
+    (EDGE, 0),
+    (TRIANGLE, 1),
+    (TETRAHEDRON, 4),
+    (OCTAHEDRON, 12),
     (&[3, 2, 3, 0, 1, 0, 1, 0], 0),
     (&[4, 2, 3, 4, 0, 1, 0, 1, 0, 1, 0], 0),
     (&[5, 2, 3, 4, 5, 0, 1, 0, 1, 0, 1, 0, 1, 0], 0),

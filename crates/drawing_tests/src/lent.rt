@@ -1,9 +1,7 @@
 //! Shapes that are drawn one after another in memory that is lent: each drawing is the same as in memory of
 //! its own.
 
-use crate::planes::{
-    EDGE, TRIANGLE, bent_triangle_in, boxes_of, expect_drawing, plane_of, same, spiral_in,
-};
+use crate::planes::{bent_triangle_in, boxes_of, expect_drawing, spiral_in};
 use crate::refused::{are_alike, are_same};
 use compact::{compact, compact_in};
 use dissect::{Boxes, dissect_in};
@@ -11,6 +9,9 @@ use faces::Plane;
 use ortho_rep::{Points, Shape, is_shape};
 use std::alloc::Global;
 use std::process::Abort;
+use test_inputs::plane_in;
+use test_tools::records::{EDGE, TRIANGLE};
+use test_tools::same;
 
 /// The memory that all drawings share.
 #[derive(Drop)]
@@ -31,7 +32,7 @@ fn boxes_in(
     assert!(rt; is_shape(plane, shape));
     let boxes = dissect_in(alloc, lent, plane, shape).expect(rt, "memory");
     let own = boxes_of(rt, alloc, plane, shape).expect(rt, "memory");
-    same(rt, are_same(&boxes, &own), true);
+    same!(rt, are_same(&boxes, &own), true);
     boxes
 }
 
@@ -39,7 +40,7 @@ fn boxes_in(
 fn points_in(rt: &impl Abort, alloc: Global, lent: &mut compact::Scratch, boxes: &Boxes) -> Points {
     let points = compact_in(alloc, lent, boxes).expect(rt, "points");
     let own = compact(alloc, boxes).expect(rt, "points");
-    same(rt, are_alike(&points, &own), true);
+    same!(rt, are_alike(&points, &own), true);
     points
 }
 
@@ -54,7 +55,7 @@ fn draw_shape_in(rt: &impl Abort, alloc: Global, lent: &mut Lent, plane: &Plane,
 /// The same of the plane of these bytes.
 fn draw_in(rt: &impl Abort, alloc: Global, lent: &mut Lent, bytes: &[u8], shape: Option<Shape>) {
     let shape = shape.expect(rt, "a shape");
-    let plane = plane_of(rt, alloc, bytes);
+    let plane = plane_in(alloc, bytes).expect(rt, "a plane");
     draw_shape_in(rt, alloc, lent, &plane, &shape);
 }
 
@@ -66,9 +67,9 @@ fn drawings_in_lent_memory(rt: HostRuntime) {
         points: compact::Scratch::empty(alloc),
         checks: drawing_check::Scratch::empty(alloc),
     };
-    draw_in(&rt, alloc, &mut lent, &TRIANGLE, bent_triangle_in(alloc));
+    draw_in(&rt, alloc, &mut lent, TRIANGLE, bent_triangle_in(alloc));
     for turns in [0, 20] {
-        draw_in(&rt, alloc, &mut lent, &EDGE, spiral_in(alloc, turns));
+        draw_in(&rt, alloc, &mut lent, EDGE, spiral_in(alloc, turns));
     }
-    draw_in(&rt, alloc, &mut lent, &TRIANGLE, bent_triangle_in(alloc));
+    draw_in(&rt, alloc, &mut lent, TRIANGLE, bent_triangle_in(alloc));
 }

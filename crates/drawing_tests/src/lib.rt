@@ -3,26 +3,26 @@
 #![tactic(auto)]
 
 #[cfg(test)]
-mod bent;
+mod compact_wide;
 #[cfg(test)]
-mod boxed;
+mod dissect_bent;
 #[cfg(test)]
-mod directed;
+mod dissect_boxed;
 #[cfg(test)]
-mod enclosed;
+mod dissect_directed;
+#[cfg(test)]
+mod dissect_enclosed;
 #[cfg(test)]
 mod families;
+#[cfg(test)]
+mod geometry_quarters;
 #[cfg(test)]
 mod lent;
 #[cfg(test)]
 mod planes;
 #[cfg(test)]
-mod quarters;
-#[cfg(test)]
 mod refused;
 #[cfg(test)]
 mod turned;
 #[cfg(test)]
-mod visible;
-#[cfg(test)]
-mod wide;
+mod visibility_drawings;

@@ -2,13 +2,16 @@
 //! of these tests in turn: a second call answers as without the refusal. Where a refusal comes before the
 //! call, the test ends.
 
-use crate::planes::{TRIANGLE, bent_triangle_in, boxes_of, plane_in, same};
+use crate::planes::{bent_triangle_in, boxes_of};
 use compact::{CompactFault, compact};
 use dissect::Boxes;
 use faces::Plane;
 use ortho_rep::{Points, Shape};
 use std::alloc::{AllocError, Global};
 use std::process::Abort;
+use test_inputs::plane_in;
+use test_tools::records::TRIANGLE;
+use test_tools::same;
 
 /// Whether two dissections have the same vertices and darts.
 fn have_same_darts(one: &Boxes, other: &Boxes) -> bool {
@@ -60,7 +63,7 @@ fn dissected_at_last(rt: &impl Abort, alloc: Global, plane: &Plane, shape: &Shap
 /// The boxes of the triangle, by the second call where the first finds no memory; nothing where memory is
 /// wanting before.
 fn boxes_at_last(rt: &impl Abort, alloc: Global) -> Option<Boxes> {
-    let plane = plane_in(alloc, &TRIANGLE)?;
+    let plane = plane_in(alloc, TRIANGLE)?;
     let shape = bent_triangle_in(alloc)?;
     Some(dissected_at_last(rt, alloc, &plane, &shape))
 }
@@ -78,7 +81,7 @@ fn dissections(rt: HostRuntime) {
     // No more than one allocation is refused.
     let first = boxes_at_last(&rt, rt.alloc());
     let second = boxes_at_last(&rt, rt.alloc());
-    same(&rt, are_same_if_any(first.as_ref(), second.as_ref()), true);
+    same!(&rt, are_same_if_any(first.as_ref(), second.as_ref()), true);
 }
 
 /// The points of boxes, by the second call where the first finds no memory.
@@ -86,7 +89,7 @@ fn points_at_last(rt: &impl Abort, alloc: Global, boxes: &Boxes) -> Points {
     match compact(alloc, boxes) {
         Ok(points) => points,
         Err(fault) => {
-            same(rt, fault, CompactFault::Memory);
+            same!(rt, fault, CompactFault::Memory);
             compact(alloc, boxes).expect(rt, "points")
         }
     }
@@ -109,7 +112,7 @@ pub(crate) fn are_alike(one: &Points, other: &Points) -> bool {
 fn expect_points(rt: &impl Abort, alloc: Global, boxes: &Boxes) {
     let points = points_at_last(rt, alloc, boxes);
     let again = points_at_last(rt, alloc, boxes);
-    same(rt, are_alike(&points, &again), true);
+    same!(rt, are_alike(&points, &again), true);
 }
 
 #[test]

@@ -2,34 +2,15 @@
 
 ghost use Rattle.ortho_rep.specs.Representation.{HasDarts};
 
-use crate::families::{ANTIPRISM, OCTAHEDRON, PRISM, grid, rings};
-use crate::planes::{EDGE, TRIANGLE, draw, plane_of, shape_of, spiral_in};
+use crate::families::{ANTIPRISM, PRISM, grid, rings};
+use crate::planes::{draw, shape_of, spiral_in};
 use faces::Plane;
 use ortho_rep::{Shape, Turn};
 use std::alloc::{AllocError, Global};
 use std::process::Abort;
-
-/// Numbers that look random, the same at each run.
-#[derive(Drop)]
-struct Random {
-    state: u64,
-}
-
-impl Random {
-    ghost use Rattle.std.specs.Prelude.{◌<◌};
-
-    /// A number below a bound that is not 0.
-    fn below(&mut self, bound: u64) -> u64
-        requires { 0 < bound }
-        ensures { result < bound }
-    {
-        self.state = self
-            .state
-            .wrapping_mul(6_364_136_223_846_793_005)
-            .wrapping_add(1_442_695_040_888_963_407);
-        (self.state >> 33) % bound
-    }
-}
+use test_inputs::plane_in;
+use test_tools::Random;
+use test_tools::records::{EDGE, OCTAHEDRON, TRIANGLE};
 
 /// The angles of a shape.
 fn angles_of(alloc: Global, plane: &Plane, shape: &Shape) -> Result<Vec<u8>, AllocError>
@@ -120,7 +101,7 @@ fn with_a_step(
 
 /// Least shapes of these bytes, each with one more random step than the one before it, are drawn.
 fn expect_steps(rt: &impl Abort, alloc: Global, bytes: &[u8], seed: u64) {
-    let plane = plane_of(rt, alloc, bytes);
+    let plane = plane_in(alloc, bytes).expect(rt, "a plane");
     let mut shape = shape_of(rt, alloc, &plane);
     let mut random = Random { state: seed };
     for _step in 0..20u32 {
@@ -132,7 +113,7 @@ fn expect_steps(rt: &impl Abort, alloc: Global, bytes: &[u8], seed: u64) {
 #[test]
 fn steps_are_drawn(rt: HostRuntime) {
     let alloc = rt.alloc();
-    for (bytes, seed) in [(EDGE.as_slice(), 1), (&TRIANGLE, 2), (&OCTAHEDRON, 3)] {
+    for (bytes, seed) in [(EDGE, 1), (TRIANGLE, 2), (OCTAHEDRON, 3)] {
         expect_steps(&rt, alloc, bytes, seed);
     }
     for (made, seed) in [
@@ -146,7 +127,7 @@ fn steps_are_drawn(rt: HostRuntime) {
 
 #[test]
 fn spirals_are_drawn(rt: HostRuntime) {
-    let plane = plane_of(&rt, rt.alloc(), &EDGE);
+    let plane = plane_in(rt.alloc(), EDGE).expect(&rt, "a plane");
     for turns in [1, 2, 3, 4, 5, 10, 100, 300, 5_000] {
         let shape = spiral_in(rt.alloc(), turns).expect(&rt, "a shape");
         draw(&rt, rt.alloc(), &plane, &shape);

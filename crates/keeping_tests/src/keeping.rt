@@ -1,15 +1,16 @@
 //! Least shapes among those that keep edges straight, and the best outer face among those that are not barred, beside bends
 //! that were found by hand or by another program.
 
-use crate::planes::{CUBE, EDGE, FOUR_CYCLE, K4, NINTH, OCTAHEDRON, SIX, TRIANGLE, plane_of, same};
 use embedding::MAX_DARTS;
 use faces::Plane;
-use ortho_rep::{
-    Prices, Shape, ShapeFault, Turn, best_shape_keeping, certify_keeping, is_shape,
-    least_shape_keeping,
-};
-use std::alloc::{AllocError, Global};
+use ortho_rep::{ShapeFault, best_shape_keeping, certify_keeping, is_shape, least_shape_keeping};
+use std::alloc::Global;
 use std::process::Abort;
+use test_inputs::{Case, L, ONE_BEND, R, plane_in, prices_in, shape_in};
+use test_tools::records::{
+    CAPPED_CUBE, CUBE, EDGE, OCTAHEDRON, SIX, SQUARE, TETRAHEDRON, TRIANGLE,
+};
+use test_tools::same;
 
 /// Three rows of three vertices.
 const GRID: [u8; 34] = [
@@ -39,9 +40,9 @@ fn expect_bends(
     straight: &[bool],
     bends: Option<u32>,
 ) {
-    let plane = plane_of(rt, alloc, record);
+    let plane = plane_in(alloc, record).expect(rt, "a plane");
     let want = bends.map_or(Err(ShapeFault::NoShape), |bends| Ok((bends, (true, true))));
-    same(rt, figures_keeping(alloc, &plane, straight), want);
+    same!(rt, figures_keeping(alloc, &plane, straight), want);
 }
 
 /// Records, marks, and how many bends are needed; `None` where there is no shape.
@@ -51,16 +52,16 @@ fn expect_bends(
 const BENDS: [(&[u8], &[bool], Option<u32>); 12] = [
     (&GRID, &[], Some(0)),
     (&GRID, &ALL, Some(0)),
-    (&FOUR_CYCLE, &[true], Some(0)),
-    (&FOUR_CYCLE, &ALL, Some(0)),
-    (&TRIANGLE, &[], Some(1)),
-    (&TRIANGLE, &[true], Some(1)),
-    (&TRIANGLE, &[true, true], Some(1)),
-    (&TRIANGLE, &[false, true, true], Some(1)),
-    (&TRIANGLE, &ALL, None),
-    (&K4, &ALL, None),
-    (&OCTAHEDRON, &ALL, None),
-    (&CUBE, &ALL, None),
+    (SQUARE, &[true], Some(0)),
+    (SQUARE, &ALL, Some(0)),
+    (TRIANGLE, &[], Some(1)),
+    (TRIANGLE, &[true], Some(1)),
+    (TRIANGLE, &[true, true], Some(1)),
+    (TRIANGLE, &[false, true, true], Some(1)),
+    (TRIANGLE, &ALL, None),
+    (TETRAHEDRON, &ALL, None),
+    (OCTAHEDRON, &ALL, None),
+    (CUBE, &ALL, None),
 ];
 
 #[test]
@@ -72,18 +73,18 @@ fn bends_by_hand(rt: HostRuntime) {
 
 /// Records, marks, and bends that networkx's network simplex found.
 const OF_AN_ORACLE: [(&[u8], &[bool], Option<u32>); 12] = [
-    (&K4, &[true], Some(5)),
-    (&K4, &[true, true, true], Some(6)),
-    (&K4, &[true; 5], None),
-    (&OCTAHEDRON, &[true], Some(14)),
-    (&OCTAHEDRON, &[true; 4], Some(18)),
-    (&OCTAHEDRON, &[true; 5], Some(22)),
-    (&CUBE, &[true], Some(4)),
-    (&CUBE, &[true; 4], Some(6)),
-    (&NINTH, &[true; 3], Some(11)),
-    (&NINTH, &[true; 5], Some(14)),
-    (&SIX, &[true, true], Some(8)),
-    (&SIX, &[true; 5], None),
+    (TETRAHEDRON, &[true], Some(5)),
+    (TETRAHEDRON, &[true, true, true], Some(6)),
+    (TETRAHEDRON, &[true; 5], None),
+    (OCTAHEDRON, &[true], Some(14)),
+    (OCTAHEDRON, &[true; 4], Some(18)),
+    (OCTAHEDRON, &[true; 5], Some(22)),
+    (CUBE, &[true], Some(4)),
+    (CUBE, &[true; 4], Some(6)),
+    (CAPPED_CUBE, &[true; 3], Some(11)),
+    (CAPPED_CUBE, &[true; 5], Some(14)),
+    (SIX, &[true, true], Some(8)),
+    (SIX, &[true; 5], None),
 ];
 
 #[test]
@@ -120,91 +121,46 @@ const BEST_OF_AN_ORACLE: [(Asked, Option<(u32, u16)>); 16] = [
     ((&GRID, &ALL, &[true]), None),
     ((&GRID, &[], &[true]), Some((4, 1))),
     ((&GRID, &[true; 5], &[true, true]), Some((4, 2))),
-    ((&NINTH, &[], &[]), Some((8, 2))),
-    ((&NINTH, &[], &[false, false, true]), Some((10, 0))),
-    ((&NINTH, &[true; 3], &[true, true]), Some((10, 2))),
-    ((&NINTH, &[true; 5], &[]), Some((10, 4))),
-    ((&SIX, &[true], &[]), Some((5, 2))),
-    ((&SIX, &[true], &[false, false, true]), Some((7, 0))),
-    ((&SIX, &[true; 3], &[]), Some((7, 3))),
-    ((&K4, &[true; 3], &[]), Some((4, 3))),
+    ((CAPPED_CUBE, &[], &[]), Some((8, 2))),
+    ((CAPPED_CUBE, &[], &[false, false, true]), Some((10, 0))),
+    ((CAPPED_CUBE, &[true; 3], &[true, true]), Some((10, 2))),
+    ((CAPPED_CUBE, &[true; 5], &[]), Some((10, 4))),
+    ((SIX, &[true], &[]), Some((5, 2))),
+    ((SIX, &[true], &[false, false, true]), Some((7, 0))),
+    ((SIX, &[true; 3], &[]), Some((7, 3))),
+    ((TETRAHEDRON, &[true; 3], &[]), Some((4, 3))),
     (
-        (&K4, &[true; 3], &[false, false, false, true]),
+        (TETRAHEDRON, &[true; 3], &[false, false, false, true]),
         Some((6, 0)),
     ),
-    ((&TRIANGLE, &[], &[true]), Some((1, 1))),
-    ((&TRIANGLE, &[], &[true, true]), None),
-    ((&TRIANGLE, &ALL, &[]), None),
+    ((TRIANGLE, &[], &[true]), Some((1, 1))),
+    ((TRIANGLE, &[], &[true, true]), None),
+    ((TRIANGLE, &ALL, &[]), None),
 ];
 
 #[test]
 fn best_faces_of_an_oracle(rt: HostRuntime) {
     for ((record, straight, barred), found) in BEST_OF_AN_ORACLE {
-        let mut plane = plane_of(&rt, rt.alloc(), record);
+        let mut plane = plane_in(rt.alloc(), record).expect(&rt, "a plane");
         let want = found.map_or(Err(ShapeFault::NoShape), |(bends, face)| {
             Ok((bends, face, (true, true)))
         });
         let got = best_keeping(rt.alloc(), &mut plane, straight, barred);
-        same(&rt, got, want);
+        same!(&rt, got, want);
     }
 }
 
-const L: Turn = Turn::Left;
-
-const R: Turn = Turn::Right;
-
-/// A record, the angles and strings of a shape, and prices.
-#[derive(Clone, Copy)]
-struct Case {
-    record: &'static [u8],
-    angles: &'static [u8],
-    strings: &'static [&'static [Turn]],
-    vertices: &'static [i32],
-    faces: &'static [i32],
-}
-
-/// The edge from 1 to 3 bends once.
-const ONE_BEND: Case = Case {
-    record: &TRIANGLE,
-    angles: &[3, 1, 3, 1, 3, 1],
-    strings: &[&[], &[L], &[], &[], &[R], &[]],
-    vertices: &[1, 1, 1],
-    faces: &[1, 0],
-};
-
 /// An edge that turns to the left and then to the right.
-const STEP: Case = Case {
-    record: &EDGE,
+const STEP: Case<'static> = Case {
+    record: EDGE,
     angles: &[4, 4],
     strings: &[&[L, R], &[L, R]],
     vertices: &[0, 0],
     faces: &[0],
 };
 
-/// These strings, each in memory of its own.
-fn strings_of(alloc: Global, strings: &[&[Turn]]) -> Result<Vec<Vec<Turn>>, AllocError> {
-    let mut lists = Vec::new(alloc);
-    for turns in strings {
-        lists.push(turns.to_vec(alloc)?)?;
-    }
-    Ok(lists)
-}
-
-/// The shape of a case, which has few turns.
-fn shape_in(rt: &impl Abort, alloc: Global, case: &Case) -> Shape {
-    let strings = strings_of(alloc, case.strings).expect(rt, "memory");
-    let angles = case.angles.to_vec(alloc).expect(rt, "memory");
-    assert!(rt; Shape::have_few_turns(&strings));
-    Shape::new(angles, strings)
-}
-
-fn prices_in(alloc: Global, case: &Case) -> Result<Prices, AllocError> {
-    let vertices = case.vertices.to_vec(alloc)?;
-    Ok(Prices::new(vertices, case.faces.to_vec(alloc)?))
-}
-
 /// Cases, marks, and whether the prices prove the shape least among those that keep these edges straight.
-const PROVED: [(Case, &[bool], bool); 7] = [
+const PROVED: [(Case<'static>, &[bool], bool); 7] = [
     (ONE_BEND, &[], true),
     (ONE_BEND, &[true], true),
     (ONE_BEND, &[false, true], false),
@@ -221,10 +177,10 @@ const PROVED: [(Case, &[bool], bool); 7] = [
 #[test]
 fn prices_by_hand(rt: HostRuntime) {
     for (case, straight, proved) in PROVED {
-        let plane = plane_of(&rt, rt.alloc(), case.record);
-        let shape = shape_in(&rt, rt.alloc(), &case);
+        let plane = plane_in(rt.alloc(), case.record).expect(&rt, "a plane");
+        let shape = shape_in(rt.alloc(), case.angles, case.strings).expect(&rt, "a shape");
         let prices = prices_in(rt.alloc(), &case).expect(&rt, "memory");
         let found = certify_keeping(&plane, straight, &shape, &prices);
-        same(&rt, (is_shape(&plane, &shape), found), (true, proved));
+        same!(&rt, (is_shape(&plane, &shape), found), (true, proved));
     }
 }

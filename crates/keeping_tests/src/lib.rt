@@ -3,5 +3,3 @@
 
 #[cfg(test)]
 mod keeping;
-#[cfg(test)]
-mod planes;

@@ -1,6 +1,6 @@
 //! Certificates made by hand, and lists that are not certificates.
-use crate::compared::same;
 use crate::made::{Drawn, is_certified};
+use test_tools::same;
 
 /// Three vertices on a line, drawn far apart.
 const LINE: Drawn<'static> = Drawn {
@@ -83,7 +83,7 @@ fn rows_on_a_line_close_up(rt: HostRuntime) {
     let weights = [(0, 1, 1), (1, 2, 1)];
     for (coordinates, wanted) in [([0, 1, 2], true), ([0, 5, 9], false), ([0, 1, 3], false)] {
         let found = is_certified(rt.alloc(), LINE, &coordinates, &weights);
-        same(&rt, found, Ok(wanted));
+        same!(&rt, found, Ok(wanted));
     }
 }
 
@@ -91,7 +91,7 @@ fn rows_on_a_line_close_up(rt: HostRuntime) {
 fn a_box_is_held_apart_by_one_side(rt: HostRuntime) {
     for (coordinates, weights, wanted) in OF_BOX {
         let found = is_certified(rt.alloc(), BOX, coordinates, weights);
-        same(&rt, found, Ok(wanted));
+        same!(&rt, found, Ok(wanted));
     }
 }
 
@@ -100,6 +100,6 @@ fn weights_are_of_one_drawing(rt: HostRuntime) {
     let lighter = [(0, 1, 1), (1, 2, 1), (2, 4, 1), (3, 4, 1)];
     for (weights, wanted) in [(BOX_WEIGHTS, false), (lighter.as_slice(), true)] {
         let found = is_certified(rt.alloc(), OPEN_BOX, &[0, 1, 2, 2, 3], weights);
-        same(&rt, found, Ok(wanted));
+        same!(&rt, found, Ok(wanted));
     }
 }

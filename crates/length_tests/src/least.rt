@@ -1,8 +1,8 @@
 //! Segments whose least length is known by hand.
-use crate::compared::same;
 use crate::made::{Drawn, segments_of, wires_of};
 use least_length::{Wire, shortest_coordinates};
 use std::alloc::{AllocError, Global};
+use test_tools::same;
 
 /// Drawings, segments in the order of their coordinates, and the least length of each.
 const DRAWINGS: [(Drawn<'static>, Option<u32>); 10] = [
@@ -154,6 +154,6 @@ pub(crate) fn length_of(wires: &[Wire], coordinates: &[u16]) -> u32 {
 #[test]
 fn least_lengths_are_those_by_hand(rt: HostRuntime) {
     for (drawn, wanted) in DRAWINGS {
-        same(&rt, least_length_of(rt.alloc(), drawn), Ok(wanted));
+        same!(&rt, least_length_of(rt.alloc(), drawn), Ok(wanted));
     }
 }

@@ -5,8 +5,6 @@
 #[cfg(test)]
 mod certificates;
 #[cfg(test)]
-mod compared;
-#[cfg(test)]
 mod least;
 #[cfg(test)]
 mod made;

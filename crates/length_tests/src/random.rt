@@ -1,9 +1,9 @@
 //! Random drawings, a thousand small ones and three large ones, whose least lengths LEMON found by its network simplex
 //! (`checks/drawings random`).
-use crate::compared::same;
 use crate::least::length_of;
 use least_length::{Scratch, Segment, Wire, find_shortest};
 use std::alloc::{AllocError, Global};
+use test_tools::{Random, same};
 
 /// For each hundred of drawings, the sum of their least lengths.
 const LEAST: [u32; 10] = [
@@ -23,22 +23,10 @@ struct Size {
     wires: u16,
 }
 
-/// Random numbers: the upper bits of a linear congruential generator (Knuth's MMIX).
-#[derive(Drop)]
-struct Random {
-    state: u64,
-}
-
-impl Random {
-    /// A number below a count.
-    fn below(&mut self, count: u16) -> u16 {
-        self.state = self
-            .state
-            .wrapping_mul(6_364_136_223_846_793_005)
-            .wrapping_add(1_442_695_040_888_963_407);
-        let number = (self.state >> 33) % u64::from(count.max(1));
-        number.min(u64::from(u16::MAX)) as u16
-    }
+/// The next random number below a count, or 0 below none.
+fn below(random: &mut Random, count: u16) -> u16 {
+    let number = random.below(u64::from(count.max(1)));
+    number.min(u64::from(u16::MAX)) as u16
 }
 
 /// Buffers that each drawing reuses, with its segments, its wires and the coordinates found.
@@ -64,8 +52,8 @@ impl Lent {
     /// Makes the small drawing with this number: up to 31 segments on up to 12 levels.
     fn make_small(&mut self, drawing: u64) -> Result<(), AllocError> {
         let mut random = Random { state: drawing };
-        let count = random.below(30).saturating_add(2);
-        let levels = random.below(12).saturating_add(1);
+        let count = below(&mut random, 30).saturating_add(2);
+        let levels = below(&mut random, 12).saturating_add(1);
         let size = Size {
             count,
             levels,
@@ -101,9 +89,11 @@ impl Lent {
         self.segments.clear();
         let mut coordinate: u16 = 0;
         for _ in 0..count {
-            coordinate = coordinate.saturating_add(random.below(3)).saturating_add(1);
-            let low = random.below(levels);
-            let high = low.saturating_add(random.below(height));
+            coordinate = coordinate
+                .saturating_add(below(&mut random, 3))
+                .saturating_add(1);
+            let low = below(&mut random, levels);
+            let high = low.saturating_add(below(&mut random, height));
             let high = high.min(levels.saturating_sub(1));
             self.segments.push(Segment {
                 coordinate,
@@ -113,8 +103,8 @@ impl Lent {
         }
         self.wires.clear();
         for _ in 0..wires {
-            let one = random.below(count);
-            let other = random.below(count);
+            let one = below(&mut random, count);
+            let other = below(&mut random, count);
             self.join(one.min(other), one.max(other))?;
         }
         Ok(())
@@ -162,7 +152,7 @@ fn random_drawings_are_as_short_as_by_lemon(rt: HostRuntime) {
     let mut first: u64 = 0;
     for wanted in LEAST {
         let length = hundred(&mut lent, first).expect(&rt, "memory");
-        same(&rt, length, wanted);
+        same!(&rt, length, wanted);
         first = first.wrapping_add(100);
     }
 }
@@ -178,6 +168,6 @@ fn large_drawings_are_as_short_as_by_lemon(rt: HostRuntime) {
     let mut lent = Lent::empty(rt.alloc());
     for (count, wanted) in LARGE_LEAST {
         let length = large(&mut lent, count).expect(&rt, "memory");
-        same(&rt, (count, length), (count, wanted));
+        same!(&rt, (count, length), (count, wanted));
     }
 }

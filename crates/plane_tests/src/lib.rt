@@ -3,26 +3,24 @@
 #![tactic(auto)]
 
 #[cfg(test)]
-mod apart;
+mod drawing_check_faults;
 #[cfg(test)]
-mod cuts;
+mod drawing_check_polylines;
 #[cfg(test)]
-mod drawings;
+mod embedding_graphs;
 #[cfg(test)]
-mod framing;
+mod embedding_rules;
 #[cfg(test)]
-mod graphs;
+mod faces_planes;
 #[cfg(test)]
-mod known;
+mod geometry_rectangles;
 #[cfg(test)]
-mod parsing;
+mod planar_code_cuts;
 #[cfg(test)]
-mod planes;
+mod planar_code_framing;
 #[cfg(test)]
-mod polylines;
+mod planar_code_parsing;
 #[cfg(test)]
-mod regions;
+mod region_laws_regions;
 #[cfg(test)]
-mod rules;
-#[cfg(test)]
-mod sources;
+mod streams_frames;

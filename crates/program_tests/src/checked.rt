@@ -1,14 +1,15 @@
 //! Runs of `check` on files that the tests write. The verdicts are found by hand, as `docs/CHECK.md` defines them.
 
 use crate::shared::{
-    EDGE, HEADER, Row, TRIANGLE, check_failed_write, check_rows, check_said, expect_report,
-    make_file, run, same, words_of,
+    Row, check_failed_write, check_rows, check_said, expect_report, make_file, run, words_of,
 };
 use crate::stream_options::check_on;
 use std::process::Abort;
 use std::rt::Files;
 use std::sync::Wait;
 use std::thread::Threads;
+use test_tools::records::{EDGE, HEADER, TRIANGLE};
+use test_tools::same;
 
 /// The edge in one piece, and the triangle with one corner on the edge from vertex 2 to vertex 3.
 const GOOD: &[u8] = b"{\"points\":{\"vertices\":[[0,0],[5,0]],\"corners\":[[]]}}\n\
@@ -160,7 +161,7 @@ where
     let ((line, report, status), said) = unread;
     let ran = run(rt, line);
     expect_report(rt, &ran, report.as_bytes(), status);
-    same(rt, ran.err.as_slice(), said.as_bytes());
+    same!(rt, ran.err.as_slice(), said.as_bytes());
 }
 
 #[test]

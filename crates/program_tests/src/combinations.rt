@@ -1,11 +1,13 @@
 //! Every combination of options, with 1, 21 and 256 files: each is taken, and each file is laid out in its place.
 
-use crate::shared::{EDGE, HEADER, TRIANGLE, expect_report, make_file, run, same};
+use crate::shared::{expect_report, make_file, run};
 use std::alloc::{AllocError, Global};
 use std::process::Abort;
 use std::rt::Files;
 use std::sync::Wait;
 use std::thread::Threads;
+use test_tools::records::{EDGE, HEADER, TRIANGLE};
+use test_tools::same;
 
 const LANES: [&str; 2] = ["", " --lanes 8"];
 
@@ -67,8 +69,8 @@ where
         let line = line_of(rt.alloc(), options, files).expect(rt, "memory");
         let ran = run(rt, line.as_str());
         let end = if is_json { json } else { report };
-        same(rt, ran.out.as_slice().ends_with(end.as_bytes()), true);
-        same(rt, (ran.status, ran.err.len()), (0, 0));
+        same!(rt, ran.out.as_slice().ends_with(end.as_bytes()), true);
+        same!(rt, (ran.status, ran.err.len()), (0, 0));
     }
 }
 

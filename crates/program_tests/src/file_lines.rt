@@ -1,12 +1,14 @@
 //! The lines on standard error that say what is wrong with a file, each compared whole. Hints at formats come from the
 //! descriptions of the formats, and reasons from the system.
 
-use crate::shared::{EDGE, HEADER, TRIANGLE, make_file, run, same};
+use crate::shared::{make_file, run};
 use std::fs;
 use std::process::Abort;
 use std::rt::Files;
 use std::sync::Wait;
 use std::thread::Threads;
+use test_tools::records::{EDGE, HEADER, TRIANGLE};
+use test_tools::same;
 
 /// A command line, and all that it writes to standard error.
 type Line<'a> = (&'a str, &'a str);
@@ -23,8 +25,8 @@ where
 {
     for (line, said) in lines {
         let ran = run(rt, line);
-        same(rt, ran.err.as_slice(), said.as_bytes());
-        same(rt, ran.status, status);
+        same!(rt, ran.err.as_slice(), said.as_bytes());
+        same!(rt, ran.status, status);
     }
 }
 

@@ -2,14 +2,16 @@
 //! format and of the report.
 
 use crate::shared::{
-    Case, EDGE, HEADER, Narrow, Ran, Row, TRIANGLE, check_failed_write, check_rows, check_said,
-    check_wants, expect_texts, make_file, run, run_narrow, same, words_for,
+    Case, Ran, Row, check_failed_write, check_rows, check_said, check_wants, expect_texts,
+    make_file, run, run_narrow, words_for,
 };
 use commands::{Fault, write_fault};
 use std::alloc::{AllocError, Global};
 use std::fs;
 use std::process::Abort;
 use streams::{BatchFault, IoSink, WriteFault};
+use test_tools::records::{EDGE, HEADER, TRIANGLE};
+use test_tools::{Narrow, same};
 
 /// Parts of a file, the report and the status.
 const FILES: [(&[&[u8]], &str, u8); 10] = [
@@ -61,7 +63,7 @@ fn million_records(alloc: Global) -> Result<Vec<u8>, AllocError> {
 /// The end of a run's report, and its status.
 fn expect_end(rt: &impl Abort, ran: &Ran<Vec<u8>>, end: &[u8], status: u8) {
     let is_end = ran.out.as_slice().ends_with(end);
-    same(rt, (is_end, ran.status), (true, status));
+    same!(rt, (is_end, ran.status), (true, status));
 }
 
 #[test]
@@ -135,7 +137,7 @@ fn names_a_failed_write(rt: HostRuntime) {
     }
     let ran = run_narrow(&rt, words.as_slice(), 64, 0);
     expect_texts(&rt, &ran, 0, REPORT.as_bytes(), b"");
-    same(&rt, run_narrow(&rt, words.as_slice(), 0, 0).status, 1);
+    same!(&rt, run_narrow(&rt, words.as_slice(), 0, 0).status, 1);
 }
 
 const MEMORY: &[u8] = b"planarbend: out of memory\n";
@@ -184,7 +186,7 @@ const FAULTS: [(Fault, &[u8], u8); 10] = [
 
 /// The line of a fault.
 fn line_of(fault: Fault) -> Narrow {
-    let mut err = IoSink::new(Narrow::new(64));
+    let mut err = IoSink::new(Narrow::new(64, usize::MAX, true));
     write_fault(fault, &mut err);
     err.into_writer()
 }
@@ -193,8 +195,8 @@ fn line_of(fault: Fault) -> Narrow {
 #[test]
 fn tells_each_fault_in_a_line(rt: HostRuntime) {
     for (fault, line, status) in FAULTS {
-        same(&rt, line_of(fault).text(), line);
-        same(&rt, fault.status(), status);
+        same!(&rt, line_of(fault).text(), line);
+        same!(&rt, fault.status(), status);
     }
 }
 

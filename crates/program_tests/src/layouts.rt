@@ -2,8 +2,8 @@
 //! the format and of the report.
 
 use crate::shared::{
-    Case, EDGE, HEADER, NoConsole, Ran, Row, TRIANGLE, check_failed_write, check_rows, check_said,
-    check_wants, expect_report, holds, make_file, no_input, run, run_into, same, words_for,
+    Case, NoConsole, Ran, Row, check_failed_write, check_rows, check_said, check_wants,
+    expect_report, holds, make_file, no_input, run, run_into, words_for,
 };
 use std::alloc::{AllocError, Global};
 use std::fs;
@@ -11,6 +11,11 @@ use std::process::Abort;
 use std::rt::Files;
 use std::sync::Wait;
 use std::thread::Threads;
+use test_tools::records::{
+    CAPPED_CUBE, EDGE, HEADER, LONGER_CUBE, OCTAHEDRON, STAR, TETRAHEDRON, TETRAHEDRON_ON_A_TORUS,
+    TRIANGLE, longest_cycle,
+};
+use test_tools::same;
 
 /// The report of an edge and a triangle in two files.
 const TWICE: &str = "file 1\n\
@@ -61,26 +66,11 @@ where
 /// Known graphs with their fewest bends, and graphs that break a rule, which does not change the status.
 const RECORDS: [(&[u8], &str); 12] = [
     (TRIANGLE, "ok n=3 m=3 f=2 bends=1 drawn=yes"),
-    (
-        &[4, 3, 4, 2, 0, 1, 4, 3, 0, 2, 4, 1, 0, 3, 2, 1, 0],
-        "ok n=4 m=6 f=4 bends=4 drawn=yes",
-    ),
-    (
-        &[
-            6, 2, 3, 4, 5, 0, 6, 3, 1, 5, 0, 2, 6, 4, 1, 0, 1, 3, 6, 5, 0, 2, 1, 4, 6, 0, 2, 5, 4,
-            3, 0,
-        ],
-        "ok n=6 m=12 f=8 bends=12 drawn=yes",
-    ),
-    (
-        &[5, 2, 3, 4, 5, 0, 1, 0, 1, 0, 1, 0, 1, 0],
-        "ok n=5 m=4 f=1 bends=0 drawn=yes",
-    ),
+    (TETRAHEDRON, "ok n=4 m=6 f=4 bends=4 drawn=yes"),
+    (OCTAHEDRON, "ok n=6 m=12 f=8 bends=12 drawn=yes"),
+    (STAR, "ok n=5 m=4 f=1 bends=0 drawn=yes"),
     (&[2, 0, 0], "refused edgeless"),
-    (
-        &[4, 3, 4, 2, 0, 1, 4, 3, 0, 2, 4, 1, 0, 1, 2, 3, 0],
-        "refused genus",
-    ),
+    (TETRAHEDRON_ON_A_TORUS, "refused genus"),
     (
         &[6, 2, 3, 4, 5, 6, 0, 1, 0, 1, 0, 1, 0, 1, 0, 1, 0],
         "refused degree",
@@ -123,18 +113,6 @@ fn reports_each_graph_and_the_ending(rt: HostRuntime) {
     }
 }
 
-/// A cube with a ninth vertex that is joined to all corners of one face.
-const CAPPED_CUBE: &[u8] = &[
-    9, 5, 4, 2, 0, 3, 6, 1, 0, 4, 7, 2, 0, 1, 8, 3, 0, 1, 6, 9, 8, 0, 2, 7, 9, 5, 0, 3, 8, 9, 6, 0,
-    4, 5, 9, 7, 0, 5, 6, 7, 8, 0,
-];
-
-/// The capped cube with a tenth vertex on the edge from 1 to 5.
-const LONGER_CUBE: &[u8] = &[
-    10, 10, 4, 2, 0, 3, 6, 1, 0, 4, 7, 2, 0, 1, 8, 3, 0, 10, 6, 9, 8, 0, 2, 7, 9, 5, 0, 3, 8, 9, 6,
-    0, 4, 5, 9, 7, 0, 5, 6, 7, 8, 0, 1, 5, 0,
-];
-
 const FIRST: &str = "file 1\n\
     graph 1 ok n=9 m=16 f=9 bends=10 drawn=yes\n\
     graph 2 ok n=10 m=17 f=9 bends=9 drawn=yes\n\
@@ -152,18 +130,6 @@ fn marks_lists_that_are_too_long(rt: HostRuntime) {
     long[0] = 255;
     check_body(&rt, &long[..255], b"file 1\nend truncated graphs=0\n", 3);
     check_body(&rt, &long, b"file 1\nend oversize graphs=0\n", 3);
-}
-
-/// The longest cycle that a record can hold.
-fn longest_cycle(alloc: Global) -> Result<Vec<u8>, AllocError> {
-    let mut body = Vec::new(alloc);
-    body.push(255)?;
-    for v in 1..=255u8 {
-        let next = if v == 255 { 1 } else { v + 1 };
-        let last = if v == 1 { 255 } else { v - 1 };
-        body.extend_from_slice(&[next, last, 0])?;
-    }
-    Ok(body)
 }
 
 #[test]
@@ -221,8 +187,6 @@ const NO_HEADER: &str = "file 1\nend header graphs=0\n";
 const NO_RECORD: &str = "file 1\nend complete graphs=0\n";
 
 /// The record of a graph that is not planar as embedded.
-const ON_A_TORUS: &[u8] = &[4, 3, 4, 2, 0, 1, 4, 3, 0, 2, 4, 1, 0, 1, 2, 3, 0];
-
 /// Files and their parts.
 const FILES: [(&str, &[&[u8]]); 9] = [
     ("two.pc", &[HEADER, EDGE, TRIANGLE]),
@@ -233,7 +197,7 @@ const FILES: [(&str, &[&[u8]]); 9] = [
     ("front.pc", &[b">>planar_code<"]),
     ("header.pc", &[HEADER]),
     ("edgeless.pc", &[HEADER, &[1, 0]]),
-    ("torus.pc", &[HEADER, ON_A_TORUS]),
+    ("torus.pc", &[HEADER, TETRAHEDRON_ON_A_TORUS]),
 ];
 
 const REPORTS: [Row; 24] = [
@@ -295,12 +259,12 @@ fn expect_edge(rt: &impl Abort, ran: &Ran<Vec<u8>>) {
     let ends =
         b"\"status\":\"ok\",\"turns\":[\"\",\"\"]}\n{\"end\":\"complete\",\"file\":1,\"graphs\":1}\n";
     let text = ran.out.as_slice();
-    same(
+    same!(
         rt,
         (text.starts_with(begins), text.ends_with(ends)),
         (true, true),
     );
-    same(rt, (ran.status, ran.err.len()), (0, 0));
+    same!(rt, (ran.status, ran.err.len()), (0, 0));
 }
 
 /// A path of ten vertices.
@@ -315,9 +279,9 @@ const STRAIGHT: &[u8] =
 /// A run's text is that of the path, drawn in one line or not.
 fn expect_path(rt: &impl Abort, ran: &Ran<Vec<u8>>, is_straight: bool) {
     let text = ran.out.as_slice();
-    same(rt, holds(text, b"],\"bends\":0,\"drawn\":\"yes\","), true);
-    same(rt, text.starts_with(STRAIGHT), is_straight);
-    same(rt, (ran.status, ran.err.len()), (0, 0));
+    same!(rt, holds(text, b"],\"bends\":0,\"drawn\":\"yes\","), true);
+    same!(rt, text.starts_with(STRAIGHT), is_straight);
+    same!(rt, (ran.status, ran.err.len()), (0, 0));
 }
 
 const PATHS: [(&str, bool); 4] = [
@@ -415,7 +379,7 @@ fn ends_where_the_output_refuses(rt: HostRuntime) {
     let err = fs::open(&rt, "case.pc").expect(&rt, "a file");
     let input = no_input(rt.alloc());
     let ran = run_into(&rt, words.as_slice(), &input, &NoConsole, out, err);
-    same(&rt, ran.status, 1);
+    same!(&rt, ran.status, 1);
 }
 
 #[test]

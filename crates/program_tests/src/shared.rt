@@ -1,32 +1,16 @@
 //! Runs of the whole command, which the tests share.
-ghost use Rattle.std.specs.Prelude.{◌≤◌};
 
 use commands::{Console, FilesAndInput, SystemFiles, command};
 use lanes::MemOpener;
 use std::alloc::{AllocError, Global};
-use std::fmt::Debug;
-use std::io::{ErrorKind, Write};
+use std::io::Write;
 use std::process::Abort;
 use std::rt::Files;
 use std::sync::Wait;
 use std::thread::Threads;
 use std::{fs, io};
 use streams::IoSink;
-
-/// The 15 bytes with which a file begins.
-pub const HEADER: &[u8] = b">>planar_code<<";
-
-/// The record of a single edge.
-pub const EDGE: &[u8] = &[2, 2, 0, 1, 0];
-
-/// The record of a triangle.
-pub const TRIANGLE: &[u8] = &[3, 2, 3, 0, 3, 1, 0, 1, 2, 0];
-
-/// Checks that two values are the same. (An `assert_eq!` in each place would make the tests' proofs several times as
-/// long.)
-pub fn same<T: PartialEq + Debug + Drop>(rt: &impl Abort, got: T, want: T) {
-    assert_eq!(rt; got, want);
-}
+use test_tools::{Narrow, same};
 
 /// The output of a run to its two writers, and its exit status.
 #[derive(Drop)]
@@ -147,15 +131,18 @@ where
     R::Dir: Send,
 {
     let input = no_input(rt.alloc());
-    let (out, err) = (Narrow::new(out), Narrow::new(err));
+    let (out, err) = (
+        Narrow::new(out, usize::MAX, true),
+        Narrow::new(err, usize::MAX, true),
+    );
     run_into(rt, words, &input, &NoConsole, out, err)
 }
 
 /// Checks that a run wrote this report, with this status. With status 0 it wrote nothing else.
 pub fn expect_report(rt: &impl Abort, ran: &Ran<Vec<u8>>, report: &[u8], status: u8) {
-    same(rt, ran.out.as_slice(), report);
-    same(rt, ran.status, status);
-    same(rt, status == 0 && !ran.err.is_empty(), false);
+    same!(rt, ran.out.as_slice(), report);
+    same!(rt, ran.status, status);
+    same!(rt, status == 0 && !ran.err.is_empty(), false);
 }
 
 /// A command line, its report and its status.
@@ -197,7 +184,7 @@ fn expect_said(rt: &impl Abort, ran: &Ran<Vec<u8>>, part: &str, status: u8) {
         (ran.err.as_slice(), ran.out.len())
     };
     assert!(rt; holds(said, part.as_bytes()), "{part}");
-    same(rt, (ran.status, other), (status, 0));
+    same!(rt, (ran.status, other), (status, 0));
 }
 
 /// Whether `text` contains `part`.
@@ -221,9 +208,9 @@ where
 
 /// Checks that a run wrote these texts into two narrow writers, with this status.
 pub fn expect_texts(rt: &impl Abort, ran: &Ran<Narrow>, status: u8, out: &[u8], err: &[u8]) {
-    same(rt, ran.status, status);
-    same(rt, ran.out.text(), out);
-    same(rt, ran.err.text(), err);
+    same!(rt, ran.status, status);
+    same!(rt, ran.out.text(), out);
+    same!(rt, ran.err.text(), err);
 }
 
 /// A command line on a file that is made for it, and its report.
@@ -257,7 +244,7 @@ where
     };
     let ran = run_narrow(rt, words.as_slice(), 128, 64);
     let allowed = is_allowed(case, ran.status, ran.out.text(), ran.err.text());
-    same(rt, allowed, true);
+    same!(rt, allowed, true);
 }
 
 /// Whether a run wrote the whole report of a case, or said what ran out of memory.
@@ -289,47 +276,4 @@ pub fn write_parts<R: Files + AllocGlobal>(rt: &R, name: &str, parts: &[&[u8]]) 
 /// Makes a file with these parts.
 pub fn make_file<R: Files + AllocGlobal + Abort>(rt: &R, name: &str, parts: &[&[u8]]) {
     write_parts(rt, name, parts).expect(rt, "a file");
-}
-
-/// A writer with little room, which fails when it is full.
-#[derive(Drop)]
-pub struct Narrow {
-    taken: [u8; 128],
-    len: usize,
-    room: usize,
-    ghost in_range: { room ≤ 128 },
-    ghost within: { len ≤ 128 },
-}
-
-impl Write for Narrow {
-    fn write(&mut self, buf: &[u8]) -> io::Result<usize> {
-        if self.len >= self.room {
-            return Err(io::Error::from(ErrorKind::Other));
-        }
-        let count = buf.len().min(self.room - self.len);
-        let end = self.len + count;
-        self.taken[self.len..end].copy_from_slice(&buf[..count]);
-        self.len = end;
-        Ok(count)
-    }
-
-    fn flush(&mut self) -> io::Result<()> {
-        Ok(())
-    }
-}
-
-impl Narrow {
-    /// A writer with this much room, but for no more than 128 bytes.
-    pub fn new(room: usize) -> Narrow {
-        Narrow {
-            taken: [0; 128],
-            len: 0,
-            room: room.min(128),
-        }
-    }
-
-    /// The bytes written so far.
-    pub fn text(&self) -> &[u8] {
-        &self.taken[..self.len]
-    }
 }

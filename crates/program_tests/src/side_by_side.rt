@@ -1,17 +1,16 @@
 //! Runs of `layout` in several lanes, which must open their files in parallel.
 
-use crate::shared::{EDGE, HEADER, NoConsole, make_file, no_input, run_words, same, words_of};
+use crate::shared::{NoConsole, make_file, no_input, run_words, words_of};
 use std::alloc::{Allocator, Global};
 use std::fs::{Metadata, OpenOptions};
+use std::io;
 use std::process::Abort;
 use std::rt::Files;
 use std::sync::Wait;
 use std::sync::atomic::{AtomicBool, AtomicU32, Ordering};
 use std::thread::Threads;
-use std::{io, thread};
-
-/// The number of yields of each turn of a wait: on a shared machine a thread may be away for a million yields.
-const YIELDS: u32 = 16;
+use test_tools::records::{EDGE, HEADER};
+use test_tools::{same, wait_for_count};
 
 /// A runtime on which the open of a file waits until a given number are asked for.
 #[derive(Drop)]
@@ -26,15 +25,7 @@ impl<R> Crowd<'_, R> {
     /// Waits for the others, and notes if a million turns were too few.
     fn wait(&self) {
         self.asked.fetch_add(1, Ordering::SeqCst);
-        for _ in 0..1_000_000 {
-            if self.asked.load(Ordering::SeqCst) >= self.wanted {
-                return;
-            }
-            for _ in 0..YIELDS {
-                thread::yield_now();
-            }
-        }
-        self.ran_out.store(true, Ordering::SeqCst);
+        wait_for_count(&self.asked, self.wanted, &self.ran_out);
     }
 }
 
@@ -117,7 +108,7 @@ where
     let input = no_input(rt.alloc());
     let status = run_words(&crowd, words.as_slice(), &input, &NoConsole).status;
     let ran_out = crowd.ran_out.load(Ordering::SeqCst);
-    same(rt, (status, ran_out), (0, false));
+    same!(rt, (status, ran_out), (0, false));
 }
 
 /// Command lines, and the number of lanes that they ask for.

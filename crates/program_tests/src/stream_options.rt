@@ -3,8 +3,7 @@
 
 use crate::layouts::{EDGELESS, UNREAD};
 use crate::shared::{
-    EDGE, HEADER, NoConsole, Ran, Row, TRIANGLE, check_rows, check_said, expect_report, make_file,
-    run_on, same,
+    NoConsole, Ran, Row, check_rows, check_said, expect_report, make_file, run_on,
 };
 use commands::{Console, Meter, Progress, is_input};
 use lanes::{Gate, MemOpener, Stage};
@@ -14,6 +13,8 @@ use std::rt::Files;
 use std::sync::Wait;
 use std::sync::atomic::{AtomicU64, Ordering};
 use std::thread::Threads;
+use test_tools::records::{EDGE, HEADER, TRIANGLE};
+use test_tools::same;
 
 /// A standard input with these parts, of which a read returns at most 7 bytes.
 fn input_of(alloc: Global, parts: &[&[u8]]) -> Result<MemOpener, AllocError> {
@@ -103,7 +104,7 @@ fn reads_standard_input_beside_files(rt: HostRuntime) {
     make_file(&rt, "-", &[HEADER, TRIANGLE]);
     check_on(&rt, &[HEADER, EDGE], &BESIDE_FILES);
     for name in ["-", "./-", "--", "", "- ", "a-"] {
-        same(&rt, is_input(name), name == "-");
+        same!(&rt, is_input(name), name == "-");
     }
 }
 
@@ -192,14 +193,14 @@ where
     let input = input_of(rt.alloc(), &five).expect(rt, "memory");
     let console = Ticking::new(terminal, 100, wanted);
     expect_five(rt, &run_on(rt, line, &input, &console));
-    same(rt, console.counts(), (wanted.len() as u64, 0));
+    same!(rt, console.counts(), (wanted.len() as u64, 0));
 }
 
 /// Checks that the text of a run ends as that of five graphs.
 fn expect_five(rt: &impl Abort, ran: &Ran<Vec<u8>>) {
     let ends = b"\nend complete graphs=5\n";
-    same(rt, ran.out.as_slice().ends_with(ends), true);
-    same(rt, (ran.status, ran.err.len()), (0, 0));
+    same!(rt, ran.out.as_slice().ends_with(ends), true);
+    same!(rt, (ran.status, ran.err.len()), (0, 0));
 }
 
 const OVER: [&str; 2] = [
@@ -250,7 +251,7 @@ fn tells_at_most_four_lines_a_second(rt: HostRuntime) {
         (10, 300, 10),
         (10, 0, 0),
     ] {
-        same(&rt, lines_of(graphs, step), lines);
+        same!(&rt, lines_of(graphs, step), lines);
     }
 }
 
@@ -275,6 +276,6 @@ fn counts_each_graph(rt: HostRuntime) {
         (999, "file 2 of 2: 999 graphs, 999,000/s\n"),
         (2345, "file 2 of 2: 2,345 graphs, 2,345,000/s\n"),
     ] {
-        same(&rt, last_line_of(graphs, wanted), (1, 0));
+        same!(&rt, last_line_of(graphs, wanted), (1, 0));
     }
 }

@@ -3,22 +3,22 @@
 #![tactic(auto)]
 
 #[cfg(test)]
-mod ahead;
+mod answers_kinds;
 #[cfg(test)]
-mod as_made;
+mod answers_records;
 #[cfg(test)]
-mod failing;
+mod collector_failing;
 #[cfg(test)]
-mod files;
+mod commands_as_made;
 #[cfg(test)]
-mod held;
+mod lanes_files;
 #[cfg(test)]
-mod kinds;
+mod lanes_held;
 #[cfg(test)]
-mod lost;
+mod lanes_lost;
 #[cfg(test)]
-mod records;
+mod printing_ahead;
+#[cfg(test)]
+mod printing_pauses;
 #[cfg(test)]
 mod reported;
-#[cfg(test)]
-mod waiting;

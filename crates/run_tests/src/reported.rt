@@ -1,33 +1,24 @@
 //! Files whose sources fail, writers that take little, and the texts of runs, as the tests of this crate compare them. The
 //! bytes and the texts come from the descriptions of the format and of the report.
-ghost use Rattle.std.specs.Prelude.{◌≤◌, false, None};
+ghost use Rattle.std.specs.Prelude.{false, None};
 ghost use Rattle.lanes.specs.Opening.{Silent};
 
 use collector::{Choice, DrawingKind, Form, Gate, IoSink, OpenFault, Opener, Style, Tap, TapFault};
 use commands::{TextFault, write_batch};
-use planar_code::Record;
 use std::alloc::Global;
-use std::fmt::Debug;
-use std::io;
-use std::io::{ErrorKind, Write};
-use std::process::Abort;
 use std::sync::Wait;
 use std::thread::Threads;
-
-/// Sees that two values are the same. (An `assert_eq!` in each place would make the tests' proofs several times as long.)
-pub(crate) fn same<T: PartialEq + Debug + Drop>(rt: &impl Abort, got: T, want: T) {
-    assert_eq!(rt; got, want);
-}
+use test_tools::Narrow;
 
 /// A source that gives one byte a read, and fails once it was read so often.
 #[derive(Drop)]
-pub(crate) struct Failing {
+pub(crate) struct OneByOne {
     bytes: &'static [u8],
     at: usize,
     reads: usize,
 }
 
-impl Tap for Failing {
+impl Tap for OneByOne {
     ghost to_come = { λ _. None };
 
     ghost fails = { λ _. false };
@@ -57,14 +48,14 @@ pub(crate) struct Files {
 }
 
 impl Opener for Files {
-    type Source = Failing;
+    type Source = OneByOne;
 
     ghost meaning = { λ _ _. Silent };
 
-    fn open(&self, _alloc: Global, file: u32) -> Result<Failing, OpenFault> {
+    fn open(&self, _alloc: Global, file: u32) -> Result<OneByOne, OpenFault> {
         match (self.files.get(file as usize), self.fault) {
             (Some(_), Some(fault)) if file == 1 => Err(fault),
-            (Some(bytes), _) => Ok(Failing {
+            (Some(bytes), _) => Ok(OneByOne {
                 bytes,
                 at: 0,
                 reads: self.reads,
@@ -72,13 +63,6 @@ impl Opener for Files {
             _ => Err(OpenFault::Io),
         }
     }
-}
-
-pub(crate) const TRIANGLE: [u8; 10] = [3, 2, 3, 0, 3, 1, 0, 1, 2, 0];
-
-/// The record of these bytes, if they are one and there is memory.
-pub(crate) fn record_of(alloc: Global, bytes: &[u8]) -> Option<Record> {
-    Record::parse(alloc, bytes).ok()
 }
 
 /// A file of two edges.
@@ -111,53 +95,6 @@ pub(crate) const SHORT: Style = Style {
 pub(crate) const REPORT: &[u8] =
     b"file 1\ngraph 1 ok n=3 m=3 f=2 bends=1 drawn=yes\ngraph 2 ok n=3 m=3 f=2 bends=1 drawn=yes\nend complete graphs=2\n\
     file 2\ngraph 1 ok n=2 m=1 f=1 bends=0 drawn=yes\nend truncated graphs=1\nfile 3\nend complete graphs=0\n";
-
-/// A writer that takes at most `most` bytes a write. Once it has `room` bytes, 211 at most, it fails or takes nothing.
-#[derive(Drop)]
-pub(crate) struct Narrow {
-    taken: [u8; 211],
-    len: usize,
-    room: usize,
-    most: usize,
-    fails: bool,
-    ghost within: { len ≤ 211 },
-}
-
-impl Narrow {
-    /// A writer that has taken nothing.
-    pub(crate) fn new(room: usize, most: usize, fails: bool) -> Narrow {
-        Narrow {
-            taken: [0; 211],
-            len: 0,
-            room,
-            most,
-            fails,
-        }
-    }
-
-    /// What it has taken.
-    pub(crate) fn text(&self) -> &[u8] {
-        &self.taken[..self.len]
-    }
-}
-
-impl Write for Narrow {
-    fn write(&mut self, buf: &[u8]) -> io::Result<usize> {
-        let left = self.room.min(211).saturating_sub(self.len);
-        if left == 0 && self.fails {
-            return Err(io::Error::from(ErrorKind::Other));
-        }
-        let count = buf.len().min(left).min(self.most);
-        let end = self.len + count;
-        self.taken[self.len..end].copy_from_slice(&buf[..count]);
-        self.len = end;
-        Ok(count)
-    }
-
-    fn flush(&mut self) -> io::Result<()> {
-        Ok(())
-    }
-}
 
 /// The text of a run over lanes in this style as it is made, with room for one message between two threads and as
 /// little as may wait, in a writer with so much room that takes so many bytes a write, and how the run ended.

@@ -3,16 +3,14 @@
 #![tactic(auto)]
 
 #[cfg(test)]
-mod best;
+mod flow_network_work;
 #[cfg(test)]
-mod compared;
+mod ortho_rep_best;
 #[cfg(test)]
-mod lines;
+mod ortho_rep_shapes;
 #[cfg(test)]
 mod refused;
 #[cfg(test)]
-mod straight;
+mod reports_lines;
 #[cfg(test)]
-mod tests;
-#[cfg(test)]
-mod work;
+mod straightening_turns;

@@ -6,10 +6,8 @@ ghost use Rattle.std.specs.Prelude.{IfOk};
 ghost use Rattle.flow_network.specs.FaceNet.{IsFaceNetOf};
 ghost use Rattle.ortho_rep.specs.Representation.{IsShape};
 
-use crate::best::NINTH;
-use crate::compared::same;
-use crate::straight::{Figures, figures};
-use crate::tests::{PATH, TRIANGLE, answers, plane_in};
+use crate::ortho_rep_shapes::answers;
+use crate::straightening_turns::{Figures, figures};
 use faces::Plane;
 use flow_network::FaceNet;
 use min_cost_flow::{Arc, Cap, Network, SolveFault, WarmStart, solve};
@@ -18,13 +16,16 @@ use planar_code::{Ending, Record, frame, split};
 use std::alloc::{AllocError, Global};
 use std::process::Abort;
 use straightening::{Scratch, straighten_in};
+use test_inputs::{plane_in, strings_in};
+use test_tools::records::{CAPPED_CUBE, PATH, TRIANGLE};
+use test_tools::same;
 
 /// A stream of two records.
 const STREAM: &[u8] = b">>planar_code<<\x01\x00\x02\x00\x00";
 
 /// These are the two records, and the stream is complete.
 fn expect_records(rt: &impl Abort, (records, ending): (Vec<Record>, Ending)) {
-    same(rt, (records.len(), ending), (2, Ending::Complete));
+    same!(rt, (records.len(), ending), (2, Ending::Complete));
 }
 
 /// The records of the whole stream, by the second call where the first finds no memory.
@@ -76,8 +77,8 @@ fn one_arc(rt: &impl Abort, alloc: Global) -> Option<Network> {
 /// What is read off the network of one arc.
 fn expect_one_arc(rt: &impl Abort, network: &Network) {
     assert_eq!(rt; (network.node_count(), network.arc_count()), (2, 1));
-    same(rt, network.supplies(), [3, -3].as_slice());
-    same(rt, network.arcs(), [ARC].as_slice());
+    same!(rt, network.supplies(), [3, -3].as_slice());
+    same!(rt, network.arcs(), [ARC].as_slice());
 }
 
 /// The solution of that network, by the second call where the first finds no memory.
@@ -86,14 +87,14 @@ fn expect_solution(rt: &impl Abort, alloc: Global, network: &Network) {
     let solved = match solve(alloc, network) {
         Ok(solved) => solved,
         Err(fault) => {
-            same(rt, fault, SolveFault::Memory);
+            same!(rt, fault, SolveFault::Memory);
             solve(alloc, network).expect(rt, "a flow")
         }
     };
     let potentials = (solved.potential(0), solved.potential(1));
-    same(rt, (solved.flow(0), potentials), (3, (-1, 0)));
+    same!(rt, (solved.flow(0), potentials), (3, (-1, 0)));
     let counts = (solved.searches() > 0, solved.looks() > 0);
-    same(rt, counts, (true, true));
+    same!(rt, counts, (true, true));
 }
 
 #[test]
@@ -109,7 +110,7 @@ fn stand_at_last(rt: &impl Abort, alloc: Global, network: &Network) -> WarmStart
     match WarmStart::new(alloc, network) {
         Ok(warm_start) => warm_start,
         Err(fault) => {
-            same(rt, fault, SolveFault::Memory);
+            same!(rt, fault, SolveFault::Memory);
             WarmStart::new(alloc, network).expect(rt, "a flow")
         }
     }
@@ -122,14 +123,14 @@ fn expect_read_off(rt: &impl Abort, alloc: Global, warm_start: &WarmStart) {
         Ok(solved) => solved,
         Err(AllocError) => warm_start.solved(alloc).expect(rt, "memory"),
     };
-    same(rt, solved.flow(0), 3);
+    same!(rt, solved.flow(0), 3);
 }
 
 /// A flow that stands on a network, and the solution that is read off it.
 fn expect_standing(rt: &impl Abort, alloc: Global, network: &Network) {
     let warm_start = stand_at_last(rt, alloc, network);
-    same(rt, warm_start.least_cost().0, 3);
-    same(rt, warm_start.network().supplies(), network.supplies());
+    same!(rt, warm_start.least_cost().0, 3);
+    same!(rt, warm_start.network().supplies(), network.supplies());
     expect_read_off(rt, alloc, &warm_start);
 }
 
@@ -144,10 +145,10 @@ fn standing_flows(rt: HostRuntime) {
 /// the inner face 1 of three darts each.
 fn expect_network(rt: &impl Abort, net: &FaceNet) {
     let network = net.network();
-    same(rt, network.supplies(), [2, 2, 2, -7, 1].as_slice());
-    same(rt, network.arc_count(), 12);
-    same(rt, (net.corner_arc(1), net.crossing_arc(1)), (1, 7));
-    same(rt, (net.vertex_node(3), net.face_node(1)), (2, 4));
+    same!(rt, network.supplies(), [2, 2, 2, -7, 1].as_slice());
+    same!(rt, network.arc_count(), 12);
+    same!(rt, (net.corner_arc(1), net.crossing_arc(1)), (1, 7));
+    same!(rt, (net.vertex_node(3), net.face_node(1)), (2, 4));
 }
 
 /// The supplies once the other face is the outer one.
@@ -157,7 +158,7 @@ fn expect_other_face(rt: &impl Abort, plane: &Plane, mut net: FaceNet)
     assert!(rt; plane.face_count() > 1);
     net.set_outer(plane, 1);
     let network = net.network();
-    same(rt, network.supplies(), [2, 2, 2, 1, -7].as_slice());
+    same!(rt, network.supplies(), [2, 2, 2, 1, -7].as_slice());
 }
 
 /// The network of a plane, by the second call where the first finds no memory.
@@ -172,7 +173,7 @@ fn network_at_last(rt: &impl Abort, alloc: Global, plane: &Plane) -> FaceNet
 
 #[test]
 fn networks(rt: HostRuntime) {
-    let Some(plane) = plane_in(rt.alloc(), &TRIANGLE) else {
+    let Some(plane) = plane_in(rt.alloc(), TRIANGLE) else {
         return;
     };
     let net = network_at_last(&rt, rt.alloc(), &plane);
@@ -186,13 +187,13 @@ fn expect_least(rt: &impl Abort, alloc: Global, plane: &Plane) {
         Ok(found) => found,
         Err(AllocError) => least_shape(alloc, plane).expect(rt, "memory"),
     };
-    same(rt, shape.bends(), 1);
-    same(rt, answers(plane, &shape, &prices), (true, true));
+    same!(rt, shape.bends(), 1);
+    same!(rt, answers(plane, &shape, &prices), (true, true));
 }
 
 #[test]
 fn least_shapes(rt: HostRuntime) {
-    if let Some(plane) = plane_in(rt.alloc(), &TRIANGLE) {
+    if let Some(plane) = plane_in(rt.alloc(), TRIANGLE) {
         expect_least(&rt, rt.alloc(), &plane);
     }
 }
@@ -202,7 +203,7 @@ fn best_bends(rt: &impl Abort, alloc: Global, plane: &mut Plane) -> u32 {
     let (shape, _prices) = match best_shape(alloc, plane) {
         Ok(found) => found,
         Err(AllocError) => {
-            same(rt, plane.outer(), 0);
+            same!(rt, plane.outer(), 0);
             best_shape(alloc, plane).expect(rt, "memory")
         }
     };
@@ -211,9 +212,9 @@ fn best_bends(rt: &impl Abort, alloc: Global, plane: &mut Plane) -> u32 {
 
 #[test]
 fn best_shapes(rt: HostRuntime) {
-    if let Some(mut plane) = plane_in(rt.alloc(), &NINTH) {
-        same(&rt, best_bends(&rt, rt.alloc(), &mut plane), 8);
-        same(&rt, plane.outer(), 2);
+    if let Some(mut plane) = plane_in(rt.alloc(), CAPPED_CUBE) {
+        same!(&rt, best_bends(&rt, rt.alloc(), &mut plane), 8);
+        same!(&rt, plane.outer(), 2);
     }
 }
 
@@ -242,33 +243,24 @@ fn straight_figures(rt: &impl Abort, alloc: Global, plane: &Plane) -> Figures {
 
 #[test]
 fn straight_shapes(rt: HostRuntime) {
-    if let Some(plane) = plane_in(rt.alloc(), &PATH) {
+    if let Some(plane) = plane_in(rt.alloc(), PATH) {
         let found = straight_figures(&rt, rt.alloc(), &plane);
-        same(&rt, found, (0, 0, (true, true)));
+        same!(&rt, found, (0, 0, (true, true)));
     }
-}
-
-/// Two strings, of two turns and of none, or nothing where memory is wanting.
-fn strings_in(alloc: Global) -> Option<Vec<Vec<Turn>>> {
-    let mut strings = Vec::new(alloc);
-    strings
-        .push([Turn::Left, Turn::Right].to_vec(alloc).ok()?)
-        .ok()?;
-    strings.push(Vec::new(alloc)).ok()?;
-    Some(strings)
 }
 
 /// What is read off the shape of these strings.
 fn expect_strings(rt: &impl Abort, shape: &Shape) {
     assert_eq!(rt; (shape.angle_count(), shape.string_count()), (3, 2));
-    same(rt, (shape.angle(0), shape.bends()), (7, 1));
-    same(rt, shape.turns(0), [Turn::Left, Turn::Right].as_slice());
+    same!(rt, (shape.angle(0), shape.bends()), (7, 1));
+    same!(rt, shape.turns(0), [Turn::Left, Turn::Right].as_slice());
 }
 
 /// Shapes that are made of lists, and what is read off them, take no memory.
 #[test]
 fn lists_of_shapes(rt: HostRuntime) {
-    let (Some(strings), Ok(angles)) = (strings_in(rt.alloc()), [7, 0, 1].to_vec(rt.alloc())) else {
+    let strings = strings_in(rt.alloc(), &[&[Turn::Left, Turn::Right], &[]]);
+    let (Ok(strings), Ok(angles)) = (strings, [7, 0, 1].to_vec(rt.alloc())) else {
         return;
     };
     assert!(rt; Shape::have_few_turns(&strings));
@@ -278,7 +270,7 @@ fn lists_of_shapes(rt: HostRuntime) {
 /// What is read off prices of two vertices and one face.
 fn expect_prices(rt: &impl Abort, prices: &Prices) {
     assert_eq!(rt; (prices.vertex_count(), prices.face_count()), (2, 1));
-    same(rt, (prices.vertex(2), prices.face(0)), (6, 7));
+    same!(rt, (prices.vertex(2), prices.face(0)), (6, 7));
 }
 
 /// The same of prices.

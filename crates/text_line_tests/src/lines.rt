@@ -7,11 +7,11 @@ use text_lines::{Lines, MAX_LINE, Next};
 
 /// A source that gives what another gives, and fails where that ends.
 #[derive(Drop)]
-struct Failing {
+struct FailsAtEnd {
     source: MemTap,
 }
 
-impl Tap for Failing {
+impl Tap for FailsAtEnd {
     ghost use Rattle.std.specs.Prelude.{None, true};
 
     ghost to_come = { λ _. None };
@@ -62,7 +62,7 @@ fn nothing_follows_the_last_end(rt: HostRuntime) -> Result<(), Fail> {
 #[test]
 fn a_failed_read_ends_no_line(rt: HostRuntime) -> Result<(), Fail> {
     let source = source(rt.alloc(), b"ab\ncd", 4)?;
-    let mut lines = Lines::new(rt.alloc(), Failing { source })?;
+    let mut lines = Lines::new(rt.alloc(), FailsAtEnd { source })?;
     assert_eq!(rt; lines.next(&rt), Next::Line);
     assert_eq!(rt; lines.line(), b"ab".as_slice());
     assert_eq!(rt; lines.next(&rt), Next::Failed);

@@ -3,13 +3,8 @@
 use crate::verdict_on::verdict_on;
 use referee::Fault;
 use std::test::Fail;
+use test_tools::records::{EDGE, TRIANGLE};
 use verdicts::Verdict;
-
-/// An edge.
-const EDGE: &[u8] = &[2, 2, 0, 1, 0];
-
-/// A triangle: 1: 2 3, 2: 3 1, 3: 1 2.
-const TRIANGLE: &[u8] = &[3, 2, 3, 0, 3, 1, 0, 1, 2, 0];
 
 /// Vertex 1 joined to 2, 3 and 4, in this order clockwise.
 const STAR: &[u8] = &[4, 2, 3, 4, 0, 1, 0, 1, 0, 1, 0];

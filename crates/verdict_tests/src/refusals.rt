@@ -5,10 +5,8 @@ use drawn_lines::LineFault;
 use embedding::Rule;
 use referee::FalseClaim;
 use std::test::Fail;
+use test_tools::records::EDGE;
 use verdicts::Verdict;
-
-/// An edge.
-const EDGE: &[u8] = &[2, 2, 0, 1, 0];
 
 /// Lines of an edge, and what is said of them.
 const LINES: [(&str, Verdict); 16] = [

@@ -1,9 +1,0 @@
-//! The comparison that the tests share.
-
-use std::fmt::Debug;
-use std::process::Abort;
-
-/// Checks that two values are the same.
-pub(crate) fn same<T: PartialEq + Debug + Drop>(rt: &impl Abort, got: T, want: T) {
-    assert_eq!(rt; got, want);
-}

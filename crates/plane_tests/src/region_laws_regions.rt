@@ -1,0 +1,229 @@
+//! Whether the regions of drawings by hand are the faces: of their own plane, of one that is embedded otherwise, and under
+//! each choice of the outer face.
+
+use crate::drawing_check_faults::{FOUR, Figure, PATH, SQUARE, STAR, TRIANGLE, answer, shape_in};
+use drawing_check::has_regions;
+use faces::Plane;
+use ortho_rep::Turn;
+use region_laws::outside_is_outer;
+use std::alloc::Global;
+use std::process::Abort;
+use test_inputs::{Place, plane_in, points_in};
+use test_tools::{records, same};
+
+const STRAIGHT: [&[Turn]; 20] = [&[]; 20];
+
+/// The corners of ten edges without bends.
+const TEN: [&[Place]; 10] = [&[]; 10];
+
+/// A square with a vertex more on its left side, and a square inside that an edge joins to it.
+const NESTED: Figure = Figure {
+    record: &NESTED_RECORD,
+    angles: &[3, 1, 1, 2, 1, 1, 3, 1, 3, 3, 1, 3, 1, 1, 2, 1, 1, 3, 3, 1],
+    strings: &STRAIGHT,
+};
+
+const NESTED_RECORD: [u8; 30] = [
+    9, 5, 6, 2, 0, 1, 3, 0, 4, 2, 0, 5, 3, 0, 4, 1, 0, 9, 7, 1, 0, 6, 8, 0, 9, 7, 0, 8, 6, 0,
+];
+
+/// The same graph with the inner square turned out, and with each list the other way round.
+const TURNED_OUT: [u8; 30] = [
+    9, 5, 2, 6, 0, 1, 3, 0, 4, 2, 0, 5, 3, 0, 4, 1, 0, 9, 7, 1, 0, 6, 8, 0, 9, 7, 0, 8, 6, 0,
+];
+
+const NESTED_MIRRORED: [u8; 30] = [
+    9, 2, 6, 5, 0, 3, 1, 0, 2, 4, 0, 3, 5, 0, 1, 4, 0, 1, 7, 9, 0, 8, 6, 0, 7, 9, 0, 6, 8, 0,
+];
+
+const NESTED_PLACES: [Place; 9] = [
+    (0, 1),
+    (0, 0),
+    (3, 0),
+    (3, 3),
+    (0, 3),
+    (1, 1),
+    (2, 1),
+    (2, 2),
+    (1, 2),
+];
+
+/// A hexagon and a square inside, which share vertex 1.
+const BLOCKS: Figure = Figure {
+    record: &BLOCKS_RECORD,
+    angles: &[3, 1, 1, 3, 3, 1, 3, 1, 3, 1, 3, 1, 1, 1, 1, 1, 1, 3, 3, 1],
+    strings: &STRAIGHT,
+};
+
+const BLOCKS_RECORD: [u8; 30] = [
+    9, 9, 7, 6, 2, 0, 3, 1, 0, 4, 2, 0, 5, 3, 0, 6, 4, 0, 1, 5, 0, 8, 1, 0, 9, 7, 0, 8, 1, 0,
+];
+
+/// The same graph with both side by side.
+const SIDE_BY_SIDE: [u8; 30] = [
+    9, 2, 6, 9, 7, 0, 3, 1, 0, 4, 2, 0, 5, 3, 0, 6, 4, 0, 1, 5, 0, 8, 1, 0, 9, 7, 0, 8, 1, 0,
+];
+
+const BLOCKS_PLACES: [Place; 9] = [
+    (2, 2),
+    (0, 2),
+    (0, 5),
+    (5, 5),
+    (5, 0),
+    (2, 0),
+    (3, 2),
+    (3, 3),
+    (2, 3),
+];
+
+/// The star with two of its leaves exchanged round its centre.
+const STAR_EXCHANGED: [u8; 14] = [5, 2, 4, 3, 5, 0, 1, 0, 1, 0, 1, 0, 1, 0];
+
+/// A drawing by hand: a figure with its outer face, the places of its vertices and of its corners.
+struct Drawn {
+    figure: &'static Figure,
+    outer: u16,
+    places: &'static [Place],
+    corners: &'static [&'static [Place]],
+}
+
+const NESTED_DRAWN: Drawn = Drawn {
+    figure: &NESTED,
+    outer: 0,
+    places: &NESTED_PLACES,
+    corners: &TEN,
+};
+
+const BLOCKS_DRAWN: Drawn = Drawn {
+    figure: &BLOCKS,
+    outer: 2,
+    places: &BLOCKS_PLACES,
+    corners: &TEN,
+};
+
+const TRIANGLE_DRAWN: Drawn = Drawn {
+    figure: &TRIANGLE,
+    outer: 0,
+    places: &[(0, 0), (0, 1), (1, 1)],
+    corners: &[&[], &[(1, 0)], &[]],
+};
+
+/// The square that is as wide as the grid.
+const SQUARE_DRAWN: Drawn = Drawn {
+    figure: &SQUARE,
+    outer: 0,
+    places: &[(0, 0), (0, 65_535), (65_535, 65_535), (65_535, 0)],
+    corners: &FOUR,
+};
+
+const STAR_DRAWN: Drawn = Drawn {
+    figure: &STAR,
+    outer: 0,
+    places: &[(5, 5), (5, 8), (9, 5), (5, 1), (1, 5)],
+    corners: &FOUR,
+};
+
+const PATH_DRAWN: Drawn = Drawn {
+    figure: &PATH,
+    outer: 0,
+    places: &[(0, 0), (3, 0), (3, 3), (1, 3), (1, 1)],
+    corners: &FOUR,
+};
+
+/// The plane of a record with this outer face.
+fn plane_with(rt: &impl Abort, alloc: Global, record: &[u8], outer: u16) -> Option<Plane> {
+    let mut plane = plane_in(alloc, record)?;
+    assert!(rt; outer < plane.face_count());
+    plane.set_outer(outer);
+    Some(plane)
+}
+
+/// Whether the regions of a drawing are the faces of the plane of a record with this outer face.
+fn regions(
+    rt: &impl Abort,
+    alloc: Global,
+    drawn: &Drawn,
+    record: &[u8],
+    outer: u16,
+) -> Option<bool> {
+    let plane = plane_with(rt, alloc, drawn.figure.record, drawn.outer)?;
+    let shape = shape_in(alloc, drawn.figure)?;
+    let points = points_in(alloc, drawn.places, drawn.corners).ok()?;
+    let drawing = answer(rt, alloc, &plane, &shape, points).ok()?;
+    let other = plane_with(rt, alloc, record, outer)?;
+    assert!(rt; drawing.points().vertex_count() == usize::from(other.graph().vertices()));
+    assert!(rt; drawing.points().edge_count() == usize::from(other.graph().edges()));
+    has_regions(alloc, &other, &drawing).ok()
+}
+
+/// Drawings, records of planes, and whether the regions are the faces where the outer one is face 0, 1, and so on.
+const ROWS: [(&Drawn, &[u8], &[bool]); 10] = [
+    (&NESTED_DRAWN, &NESTED_RECORD, &[true, false, false]),
+    (&NESTED_DRAWN, &TURNED_OUT, &[false, false, false]),
+    (&NESTED_DRAWN, &NESTED_MIRRORED, &[false, false, false]),
+    (&BLOCKS_DRAWN, &BLOCKS_RECORD, &[false, false, true]),
+    (&BLOCKS_DRAWN, &SIDE_BY_SIDE, &[false, false, false]),
+    (&TRIANGLE_DRAWN, records::TRIANGLE, &[true, false]),
+    (&SQUARE_DRAWN, records::SQUARE, &[true, false]),
+    // A tree has one face, however it is embedded.
+    (&STAR_DRAWN, records::STAR, &[true]),
+    (&STAR_DRAWN, &STAR_EXCHANGED, &[true]),
+    (&PATH_DRAWN, records::PATH, &[true]),
+];
+
+/// Whether the outer face lies on the west of a drawing, where the outer one is this face of its own plane.
+fn outside(rt: &impl Abort, alloc: Global, drawn: &Drawn, outer: u16) -> Option<bool> {
+    let plane = plane_with(rt, alloc, drawn.figure.record, drawn.outer)?;
+    let shape = shape_in(alloc, drawn.figure)?;
+    let points = points_in(alloc, drawn.places, drawn.corners).ok()?;
+    let drawing = answer(rt, alloc, &plane, &shape, points).ok()?;
+    let other = plane_with(rt, alloc, drawn.figure.record, outer)?;
+    assert!(rt; drawing.points().vertex_count() == usize::from(other.graph().vertices()));
+    assert!(rt; drawing.points().edge_count() == usize::from(other.graph().edges()));
+    Some(outside_is_outer(&other, &drawing))
+}
+
+/// Drawings, and which face lies outside.
+const OUTSIDES: [(&Drawn, &[bool]); 6] = [
+    (&NESTED_DRAWN, &[true, false, false]),
+    (&BLOCKS_DRAWN, &[false, false, true]),
+    (&TRIANGLE_DRAWN, &[true, false]),
+    (&SQUARE_DRAWN, &[true, false]),
+    (&STAR_DRAWN, &[true]),
+    (&PATH_DRAWN, &[true]),
+];
+
+#[test]
+fn outsides_by_hand(rt: HostRuntime) {
+    for (drawn, due) in OUTSIDES {
+        for outer in 0..3u16 {
+            if let Some(is_outer) = due.get(usize::from(outer)) {
+                let found = outside(&rt, rt.alloc(), drawn, outer);
+                same!(&rt, found, Some(*is_outer));
+            }
+        }
+    }
+}
+
+#[test]
+fn regions_by_hand(rt: HostRuntime) {
+    for (drawn, record, due) in ROWS {
+        for outer in 0..3u16 {
+            if let Some(has) = due.get(usize::from(outer)) {
+                let found = regions(&rt, rt.alloc(), drawn, record, outer);
+                same!(&rt, found, Some(*has));
+            }
+        }
+    }
+}
+
+// Run with each allocation refused in turn too: what is answered is right.
+#[test]
+fn regions_without_memory(rt: HostRuntime) {
+    if let Some(has) = regions(&rt, rt.alloc(), &NESTED_DRAWN, &NESTED_RECORD, 0) {
+        same!(&rt, has, true);
+    }
+    if let Some(has) = regions(&rt, rt.alloc(), &NESTED_DRAWN, &TURNED_OUT, 0) {
+        same!(&rt, has, false);
+    }
+}

@@ -1,0 +1,107 @@
+//! Texts that leave as they are made: their bytes, writers that take little, and refused allocations.
+
+use crate::reported::{QUICK, REPORT, SHORT, THREE, written};
+use collector::{BatchFault, MAX_LANES, OpenGate, Style};
+use commands::TextFault;
+use std::process::Abort;
+use std::sync::Wait;
+use std::thread::Threads;
+use test_tools::same;
+
+/// Over so many lanes and in this style, the writer took all of the report of three files, or the first `room` bytes before it failed.
+fn check_writer<R: AllocGlobal + Threads + Wait + Sync + Abort>(
+    rt: &R,
+    lanes: u32,
+    style: Style,
+    room: usize,
+    most: usize,
+) {
+    let (ended, writer) = written(rt, &THREE, 3, lanes, style, &OpenGate, (room, most));
+    same!(rt, writer.text(), &REPORT[..room.min(211)]);
+    let due = if room < 211 {
+        Err(TextFault::Write)
+    } else {
+        Ok(3)
+    };
+    same!(rt, ended, due);
+}
+
+/// Which drawings are made changes nothing in the report.
+#[test]
+fn files_come_in_their_order(rt: HostRuntime) {
+    for lanes in 1..=MAX_LANES {
+        check_writer(&rt, lanes, QUICK, 211, 211);
+        check_writer(&rt, lanes, SHORT, 211, 211);
+    }
+}
+
+#[test]
+fn a_beginning_is_written_before_a_fault(rt: HostRuntime) {
+    for room in [0, 1, 2, 7, 100, 209, 210, 211] {
+        check_writer(&rt, 1, QUICK, room, usize::MAX);
+        check_writer(&rt, 2, QUICK, room, usize::MAX);
+        check_writer(&rt, 2, QUICK, room, 1);
+    }
+}
+
+/// Bad numbers are refused, whatever memory there is.
+#[test]
+fn bad_numbers_take_no_memory(rt: HostRuntime) {
+    let cases = [
+        (257, 0, BatchFault::TooManyFiles),
+        (256, 0, BatchFault::BadLanes),
+        (256, 9, BatchFault::BadLanes),
+    ];
+    for (files, lanes, fault) in cases {
+        let (ended, writer) = written(&rt, &THREE, files, lanes, SHORT, &OpenGate, (211, 211));
+        same!(&rt, ended, Err(TextFault::Run(fault)));
+        same!(&rt, writer.text().len(), 0);
+    }
+}
+
+/// How many wants of memory a whole line tells where this one is due; none where it may not stand there.
+fn wants_of(line: &[u8], due: &[u8]) -> Option<usize> {
+    if line == due {
+        return Some(0);
+    }
+    let is_want = line.starts_with(b"graph ") && line.ends_with(b" memory");
+    (is_want && due.starts_with(b"graph ")).then_some(1)
+}
+
+/// Whether the lines of a text stand where those of the report are due, but for one place at most, which tells want of
+/// memory: the line of a graph, or the end of a file behind a beginning of its graphs. A text may be cut off.
+fn is_allowed(text: &[u8]) -> bool {
+    let mut due = REPORT.split(|byte| *byte == b'\n');
+    let mut wants: usize = 0;
+    for line in text.split(|byte| *byte == b'\n') {
+        let is_early_end = line.starts_with(b"end memory graphs=");
+        let next = if is_early_end {
+            due.find(|other| other.starts_with(b"end "))
+        } else {
+            due.next()
+        };
+        let Some(other) = next else {
+            return false;
+        };
+        match wants_of(line, other) {
+            Some(more) => wants = wants.saturating_add(more),
+            None if is_early_end => wants = wants.saturating_add(1),
+            None => return other.starts_with(line) && wants <= 1,
+        }
+    }
+    wants <= 1
+}
+
+/// `checks/refuse-allocations` refuses each allocation of this test in turn: the run ends in a named answer, with the
+/// report, in which some lines may tell of want of memory, or a beginning of it. Short drawings take all memory that
+/// quick ones take, and more.
+#[test]
+fn names_want_of_memory(rt: HostRuntime) {
+    let (ended, writer) = written(&rt, &THREE, 3, 2, SHORT, &OpenGate, (211, 211));
+    let named = match ended {
+        Ok(status) => status == 3,
+        Err(TextFault::Run(fault)) => fault == BatchFault::Memory || fault == BatchFault::Thread,
+        Err(TextFault::Write) => false,
+    };
+    same!(&rt, (named, is_allowed(writer.text())), (true, true));
+}

@@ -1,0 +1,23 @@
+//! Records, graphs and planes of bytes.
+
+use embedding::{Graph, ReadFault};
+use faces::Plane;
+use planar_code::Record;
+use std::alloc::Global;
+
+/// The record that these bytes are, if they are one and there is memory.
+pub fn record_of(alloc: Global, bytes: &[u8]) -> Option<Record> {
+    Record::parse(alloc, bytes).ok()
+}
+
+/// The graph of a record, and want of memory where there is none for the record.
+pub fn read(alloc: Global, bytes: &[u8]) -> Result<Graph, ReadFault> {
+    let record = record_of(alloc, bytes).ok_or(ReadFault::Memory)?;
+    Graph::read(alloc, &record)
+}
+
+/// The plane of a record, if these bytes are one of a plane and there is memory.
+pub fn plane_in(alloc: Global, bytes: &[u8]) -> Option<Plane> {
+    let graph = read(alloc, bytes).ok()?;
+    Plane::trace(alloc, graph).ok()
+}

@@ -1,0 +1,27 @@
+//! Points that are given by pairs of numbers.
+
+use ortho_rep::{Point, Points};
+use std::alloc::{AllocError, Global};
+
+/// Coordinates: x and y.
+pub type Place = (u32, u32);
+
+fn list_in(alloc: Global, places: &[Place]) -> Result<Vec<Point>, AllocError> {
+    places
+        .iter()
+        .map(|p| Point { x: p.0, y: p.1 })
+        .collect(alloc)
+}
+
+/// The points of vertices and of the corners of edges.
+pub fn points_in(
+    alloc: Global,
+    vertices: &[Place],
+    corners: &[&[Place]],
+) -> Result<Points, AllocError> {
+    let mut lists = Vec::new(alloc);
+    for places in corners {
+        lists.push(list_in(alloc, places)?)?;
+    }
+    Ok(Points::new(list_in(alloc, vertices)?, lists))
+}
