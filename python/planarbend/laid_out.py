@@ -235,13 +235,18 @@ class Run:
         self.said.close()
 
 
+def refuse_single(graphs: Any) -> None:
+    """Raise `TypeError` if this is a single graph rather than an iterable of graphs."""
+    if isinstance(graphs, (Record, Mapping, str, bytes)) or hasattr(graphs, "adjacency"):
+        raise TypeError("layouts takes an iterable of graphs, and this is a single graph: pass [graph], or call layout_of")
+
+
 class Layouts:
     """An iterator over the layouts of a stream of graphs. After a `GraphError`, it continues with the next graph."""
 
     def __init__(self, graphs: Iterable[Any], outer: str = "first", words: Iterable[str] = (),
                  most: int = MOST_RECORDS) -> None:
-        if isinstance(graphs, (Record, Mapping, str, bytes)) or hasattr(graphs, "adjacency"):
-            raise TypeError("layouts takes graphs, one after another, and this is a single one: pass [graph], or call layout_of")
+        refuse_single(graphs)
         self.words = [program(), "layout", "--json", "--outer", outer, *words, "-"]
         self.records = map(Record.of, graphs)
         self.most = most  # graphs of one run
@@ -306,7 +311,7 @@ def layouts(graphs: Iterable[Any], outer: str = "first", words: Iterable[str] = 
     Raises
     ------
     TypeError
-        `graphs` is a single graph. (With the library, `next` raises this.)
+        `graphs` is a single graph.
     NoProgram
         The program is needed, and there is none.
 

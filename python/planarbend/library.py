@@ -314,8 +314,9 @@ class LibraryLayouts:
     """
 
     def __init__(self, graphs: Iterable[Any], outer: str = "first", drawing: str = "short") -> None:
-        from planarbend.laid_out import Layout, Record  # which drawing does without
+        from planarbend.laid_out import Layout, Record, refuse_single  # imported here: drawing does not need it
 
+        refuse_single(graphs)
         self.library = Library()
         self.records: Iterator[Record] = map(Record.of, graphs)
         self.layout_of = Layout.of
