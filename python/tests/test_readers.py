@@ -297,7 +297,7 @@ class Content(Case):
                    b"<html>": "HTML", b"<thing>": "root thing", b">>sparse6<<:I`": "sparse6", b":An": "sparse6",
                    b">>digraph6<<&": "digraph6", b"\xff\xfea\0": "UTF-16", b"a -- b\n\0\0": "not a text: it has the byte 0x00",
                    b'{"vertices":[],"edges":[],"crossings":[]}': "a drawing that planarbend-draw wrote",
-                   b'{"angles":[],"file":1,"graph":1,"status":"ok"}\n{"end":"complete"}': "JSON lines of planarbend",
+                   b'{"angles":[],"file":1,"graph":1,"status":"ok"}\n{"end":"complete"}': "JSON Lines of planarbend",
                    b"SQLite format 3\0": "SQLite"}
         for data, words in foreign.items():
             for name in ("input", "input.txt", "input.dot"):

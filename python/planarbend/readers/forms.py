@@ -41,7 +41,7 @@ FOREIGN_XML = {"svg": "an SVG image", "html": "an HTML page", "gexf": "a GEXF gr
                "export": "a netlist of KiCad in XML; export it in KiCad's own format"}
 FOREIGN_OBJECTS = [
     ({"crossings", "vertices", "edges"}, "a drawing that planarbend-draw wrote, and not a graph"),
-    ({"status", "record"}, "JSON lines of planarbend"), ({"status", "graph"}, "JSON lines of planarbend"),
+    ({"status", "record"}, "JSON Lines of planarbend"), ({"status", "graph"}, "JSON Lines of planarbend"),
     ({"meta", "project"}, "a project or settings of KiCad"), ({"cells", "nbformat"}, "a Jupyter notebook"),
 ]
 
