@@ -191,7 +191,8 @@ def main() -> int:
                                      formatter_class=argparse.RawDescriptionHelpFormatter)
     parser.add_argument("file", metavar="FILE", help="the planar_code file from which the JSON Lines were made")
     parser.add_argument("graph", metavar="GRAPH", type=int, help="the graph to draw, such as 118")
-    parser.add_argument("--row", metavar="Y", type=int, required=True, help="the y coordinate of the lower side of the row of cells")
+    parser.add_argument("--row", metavar="Y", type=int, required=True,
+                        help="the y coordinate of the lower side of the row of cells")
     parser.add_argument("--point", metavar="X,Y", type=point_of, required=True, help="the point whose cell is marked")
     words = parser.parse_args()
     try:

@@ -25,9 +25,9 @@ GRAPH is a list of connections, one or more per line (`antenna -- tuner -> mixer
 node-link JSON or graph6; or a KiCad netlist or board. The content determines the format, unless --format is given.
 
 DOT is read by Graphviz (Debian: graphviz). networkx (python3-networkx) reads GraphML, GML and graph6, and tests which
-graphs are planar: without it, most planar graphs can be drawn, but few others. rsvg-convert (librsvg2-bin) makes PNG and
-PDF. Layouts are computed by libplanarbend of this checkout or the system; or by the program planarbend: the one that
-PLANARBEND names, that of this checkout, or the one on the path.
+graphs are planar: without it, most planar graphs can be drawn, but few others. rsvg-convert (librsvg2-bin) makes PNG
+and PDF. Layouts are computed by libplanarbend of this checkout or the system; or by the program planarbend: the one
+that PLANARBEND names, that of this checkout, or the one on the path.
 
 exit status: 0; 1 if the graph cannot be read or drawn (standard error says why, and nothing is written); 2 if the
 command line is wrong
@@ -136,11 +136,11 @@ def write(drawing: Drawing, path: str, scale: float) -> None:
 
 
 def engine_of() -> Engine:
-    """The engine. If this is the script of a checkout in which nothing is built, a message on standard error says why it is
-    slow."""
+    """The engine. If this is the script of a checkout in which nothing is built, a message on standard error says why
+    it is slow."""
     engine = default_engine()
     if isinstance(engine, ProcessEngine) and engine.program == SCRIPT:
-        print("planarbend-draw: planarbend is not built here, so each of many calls takes a trial run of about a minute;"
+        print("planarbend-draw: planarbend is not built here, so each of many calls is a trial run of a minute;"
               f" {SCRIPT} --build builds it", file=sys.stderr)
     return engine
 

@@ -18,7 +18,8 @@ Lists = list[list[int]]
 
 
 class Unreadable(Exception):
-    """The bytes are not planar_code up to their end; `ending` is the report's word for this, `why` says where and why."""
+    """The bytes are not planar_code up to their end; `ending` is the report's word for this, `why` says where and
+    why."""
 
     def __init__(self, ending: str, why: str) -> None:
         super().__init__(f"{ending}: {why}")
@@ -26,7 +27,8 @@ class Unreadable(Exception):
 
 
 def records(source: BinaryIO) -> Iterator[bytes]:
-    """Yield the bytes of each complete record of a stream, in order. Memory holds one record and one piece of the stream.
+    """Yield the bytes of each complete record of a stream, in order. Memory holds one record and one piece of the
+    stream.
 
     Raises `Unreadable` after the last complete record if the stream does not end there; its ending is then `header`,
     `truncated`, `large` or `oversize`.
@@ -70,7 +72,7 @@ def end_of_record(held: bytes, start: int) -> int | None:
     if start == len(held):
         return None
     if held[start] == 0:
-        raise Unreadable("large", "byte 0 where a number of vertices is expected (the two-byte form, or a damaged file)")
+        raise Unreadable("large", "byte 0 where a number of vertices is expected (two-byte form, or a damaged file)")
     end = start + 1
     for _ in range(held[start]):
         zero = held.find(0, end, end + MOST_NEIGHBOURS + 1)

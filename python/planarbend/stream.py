@@ -58,7 +58,7 @@ class Stream:
         self.source = source
         self.held = b""
         self.is_over = False  # whether the source has ended
-        self.is_noise = False  # whether no record begins at `held`: the rest is passed on as it is, and the run reports it
+        self.is_noise = False  # whether `held` begins with no record: the rest is passed on as it is, and reported
 
     def read_on(self) -> None:
         piece = self.source.read1(PIECE)
@@ -200,7 +200,8 @@ def command_line() -> argparse.Namespace:
     parser = argparse.ArgumentParser(description=__doc__ + "\n\n" + TEXT, epilog=STATUSES,
                                      formatter_class=argparse.RawDescriptionHelpFormatter)
     parser.add_argument("--json", action="store_true", help="write JSON Lines instead of the report")
-    parser.add_argument("--outer", choices=["first", "best"], default="first", help="the outer face: longest boundary (first, the default) or fewest bends (best)")
+    parser.add_argument("--outer", choices=["first", "best"], default="first",
+                        help="the outer face: longest boundary (first, the default) or fewest bends (best)")
     parser.add_argument("-k", "--records", metavar="K", type=positive, default=MOST_RECORDS,
                         help=f"number of graphs in a part (default {MOST_RECORDS})")
     return parser.parse_args()

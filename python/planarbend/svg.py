@@ -223,7 +223,7 @@ def numbers_of(word: str) -> list[int]:
             raise argparse.ArgumentTypeError(f"{word} is not a list such as 1-12 or 1,3,7-9")
         end = int(last if dash else first)
         if not 1 <= int(first) <= end <= MOST_NUMBER:
-            raise argparse.ArgumentTypeError(f"{part}: graph numbers are 1 to {MOST_NUMBER:,}, the lower end of a range first")
+            raise argparse.ArgumentTypeError(f"{part}: graph numbers are 1 to {MOST_NUMBER:,}, in increasing order")
         numbers.update(range(int(first), end + 1))
     return sorted(numbers)
 
@@ -234,7 +234,7 @@ def command_line() -> argparse.Namespace:
     parser.add_argument("file", metavar="FILE", help="the planar_code file from which the JSON Lines were made")
     parser.add_argument("graph", metavar="GRAPH", nargs="?", type=numbers_of, help="the graph to draw, such as 2")
     parser.add_argument("--graphs", metavar="LIST", type=numbers_of, help="draw several graphs in a grid, such as 1-12")
-    parser.add_argument("--columns", metavar="N", type=int, default=4, help="number of pictures in a row of the grid (default 4)")
+    parser.add_argument("--columns", metavar="N", type=int, default=4, help="pictures in a row of the grid (default 4)")
     parser.add_argument("--outer", action="store_true", help="shade the outer face")
     parser.add_argument("--html", action="store_true",
                         help=f"write an HTML page of all graphs (at most {MOST_ON_PAGE}), or of those of --graphs")
