@@ -31,7 +31,7 @@ class Rotation:
     ----------
     origin, onward, back, face : list of int
         For each dart: the vertex it leaves, the next and the previous dart of the face on its left, and that
-        face. ``face`` is `NONE` where the dart is unused.
+        face. ``face`` is `NONE` if the dart is unused.
     leaving : list of int
         For each vertex and crossing a dart that leaves it, `NONE` without edges, `FREE` for an unused crossing.
     corner : list of int

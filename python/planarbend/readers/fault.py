@@ -15,7 +15,7 @@ class ReadError(Exception):
     file : str
         The name of the input.
     line : int or None
-        The line where the fault is, counted from 1, or None if it has no one line.
+        The line of the fault, counted from 1, or None if it does not belong to one line.
     reason : str
         What is wrong.
     """

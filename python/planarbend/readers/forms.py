@@ -55,7 +55,7 @@ BINARY = re.compile(rb"[\x00-\x08\x0e-\x1f]")
 
 
 def form_of(data: bytes, name: str) -> str:
-    """The format of a file: of its content, or, where that has no mark of its own, of the ending of its name.
+    """The format of a file, by its content or, if that does not identify a format, by the extension of its name.
 
     Parameters
     ----------

@@ -40,7 +40,7 @@ class Circuit:
         """The graph of the circuit, in which a net joins each of its parts once, with however many pins.
 
         Parts, and nets that join three or more, are vertices; a net of two parts is an edge, and a net that joins pins
-        of one part alone is a loop. A single pin is no connection.
+        of only one part is a loop. A single pin is not a connection.
         """
         built = Builder()
         for number, part in enumerate(self.parts):
