@@ -79,7 +79,8 @@ class TooManyCrossings(Exception):
     """
 
     def __init__(self, crossings: int, must: bool = False) -> None:
-        super().__init__(f"at least {crossings} crossings" if must else f"{crossings} or more crossings in all attempts")
+        super().__init__(f"at least {crossings} crossings" if must else
+                         f"{crossings} or more crossings in each attempt")
         self.crossings, self.must = crossings, must
 
 
