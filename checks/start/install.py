@@ -84,7 +84,7 @@ def install(prefix):
 def main():
     prefix = Path(os.path.abspath(sys.argv[1]))
     if not PROGRAM.is_file():
-        stop("no proved program stands here yet", "planarbend --build proves and builds it")
+        stop("there is no proved program here yet", "planarbend --build proves and builds it")
     try:
         install(prefix)
     except OSError as error:
