@@ -42,7 +42,7 @@ FULL = WRITE.format("No space left on device")
 TWICE = ("error: standard input, the file '-', can be read only once, and is named twice\n\n"
          "Usage: planarbend <COMMAND>\n\nFor more information, try '--help'.\n")
 
-Event = tuple[int, str]  # the number of a file, and a line of its report; of JSON lines that of the same report
+Event = tuple[int, str]  # the number of a file, and a line of its report; of JSON Lines that of the same report
 
 
 class Wrong(Exception):
