@@ -1,11 +1,11 @@
 #!/usr/bin/env python3
-"""What checks/ready looks for in the pages: that each is no longer than it may be, that the numbers of crates, proofs,
-edits, attacks and tests that they quote are those of the tree, and that each name in backticks is one of the tree: a
-file, a crate, an option, or a word of the code, the definitions or the scripts. In docs/PROVED.md a name must stand in
-the crates of its section, and in its tables each clause in the contract of a call beside it. Blocks of code are not
-looked at. The man page docs/planarbend.1 has the arguments and options of --help in its words, its version is the
-program's, and `man --warnings` finds no fault in it. The texts are those of checks/start/texts, which checks/first-answer
-compares with the program's; started by itself, this script puts them into the page.
+"""Checks of the pages for checks/ready: no page is too long; the numbers of crates, proofs, edits, attacks and tests
+that pages quote are those of the tree; and each name in backticks exists in the tree as a file, a crate, an option, or
+a word of the code, the definitions or the scripts. In docs/PROVED.md, a name must occur in the crates of its section,
+and each clause in a table must be in the contract of a call beside it. Code blocks are not checked. The man page
+docs/planarbend.1 has the arguments and options of --help in the same words, its version is the program's, and
+`man --warnings` finds no fault in it. Its texts are those of checks/start/texts, which checks/first-answer compares
+with the program's. Run directly, this script puts these texts into the man page.
 """
 import difflib
 import glob
@@ -44,7 +44,7 @@ def pages(patterns):
 
 
 def too_long():
-    """Says of each page, and of all but those that scripts write, that it has too many words."""
+    """Reports each page that has too many words, and all pages together, except those that scripts write."""
     counts = {page: len(text.split()) for page, text in pages(COUNTED).items() if page not in WRITTEN}
     counts[""] = sum(counts.values())
     return [f"{page or 'all pages'}: {counts[page]} words, {most} at most"
@@ -52,7 +52,7 @@ def too_long():
 
 
 class Tree:
-    """The names of the repository, and how many there are of what pages count."""
+    """The names in the repository, and the numbers that pages quote."""
 
     def __init__(self, crates):
         self.crates = [crate.name for crate in crates]
@@ -95,12 +95,12 @@ class Tree:
                 "attacks": sum(parts[:2] == ["checks", "edits"] for parts in edits)}
 
     def has_path(self, name):
-        """Whether some file or folder of the tree ends so."""
+        """Whether the path of some file or folder of the tree ends like this."""
         return name.removeprefix("./").rstrip("/") in self.ends
 
     def has(self, word, crates):
-        """Whether a word is one of these crates, or where these are all, of scripts; or a word of other programs. A
-        placeholder is no name, and the end of one stands for those that end so."""
+        """Whether a word is in one of these crates, or, if these are all crates, in scripts; or is a word of other
+        programs. A placeholder is not a name, and the end of a name stands for all names with this end."""
         if word in OUTSIDE or re.fullmatch(r"[A-Z]{1,9}(\.\w+)?|\d[\d,.]*", word):
             return True
         if word.startswith("_"):
@@ -114,8 +114,8 @@ def near(tree, text):
 
 
 def spans(page, text):
-    """Each name in backticks with the crates in which it is to be: in docs/PROVED.md those of its section and of its
-    paragraph, else all."""
+    """Each name in backticks with the crates in which it must occur: in docs/PROVED.md those of its section and of its
+    paragraph, otherwise all."""
     text = re.sub(r"^```.*?^```", "", text, flags=re.M | re.S)
     for section in re.split(r"^(?=## )", text, flags=re.M):
         heading = section.splitlines()[0] if section.startswith("## ") else ""
@@ -125,7 +125,7 @@ def spans(page, text):
 
 
 def lost_names(tree, page, text):
-    """The names in backticks that are none of the tree."""
+    """The names in backticks that are not in the tree."""
     lost = []
     for name, context in spans(page, text):
         crates = near(tree, context) if context else tree.crates
@@ -154,7 +154,7 @@ def clauses_by_call(tree):
 
 def lost_clauses(tree, text):
     """The clauses in the tables of docs/PROVED.md that no call beside them has. A cell without a call repeats the one above;
-    in a table of two columns the call stands in the heading."""
+    in a table of two columns the call is in the heading."""
     clauses, lost = clauses_by_call(tree), []
     for table in re.findall(r"(?:^\|.*\n)+", text, flags=re.M):
         rows = [line[1:-1].split("|") for line in table.splitlines()]
@@ -176,7 +176,7 @@ def wrong_numbers(counts, page, text):
 
 
 def troff(text):
-    """A text as troff reads it."""
+    """A text with troff escapes."""
     text = text.replace("\\", "\\e").replace("-", "\\-")
     return "\\&" + text if text.startswith((".", "'")) else text
 
@@ -194,7 +194,7 @@ def man_page(text):
 
 
 def faults_of_man():
-    """What is wrong with the man page, a line each."""
+    """The faults of the man page, one line each."""
     text = text_of(MAN)
     lines = list(difflib.unified_diff(text.splitlines(), man_page(text).splitlines(), MAN, "--help", lineterm=""))
     if shutil.which("man"):
@@ -205,7 +205,7 @@ def faults_of_man():
 
 
 def faults(crates):
-    """What is wrong with the pages, a line each."""
+    """The faults of the pages, one line each."""
     tree, found = Tree(crates), pages(PAGES)
     counts, lines = tree.counts(), too_long()
     for page, text in found.items():

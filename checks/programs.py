@@ -1,5 +1,5 @@
-"""Shared by the scripts of bench/ and checks/: command lines, cases, the programs they run, the toolchain, the library
-that is preloaded, copies of crates, files of graphs, runs of a program, and the sections of bench/RESULTS.md."""
+"""Shared by the scripts of bench/ and checks/: command lines, cases, the programs that they run, the toolchain, the
+preloaded library, copies of crates, files of graphs, runs of a program, and the sections of bench/RESULTS.md."""
 from __future__ import annotations
 
 import argparse
@@ -59,7 +59,7 @@ class Cases:
         self.failed = 0
 
     def look(self, name: str, well: bool, told: object = "") -> None:
-        """Prints the result of a case, and what there is to say of it."""
+        """Prints the result of a case, with a remark if there is one."""
         self.failed += not well
         print(f"{'passed' if well else 'FAILED'}: {name}" + f": {told}" * bool(told), flush=True)
 
@@ -99,7 +99,7 @@ class Section:
         self.add("|" + "|".join(map(str, cells)) + "|")
 
     def keep(self, wanted: bool) -> None:
-        """If wanted, replaces the section of the same command, or appends this one."""
+        """If requested, replaces the section of the same command, or appends this one."""
         if not wanted:
             return
         with open(RESULTS, encoding="utf-8") as page:
@@ -118,7 +118,7 @@ class Section:
 def where() -> str:
     """The day, the program's commit, and how many cores were busy just before the run."""
     busy = busy_cores()
-    beside = "nothing else running" if busy < 0.3 else f"beside other work on {busy:.1f} of them"
+    beside = "nothing else running" if busy < 0.3 else f"with other work on {busy:.1f} of them"
     return f"{datetime.date.today()}, commit {commit()}, {len(os.sched_getaffinity(0))} cores, {beside}."
 
 
@@ -190,7 +190,7 @@ def preload(folder: str) -> str:
 
 
 def outside(folder: str, source: str = "lemon.cc", *more: str) -> str:
-    """Builds a program of bench/outside in a folder, with these words for the compiler, and returns its path."""
+    """Builds a program of bench/outside in a folder, with these arguments for the compiler, and returns its path."""
     program = os.path.join(folder, os.path.basename(source).removesuffix(".cc"))
     subprocess.run(["g++", *FAST, "-o", program, os.path.join(OUTSIDE, source), *more], check=True)
     return program
@@ -345,7 +345,7 @@ def enumerated(folder: str, orders: Iterable[int], is_needed: bool = False) -> l
 
 
 def text_of(words: Sequence[str]) -> str:
-    """What a program prints."""
+    """The output of a program."""
     return subprocess.run(words, check=True, stdout=subprocess.PIPE, stderr=subprocess.DEVNULL, text=True).stdout
 
 

@@ -1,4 +1,4 @@
-"""Words of the command line, and the command `check`."""
+"""Arguments of the command line, and the command `check`."""
 from __future__ import annotations
 
 import os
@@ -14,7 +14,7 @@ from machine import (
     TWO, WRITE, Wrong)
 
 
-# ---- Words of the command line: those that are refused, help, and the version.
+# ---- Arguments of the command line: wrong ones, help, and the version.
 
 ROOT = os.path.dirname(os.path.dirname(os.path.dirname(os.path.abspath(__file__))))
 
@@ -55,8 +55,8 @@ def refused(path: str) -> list[tuple[str, list[Any], str | None]]:
 
 
 def version_text() -> bytes:
-    """The newest number of CHANGELOG.md, and what `rt version` says without the letter behind the kit's number, since
-    kits of one number and one logic prove the same; where there is no `rt`, the text of checks/start."""
+    """The newest version in CHANGELOG.md, and the output of `rt version` without the letter after the kit's number,
+    since kits with the same number and logic prove the same; if there is no `rt`, the text of checks/start."""
     if not shutil.which("rt"):
         with open(os.path.join(ROOT, "checks/start/texts/version"), "rb") as text:
             return text.read()
@@ -131,7 +131,7 @@ def reads_pipes(machine: Machine, two: str, drawn: str) -> None:
 
 
 def names_files(machine: Machine, two: str, none: str) -> None:
-    """Files that cannot be opened or read: the reason stands on standard error, and the rest is checked."""
+    """Files that cannot be opened or read: the reason is on standard error, and the rest is checked."""
     forbidden, missing = machine.file(TWO), machine.path()
     os.chmod(forbidden, 0)
     for name, path, reason, how in [("a missing file", missing, "No such file or directory", {}),
@@ -164,7 +164,7 @@ def reads_long_lines(machine: Machine) -> None:
 
 
 def fails_to_write(machine: Machine, paths: list[str]) -> None:
-    """Outputs that take nothing."""
+    """Outputs that accept no data."""
     for name, make, said in [("full disk", full_disk, FULL), ("closed pipe", broken_pipe, "")]:
         with machine.case("check", f"standard output is a {name}"), make() as output:
             is_said(machine.run(["check", *paths], stdout=output), b"", 1, said)

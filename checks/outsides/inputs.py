@@ -1,4 +1,4 @@
-"""Files of all kinds, well and ill, pipes and standard input."""
+"""Files of all kinds, good and bad, pipes and standard input."""
 from __future__ import annotations
 
 import bz2
@@ -25,7 +25,7 @@ from machine import (
 from planarbend.planar_code import HEADER, MOST_RECORDS
 
 
-# ---- Files of all kinds, well and ill, one or several in a run.
+# ---- Files of all kinds, good and bad, one or several in a run.
 
 MOST_FILES = 256
 
@@ -61,10 +61,10 @@ def readable(machine: Machine) -> list[tuple[str, Any, File]]:
 
 
 def cut_at_each_byte(machine: Machine, command: Command) -> None:
-    """A file that is cut behind each of its bytes."""
+    """A file that is cut after each of its bytes."""
     for length in range(len(TWO)):
         path = machine.file(TWO[:length], machine.two + "-cut")
-        machine.whole(command, f"two.pc cut behind byte {length}", [path], [split(TWO[:length])])
+        machine.whole(command, f"two.pc cut after byte {length}", [path], [split(TWO[:length])])
 
 
 def check_several(machine: Machine) -> None:
@@ -89,7 +89,7 @@ ROW = 255  # bytes of a list of a bulky record, with the 0 after it
 
 
 def check_pieces(machine: Machine) -> None:
-    """A long file, a pipe that gives pieces of all sizes, and files with names of each length."""
+    """A long file, a pipe that delivers pieces of all sizes, and files with names of each length."""
     text, records = bulky_text(270)
     machine.whole(FRAMES, "a file of 17 MB", [machine.file(text)], [File(records, "complete")])
     with machine.case(FRAMES, "a pipe of 1.3 MB in pieces"):
@@ -107,7 +107,7 @@ def check_pieces(machine: Machine) -> None:
 
 
 def bulky_text(count: int) -> tuple[bytes, list[bytes]]:
-    """So many of the longest records: at the ends of pieces stands each value from 1 to 255, where an entry stands."""
+    """This many of the longest records: each value from 1 to 255 occurs as an entry at the end of a piece."""
     text = bytearray(HEADER + (b"\xff" + 255 * (b"\1" * (ROW - 1) + b"\0")) * count)
     value = 0
     for end in range(PIECE, len(text), PIECE):
@@ -121,13 +121,13 @@ def bulky_text(count: int) -> tuple[bytes, list[bytes]]:
 
 
 def cuts_of(text: bytes, pieces: int) -> list[int]:
-    """Where a text is cut into so many pieces."""
+    """The places where a text is cut into this many pieces."""
     places = random.Random(1).sample(range(1, len(text)), pieces - 1)
     return [0, *sorted(places), len(text)]
 
 
 def in_pieces(machine: Machine, command: Command, text: bytes, records: list[bytes], cuts: list[int]) -> None:
-    """A run over a pipe that gives each piece once the one before was read."""
+    """A run over a pipe that delivers each piece after the previous one was read."""
     with machine.started([*command.words, "-"], stdin=subprocess.PIPE, stdout=subprocess.PIPE) as child:
         pipe = child.stdin.fileno()
         for begin, end in zip(cuts, cuts[1:]):
@@ -186,7 +186,7 @@ def named_pipes(machine: Machine, command: Command) -> None:
 
 
 def slowly(machine: Machine, command: Command, text: bytes, pause: float, stop: bool = False) -> Ran:
-    """A run over a FIFO that gives this text, with a pause behind each byte, in which the run may be stopped."""
+    """A run over a FIFO that delivers this text, with a pause after each byte, in which the run may be stopped."""
     path = machine.fifo()
     writer = os.open(path, os.O_RDWR)
     try:
@@ -207,7 +207,7 @@ def slowly(machine: Machine, command: Command, text: bytes, pause: float, stop: 
 
 
 def endless(pipe: Any) -> None:
-    """Gives records until nobody takes them."""
+    """Writes records until nobody reads them."""
     with contextlib.suppress(OSError):
         pipe.write(HEADER)
         while True:
@@ -294,7 +294,7 @@ def numbered_as_input(machine: Machine, command: Command) -> Ran:
 TRIES = 20  # to see a file while it is read
 MORE = EDGE * 3
 
-# What changes the file of this path and text, of which so many bytes were read, and gives back all that is then to read.
+# A change of the file with this path and text, of which this many bytes were read; returns all that can then be read.
 Change = Callable[[str, int, bytes], bytes]
 
 
@@ -347,7 +347,7 @@ def grow(path: str, place: int, text: bytes) -> bytes:
     return text + MORE
 
 
-# ---- The lines on standard error that say why a file could not be read, or what it looks like, each compared whole.
+# ---- The lines on standard error that say why a file could not be read, or what it looks like, compared completely.
 
 MISSING, FOLDER = "No such file or directory", "Is a directory"
 CLOSED, FAILED = "Bad file descriptor", "Input/output error"
@@ -370,7 +370,7 @@ def check_reasons(machine: Machine) -> None:
 
 
 def tells(machine: Machine, command: Command, name: str, path: str, file: File, reason: str | None, **how: Any) -> None:
-    """One file, of which this is said, or nothing."""
+    """One file, with this message about it, or none."""
     with machine.case(command, f"what is said of {name}"):
         said = f"planarbend: {path}: {reason}\n" if reason else ""
         is_whole(command, machine.run([*command.words, path], **how), [file], said)
@@ -415,7 +415,7 @@ def misfits() -> list[tuple[str, bytes, str | None]]:
         ("edge_code", b">>edge_code<<\3\1\2\xff\1", "edge_code, not planar_code"),
         ("graph6", b"C~\nDhC\n", "graph6: use planarg -p"), ("sparse6", b":Cca\n", "sparse6: use planarg -p"),
         ("an empty file", b"", "empty file"), ("text", b"graph { a -- b }\n", "text, not planar_code"),
-        ("a line end behind the header", HEADER + b"\n" + TRIANGLE * 2, "a line end follows the header: remove it"),
+        ("a line end after the header", HEADER + b"\n" + TRIANGLE * 2, "a line end follows the header: remove it"),
         ("graphs of 10 vertices", HEADER + PATH_OF_10 * 3, None), ("a cut file", HEADER + PATH_OF_10[:-1], None)]
     if shutil.which("zstd"):
         packed = subprocess.run(["zstd", "-q", "-c"], input=TWO, stdout=subprocess.PIPE, check=True).stdout

@@ -20,8 +20,8 @@ from planarbend.planar_code import HEADER
 # ---- Limits on open files: a file that cannot be opened is `io`.
 
 def check_open_files(machine: Machine) -> None:
-    """A lane has one file open, and each of its four threads for a moment one more: where a thread first asks for
-    memory, the C library may open one to count the processors."""
+    """A lane has one file open, and each of its four threads briefly one more: when a thread first allocates memory,
+    the C library may open one to count the processors."""
     for command in COMMANDS:
         paths = [machine.two] * (1 if command.frames else 64)
         files = 3 + 5 * command.lanes
@@ -55,10 +55,10 @@ def without_files(machine: Machine, command: Command) -> Ran:
         return machine.ended(child)
 
 
-# ---- Limits on threads: a run of so many lanes has four threads a lane beside its first, and `frames` one.
+# ---- Limits on threads: besides its first thread, a run has four threads for each lane, and `frames` one.
 
 def check_threads(machine: Machine) -> None:
-    """Where a thread cannot be started, the fault says so; a lane may end before the next one starts."""
+    """If a thread cannot be started, the error says so; a lane may end before the next one starts."""
     alone = IS_ROOT and not is_in_use(NOBODY)
     for command in COMMANDS:
         enough = 2 if command.frames else 1 + 4 * command.lanes
@@ -101,8 +101,8 @@ class Climb(NamedTuple):
 
 
 def check_memory(machine: Machine) -> None:
-    """Steps for two graphs; for many, where memory ends in the middle of the work; and for many with one heap for all
-    threads, which the C library else gives 64 MB each."""
+    """Steps for two graphs; for many graphs, so that memory runs out during the work; and for many with one heap for
+    all threads, to each of which the C library otherwise gives 64 MB."""
     least = loaded_from(machine)
     steps = [*range(least, least + 1024, 64), *range(least + 1024, least + 12_288, 512),
              *range(least + 12_288, 150_000, 2048), *(step << 10 for step in (192, 256, 384, 512, 768, 4096, 8192))]
@@ -129,24 +129,24 @@ def loaded_from(machine: Machine) -> int:
 
 
 def climb(machine: Machine, runs: Climb) -> None:
-    """Runs with more address space from step to step: each ends with a named answer, the last with the whole report,
-    and a fault says what was wanting. Tells from where on all were served."""
+    """Runs with more address space from step to step: each ends with a defined answer, the last with the whole report,
+    and an error says what was missing. Prints the step from which on all succeeded."""
     answers: dict[int, Ran] = {}
     with machine.case(runs.command, f"ulimit -v, {runs.name}"):
         each_ends_by_name(machine, runs, answers)
         is_whole(runs.command, answers[max(answers)], [runs.file])
-    with machine.case(runs.command, f"ulimit -v, {runs.name}: the fault says what was wanting"):
+    with machine.case(runs.command, f"ulimit -v, {runs.name}: the error says what was missing"):
         if lost := [step for step, ran in answers.items() if ran.err == LOST]:
             raise Wrong(f"at {len(lost)} of {len(answers)} steps, from {lost[0]} to {lost[-1]} kB, {LOST!r}, not "
                         f"{THREAD!r} or {MEMORY!r}")
     served = [step for step, ran in answers.items() if ran.status == 0]
     refused = max((step for step, ran in answers.items() if ran.status != 0), default=0)
-    print(f"{runs.command}, {runs.name}: {min(served, default=None)} kB of address space served, and each step from "
+    print(f"{runs.command}, {runs.name}: {min(served, default=None)} kB of address space sufficed, and each step from "
           f"{min((step for step in served if step > refused), default=None)} kB on", flush=True)
 
 
 def each_ends_by_name(machine: Machine, runs: Climb, answers: dict[int, Ran]) -> None:
-    """Fills in how the run ends at each step. Where the system refuses the stack a page there is no answer."""
+    """Fills in how the run ends at each step. If the system refuses a page for the stack, there is no answer."""
     wrong: list[str] = []
     for step in runs.steps:
         ran = machine.run(runs.words(), environment=runs.environment, preexec_fn=limits(AS=step << 10))
@@ -181,9 +181,9 @@ def wants_memory(command: Command, ran: Ran, files: list[File]) -> None:
 
 
 def lacks_stack(machine: Machine, runs: Climb, step: int) -> bool:
-    """Whether a run with so many kB of address space ends since the system lets the stack of its first thread not
-    grow: by SIGSEGV with the stack pointer below what is mapped of the stack, which is less than 1 MB. No program can
-    answer there."""
+    """Whether a run with this many kB of address space ends because the system does not let the stack of its first
+    thread grow: by SIGSEGV with the stack pointer below the mapped part of the stack, which is less than 1 MB. No
+    program can answer then."""
     def prepare() -> None:
         LIBC.ptrace(TRACEME, 0, None, None)
         limits(AS=step << 10)()

@@ -1,5 +1,5 @@
-"""What the groups of cases share: what the program is given and must answer, what the lines of a report tell, how a run
-may end, what is asked of Linux, and the folder in which the program runs."""
+"""Shared by the groups of cases: the program's input and expected answers, the content of report lines, how a run may
+end, the use of Linux, and the folder in which the program runs."""
 from __future__ import annotations
 
 import array
@@ -42,11 +42,11 @@ FULL = WRITE.format("No space left on device")
 TWICE = ("error: standard input, the file '-', can be read only once, and is named twice\n\n"
          "Usage: planarbend <COMMAND>\n\nFor more information, try '--help'.\n")
 
-Event = tuple[int, str]  # the number of a file, and a line of its report; of JSON lines that of the same report
+Event = tuple[int, str]  # the number of a file, and a line of its report; of JSON Lines that of the same report
 
 
 class Wrong(Exception):
-    """An answer that is not what these pages say."""
+    """An answer that differs from these pages."""
 
 
 class Command(NamedTuple):
@@ -90,7 +90,7 @@ def split(text: bytes) -> File:
 
 
 def expected_events(command: Command, files: Iterable[File]) -> list[Event]:
-    """What a whole report tells, line by line."""
+    """The content of a whole report, line by line."""
     events: list[Event] = []
     for number, file in enumerate(files, 1):
         lines: list[object] = [] if command.frames or command.json else [reports.File(number)]
@@ -102,10 +102,10 @@ def expected_events(command: Command, files: Iterable[File]) -> list[Event]:
     return events
 
 
-# ---- What the lines of a report tell. A line that no such report has is wrong.
+# ---- The content of report lines. A line that does not belong to such a report is wrong.
 
 def events_of(command: Command, text: bytes) -> tuple[list[Event], str]:
-    """What the whole lines of a report tell, and what is left behind the last of them."""
+    """The content of the complete lines of a report, and the rest after the last of them."""
     *lines, rest = text.decode("ascii", "replace").split("\n")
     events: list[Event] = []
     for line in lines:
@@ -118,16 +118,16 @@ def events_of(command: Command, text: bytes) -> tuple[list[Event], str]:
 
 
 def event_of_text(command: Command, text: str, number: int) -> Event:
-    """What a line of a report of `frames` or `layout` tells, in file `number`."""
+    """The content of a line of a report of `frames` or `layout`, in file `number`."""
     found = reports.line_of(text)
     of_frames = isinstance(found, reports.Record) or isinstance(found, reports.End) and found.of == "records"
     if str(found) != text or of_frames != command.frames:
-        raise Wrong(f"a line that no such report has: {text!r}")
+        raise Wrong(f"not a line of such a report: {text!r}")
     return found.number if isinstance(found, reports.File) else number, text
 
 
 def event_of_json(text: str) -> Event:
-    """What a JSON line tells. It is compact, with the keys of docs/JSON.md in order."""
+    """The content of a JSON line. It is compact, with the keys of docs/JSON.md in order."""
     line = reports.json_line(text)
     if json.dumps(line, sort_keys=True, separators=(",", ":")) != text:
         raise Wrong(f"not compact, or its keys not in order: {text[:80]}")
@@ -178,7 +178,7 @@ def is_whole(command: Command, ran: Ran, files: list[File], said: str | None = N
 
 
 def lacks_memory(event: Event) -> bool:
-    """Whether it is a graph for which there was no memory."""
+    """Whether it is a graph for which memory ran out."""
     return re.fullmatch(r"graph \d+ memory", event[1]) is not None
 
 
@@ -234,19 +234,19 @@ def closing(*descriptors: int) -> Callable[[], None]:
 
 
 def broken_pipe() -> Any:
-    """A pipe's end for writing that nobody reads."""
+    """The write end of a pipe that nobody reads."""
     reader, writer = os.pipe()
     os.close(reader)
     return os.fdopen(writer, "wb", buffering=0)
 
 
 def full_disk() -> Any:
-    """An output that has no room."""
+    """An output without space."""
     return open("/dev/full", "wb", buffering=0)
 
 
 def wait_for(holds: Callable[[], object], text: str) -> None:
-    """Waits until something holds."""
+    """Waits until a condition holds."""
     end = time.monotonic() + PATIENCE
     while not holds():
         if time.monotonic() > end:
@@ -271,7 +271,7 @@ def is_stopped(process: int) -> bool:
 
 
 def place_in(process: int, path: str) -> int:
-    """How many bytes of a file a process has read, or -1 where it has not opened it."""
+    """The number of bytes of a file that a process has read, or -1 if it has not opened the file."""
     for number in os.listdir(f"/proc/{process}/fd"):
         with contextlib.suppress(OSError):
             if os.readlink(f"/proc/{process}/fd/{number}") == path:
@@ -316,7 +316,7 @@ class Machine:
 
     @contextlib.contextmanager
     def started(self, words: list[Any], **how: Any) -> Iterator[subprocess.Popen[bytes]]:
-        """The program while it runs with these words; it is ended where it has not ended by itself."""
+        """The running program with these arguments; it is killed at the end if it still runs."""
         standard = {"stdin": subprocess.DEVNULL, "stdout": subprocess.PIPE, "stderr": subprocess.PIPE}
         environment = {"PATH": "/usr/bin:/bin", "TMPDIR": self.room, "HOME": self.room} | how.pop("environment", {})
         with subprocess.Popen([self.program, *words], cwd=self.room, env=environment, **standard | how) as child:
@@ -345,7 +345,7 @@ class Machine:
             return self.ended(child, given)
 
     def fed(self, words: list[Any], text: bytes, pause: float, **how: Any) -> Ran:
-        """A run whose standard input is a pipe that gives this text, with a pause behind each byte."""
+        """A run whose standard input is a pipe that delivers this text, with a pause after each byte."""
         with self.started(words, stdin=subprocess.PIPE, **how) as child:
             for byte in text:
                 child.stdin.write(bytes([byte]))
@@ -355,7 +355,7 @@ class Machine:
 
     @contextlib.contextmanager
     def case(self, command: object, name: str) -> Iterator[None]:
-        """One case: it passes where nothing in it is wrong."""
+        """One case: it passes if nothing in it is wrong."""
         try:
             yield
             self.passed += 1

@@ -1,5 +1,5 @@
-"""What a run writes, and when: outputs that are closed or full, signals, sources that fall silent, lines of progress, and how
-far later files are read."""
+"""What a run writes, and when: outputs that are closed or full, signals, sources that become silent, lines of progress,
+and how far later files are read."""
 from __future__ import annotations
 
 import contextlib
@@ -28,7 +28,7 @@ IGNORED = {"preexec_fn": lambda: signal.signal(signal.SIGPIPE, signal.SIG_IGN)}
 
 
 def check_outputs(machine: Machine) -> None:
-    """Standard output that takes nothing, or no more."""
+    """Standard output that accepts no data, or no more data."""
     two, long = [split(TWO)], machine.file(LONG)
     for command in COMMANDS:
         output_is_closed(machine, command)
@@ -45,8 +45,8 @@ def check_outputs(machine: Machine) -> None:
 
 
 def takes_no_more(command: Command, ran: Ran, files: list[File], said: str) -> None:
-    """The fault of standard output that takes no more, with a beginning of the report. A reader that is gone is told
-    nothing."""
+    """The error of standard output that accepts no more data, with a beginning of the report. If the reader is gone,
+    there is no message."""
     if (ran.status, ran.err) != (1, said):
         raise Wrong(f"status {ran.status}, {ran.err!r}; not status 1, {said!r}")
     is_beginning(command, ran.out, files)
@@ -82,7 +82,7 @@ def output_is_gone(machine: Machine, command: Command) -> None:
 
 
 def nobody_reads(machine: Machine, command: Command, long: str) -> None:
-    """Standard output that is a pipe which nobody reads, from the beginning or behind the first line."""
+    """Standard output that is a pipe which nobody reads, from the beginning or after the first line."""
     many = [File([EDGE, TRIANGLE] * MANY, "complete")]
     for name, how in [("", {}), (", SIGPIPE ignored", IGNORED)]:
         with machine.case(command, f"standard output is a closed pipe{name}"), broken_pipe() as pipe:
@@ -170,12 +170,11 @@ def ends_by(machine: Machine, child: subprocess.Popen[bytes], which: signal.Sign
         raise Wrong(f"status {ran.status}, {len(ran.out)} bytes of output, {ran.err!r}; not the end by {which.name}")
 
 
-# ---- Sources that come slowly or fall silent: lines stand within a second, and a run that waits takes hardly any
-# time.
+# ---- Slow and silent sources: lines are written within a second, and a waiting run takes hardly any processor time.
 
-SECOND = 1.0  # a line that is ready stands at the latest so much later
+SECOND = 1.0  # a line that is ready is written within this time
 REST = 3.0  # how long a source is silent while processor time is taken
-PART = 0.01  # of a core: what a run that waits takes at most
+PART = 0.01  # of a core: the most that a waiting run takes
 AT_ONCE = 50
 
 
@@ -205,7 +204,7 @@ class Fed:
         os.write(self.pipe, text)
 
     def tells(self, command: Command, expected: list[Event], patience: float) -> None:
-        """It has written these lines within so many seconds, and no others."""
+        """It has written these lines within this many seconds, and no others."""
         end = time.monotonic() + patience
         while True:
             events, rest = events_of(command, self.out)
@@ -277,7 +276,7 @@ def falls_silent(machine: Machine, command: Command, path: str) -> None:
 
 
 def comes_slowly(machine: Machine, command: Command) -> None:
-    """A graph comes a second, and its line within that second."""
+    """One graph per second arrives, and its line within that second."""
     records: list[bytes] = []
     with feeding(machine, command, "-") as fed:
         fed.give(HEADER)
@@ -296,7 +295,7 @@ def comes_slowly(machine: Machine, command: Command) -> None:
 
 
 def is_before_another(machine: Machine, command: Command) -> None:
-    """The lines of a silent file stand, though a file behind it has ended, whose lines wait."""
+    """The lines of a silent file are written, although a later file, whose lines wait, has ended."""
     records = [TRIANGLE] * 3
     other = machine.file(HEADER + EDGE * 2_000)
     with feeding(machine, command, "-", other) as fed:
@@ -305,7 +304,7 @@ def is_before_another(machine: Machine, command: Command) -> None:
         fed.ends(machine, command, [File(records, "complete"), File([EDGE] * 2_000, "complete")])
 
 
-# ---- Lines that tell how far a run is: where, how often, and that they change nothing else.
+# ---- Lines of progress: where, how often, and that they change nothing else.
 
 def check_progress(machine: Machine) -> None:
     """The option `--progress`, given once or twice."""
@@ -325,7 +324,7 @@ def check_progress(machine: Machine) -> None:
 
 
 def tells_nothing(machine: Machine, command: Command) -> None:
-    """Given once, the option tells nothing where standard error is no terminal."""
+    """Given once, the option writes nothing if standard error is not a terminal."""
     machine.whole(command, "standard error is a pipe", [machine.two], [split(TWO)])
     with machine.case(command, "standard error is a file"), open(machine.path(), "w+b") as file:
         is_whole(command, machine.run([*command.words, machine.two], stderr=file), [split(TWO)])
@@ -404,7 +403,7 @@ def tells_in_time(machine: Machine, command: Command) -> None:
 
 
 def tells_of_files(machine: Machine, command: Command) -> None:
-    """A file that does not open is told of as one that is begun."""
+    """A file that does not open is counted as begun."""
     start, missing = time.monotonic(), machine.path()
     ran = machine.run([*command.words, machine.two, missing, machine.two])
     said = f"planarbend: {missing}: No such file or directory\n"
@@ -413,8 +412,8 @@ def tells_of_files(machine: Machine, command: Command) -> None:
 
 
 def tells(text: str, files: int, graphs: int, most: float) -> int:
-    """Lines of progress, `most` of them at most: none tells less than the one before, and the last tells of so many
-    files and graphs. Gives back how many there are."""
+    """Lines of progress, at most `most`: none has less progress than the previous one, and the last one has this many
+    files and graphs. Returns the number of lines."""
     lines = [re.fullmatch(r"file (\d+) of (\d+): ([\d,]+) graphs, [\d,]+/s", line.rstrip(" "))
              for line in text.splitlines()]
     if not lines or None in lines or len(lines) > most or not text.endswith("\n"):
@@ -466,7 +465,7 @@ def check_waiting(machine: Machine) -> None:
 
 
 def pauses(machine: Machine, words: list[str], later: str, wanted: int) -> None:
-    """While the first file is held, so many bytes of a later one are read, and not many more."""
+    """While the first file is held, this many bytes of a later one are read, and not many more."""
     path = machine.fifo()
     writer = os.open(path, os.O_RDWR)
     try:
@@ -482,7 +481,7 @@ def pauses(machine: Machine, words: list[str], later: str, wanted: int) -> None:
 
 
 def place_where_it_pauses(child: subprocess.Popen[bytes], path: str, least: int) -> int:
-    """How many bytes of a file are read until it is read to its end, or for a while no more, after so many at least."""
+    """The bytes of a file that are read until its end, or until reading pauses after at least this many bytes."""
     place, since = 0, time.monotonic()
     while place < least or time.monotonic() < since + STILL:
         now = place_in(child.pid, path)
@@ -497,7 +496,7 @@ def place_where_it_pauses(child: subprocess.Popen[bytes], path: str, least: int)
 
 
 def opens(machine: Machine, words: list[str], lanes: int) -> None:
-    """Of ten files that give nothing, as many are open at once as there are lanes."""
+    """Of ten files without data, as many are open at once as there are lanes."""
     paths = [machine.fifo() for _ in range(10)]
     writers = [os.open(path, os.O_RDWR) for path in paths]
     try:

@@ -1,16 +1,16 @@
 #!/usr/bin/env python3
-"""Proves and builds the program and the library for C, and says how far it is and about how long that still takes. What is
-proved is kept, so a build that was stopped goes on there. It ends by status 0 where both are built, and else by 1; it lays
-out nothing.
+"""Proves and builds the program and the library for C, and shows its progress and about how much time is left. What is
+proved is kept, so a build that was stopped continues there. The exit status is 0 if both are built, otherwise 1;
+nothing is laid out.
 
-Libraries are proved side by side, those first on which the longest chain of others rests. Each is built with its
-statements alone, as `rt ci` does: what stands above need not load its proofs. rt builds libraries with their proofs, so
-the kit's compiler is called itself, and what it makes stands beside what rt makes.
+Libraries are proved in parallel, first those on which the longest chain of others depends. Each is built with only its
+statements, as in `rt ci`, so that crates above need not load its proofs. rt builds libraries with their proofs, so the
+kit's compiler is called directly, and its output is kept next to that of rt.
 
-Beside the program stands what it was built from: the sums of its sources, as `sha256sum` writes them, and as comments
-their lines of crates.txt. By these `planarbend` knows whether a source has changed since then.
+A file next to the program records its sources: their checksums, as `sha256sum` writes them, and as comments their lines
+of crates.txt. With it, `planarbend` detects whether a source has changed since.
 
-`planarbend --build` starts it.
+`planarbend --build` starts this script.
 """
 import concurrent.futures
 import contextlib
@@ -36,7 +36,7 @@ KIT = os.path.dirname(os.path.dirname(os.path.realpath(shutil.which("rt") or "")
 MEMORY, DISK = 4000, 8000  # MB
 MEMORY_OF_CRATE = 2500  # MB, while it is proved
 SECONDS = os.path.join(START, "seconds")
-OTHER_SECONDS = 60  # of a crate that has no line there
+OTHER_SECONDS = 60  # for a crate that has no line there
 JOBS, BUSY = 4, 2  # of a proof that is shared: its jobs, and how many processors these keep busy
 NEARLY = 0.95  # of the longest chain
 TARGET = "x86_64-unknown-linux-gnu"
@@ -44,7 +44,8 @@ LOG_LINES = 40  # of a build that failed
 
 
 class Crates:
-    """The crates of the program, or of other targets: which of them each uses and what of the kit, and which use it."""
+    """The crates of the program, or of other targets: what each uses of them and of the kit, and which crates use
+    it."""
 
     def __init__(self, *targets):
         with open(CRATE_LIST, encoding="utf-8") as file:
@@ -68,7 +69,7 @@ class Crates:
         return found.union(*map(self.below, found))
 
     def sum_of_texts(self, name):
-        """A sum of the texts of a crate and of what it uses."""
+        """A checksum of the sources of a crate and of what it uses."""
         with open(os.path.join(KIT, "WHAT"), "rb") as file:
             found = hashlib.sha256(file.read() + repr((self.uses[name], self.of_kit[name])).encode())
         for path in sources_of(name):
@@ -77,7 +78,7 @@ class Crates:
         return found.hexdigest()
 
     def stamp(self, name):
-        """What stands beside a library that was built from the texts of today."""
+        """The stamp of a library that was built from the current sources."""
         return "".join(f"{crate} {self.sums_of_crates[crate]}\n" for crate in sorted({name} | self.below(name)))
 
     def is_built(self, name):
@@ -86,33 +87,33 @@ class Crates:
         return False
 
     def keep(self, name):
-        """Marks a library as built from the texts of today, where they are still those that this build began with."""
+        """Marks a library as built from the current sources, if they are still those with which this build began."""
         if self.sum_of_texts(name) == self.sums_of_crates[name]:
             with open(stamp_of(name), "w", encoding="utf-8") as file:
                 file.write(self.stamp(name))
 
     def sums(self):
-        """What stands beside the program: its sum first, then what it was built from."""
+        """The record next to the program: first its checksum, then its sources."""
         lines = [f"#kit {sum_of_file(os.path.join(KIT, 'WHAT'))}", *(f"#crates.txt {line}" for line in self.lines)]
         sums = {PROGRAM: sum_of_file(PROGRAM)} | self.files
         lines += [f"{found}  {os.path.relpath(path, ROOT)}" for path, found in sums.items()]
         return "".join(f"{line}\n" for line in lines)
 
     def is_program_built(self):
-        """Whether the program that stands was built from the texts of today."""
+        """Whether the existing program was built from the current sources."""
         with contextlib.suppress(OSError), open(SUMS, encoding="utf-8") as file:
             return os.access(PROGRAM, os.X_OK) and file.read() == self.sums()
         return False
 
     def keep_program(self):
-        """Says beside the program what it was built from, if no text has changed while its crate was proved."""
+        """Writes the record next to the program, if no source has changed while its crate was proved."""
         is_same = self.sum_of_texts("planarbend") == self.sums_of_crates["planarbend"]
         if is_same and all(map(self.is_built, self.libraries)):
             with open(SUMS, "w", encoding="utf-8") as file:
                 file.write(self.sums())
 
     def command(self, name, jobs):
-        """The command that proves a crate and builds it, in the crate's folder, but for what is made."""
+        """The command that proves a crate and builds it, in the crate's folder, without the output file."""
         root = "main" if name == "planarbend" else "lib"
         words = [os.path.join(KIT, "bin", "rattle"), "build", "--crate-name", name, f"src/{root}.rt", "--links", f"{name}="]
         for used in self.of_kit[name]:
@@ -145,7 +146,7 @@ def sum_of_file(path):
 
 
 def library_of(name):
-    """Where this script builds a library: rt has another place for its own."""
+    """The path where this script builds a library; rt uses another one."""
     if name == LIBRARY:
         return os.path.join(folder_of(name), "out", "archive", f"lib{name}.a")
     return os.path.join(folder_of(name), "out", "statements", f"{name}.rlib")
@@ -156,8 +157,8 @@ def stamp_of(name):
 
 
 def seconds_of(crates):
-    """About how many seconds of a processor the proof of each crate takes, by a file of such figures, and the crates that
-    gain nothing by several jobs."""
+    """The approximate processor seconds for the proof of each crate, from a file of such figures, and the crates that
+    do not gain from several jobs."""
     with open(SECONDS, encoding="utf-8") as file:
         lines = re.findall(r"^(\w+) (\d+)( alone)?$", file.read(), re.M)
     known = {name: int(seconds) for name, seconds, _ in lines}
@@ -168,7 +169,7 @@ class Work:
     """The crates that are still to be proved, and how long they may take."""
 
     TRUST = 0.15  # the share of the whole whose usual time counts, beside the time that this build has taken
-    COMPILING = 0.12  # how long that takes, over the time of the proofs
+    COMPILING = 0.12  # how long this takes, relative to the time of the proofs
 
     def __init__(self, crates, at_once):
         self.users = crates.users
@@ -188,12 +189,12 @@ class Work:
         return {name: chain(name) for name in self.users}
 
     def size(self):
-        """How much work is left, in seconds: the mean of the longest chain and of each processor's share of all, since
-        either may be what holds a build up, and some for compiling."""
+        """The work that is left, in seconds: the mean of the longest chain and of each processor's share of all, since
+        either may limit a build, and some for compiling."""
         return (max(self.chains().values()) + sum(self.left.values()) / self.at_once) / 2 + self.compiling
 
     def drop(self, name, stood):
-        """Takes a crate that is proved off the work; where it stood before, this build has not done it."""
+        """Removes a proved crate from the work; if it was proved before, it does not count as done by this build."""
         before = self.size()
         self.left.pop(name, None)
         if stood:
@@ -217,15 +218,15 @@ def clear_line():
 
 
 def tell_state(text):
-    """Writes a line over the last one on a terminal, and else a line of its own."""
+    """Overwrites the last line on a terminal, and otherwise writes a new line."""
     clear_line()
     write_error(os.fsencode(f"planarbend: {text}") + b"\n" * (not os.isatty(2)))
 
 
 @contextlib.contextmanager
 def kept_out(names):
-    """Keeps rt and other builds out of the folders of these crates, and gives what keeps them out. While a process that has
-    it runs, they stay out even where this script was killed."""
+    """Locks the folders of these crates against rt and other builds, and returns the locks. They hold as long as a
+    process that has them runs, even if this script was killed."""
     with contextlib.ExitStack() as held:
         folders = [os.open(folder_of(name), os.O_RDONLY) for name in sorted(names)]
         for folder in folders:
@@ -239,27 +240,27 @@ def kept_out(names):
 
 
 def start(words, name, held):
-    """Starts a command in the folder of a crate, in a group of its own."""
+    """Starts a command in the folder of a crate, in its own process group."""
     streams = {"stdin": subprocess.DEVNULL, "stdout": subprocess.PIPE, "stderr": subprocess.STDOUT}
     return subprocess.Popen(
         words, cwd=folder_of(name), pass_fds=held, start_new_session=True, text=True, errors="replace", **streams)
 
 
 def end(process):
-    """Ends a process that may still run, and all that it started."""
+    """Ends a process that may still run, and all processes that it started."""
     with contextlib.suppress(ProcessLookupError):
         os.killpg(process.pid, signal.SIGKILL)
     process.wait()
 
 
 class Proofs:
-    """The proofs that run. They end when this ends, however it does."""
+    """The running proofs. They end when this object ends, in any way."""
 
     def __init__(self, crates, work, held):
         self.crates = crates
         self.work = work
         self.held = held
-        self.running = {}  # names, processes, and how many processors each keeps busy, by what their output will be
+        self.running = {}  # names, processes, and the number of processors that each keeps busy, by output file
         self.pool = concurrent.futures.ThreadPoolExecutor(work.at_once)
 
     def __enter__(self):
@@ -285,8 +286,8 @@ class Proofs:
         self.running[self.pool.submit(process.communicate)] = name, process, busy
 
     def ended(self):
-        """The names of the libraries whose proof has ended, once there is one, each with its status and its log. One that
-        the system killed, most likely for memory, begins once more with one job."""
+        """Waits until a proof has ended, and returns the names of the libraries whose proof has, each with its status
+        and its log. A proof that the system killed, most likely for lack of memory, is started again with one job."""
         for output in concurrent.futures.wait(self.running, None, concurrent.futures.FIRST_COMPLETED).done:
             name, process, busy = self.running.pop(output)
             if process.returncode == -signal.SIGKILL and busy > 1:
@@ -296,9 +297,9 @@ class Proofs:
 
 
 def begin_ready(proofs, waiting, proved):
-    """Begins the proofs of libraries below which all is proved, as long as a processor is idle: those first on which the
-    longest chain rests. Jobs share a proof where that leaves a processor for each other one, and the first where its chain
-    is the longest of all or nearly so."""
+    """Starts the proofs of libraries for which all lower ones are proved, as long as a processor is idle: first those
+    on which the longest chain depends. Several jobs share a proof if that leaves a processor for each other proof, and
+    the first proof if its chain is the longest of all or nearly so."""
     uses, chains = proofs.crates.uses, proofs.work.chains()
     ready = sorted((name for name in waiting if proved.issuperset(uses[name])), key=chains.get, reverse=True)
     for at, name in enumerate(ready):
@@ -357,7 +358,7 @@ def compile_proved(crates, work, held):
 
 
 def processors():
-    """How many proofs may run at once."""
+    """The number of proofs that may run at once."""
     return max(1, min(len(os.sched_getaffinity(0)), free_memory() // MEMORY_OF_CRATE))
 
 
@@ -373,7 +374,7 @@ def build(crates):
         with contextlib.suppress(FileNotFoundError):
             os.remove(SUMS)
         compile_proved(crates, work, held)
-        os.utime(PROGRAM, (begun, begun))  # a source that was changed meanwhile is newer
+        os.utime(PROGRAM, (begun, begun))  # a source that was changed in the meantime is newer
         crates.keep_program()
     clear_line()
     say(f"the program is proved and built, in {work.minutes():.0f} min")
@@ -398,7 +399,7 @@ def main():
         try:
             fcntl.flock(lock, fcntl.LOCK_EX | fcntl.LOCK_NB)
         except BlockingIOError:
-            stop("another --build runs here, and tells how far it is")
+            stop("another --build runs here, and shows its progress")
         try:
             build(crates)
             make_library()

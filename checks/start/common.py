@@ -1,4 +1,4 @@
-"""What the trial run and the build share: the program's folder, lines on standard error, and looks at the machine."""
+"""Shared by the trial run and the build: the program's folder, lines on standard error, and queries of the machine."""
 import contextlib
 import os
 import re
@@ -14,7 +14,7 @@ BUILD_MINUTES = 21  # from nothing, on 4 free cores
 
 
 def write_error(text):
-    """Writes bytes to standard error. That this may fail changes nothing."""
+    """Writes bytes to standard error, and ignores errors."""
     with contextlib.suppress(OSError):
         while text:
             text = text[os.write(2, text):]
@@ -26,19 +26,19 @@ def say(*lines):
 
 
 def stop(*lines, status=1):
-    """Ends by this status, behind these lines."""
+    """Prints these lines and exits with this status."""
     say(*lines)
     sys.exit(status)
 
 
 def free_memory():
-    """MB of memory that programs can have."""
+    """MB of available memory."""
     with open("/proc/meminfo", encoding="ascii") as file:
         return int(re.search(r"^MemAvailable: *(\d+)", file.read(), re.M)[1]) // 1000
 
 
 def look_at_machine(what, memory, disk, folder):
-    """Ends at once where there is less memory, or less disk in this folder, than this needs, both in MB."""
+    """Exits if there is less memory, or less disk space in this folder, than this needs, both in MB."""
     if free_memory() < memory:
         stop(f"{what} needs {memory} MB of free memory, and {free_memory()} MB are free",
              "end other programs, or build on another machine and copy crates/planarbend/out/planarbend")
@@ -48,7 +48,7 @@ def look_at_machine(what, memory, disk, folder):
 
 
 def end_on_signals():
-    """Has signals that end a program raise SystemExit, so that what was begun is ended and what was made is removed."""
+    """Makes signals that end a program raise SystemExit, so that processes are ended and temporary files removed."""
     for number in (signal.SIGINT, signal.SIGTERM, signal.SIGHUP):
         signal.signal(number, lambda number, _: sys.exit(128 + number))
 

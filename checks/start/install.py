@@ -1,9 +1,10 @@
 #!/usr/bin/env python3
 """Copies what --build has made below a folder: the program and planarbend-draw to bin, the library to lib, its header to
 include, the man page to share/man/man1, and the Python package to the folder below it where this version of Python looks for
-packages. What stands there from an earlier version is replaced; a file is whole at any time.
+packages. Files of an earlier version are replaced; each file is complete at any time.
 
-`planarbend --install PREFIX` runs it. It ends by status 0 if all is copied, and else by 1 and says why not.
+`planarbend --install PREFIX` runs it. The exit status is 0 if everything is copied; otherwise it is 1, and a message
+says why.
 """
 import os
 import shutil
@@ -30,7 +31,7 @@ sys.exit(run())
 
 
 def put(source, target, mode):
-    """Copies a file to its place at once, so that whoever runs or reads the old one keeps it."""
+    """Replaces a file atomically, so that processes that run or read the old one keep it."""
     target.parent.mkdir(parents=True, exist_ok=True)
     new = target.with_name(f".{target.name}.{os.getpid()}")
     try:
@@ -49,7 +50,7 @@ def put_text(text, target, mode):
 
 
 def put_library(prefix):
-    """Copies both libraries and the header, with a planarbend.pc for where they stand."""
+    """Copies both libraries and the header, with a planarbend.pc for their folder."""
     put(make.OUT / "libplanarbend.a", prefix / "lib/libplanarbend.a", 0o644)
     put(make.OUT / make.SONAME, prefix / "lib" / make.SONAME, 0o755)
     link = prefix / "lib/libplanarbend.so"
@@ -61,7 +62,7 @@ def put_library(prefix):
 
 
 def put_package(prefix):
-    """Copies the Python package, and gives the folder in which it is found."""
+    """Copies the Python package, and returns the folder in which Python finds it."""
     folder = Path(sysconfig.get_path("purelib", "posix_prefix", {"base": str(prefix), "platbase": str(prefix)}))
     shutil.rmtree(folder / "planarbend", ignore_errors=True)
     shutil.copytree(TOP / "python/planarbend", folder / "planarbend", ignore=shutil.ignore_patterns("__pycache__"))
@@ -83,7 +84,7 @@ def install(prefix):
 def main():
     prefix = Path(os.path.abspath(sys.argv[1]))
     if not PROGRAM.is_file():
-        stop("no proved program stands here yet", "planarbend --build proves and builds it")
+        stop("there is no proved program here yet", "planarbend --build proves and builds it")
     try:
         install(prefix)
     except OSError as error:

@@ -1,9 +1,9 @@
 #!/usr/bin/env python3
 """Runs all tests: `rt ci`, which proves and tries the crates and builds the program, and then those of the Python package with
-that program. The last line is 'N passed, M failed, K skipped'; the status is 0 where nothing failed, and else 1.
+that program. The last line is 'N passed, M failed, K skipped'; the exit status is 0 if nothing failed, otherwise 1.
 
 The package's tests are run by the first of this Python and Debian's that has networkx. Those that need networkx, Graphviz
-or rsvg-convert are skipped, by name, where that is missing. `planarbend --test` starts it.
+or rsvg-convert are skipped, by name, if that is missing. `planarbend --test` starts this script.
 """
 from __future__ import annotations
 
@@ -22,9 +22,9 @@ ENDING = re.compile(r"(\d+) passed, (\d+) failed(?:, (\d+) skipped)?")
 
 
 def counts(words: list[str], name: str, folder: Path, **variables: str) -> tuple[int, int, int]:
-    """What a command's last line says passed, failed and was skipped. Its output is passed on but for that line.
+    """The numbers of passed, failed and skipped tests in a command's last line. The rest of its output is passed on.
 
-    A command that fails, or ends without such a line, failed once at least.
+    A command that fails, or ends without such a line, counts as at least one failure.
     """
     last = ""
     with subprocess.Popen(words, cwd=folder, stdin=subprocess.DEVNULL, stdout=subprocess.PIPE, text=True, errors="replace",

@@ -1,10 +1,10 @@
 #!/usr/bin/env python3
-"""Answers a call of planarbend by a trial run, where no proved program stands: `rt try` compiles the same sources with
-run-time checks, proves nothing, and runs what it compiled in a folder of its own, on copies of the caller's files.
+"""Answers a call of planarbend by a trial run if there is no proved program: `rt try` compiles the same sources with
+run-time checks, proves nothing, and runs the compiled program in its own folder, on copies of the caller's files.
 
-`planarbend` starts it with its own name, why no proved program answers, and the words of the call. An answer goes to
-standard output when the trial has ended well, and not before; the status is then that of the program. What a trial
-cannot do is told with the way out, by status 1.
+`planarbend` starts it with its own name, the reason why no proved program answers, and the arguments of the call. The
+answer goes to standard output only after the trial has ended successfully; the exit status is then that of the program.
+If a trial cannot answer, a message says so and what to do, and the exit status is 1.
 """
 import os
 import re
@@ -16,18 +16,18 @@ import tempfile
 sys.dont_write_bytecode = True
 from common import BUILD_MINUTES, CRATE, end, end_on_signals, look_at_machine, say, stop, write_error
 
-# What a trial takes and gives. In a second it lays out one or two hundred graphs of ten vertices.
-INPUT = 256 << 10  # bytes of files and standard input in all
+# Limits of a trial. In a second it lays out one or two hundred graphs of ten vertices.
+INPUT = 256 << 10  # bytes of files and standard input in total
 SECONDS = 40  # of run, once it is compiled
 MEMORY, DISK = 3500, 200  # MB
 
-# How the last lines of `rt try` begin where the program ended. Behind the program's own lines nothing else stands.
+# The last lines of `rt try` if the program ended. Nothing else follows the program's own lines.
 ENDED = re.compile(rb"^checked: ended status=(\d+)\n(?:races: .*\n)?run=ended status=\1 .*proved=no\n\Z", re.M)
 
 
 def places_of_files(words):
-    """Where among the words the files stand, as the program reads them: behind the command, no option and no value of
-    one; behind `--` all are files."""
+    """The positions of the files among the arguments, as the program reads them: after the command, neither an option
+    nor its value; after `--` all arguments are files."""
     if words[0] not in ("layout", "frames", "check"):
         return []
     places, all_are, is_value = [], False, False
@@ -43,7 +43,7 @@ def places_of_files(words):
 
 
 class Trial:
-    """A trial run in a folder of its own, which has a copy of each file of the caller under a name of its own."""
+    """A trial run in its own folder, which has a copy of each file of the caller under a separate name."""
 
     def __init__(self, words, called, folder):
         self.folder = folder
@@ -61,17 +61,18 @@ class Trial:
         stop(f"a trial run cannot answer this: {why}", self.way_out)
 
     def look_at_sizes(self):
-        """Refuses at once what is known to be too much: files have sizes, and so has standard input where it is one."""
+        """Refuses at once input that is known to be too large: files have sizes, and so has standard input if it is a
+        file."""
         sizes = [size_of(0 if self.words[place] == "-" else self.words[place]) for place in self.files]
         if sum(sizes) > self.room:
             self.refuse_input()
 
     def refuse_input(self):
-        self.refuse(f"its files and standard input have more than {INPUT >> 10} KiB in all")
+        self.refuse(f"its files and standard input have more than {INPUT >> 10} KiB in total")
 
     def take_input(self):
-        """Copies the caller's files and standard input. A file that cannot be read is none in the trial either, and
-        standard input that cannot is replaced by such a file: the answer to both is the same."""
+        """Copies the caller's files and standard input. A file that cannot be read is missing in the trial too, and
+        standard input that cannot be read is replaced by a missing file: the answer to both is the same."""
         open(self.path("stdin"), "wb").close()
         for place in self.files:
             word = self.words[place]
@@ -85,7 +86,7 @@ class Trial:
                 self.names[name.encode()] = os.fsencode(word)
 
     def copy(self, source, copied):
-        """Whether a file, or what a descriptor gives, could be copied. More than the trial takes is refused."""
+        """Whether a file, or the data of a descriptor, could be copied. More than the trial takes is refused."""
         try:
             with open(source, "rb", closefd=source != 0) as file:
                 content = file.read(self.room + 1)
@@ -99,7 +100,7 @@ class Trial:
         return True
 
     def run(self):
-        """Runs the trial, and answers what it wrote on standard error; its standard output is kept in the folder."""
+        """Runs the trial, and returns its standard error; its standard output is kept in the folder."""
         words = ["rt", "try", "--seconds", str(SECONDS), *self.data, "--", *self.words]
         with open(self.path("stdin"), "rb") as given, open(self.path("stdout"), "wb") as out:
             streams = {"stdin": given, "stdout": out, "stderr": subprocess.PIPE}
@@ -111,7 +112,7 @@ class Trial:
                     end(process)
 
     def answer(self, said):
-        """Writes what the program wrote, and answers its status, or tells why the trial has no answer."""
+        """Writes the output of the program and returns its exit status, or says why the trial has no answer."""
         ended = ENDED.search(said)
         if not ended:
             self.tell_fault(said)
@@ -127,7 +128,7 @@ class Trial:
         return int(ended[1])
 
     def tell_fault(self, said):
-        """Tells why the trial has no answer, in words of its own where that is a limit of trials."""
+        """Says why the trial has no answer, with its own message if the reason is a limit of trials."""
         if b" bytes to standard output or to standard error, the limit on each" in said:
             self.refuse("its output is longer than 1 MiB")
         if b"no-answer: the program did not end within the time limit" in said:
@@ -137,7 +138,7 @@ class Trial:
 
 
 def size_of(file):
-    """The bytes of a regular file, and 0 where a file is none or has no size beforehand."""
+    """The size of a regular file in bytes, or 0 if a file does not exist or has no size in advance."""
     try:
         found = os.stat(file)
     except (OSError, ValueError):

@@ -2,25 +2,25 @@
 #SBATCH --job-name=planarbend
 #SBATCH --requeue
 #SBATCH --open-mode=append
-# Lays out the parts of a batch as a Slurm array, and leaves one report a part. Submit it from the top of the
-# repository; OUT and FOLDER are seen by all nodes:
+# Lays out the parts of a batch as a Slurm array, and writes one report for each part. Submit it from the top of
+# the repository; all nodes must see OUT and FOLDER:
 #
 #   sbatch --array=0-15 examples/cluster/array.sbatch [--json] OUT VERTICES 16
 #   sbatch --array=0-99 examples/cluster/array.sbatch [--json] OUT FOLDER
 #
-# The first form takes part I of 16 of all connected planar graphs of degree at most 4 on so many vertices from
-# geng and planarg, for task I; the second the file with number I, from 0, of FOLDER/*.pc in the order of their
-# names, so a folder of 100 files takes the tasks 0 to 99. A task whose part may do better in another try
-# (`part` ends by 75) puts itself back into the queue, up to three times. Submitted again with the same words,
-# an array does what has no report that ends complete, and nothing else.
+# Task I of the first form takes part I of 16 of all connected planar graphs of degree at most 4 on VERTICES
+# vertices from geng and planarg. Task I of the second form takes file number I, from 0, of FOLDER/*.pc, sorted by
+# name, so a folder of 100 files needs tasks 0 to 99. If another try of a part may succeed (`part` exits with 75),
+# its task requeues itself, up to three times. If submitted again with the same arguments, an array does only the
+# parts without a report that ends complete.
 #
-# Status of a task: that of `part --help`. Environment: as for `part`; CLUSTER_FOLDER is this script's folder
-# (examples/cluster below the folder it was submitted from), since Slurm runs a copy of the script.
+# Exit status of a task: that of `part` (see `part --help`). Environment: as for `part`; CLUSTER_FOLDER is this
+# script's folder (default: examples/cluster in the folder from which it was submitted), since Slurm runs a copy.
 set -uo pipefail
 
-try_again=75 # the status of a part that may do better in another try
-most_tries=3 # more than the first
-patience=60  # seconds until Slurm has ended this try
+try_again=75 # the status of a part for which another try may succeed
+most_tries=3 # after the first
+patience=60  # seconds to wait until Slurm ends this try
 
 fail() {
     printf 'array.sbatch: %s\n' "$2" >&2
@@ -36,9 +36,9 @@ json=()
 if [[ ${1:-} == --json ]]; then json=(--json); shift; fi
 if [[ ${1:-} == -* ]]; then fail 2 "$usage"; fi
 task=${SLURM_ARRAY_TASK_ID:-}
-[[ -n $task ]] || fail 2 "it is not a task of an array; $usage"
+[[ -n $task ]] || fail 2 "not a task of an array; $usage"
 part=${CLUSTER_FOLDER:-${SLURM_SUBMIT_DIR:-.}/examples/cluster}/part
-[[ -x $part ]] || fail 1 "$part is not there: submit from the top of the repository, or set CLUSTER_FOLDER"
+[[ -x $part ]] || fail 1 "$part does not exist: submit from the top of the repository, or set CLUSTER_FOLDER"
 
 if (($# == 3)); then
     words=("$1" "$2" "$task/$3")
@@ -53,7 +53,7 @@ fi
 "$part" "${json[@]}" "${words[@]}"
 status=$?
 if ((status == try_again && ${SLURM_RESTART_COUNT:-0} < most_tries)); then
-    printf 'array.sbatch: task %s goes back into the queue\n' "$task" >&2
+    printf 'array.sbatch: task %s is requeued\n' "$task" >&2
     scontrol requeue "${SLURM_ARRAY_JOB_ID}_$task" && sleep "$patience"
 fi
 exit "$status"

@@ -4,9 +4,9 @@ from __future__ import annotations
 import importlib
 import sys
 
-COMMANDS = {  # name: module, function, what it does
+COMMANDS = {  # name: module, function, description
     "draw": ("command", "run", "draw a graph from a file"),
-    "svg": ("svg", "run", "draw graphs of a planar_code file from the program's JSON lines"),
+    "svg": ("svg", "run", "draw graphs of a planar_code file from the program's JSON Lines"),
     "cover": ("box_cover", "main", "draw how boxes cover a drawing"),
     "split": ("split", "main", "cut a planar_code file into parts"),
     "stream": ("stream", "run", "lay out planar_code of any length"),
@@ -15,7 +15,7 @@ COMMANDS = {  # name: module, function, what it does
 
 
 def main() -> int:
-    """Run the command that the first argument names."""
+    """Run the command named by the first argument."""
     name = sys.argv[1] if len(sys.argv) > 1 else "--help"
     if name in ("-h", "--help") or name not in COMMANDS:
         lines = ["usage: python3 -m planarbend COMMAND ...", ""]

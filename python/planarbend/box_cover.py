@@ -1,4 +1,4 @@
-"""Draws how boxes cover the cells of the rectangle round one drawing, as an SVG picture."""
+"""Draws, as an SVG picture, how boxes cover the cells of the rectangle around a drawing."""
 from __future__ import annotations
 
 import argparse
@@ -13,23 +13,24 @@ TEXT = """\
   F=crates/corpus/data/families.pc
   ./planarbend layout --json $F | python3 examples/cover.py $F 118 --row 3 --point 4,4 > docs/coverage.svg
 
-reads JSON lines from standard input, as svg.py does. A rectangle stands round the drawing, one unit away. Each face is
-cut into boxes along x: from each corner of it of three or four right angles a line runs on to the next edge or line.
-Numbers count the boxes of one row of cells from west to east, between darts to the north that cross the row. Of one
-point the cell to its upper right is marked, and the one dart that sees it. Needs Python's standard library alone.
+Reads JSON Lines from standard input, as svg.py does. A rectangle surrounds the drawing at a distance of one unit. Each
+face is cut into boxes along x: from each of its corners with three or four right angles, a line runs to the next edge
+or line. Numbers count the boxes of one row of cells from west to east, between the northward darts that cross the
+row. For one point, the cell to its upper right is marked, and the one dart that sees it. Needs only Python's standard
+library.
 """
-STATUSES = "status: 0; 1 where that cannot be drawn, which standard error says; 2 where the command line is refused"
-STEP, MARGIN = 60, 30  # pixels, of a cell and round the whole
+STATUSES = "exit status: 0; 1 if the picture cannot be drawn (standard error says why); 2 if the command line is wrong"
+STEP, MARGIN = 60, 30  # pixels, of a cell and around the whole
 LIGHT = ["#f7e1d3", "#d9e8f5", "#e0eed6", "#f5eec4", "#e8def0", "#d5ecea"]
 ROW, SEEN, GREY = "#1f4e79", "#b3261e", "#9aa3ad"
-STEPS = [(1, 0), (0, 1), (-1, 0), (0, -1)]  # of the directions 0 to 3, by quarter turns to the left from east
+STEPS = [(1, 0), (0, 1), (-1, 0), (0, -1)]  # for the directions 0 to 3, counter-clockwise from east
 
 Point = tuple[int, int]
 Dart = tuple[Point, Point]
 
 
 def side(point: Point, way: int) -> frozenset[Point]:
-    """The unit of a grid line that leads from a point in a direction."""
+    """The grid segment of length 1 from a point in a direction."""
     return frozenset([point, (point[0] + STEPS[way][0], point[1] + STEPS[way][1])])
 
 
@@ -39,7 +40,7 @@ def way_of(dart: Dart) -> int:
 
 
 class Cover:
-    """The cells of the rectangle round a drawing, whose darts lead from corner to corner, and their boxes."""
+    """The cells of the rectangle around a drawing, and their boxes. Each dart of the drawing is straight."""
 
     def __init__(self, darts: set[Dart]) -> None:
         self.darts = darts
@@ -59,7 +60,7 @@ class Cover:
                 point = point[0] + STEPS[way][0], point[1] + STEPS[way][1]
 
     def _cuts(self) -> Iterator[frozenset[Point]]:
-        """From each corner of three or four right angles along x, up to the next edge."""
+        """The segments from each corner with three or four right angles along x, up to the next edge."""
         for point in {tail for tail, _ in self.darts}:
             ways = [way for way in range(4) if side(point, way) in self.drawn]
             for first, last in zip(ways, ways[1:] + [ways[0] + 4]):
@@ -72,7 +73,7 @@ class Cover:
                         at = at[0] + STEPS[way][0], at[1]
 
     def _boxes(self) -> dict[Point, int]:
-        """The number of the box of each cell, which its lower left corner names."""
+        """The number of the box of each cell; a cell is identified by its lower left corner."""
         found: dict[Point, int] = {}
         for cell in itertools.product(range(self.left, self.right), range(self.below, self.above)):
             if cell in found:
@@ -86,11 +87,11 @@ class Cover:
                         found[other] = number
                         held.append(other)
             across, upright = ({one[axis] for one in held} for axis in (0, 1))
-            assert set(held) == set(itertools.product(across, upright)), "a face is not cut into boxes"
+            assert set(held) == set(itertools.product(across, upright)), "a part of a face is not a box"
         return found
 
     def colours(self) -> dict[int, str]:
-        """A colour for each box, other than those of its neighbours."""
+        """A colour for each box that differs from those of its neighbours."""
         near: dict[int, set[int]] = {box: set() for box in self.boxes.values()}
         for (x, y), box in self.boxes.items():
             for other in ((x + 1, y), (x, y + 1), (x + 1, y + 1), (x - 1, y + 1)):
@@ -137,7 +138,7 @@ def picture(cover: Cover, vertices: list[Point], row: int, point: Point) -> str:
 
     seen = [dart for dart in cover.darts if cover.sees(dart, point)]
     if len(seen) != 1 or not cover.below <= row < cover.above:
-        raise Refused("the point is on no edge, or the row not within the rectangle")
+        raise Refused("the point is not on an edge, or the row is outside the rectangle")
     colours = cover.colours()
     columns = range(cover.left, cover.right)
     elements = [f'<defs><marker id="{name}" viewBox="0 0 10 10" refX="9" refY="5" markerWidth="16" markerHeight="16"'
@@ -171,7 +172,7 @@ def picture(cover: Cover, vertices: list[Point], row: int, point: Point) -> str:
 def cover_of(path: str, lines: Lines, number: int) -> tuple[Cover, list[Point]]:
     """The cells and boxes of a graph's drawing, and the points of its vertices."""
     if number not in lines.graphs:
-        raise Refused(f"the lines have no graph {number}")
+        raise Refused(f"the JSON Lines have no graph {number}")
     answer = lines.graphs[number]
     if reason_of(answer) is not None:
         raise Refused(f"graph {number}: {reason_of(answer)}")
@@ -188,10 +189,11 @@ def point_of(word: str) -> Point:
 def main() -> int:
     parser = argparse.ArgumentParser(description=__doc__ + "\n\n" + TEXT, epilog=STATUSES,
                                      formatter_class=argparse.RawDescriptionHelpFormatter)
-    parser.add_argument("file", metavar="FILE", help="the planar_code file that the lines are of")
+    parser.add_argument("file", metavar="FILE", help="the planar_code file from which the JSON Lines were made")
     parser.add_argument("graph", metavar="GRAPH", type=int, help="the graph to draw, such as 118")
-    parser.add_argument("--row", metavar="Y", type=int, required=True, help="the row of cells above this number")
-    parser.add_argument("--point", metavar="X,Y", type=point_of, required=True, help="the point that is looked at")
+    parser.add_argument("--row", metavar="Y", type=int, required=True,
+                        help="the y coordinate of the lower side of the row of cells")
+    parser.add_argument("--point", metavar="X,Y", type=point_of, required=True, help="the point whose cell is marked")
     words = parser.parse_args()
     try:
         cover, vertices = cover_of(words.file, read_lines(sys.stdin, [words.graph]), words.graph)

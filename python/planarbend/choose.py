@@ -20,30 +20,30 @@ if TYPE_CHECKING:
     from planarbend.embeddings import Price
 
 MOST_FACES = 24  # outer faces that are tried
-MOST_TURNS = 8  # spines that are tried in place of a cage
-MOST_KEPT = 3  # plans whose boxes are kept rectangles
+MOST_TURNS = 8  # spines that are tried instead of a cage
+MOST_KEPT = 3  # plans for which the engine keeps boxes rectangular
 MOST_REPAIRS = 3
-MOST_MENDS = 4  # rounds in which edges are let bend in place of boxes
-MOST_MENDED = 4  # shapes from which each round goes on
-MOST_PICKED = 4  # shapes that are looked at in pixels
-MOST_COMPACT = 8  # the same, beside these, where the least room is wanted
+MOST_MENDS = 4  # rounds in which edges may bend instead of boxes
+MOST_MENDED = 4  # shapes with which each round continues
+MOST_PICKED = 4  # shapes that are tried in pixels
+MOST_COMPACT = 8  # further shapes that are tried in pixels for a compact drawing
 NUMBERINGS = 7  # of each plan, for each unit of effort
-LARGE = 80  # nodes of an expansion for which other embeddings are tried although nothing bends
+LARGE = 80  # from this many nodes on, other embeddings are tried even if nothing bends
 ROUNDS, WIDTH = 8, 12  # of the search for another embedding: rounds for each unit of effort, and embeddings in each
 
 Rect = tuple[int, int, int, int]
 
 
 class TooLarge(Exception):
-    """The vertices that a component takes: more than planarbend draws."""
+    """A component takes more vertices than planarbend draws; the argument is their number."""
 
 
 class NoSuchFace(Exception):
-    """No face has all the vertices on it that the outer face must have."""
+    """No face has all the vertices that must be on the outer face."""
 
 
 class NoStraightEdges(Exception):
-    """No drawing was found in which all edges that must be straight are."""
+    """No drawing was found in which all required edges are straight."""
 
 
 @dataclass(slots=True)
@@ -60,7 +60,7 @@ class Shape:
     boxes : list of (left, top, right, bottom)
         Of each vertex.
     broken : list of int
-        The vertices whose cage is no rectangle, or is turned inside out, and those whose spine is bent.
+        The vertices whose cage is not a rectangle, or is turned inside out, and those whose spine is bent.
     bends : int
         Of all edges.
     size : (width, height)
@@ -89,7 +89,7 @@ def without_straight(points: Sequence[GridPoint]) -> list[GridPoint]:
 
 
 def shape_of(expansion: Expansion, form: Form, answer: Answer) -> Shape:
-    """What an answer says of the nodes and edges of an expansion."""
+    """The nodes and edges of an expansion as an answer draws them."""
     points, paths = form.places(answer)
 
     def path(tail: int, head: int) -> list[GridPoint]:
@@ -162,7 +162,7 @@ class Found:
     plan: Plan
 
     def price(self) -> tuple[int, int, int]:
-        """What is to be least: broken boxes, bends, and about how large the drawing is."""
+        """The price to minimise: broken boxes, bends, and the approximate size of the drawing."""
         return len(self.shape.broken), self.shape.bends, self.shape.size[0] * self.shape.size[1]
 
     def is_point(self, vertex: int) -> bool:
@@ -189,7 +189,7 @@ class Search:
     outer : sequence of int
         Vertices that must lie on the outer face.
     straight : sequence of int
-        Edges that must be straight, which only an engine that keeps conditions can see to.
+        Edges that must be straight, which only an engine that keeps conditions can ensure.
     """
 
     def __init__(self, planar: Planarization, engine: Engine, effort: int, seed: int, outer: Sequence[int] = (),
@@ -222,8 +222,8 @@ class Search:
         return plan
 
     def shapes_of(self, plans: Iterable[Plan]) -> list[Found]:
-        """The shapes of plans with their best outer faces, each under several numberings: of several least shapes another
-        one is then found."""
+        """The shapes of plans with their best outer faces, each under several numberings, which can lead to different
+        shapes with the fewest bends."""
         tried: list[tuple[Expansion, Plan, Form]] = []
         for plan in plans:
             expansion = self.expanded(plan)
@@ -240,7 +240,7 @@ class Search:
                 for (expansion, plan, form), answer in zip(tried, answers)]
 
     def kept(self, tried: Sequence[tuple[Expansion, Plan, Form]], outer: str) -> list[Found]:
-        """Those shapes of forms of plans in which boxes are rectangles and edges straight that must be."""
+        """The shapes of forms of plans in which boxes are rectangles and the required edges are straight."""
         assert self.keeper is not None, "the engine keeps conditions"
         found = []
         for expansion, plan, form in tried:
@@ -263,7 +263,7 @@ class Search:
             yield numbered(around, order, runs)
 
     def turned_out(self, plan: Plan) -> list[Found]:
-        """The shapes of a plan with other outer faces: those with all of `outer` on them, if there are some."""
+        """The shapes of a plan with other outer faces: with all of `outer` on them, if there are such vertices."""
         expansion = self.expanded(plan)
         if expansion is None:
             return []
@@ -301,10 +301,10 @@ class Search:
         return pool
 
     def elsewhere(self, best: Found) -> list[Found]:
-        """Shapes of another embedding, by the plan of the best one so far; none where a few moves find nothing better."""
+        """Shapes of another embedding, by the plan of the best one so far; none if a few moves find nothing better."""
         if not any(best.price()[:2]) and len(best.shape.expansion.around) < LARGE:
             return []
-        from planarbend.embeddings import climbed  # which takes a while to load
+        from planarbend.embeddings import climbed  # slow to load
 
         other, _ = climbed(self.planar, lambda planars: self.prices(planars, best.plan), self.random,
                            rounds=ROUNDS * self.effort, width=WIDTH)
@@ -317,7 +317,7 @@ class Search:
         return pool
 
     def prices(self, planars: Sequence[Planarization], plan: Plan) -> list[Price]:
-        """What a plan comes to in each of several embeddings."""
+        """The price of a plan in each of several embeddings."""
         expansions = [expand(planar, plan.cages, dict(plan.spines)) for planar in planars]  # with other pieces
         tried = [(expansion, plan, next(self.numberings(expansion))) for expansion in expansions]
         fitting = [one for one in tried if len(one[2].lists) <= MOST_VERTICES]
@@ -329,8 +329,8 @@ class Search:
         return LEAST_CAGE <= self.degree[vertex] <= MOST_CONNECTIONS and vertex not in plan.cages
 
     def repair(self, pool: list[Found]) -> None:
-        """Where a box is no rectangle: the engine keeps it one, or edges bend in its place; then other outer faces, at last
-        spines."""
+        """If a box is not a rectangle: the engine keeps it one, or edges bend instead; then other outer faces, and
+        finally spines, are tried."""
         kept = self.kept_boxes(pool) if self.keeper is not None else []
         self.mend(pool)
         pool += kept
@@ -362,7 +362,7 @@ class Search:
         """Shapes with the fewest bends in which all boxes are rectangles, by the best plans so far."""
         plans = dict.fromkeys(replace(found.plan, loose=()) for found in sorted(pool, key=Found.price))
         found: list[Found] = []
-        dice = random.Random(self.seed)  # of its own, so that what follows is as it is without these shapes
+        dice = random.Random(self.seed)  # a separate source, so that these shapes do not change later choices
         for plan in itertools.islice(plans, MOST_KEPT):
             expansion = self.expanded(plan)
             if expansion is not None:
@@ -372,7 +372,8 @@ class Search:
         return found
 
     def mend(self, pool: list[Found]) -> None:
-        """Where a box is no rectangle: edges that may bend in its place, from a few of the best shapes on."""
+        """If a box is not a rectangle: shapes with edges that may bend instead, starting from a few of the best
+        shapes."""
         beam, tried = sorted(pool, key=Found.price)[:MOST_MENDED], set[Plan]()
         for _ in range(MOST_MENDS):
             plans = [plan for found in beam for plan in self.mended(found) if plan not in tried]
@@ -386,7 +387,7 @@ class Search:
                 return
 
     def mended(self, found: Found) -> list[Plan]:
-        """Plans by which broken boxes may be rectangles: the first by all of them at once."""
+        """Plans that may make broken boxes rectangles; the first is for all of them at once."""
         first: list[int] = []
         ways: list[list[int]] = []
         for vertex, sections in found.shape.sections.items():
@@ -433,12 +434,12 @@ class Search:
 
 def choose(planar: Planarization, engine: Engine, *, compact: bool = False, effort: int = 1, seed: int = 0,
            outer: Sequence[int] = (), straight: Sequence[int] = ()) -> list[Shape]:
-    """Some good shapes of an embedded component, that with the fewest bends first.
+    """Some good shapes of an embedded component, the one with the fewest bends first.
 
     Raises
     ------
     TooLarge
-        If it takes too many vertices, also with spines.
+        If it takes too many vertices, even with spines.
     NoSuchFace
         If no face has all of `outer` on it.
     NoStraightEdges
@@ -455,7 +456,7 @@ def choose(planar: Planarization, engine: Engine, *, compact: bool = False, effo
 
 
 def picked(pool: list[Found]) -> list[Shape]:
-    """Of each plan the shape with the least price, the best first; whole ones only, if there are some."""
+    """For each plan the shape with the lowest price, best first; only shapes without broken boxes, if there are any."""
     best: dict[Plan, Found] = {}
     for found in sorted(pool, key=Found.price):
         best.setdefault(found.plan, found)
@@ -464,6 +465,6 @@ def picked(pool: list[Found]) -> list[Shape]:
 
 
 def smallest(pool: list[Found]) -> list[Shape]:
-    """The shapes that take the least room on the grid; whole ones only, if there are some."""
+    """The shapes that take the least room on the grid; only shapes without broken boxes, if there are any."""
     found = sorted(pool, key=lambda found: (found.price()[0], found.price()[2], found.price()[1]))
     return [one.shape for one in found[:MOST_COMPACT] if len(one.shape.broken) == len(found[0].shape.broken)]

@@ -1,5 +1,5 @@
 """Collects the reports of all parts of a batch into one table: graphs by vertices, edges and fewest bends,
-and refused ones by rule."""
+and refused graphs by rule."""
 from __future__ import annotations
 
 import argparse
@@ -14,19 +14,19 @@ from collections.abc import Iterable, Iterator
 from planarbend.reports import End, File, Graph, NoLine, Record, json_line, line_of, of_json
 
 TEXT = """\
-A part is one report of planarbend layout, or its JSON lines (.jsonl); of a folder all parts in it are read. A
-table is written only where all parts are there and whole. So it is refused
+A part is a report of planarbend layout, or its JSON Lines (.jsonl). For a folder, all parts in it are read. A table
+is written only if all parts exist and are complete. No table is written
 
-  where a report is cut off, has a file that does not end complete, a line that is none of a report's, or a
-  graph for which there was no memory;
-  where a part is missing: reports named NAME-part-RES-of-MOD must have all RES from 0 to MOD - 1, and with
+  if a report is truncated, or has a file that does not end complete, a line that is not a report line, or a graph
+  for which memory ran out;
+  if a part is missing: reports named NAME-part-RES-of-MOD must have all RES from 0 to MOD - 1, and with
   --of FOLDER each FILE.pc of that folder must have a report named FILE;
-  where a part is given twice.
+  if a part is given twice.
 
-Needs Python's standard library alone, and takes some twenty seconds for a million graphs.
+Needs only Python's standard library, and takes about twenty seconds for a million graphs.
 """
 STATUSES = """\
-status: 0; 1 where no table is written, with the reason on standard error; 2 where the command line is refused
+exit status: 0; 1 if no table is written (standard error says why); 2 if the command line is wrong
 """
 SUFFIXES = (".report", ".jsonl")
 PART = re.compile(r"(.*)-part-(\d+)-of-(\d+)")
@@ -38,7 +38,7 @@ class Incomplete(Exception):
 
 @dataclasses.dataclass
 class Table:
-    """Graphs by (vertices, edges, fewest bends), refused ones by rule, and those not drawn by cause."""
+    """Graphs by (vertices, edges, fewest bends), refused graphs by rule, and graphs that are not drawn by cause."""
     laid: collections.Counter[tuple[int, int, int]] = dataclasses.field(default_factory=collections.Counter)
     refused: collections.Counter[str] = dataclasses.field(default_factory=collections.Counter)
     not_drawn: collections.Counter[str] = dataclasses.field(default_factory=collections.Counter)
@@ -53,9 +53,9 @@ class Table:
 
 
 def entry_of(text: str) -> File | Graph | End:
-    """What a line says, of a report of `layout` or of JSON lines, with its line end."""
+    """The entry in a line of a report of `layout` or of JSON Lines, given with its line end."""
     if not text.endswith("\n"):
-        raise NoLine("a line that is cut off")
+        raise NoLine("a truncated line")
     if text[0] == "{":
         return of_json(json_line(text))
     entry = line_of(text[:-1])
@@ -65,38 +65,38 @@ def entry_of(text: str) -> File | Graph | End:
 
 
 def graphs_of(path: str) -> Iterator[Graph]:
-    """The graphs of a part. Raises `Incomplete` where it is not a whole report of files that end complete."""
+    """The graphs of a part. Raises `Incomplete` if it is not a complete report of files that end complete."""
     count, ended, place = 0, None, 0
     with open(path, encoding="utf-8", errors="replace") as lines:
         for place, text in enumerate(lines, 1):
             try:
                 entry = entry_of(text)
             except NoLine:
-                raise Incomplete(f"{path}, line {place}: not a line of a report, or a cut one") from None
+                raise Incomplete(f"{path}, line {place}: not a line of a report, or truncated") from None
             if isinstance(entry, End):
                 if entry.ending != "complete":
                     raise Incomplete(f"{path}, line {place}: the file ends {entry.ending}, not complete")
                 if entry.count != count:
-                    raise Incomplete(f"{path}, line {place}: {count} graphs stand before it, not {entry.count}")
+                    raise Incomplete(f"{path}, line {place}: {count} graphs precede it, not {entry.count}")
                 count, ended = 0, True
                 continue
             ended = False
             if isinstance(entry, File):
                 if count:
-                    raise Incomplete(f"{path}, line {place}: the file before it has no 'end complete'")
+                    raise Incomplete(f"{path}, line {place}: the previous file has no 'end complete'")
                 continue
             count += 1
             if entry.number != count:
-                raise Incomplete(f"{path}, line {place}: graph {entry.number} stands where graph {count} should")
+                raise Incomplete(f"{path}, line {place}: graph {entry.number} where graph {count} is expected")
             if entry.size is None and entry.rule is None:
-                raise Incomplete(f"{path}, line {place}: there was no memory for graph {entry.number}")
+                raise Incomplete(f"{path}, line {place}: memory ran out for graph {entry.number}")
             yield entry
     if not ended:
-        raise Incomplete(f"{path}: no 'end complete' behind line {place}")
+        raise Incomplete(f"{path}: no 'end complete' after line {place}")
 
 
 def paths_of(words: Iterable[str]) -> list[str]:
-    """The parts that these words name, folders by all parts in them."""
+    """The paths of the parts; a folder stands for all parts in it."""
     paths = []
     for word in words:
         if not os.path.isdir(word):
@@ -104,7 +104,7 @@ def paths_of(words: Iterable[str]) -> list[str]:
             continue
         inside = sorted(name for name in os.listdir(word) if name.endswith(SUFFIXES) and name[0] != ".")
         if not inside:
-            raise Incomplete(f"{word}: no part in it")
+            raise Incomplete(f"{word}: the folder has no parts")
         paths += [os.path.join(word, name) for name in inside]
     return paths
 
@@ -118,7 +118,7 @@ def stem_of(path: str) -> str:
 
 
 def look_for_missing(paths: list[str], folder: str | None) -> None:
-    """Raises `Incomplete` where a part is missing or given twice."""
+    """Raises `Incomplete` if a part is missing or given twice."""
     stems = collections.Counter(map(stem_of, paths))
     for stem, count in stems.items():
         if count > 1:
@@ -130,7 +130,7 @@ def look_for_missing(paths: list[str], folder: str | None) -> None:
         if twice := sorted(part for part, count in collections.Counter(found).items() if count > 1):
             raise Incomplete(f"{name}: part {twice[0]} of {modulus} is given twice")
         if missing := sorted(set(range(modulus)) - set(found)):
-            raise Incomplete(f"{name}: of {modulus} parts these are missing: {', '.join(map(str, missing))}")
+            raise Incomplete(f"{name}: of {modulus} parts, these are missing: {', '.join(map(str, missing))}")
     if folder is not None:
         wanted = {name.removesuffix(".pc") for name in os.listdir(folder) if name.endswith(".pc")}
         if without := sorted(wanted - set(stems)):
@@ -138,7 +138,7 @@ def look_for_missing(paths: list[str], folder: str | None) -> None:
 
 
 def collect(words: Iterable[str], folder: str | None = None) -> Table:
-    """The table of all these parts. Raises `Incomplete` where one is missing or not whole."""
+    """The table of all these parts. Raises `Incomplete` if one is missing or incomplete."""
     paths = paths_of(words)
     look_for_missing(paths, folder)
     table = Table()
@@ -148,11 +148,11 @@ def collect(words: Iterable[str], folder: str | None = None) -> Table:
     return table
 
 
-ALL = "**all**"  # in place of a number of edges
+ALL = "**all**"  # instead of a number of edges
 
 
 def rows_of(table: Table) -> Iterator[tuple[str, str, dict[int, int]]]:
-    """For each number of vertices a row for each number of edges, and one for all of them."""
+    """For each number of vertices, a row for each number of edges, and one for all edges."""
     rows: dict[int, dict[int, dict[int, int]]] = collections.defaultdict(lambda: collections.defaultdict(dict))
     for (vertices, edges, bends), count in table.laid.items():
         rows[vertices][edges][bends] = count
@@ -165,7 +165,7 @@ def rows_of(table: Table) -> Iterator[tuple[str, str, dict[int, int]]]:
 
 
 def text_of(table: Table, short: bool = False) -> str:
-    """The table, in Markdown; a short one has the rows for all edges alone."""
+    """The table in Markdown; a short one has only the rows for all edges."""
     bends = range(max((bends for _, _, bends in table.laid), default=0) + 1)
     lines = ["| Vertices | Edges | " + " | ".join(map(str, bends)) + " | Graphs |",
              "|" + "---:|" * (len(bends) + 3)]
@@ -191,7 +191,7 @@ TEXT_SIZE = 12  # pixels
 
 @dataclasses.dataclass
 class Frame:
-    """Where numbers of bends and numbers of graphs stand in the plot, the latter on a logarithmic axis."""
+    """Positions of numbers of bends and of graphs in the plot; the axis of graphs is logarithmic."""
     most_bends: int
     decades: int
 
@@ -202,7 +202,7 @@ class Frame:
         return round(HEIGHT - BOTTOM - (HEIGHT - TOP - BOTTOM) * math.log10(graphs) / self.decades, 1)
 
     def axes(self) -> Iterator[str]:
-        """The grid, its numbers, and what the axes count."""
+        """The grid, its numbers, and the axis titles."""
         right, bottom = WIDTH - RIGHT, HEIGHT - BOTTOM
         for power in range(self.decades + 1):
             y = self.up(10 ** power)
@@ -217,8 +217,8 @@ class Frame:
         yield f'<text x="{LEFT - 10}" y="{TOP - 18}" text-anchor="middle">graphs</text>'
 
     def curve(self, vertices: int, row: dict[int, int], rank: int) -> Iterator[str]:
-        """The graphs of so many vertices, and an entry of the legend: a point for each number of bends that
-        some graph has, joined to that of one bend less where there is one."""
+        """The curve for one number of vertices, and its legend entry: a point for each number of bends that
+        some graph has, joined to the point for one bend less if there is one."""
         colour, y = COLOURS[rank % len(COLOURS)], TOP + ROW * rank
         points = [(self.across(bends), self.up(count)) for bends, count in sorted(row.items())]
         steps = "".join(f"{'L' if bends - 1 in row else 'M'}{x},{y}"
@@ -232,7 +232,7 @@ class Frame:
 
 
 def plot_of(table: Table) -> str:
-    """A plot as SVG: for each number of vertices how many graphs have how many bends."""
+    """A plot as SVG: for each number of vertices, the number of graphs by number of bends."""
     rows: dict[int, collections.Counter[int]] = collections.defaultdict(collections.Counter)
     for (vertices, _, bends), count in table.laid.items():
         rows[vertices][bends] += count
@@ -250,7 +250,7 @@ def plot_of(table: Table) -> str:
 def command_line() -> argparse.Namespace:
     parser = argparse.ArgumentParser(description=__doc__ + "\n\n" + TEXT, epilog=STATUSES,
                                      formatter_class=argparse.RawDescriptionHelpFormatter)
-    parser.add_argument("parts", metavar="PART", nargs="+", help="a report, JSON lines, or a folder of them")
+    parser.add_argument("parts", metavar="PART", nargs="+", help="a report, JSON Lines, or a folder of them")
     parser.add_argument("--of", metavar="FOLDER", help="the folder whose .pc files must all have a report")
     parser.add_argument("--short", action="store_true", help="leave out the rows for each number of edges")
     parser.add_argument("--svg", metavar="PLOT", help="also write a plot of the table to this file")

@@ -21,22 +21,22 @@ examples:
   planarbend-draw house.dot -o house.pdf --outer Street,Garden
   planarbend-draw board.kicad_pcb -o board.png --split GND,VCC
 
-GRAPH is a list of connections, one or more a line (`antenna -- tuner -> mixer`, or two words); DOT, GraphML, GML,
-node-link JSON, graph6; or a netlist or board of KiCad. Its content shows which, or --format names it.
+GRAPH is a list of connections, one or more per line (`antenna -- tuner -> mixer`, or two words); DOT, GraphML, GML,
+node-link JSON or graph6; or a KiCad netlist or board. The content determines the format, unless --format is given.
 
-DOT is read by Graphviz (Debian: graphviz). networkx (python3-networkx) reads GraphML, GML and graph6, and finds out which
-graphs are planar: without it most planar graphs are drawn, and few others. PNG and PDF are made by rsvg-convert
-(librsvg2-bin). libplanarbend, of this checkout or the system, lays out; or the program planarbend: the one that PLANARBEND
-names, that of this checkout, or the one on the path.
+DOT is read by Graphviz (Debian: graphviz). networkx (python3-networkx) reads GraphML, GML and graph6, and tests which
+graphs are planar: without it, most planar graphs can be drawn, but few others. rsvg-convert (librsvg2-bin) makes PNG
+and PDF. Layouts are computed by libplanarbend of this checkout or the system; or by the program planarbend: the one
+that PLANARBEND names, that of this checkout, or the one on the path.
 
-status: 0; 1 if the graph cannot be read or drawn, which standard error says, with nothing written; 2 if the command line
-is refused
+exit status: 0; 1 if the graph cannot be read or drawn (standard error says why, and nothing is written); 2 if the
+command line is wrong
 """
 ENDINGS = (".svg", ".json", ".pc", *CONVERTED)
 
 
 class Help(argparse.RawDescriptionHelpFormatter):
-    """Help as wide as COLUMNS says, or the terminal. argparse would load half of what Python compresses files with to look."""
+    """Help as wide as COLUMNS or the terminal. To find the width, argparse would load many compression modules."""
 
     def __init__(self, prog: str) -> None:
         columns = os.environ.get("COLUMNS", "")
@@ -62,10 +62,10 @@ def command_line() -> argparse.Namespace:
                         help="draw these vertices, or nets of more connections than DEGREE, as a flag at each connection")
     parser.add_argument("--compact", action="store_true", help="smaller drawing with more bends")
     parser.add_argument("--effort", metavar="N", type=int, default=1,
-                        help="look longer for fewer crossings and bends (default 1; 0 is fastest)")
+                        help="search longer for fewer crossings and bends (default 1; 0 is fastest)")
     parser.add_argument("--seed", metavar="N", type=int, default=0,
                         help="seed of the random choices: the same seed gives the same drawing (default 0)")
-    parser.add_argument("--scale", metavar="N", type=float, default=1.0, help="size of a PNG, 1 for 96 dots an inch")
+    parser.add_argument("--scale", metavar="N", type=float, default=1.0, help="scale of a PNG; 1 is 96 dots per inch")
     words = parser.parse_args()
     if os.path.splitext(words.output)[1] not in ENDINGS and words.output != "-":
         parser.error(f"OUT must end with {', '.join(ENDINGS)}")
@@ -77,7 +77,7 @@ def command_line() -> argparse.Namespace:
 
 
 def named(graph: Graph, names: str) -> list[int]:
-    """The vertices of these names. A name of several vertices, or of none, is a `DrawError`."""
+    """The vertices with these names. Raises `DrawError` if several vertices, or none, have a name."""
     found = []
     for name in filter(None, map(str.strip, names.split(","))):
         at = [number for number, vertex in enumerate(graph.vertices) if vertex.name == name]
@@ -89,12 +89,12 @@ def named(graph: Graph, names: str) -> list[int]:
 
 
 def between(graph: Graph, names: str) -> list[int]:
-    """The edges between two vertices whose names stand with `--` between them. A `DrawError` if there are none."""
+    """The edges between two vertices, given as `NAME--NAME`. Raises `DrawError` if there are none."""
     known = {name for vertex in graph.vertices for name in (vertex.name, vertex.label)}
     cuts = [(names[:match.start()].strip(), names[match.end():].strip()) for match in re.finditer("--", names)]
     pair = next((cut for cut in cuts if known.issuperset(cut)), None)
     if pair is None:
-        raise DrawError(f"no two vertices are named {names} (--straight wants NAME--NAME)")
+        raise DrawError(f"no two vertices are named {names} (--straight takes NAME--NAME)")
     ends = {vertex for name in pair for vertex in named(graph, name)}
     found = [number for number, edge in enumerate(graph.edges) if {edge.tail, edge.head} == ends]
     if not found:
@@ -103,8 +103,8 @@ def between(graph: Graph, names: str) -> list[int]:
 
 
 def to_split(graph: Graph, which: str) -> list[int]:
-    """The vertices to split: those of these names, or those with more connections than a number; of a circuit nets
-    alone."""
+    """The vertices to split: those with these names, or those with more connections than a number; in a circuit, only
+    nets."""
     if not which.isdecimal():
         return named(graph, which)
     degree = [0] * len(graph.vertices)
@@ -123,7 +123,7 @@ def read_file(path: str, form: str | None) -> Graph:
 
 
 def write(drawing: Drawing, path: str, scale: float) -> None:
-    """Write a drawing as what the file's name says."""
+    """Write a drawing in the format of the file's extension."""
     if path == "-":
         sys.stdout.write(svg(drawing))
         sys.stdout.flush()
@@ -136,17 +136,17 @@ def write(drawing: Drawing, path: str, scale: float) -> None:
 
 
 def engine_of() -> Engine:
-    """What lays out graphs. Where that is the script of a checkout in which nothing is built, standard error says why it is
-    slow."""
+    """The engine. If this is the script of a checkout in which nothing is built, a message on standard error says why
+    it is slow."""
     engine = default_engine()
     if isinstance(engine, ProcessEngine) and engine.program == SCRIPT:
-        print("planarbend-draw: planarbend is not built here, so a trial run of about a minute answers each of many calls;"
+        print("planarbend-draw: planarbend is not built here, so each of many calls is a trial run of a minute;"
               f" {SCRIPT} --build builds it", file=sys.stderr)
     return engine
 
 
 def run() -> int:
-    """Run the command: its status."""
+    """Run the command. Returns its exit status."""
     words = command_line()
     try:
         if words.output != "-":

@@ -1,10 +1,10 @@
 """The core of a graph, on which crossings are counted: what can be drawn without further crossings is folded away.
 
-A vertex of degree 2 becomes one edge with its two edges, of the lesser of their weights: who crosses a chain of edges
-does so where it is lightest. Parallel edges become one edge of the sum of their weights: who crosses one of them
-crosses all. Vertices of degree 1 and loops drop out. This is repeated while it applies. A crossing of two folded edges
-costs the product of their weights (the reduction to a non-planar core by Chimani and Gutwenger 2005, for series and
-parallel parts).
+A vertex of degree 2 and its two edges become one edge with the lesser of their weights: a chain of edges is crossed
+where it is lightest. Parallel edges become one edge with the sum of their weights: an edge that crosses one of them
+crosses all. Vertices of degree 1 and loops are removed. This is repeated as long as possible. A crossing of two folded
+edges costs the product of their weights (the reduction to a non-planar core by Chimani and Gutwenger 2005, for series
+and parallel parts).
 """
 from __future__ import annotations
 
@@ -75,7 +75,7 @@ def core_of(edges: Sequence[int], ends: Sequence[tuple[int, int]], weights: Sequ
     ends, weights
         Tail and head, and weight, of each edge.
     most
-        The greatest weight; a sum beyond it is cut to it.
+        The greatest weight; a larger sum is reduced to it.
 
     Returns
     -------
@@ -110,7 +110,7 @@ def core_of(edges: Sequence[int], ends: Sequence[tuple[int, int]], weights: Sequ
         made += 1
 
     def drop(name: int) -> _Fold:
-        """Takes a folded edge out."""
+        """Removes a folded edge."""
         fold = folds.pop(name)
         at[fold.tail].remove(name)
         at[fold.head].remove(name)

@@ -18,12 +18,12 @@ from planarbend.planar_code import MOST_VERTICES, Lists
 from planarbend.planarize import Planarization, TooManyCrossings, planarize
 from planarbend.spread import Sheet
 
-MARGIN = 10.0  # pixels round the whole
+MARGIN = 10.0  # pixels around the whole
 BETWEEN = 18.0  # pixels between components
-MOST_EMBEDDINGS = 4  # that are tried where a box would be no rectangle
-MOST_BROKEN = 4  # boxes that are no rectangles, above which no further embedding is tried
-BEND_WEIGHT = 2.5  # of bends an edge, where shapes are compared by area
-COMPACT_WEIGHT = 0.25  # the same where the least room is wanted
+MOST_EMBEDDINGS = 4  # that are tried while some box would not be a rectangle
+MOST_BROKEN = 4  # if more boxes than this are not rectangles, no further embedding is tried
+BEND_WEIGHT = 2.5  # of bends per edge, when shapes are compared by area
+COMPACT_WEIGHT = 0.25  # the same for a compact drawing
 
 
 class DrawError(Exception):
@@ -43,7 +43,7 @@ class Options:
     outer : sequence of int
         Vertices that must lie on the outer face.
     compact : bool
-        Whether to fix the sides of vertices of degree over 4 beforehand, which takes less room and more bends.
+        Whether to fix the sides of vertices of degree over 4 in advance, which takes less room but more bends.
     effort : int
         How long to search for fewer crossings and bends (0 is fastest).
     seed : int
@@ -133,7 +133,7 @@ def draw(graph: Graph, options: Options = Options(), engine: Engine | None = Non
 
 
 def look_at_straight(graph: Graph, options: Options, engine: Engine) -> None:
-    """Refuses straight edges where the engine cannot keep them, and loops among them."""
+    """Refuses straight edges if the engine cannot keep them, or if one is a loop."""
     if options.straight and keeper_of(engine) is None:
         raise DrawError("straight edges need the library libplanarbend of this version: `./planarbend --build` builds it, and"
                         " PLANARBEND must not be set")
@@ -165,7 +165,7 @@ def part_of(graph: Graph, vertices: list[int], edges: list[int], options: Option
         except DrawError as fault:
             if best is None and not (isinstance(fault, NotStraight) and attempt + 1 < MOST_EMBEDDINGS):
                 raise
-            continue  # an earlier embedding could be drawn, or a later one may be
+            continue  # an earlier embedding was drawn, or a later one may be
         for shape in shapes:
             sheet = settled(with_loops(shape, plain, len(pairs)), inner)
             price = (len(shape.broken), price_of(sheet, len(pairs), COMPACT_WEIGHT if options.compact else BEND_WEIGHT))
@@ -190,7 +190,7 @@ def embedded(count: int, pairs: list[tuple[int, int]], options: Options, togethe
     Raises
     ------
     DrawError
-        If crossings and vertices are more than can be drawn.
+        If there are more vertices and crossings than can be drawn.
     """
     most = MOST_VERTICES - count
     if most < 0:
@@ -233,7 +233,7 @@ def settled(shape: Shape, graph: Graph) -> Sheet:
 
 
 def price_of(sheet: Sheet, edges: int, weight: float) -> float:
-    """What is to be least: the area, times more the more edges bend."""
+    """The price to minimise: the area, times a factor that grows with the bends per edge."""
     left, top, right, bottom = sheet.bounds()
     return (right - left) * (bottom - top) * (1 + weight * sheet.shape.bends / edges)
 
@@ -334,8 +334,8 @@ def side_by_side(graph: Graph, parts: list[Part]) -> Drawing:
 
 
 def packed(sizes: list[tuple[float, float]]) -> tuple[list[Point], float, float]:
-    """Places for rectangles, and the width and height of them all: of several widths the one with the least area, where
-    strips count more that are longer than the largest rectangle."""
+    """Places for rectangles, and their total width and height. Several widths are tried, and the one with the least
+    area is taken; results more stretched than the largest rectangle count more."""
     widest, area = max(width for width, _ in sizes), sum(width * height for width, height in sizes)
     least = stretch_of(*max(sizes, key=lambda size: size[0] * size[1]))
     widths = sorted({widest, *(max(widest, math.sqrt(area * shape)) for shape in (0.7, 0.9, 1.1, 1.3, 1.5, 1.8, 2.2, 2.7, 3.3))})

@@ -1,12 +1,12 @@
-"""An embedding of a planar graph without a planarity test, where vertices can be put in one by one.
+"""An embedding of a planar graph without a planarity test, for graphs whose vertices can be inserted one by one.
 
-First all vertices of degree 1 and 2 are folded away. Of those next to the part that is in, the vertex with most neighbours
-there comes first. It goes into a face that has them all, of several into that on which most vertices wait for neighbours,
-since others are mostly finished. Where no face has them all, some vertex before was put on the wrong side: then all is done
-again, with other choices among equals and with such faces less preferred now and then. At last what was folded is put
-back, one vertex after another.
+First, all vertices of degree 1 and 2 are folded away. The next vertex is always the one with the most neighbours in the
+embedded part. It goes into a face that has all of them; if there are several, into the one on which the most vertices
+still wait for neighbours, since other faces are mostly finished. If no face has all of them, an earlier vertex was put
+on the wrong side: everything is then repeated with other choices among equals, and sometimes with less preference for
+such faces. Finally, the folded vertices are put back one by one.
 
-It is no test: where no attempt succeeds, the graph may be planar all the same.
+This is not a planarity test: if no attempt succeeds, the graph may still be planar.
 """
 from __future__ import annotations
 
@@ -49,17 +49,17 @@ def easily_embedded(vertex_count: int, ends: Iterable[tuple[int, int]]) -> list[
 
 
 def _fold(joined: list[set[int]]) -> list[tuple[int, list[int], bool]]:
-    """Takes out vertices of degree 1 and 2, again and again; an edge joins the neighbours of the latter.
+    """Removes vertices of degree 1 and 2 repeatedly; an edge then joins the two neighbours of a vertex of degree 2.
 
     Parameters
     ----------
     joined
-        The neighbours of each vertex, which is changed.
+        The neighbours of each vertex. This list is changed.
 
     Returns
     -------
     list of (int, list of int, bool)
-        Each vertex that was taken out, in order; its neighbours then; and whether they were neighbours of each other.
+        Each removed vertex, in order; its neighbours at that time; and whether these were neighbours of each other.
     """
     folded = []
     waiting = [vertex for vertex, others in enumerate(joined) if 0 < len(others) < 3][::-1]
@@ -96,12 +96,12 @@ def _unfold(around: list[list[int]], folded: list[tuple[int, list[int], bool]]) 
 
 
 class _Attempt:
-    """One order in which vertices are put in.
+    """One order in which vertices are inserted.
 
     Parameters
     ----------
     rotation
-        An embedding of no edge, which is edited.
+        An embedding without edges. It is edited.
     dice
         The source of random choices.
     is_random
@@ -114,12 +114,12 @@ class _Attempt:
         for edge, (tail, head) in enumerate(rotation.ends):
             self.at[tail].append(edge)
             self.at[head].append(edge)
-        self.missing = [len(edges) for edges in self.at]  # edges of each vertex that are not in
+        self.missing = [len(edges) for edges in self.at]  # edges of each vertex that are not embedded yet
 
     def succeeds(self) -> bool:
-        """Puts all vertices in; whether that is done without a crossing."""
+        """Inserts all vertices. Returns whether this succeeds without a crossing."""
         chance, ends = self.dice.random, self.rotation.ends
-        placed = [0] * self.rotation.vertex_count  # neighbours that are in
+        placed = [0] * self.rotation.vertex_count  # neighbours that are embedded
         waiting = dict.fromkeys(range(self.rotation.vertex_count))
         while waiting:
             vertex = max(waiting, key=lambda vertex: (placed[vertex], len(self.at[vertex]), chance()))
@@ -135,7 +135,7 @@ class _Attempt:
         return True
 
     def _put(self, vertex: int, edges: Sequence[int]) -> bool:
-        """Puts a vertex in with these edges to vertices that are there; whether some face has them all."""
+        """Inserts a vertex with these edges to embedded vertices. Returns whether some face has all of them."""
         rotation = self.rotation
         others = [sum(rotation.ends[edge]) - vertex for edge in edges]
         if rotation.leaving[others[0]] == NONE:  # the second vertex of a part
@@ -159,7 +159,7 @@ class _Attempt:
         return True
 
     def _count(self, edges: Sequence[int]) -> None:
-        """Counts edges that were put in."""
+        """Counts inserted edges."""
         for edge in edges:
             for vertex in self.rotation.ends[edge]:
                 self.missing[vertex] -= 1

@@ -18,7 +18,7 @@ from planarbend.rotation import NONE, Rotation
 
 Price = tuple[int, ...]
 Flip = tuple[int, int, int, int]
-"""Two faces, and two vertices that each of them meets once."""
+"""Two faces, and two vertices that each of them contains once."""
 
 
 def neighbours(planar: Planarization, dice: random.Random, count: int) -> list[Planarization]:
@@ -54,7 +54,7 @@ class Faces:
     corners : list of dict from int to list of int
         For each face its vertices, each with those darts that the face comes clockwise after.
     cuts : list of int
-        The vertices without which the graph falls apart: they come twice on a face.
+        The cut vertices: they occur more than once on a face.
     """
 
     def __init__(self, planar: Planarization) -> None:
@@ -111,9 +111,9 @@ def climbed(planar: Planarization, prices: Callable[[Sequence[Planarization]], S
     Parameters
     ----------
     prices
-        Gives for each of several embeddings what is to be least.
+        Returns the price of each of several embeddings; the search minimises it.
     rounds
-        Number of rounds. After half as many in turn without success there is no further one.
+        Number of rounds. The search ends after half as many consecutive rounds without success.
     width
         Number of neighbours in each round.
 
@@ -138,7 +138,7 @@ def climbed(planar: Planarization, prices: Callable[[Sequence[Planarization]], S
 
 
 def flips_of(faces: Faces) -> Iterator[Flip]:
-    """The places of flips, those too that change nothing."""
+    """The possible flips, including those that change nothing."""
     for one, corners in enumerate(faces.corners):
         met: dict[int, list[int]] = {}
         for vertex, darts in corners.items():
@@ -163,7 +163,7 @@ def _turning_points(faces: Faces, one: int, other: int, vertices: list[int]) -> 
 
 
 def flipped(faces: Faces, flip: Flip) -> Planarization | None:
-    """The embedding with what lies between two faces and two vertices mirrored, or `None` where that changes nothing."""
+    """The embedding with what lies between two faces and two vertices mirrored, or `None` if that changes nothing."""
     planar = faces.planar
     one, other, first, second = flip
     here, there = faces.corners[one], faces.corners[other]
@@ -196,7 +196,7 @@ def _from(around: list[int], darts: list[int]) -> list[int]:
 def turned(faces: Faces, vertex: int, dice: random.Random) -> Planarization | None:
     """The embedding with a part that hangs on a vertex at another place there, chosen at random.
 
-    `None` where nothing hangs on the vertex, or nothing changed.
+    `None` if nothing hangs on the vertex, or nothing changed.
     """
     planar = faces.planar
     around = planar.rotation[vertex]
@@ -222,7 +222,7 @@ def turned(faces: Faces, vertex: int, dice: random.Random) -> Planarization | No
 
 
 def _parts_at(faces: Faces, vertex: int) -> list[list[int]]:
-    """The darts of a vertex by the part that they lead to when the vertex is taken out."""
+    """The darts of a vertex, grouped by the part that they lead to if the vertex is removed."""
     around = faces.planar.rotation[vertex]
     part_of: dict[int, int] = {}
     parts: list[list[int]] = []
@@ -241,7 +241,7 @@ def _parts_at(faces: Faces, vertex: int) -> list[list[int]]:
 def shifted(faces: Faces, dice: random.Random) -> Planarization | None:
     """The embedding with an edge or a vertex put back at random where it crosses least.
 
-    `None` where the graph has loops, or would fall apart without it.
+    `None` if the graph has loops, or would be disconnected without it.
     """
     planar = faces.planar
     ends = [(planar.pieces[chain[0] >> 1][chain[0] & 1], planar.pieces[chain[-1] >> 1][~chain[-1] & 1])

@@ -124,7 +124,7 @@ class ProcessEngine:
         """See `Engine`."""
         if not graphs:
             return []
-        import subprocess  # which takes long to load, and the library does without
+        import subprocess  # slow to load, and not needed by the library
 
         given = HEADER + b"".join(map(record_of, graphs))
         ran = subprocess.run([self.program, "layout", "--json", "--outer", outer, "-"], input=given, capture_output=True)
@@ -150,7 +150,7 @@ def default_engine() -> Engine:
     """
     if "PLANARBEND" in os.environ:
         return ProcessEngine()
-    from planarbend import library  # which uses this module, and takes a while to load
+    from planarbend import library  # imported here: it uses this module, and is slow to load
 
     if library.is_wanted():
         return library.LibraryEngine()

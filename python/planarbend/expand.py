@@ -35,7 +35,7 @@ class Expansion:
     crossings : list of int
         The nodes that are crossings.
     planar : Planarization or None
-        The embedded graph that it was made of.
+        The embedded graph from which it was made.
     """
 
     around: list[list[int]]
@@ -53,7 +53,8 @@ class Expansion:
 
 
 class Builder:
-    """An embedded multigraph that grows: darts with their tails, `dart ^ 1` the way back, and the darts round nodes."""
+    """An embedded multigraph that grows: darts with their tails (`dart ^ 1` is the reverse dart), and the darts around
+    nodes."""
 
     def __init__(self, planar: Planarization) -> None:
         self.tail: list[int] = [end for piece in planar.pieces for end in piece]
@@ -65,12 +66,12 @@ class Builder:
         return len(self.rotation) - 1
 
     def dart(self, tail: int, head: int) -> int:
-        """Add a piece, which no rotation has so far: its dart from tail to head."""
+        """Add a piece, which is not in a rotation yet. Returns its dart from tail to head."""
         self.tail += [tail, head]
         return len(self.tail) - 2
 
     def cage(self, vertex: int) -> list[int]:
-        """Put a cycle in a vertex's place: its nodes, clockwise."""
+        """Replace a vertex by a cycle. Returns its nodes, clockwise."""
         out = self.rotation[vertex]
         nodes = [vertex] + [self.node() for _ in out[1:]]
         ring = [self.dart(node, after) for node, after in zip(nodes, nodes[1:] + nodes[:1])]
@@ -80,7 +81,7 @@ class Builder:
         return nodes
 
     def spine(self, vertex: int, turn: int) -> list[int]:
-        """Put a path in a vertex's place: its nodes. The connection at place `turn` leaves at its first end."""
+        """Replace a vertex by a path. Returns its nodes. The connection at place `turn` leaves at its first end."""
         out = self.rotation[vertex]
         out = out[turn:] + out[:turn]
         nodes = [vertex] + [self.node() for _ in range((len(out) - 1) // 2 - 1)]
@@ -98,7 +99,7 @@ class Builder:
         return nodes
 
     def divide(self, dart: int) -> int:
-        """Put a node in the middle of a piece: the dart from there on to the head."""
+        """Put a node in the middle of a piece. Returns the dart from there to the head."""
         middle, back = self.node(), dart ^ 1
         head = self.tail[back]
         on = self.dart(middle, head)
@@ -123,7 +124,7 @@ def expand(planar: Planarization, cages: Collection[int], spines: Mapping[int, i
         Vertices that become spines, each with the place in its rotation at which its first end lies; they have at
         least 5 connections.
     loose : mapping from int to int
-        Pieces that may bend free of charge, each with how many times: so many nodes of degree 2 lie on it.
+        Pieces that may bend at no cost, each with its number of bends: it gets this many nodes of degree 2.
 
     Returns
     -------
@@ -145,7 +146,7 @@ def expand(planar: Planarization, cages: Collection[int], spines: Mapping[int, i
 
 
 def make_simple(builder: Builder, chains: list[list[int]], loose: Mapping[int, int]) -> list[list[int]]:
-    """Divide pieces of edges that are loose, or are loops, or join nodes which are joined already. Returns the nodes along
+    """Divide pieces of edges that are loose, that are loops, or that join nodes already joined. Returns the nodes along
     each edge."""
     of_edges = {dart & ~1 for chain in chains for dart in chain}
     joined = {frozenset(builder.tail[dart:dart + 2]) for dart in range(0, len(builder.tail), 2) if dart not in of_edges}
@@ -164,7 +165,7 @@ def make_simple(builder: Builder, chains: list[list[int]], loose: Mapping[int, i
 
 
 def size_of(planar: Planarization, degree: list[int], cages: Collection[int], spines: Collection[int]) -> int:
-    """How many nodes an expansion has at least, before loops and parallel edges."""
+    """The least number of nodes of an expansion, before loops and parallel edges."""
     cage = sum(degree[vertex] - 1 for vertex in cages)
     spine = sum((degree[vertex] - 1) // 2 - 1 + degree[vertex] % 2 for vertex in spines)
     return len(planar.rotation) + cage + spine

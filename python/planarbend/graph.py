@@ -16,7 +16,7 @@ class Kind(enum.Enum):
     VERTEX = "vertex"  # a box with its label
     PART = "part"  # a part of a circuit: a box with square corners
     NET = "net"  # a net of a circuit: lines that meet in a dot
-    FLAG = "flag"  # one of the flags that stand for a net which was split
+    FLAG = "flag"  # one of the flags that replace a split net
 
 
 class Arrow(enum.Enum):

@@ -28,7 +28,7 @@ class Keeper(Protocol):
 
 
 def keeper_of(engine: Engine) -> Keeper | None:
-    """An engine as one that keeps conditions, or None where it keeps none: the program, or an older library."""
+    """An engine as one that keeps conditions, or None if it keeps none: the program, or an older library."""
     return cast(Keeper, engine) if keeps_conditions(engine) else None
 
 
@@ -42,7 +42,7 @@ def conditions_of(expansion: Expansion, form: Form, edges: Collection[int], *, b
     boxes : bool
         Whether cages and spines stay straight too.
     has_outer : bool
-        Whether the form has its outer face already, so that none needs to be kept inside.
+        Whether the form already has its outer face, so that no face needs to be kept inside.
     """
     straight = [pair for edge in edges for pair in itertools.pairwise(expansion.chains[edge])]
     inner = []
@@ -63,8 +63,8 @@ def conditions_of(expansion: Expansion, form: Form, edges: Collection[int], *, b
 
 
 def pieces_of(form: Form, whole: dict[Dart, Dart], pair: Dart) -> Iterator[Dart]:
-    """The pieces that a form has in place of one: those on both sides of a vertex in its middle, or the one of which it is a
-    part since nodes beside it are left out."""
+    """The pieces that replace a piece in a form: the two on both sides of a vertex in its middle, or the one that
+    contains it because nodes next to it are left out."""
     if form.divided is not None and set(pair) == set(form.divided[:2]):
         one, other, middle = form.divided
         yield from ((one, middle), (middle, other))

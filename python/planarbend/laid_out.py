@@ -49,7 +49,7 @@ class GraphRefused(GraphError):
 
 
 class GraphUndrawn(GraphError):
-    """The graph has no drawing; `cause` is the word of the cause. It is proved that this does not occur."""
+    """The graph has no drawing; `cause` is the word for the cause. It is proved that this does not occur."""
 
     def __init__(self, number: int, cause: str) -> None:
         super().__init__(number, f"drawn=no cause={cause}")
@@ -65,7 +65,7 @@ class GraphLost(GraphError):
 
 @dataclasses.dataclass(frozen=True)
 class Record:
-    """A graph as in planar_code: the names of its vertices, vertex 1 first, and their neighbour lists, by numbers."""
+    """A graph as in planar_code: the names of its vertices, vertex 1 first, and their neighbour lists by number."""
     names: tuple[Vertex, ...]
     lists: Lists
 
@@ -96,7 +96,7 @@ class Record:
         for name, neighbours in graph.items():
             strange = [other for other in neighbours if other not in number]
             if strange:
-                raise ValueError(f"{name!r} has the neighbour {strange[0]!r}, which is no vertex")
+                raise ValueError(f"{name!r} has the neighbour {strange[0]!r}, which is not a vertex")
             lists.append([number[other] for other in neighbours])
             if len(lists[-1]) > MOST_NEIGHBOURS:
                 raise ValueError(f"{name!r} has {len(lists[-1])} neighbours; planar_code has at most {MOST_NEIGHBOURS}")
@@ -104,7 +104,7 @@ class Record:
 
     @staticmethod
     def read(record: bytes) -> Record:
-        """Return the record that these bytes are; its vertices are named 1, 2, and so on."""
+        """Return the record with these bytes; its vertices are named 1, 2, and so on."""
         lists = lists_of(record)
         return Record(tuple(range(1, len(lists) + 1)), lists)
 
@@ -170,7 +170,7 @@ class Run:
     """One run of `layout --json -`. A thread writes the records; `lines` yields the lines."""
 
     def __init__(self, words: list[str], records: Iterator[Record], most: int) -> None:
-        self.given: collections.deque[Record] = collections.deque()  # those without a line so far
+        self.given: collections.deque[Record] = collections.deque()  # records without a line so far
         self.failed: BaseException | None = None  # what the caller's graphs raised
         self.is_last = False  # whether the graphs ended in this run
         self.said = tempfile.TemporaryFile()
@@ -192,12 +192,12 @@ class Run:
                 for record in itertools.islice(records, most):
                     self.given.append(record)
                     sink.write(record.bytes())
-                    sink.flush()  # the next graph may be long in coming
+                    sink.flush()  # the next graph may take long
                     most -= 1
                 self.is_last = most > 0
         except BrokenPipeError:
             pass  # the run has ended; its status says why
-        except BaseException as error:  # told once the layouts of all graphs before it were given
+        except BaseException as error:  # raised after the layouts of all earlier graphs
             self.failed = error
 
     def lines(self) -> Iterator[tuple[Record, dict[str, Any]]]:
@@ -235,13 +235,18 @@ class Run:
         self.said.close()
 
 
+def refuse_single(graphs: Any) -> None:
+    """Raise `TypeError` if this is a single graph rather than an iterable of graphs."""
+    if isinstance(graphs, (Record, Mapping, str, bytes)) or hasattr(graphs, "adjacency"):
+        raise TypeError("layouts takes an iterable of graphs, not a single graph: pass [graph], or call layout_of")
+
+
 class Layouts:
     """An iterator over the layouts of a stream of graphs. After a `GraphError`, it continues with the next graph."""
 
     def __init__(self, graphs: Iterable[Any], outer: str = "first", words: Iterable[str] = (),
                  most: int = MOST_RECORDS) -> None:
-        if isinstance(graphs, (Record, Mapping, str, bytes)) or hasattr(graphs, "adjacency"):
-            raise TypeError("layouts takes graphs, one after another, and this is a single one: pass [graph], or call layout_of")
+        refuse_single(graphs)
         self.words = [program(), "layout", "--json", "--outer", outer, *words, "-"]
         self.records = map(Record.of, graphs)
         self.most = most  # graphs of one run
@@ -306,14 +311,14 @@ def layouts(graphs: Iterable[Any], outer: str = "first", words: Iterable[str] = 
     Raises
     ------
     TypeError
-        `graphs` is a single graph. (With the library, `next` raises this.)
+        `graphs` is a single graph.
     NoProgram
         The program is needed, and there is none.
 
     `next` raises a `GraphError` for a graph without a layout, what `Record.of` raises, and `RunFailed` if the program
     fails.
     """
-    from planarbend import library  # which uses this module
+    from planarbend import library  # imported here: it uses this module
 
     words = list(words)
     drawing = {(): "short", ("--drawing", "short"): "short", ("--drawing", "quick"): "quick"}.get(tuple(words))

@@ -8,7 +8,7 @@ from __future__ import annotations
 
 from collections.abc import Sequence
 
-BLOCK = 24  # tree edges that are looked at before the best of them leaves
+BLOCK = 24  # tree edges that are compared before the best of them leaves
 EPSILON = 1e-7
 
 
@@ -54,7 +54,7 @@ class Lengths:
                 self.gain[self.parent[node]] += self.gain[node]
 
     def shorten(self, most: int) -> None:
-        """Exchange pairs of the tree, at most so many times, while that shortens the sum."""
+        """Exchange pairs of the tree, at most `most` times, while this shortens the sum."""
         count, place = len(self.value), 0
         for _ in range(most):
             best, amount, met = -1, EPSILON, 0
@@ -83,7 +83,7 @@ class Lengths:
         return found
 
     def _exchange(self, node: int) -> bool:
-        """Move a subtree away from its parent until another pair gets tight, which joins it from then on."""
+        """Move a subtree away from its parent until another pair becomes tight, which then joins it."""
         moved = self._subtree(node)
         is_up = self.pairs[self.link[node]][1] == node
         best, room = -1, float("inf")
@@ -111,7 +111,7 @@ class Lengths:
         total = self.gain[node]
         self._add(self.parent[node], -total)
         self.below[self.parent[node]].remove(node)
-        above, link, lower = outer, number, 0.0  # turn the parents between the node and the pair round
+        above, link, lower = outer, number, 0.0  # reverse the parents between the node and the pair
         current = inner
         while True:
             parent, old_link, old_gain = self.parent[current], self.link[current], self.gain[current]
@@ -124,7 +124,7 @@ class Lengths:
         self._add(outer, total)
 
     def _add(self, node: int, amount: float) -> None:
-        """Change what is summed up from a node to the root."""
+        """Change the sums from a node to the root."""
         while node >= 0:
             self.gain[node] += amount
             node = self.parent[node]

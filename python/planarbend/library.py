@@ -25,7 +25,7 @@ OUTER = {"first": 0, "best": 1}
 DRAWING = {"none": 0, "quick": 1, "short": 2}
 OK, FIRST_RULE, LAST_RULE, NOT_A_RECORD, MEMORY, NO_SHAPE, WIDE = 0, 1, 8, 9, 10, 13, 16
 NAME = "libplanarbend.so.1"
-PLACES = [os.path.join(ROOT, "out", NAME), os.path.join(os.path.dirname(ROOT), NAME)]  # as it is built, and as it is installed
+PLACES = [os.path.join(ROOT, "out", NAME), os.path.join(os.path.dirname(ROOT), NAME)]  # built, and installed
 
 
 class Counts(ctypes.Structure):
@@ -49,7 +49,7 @@ class Buffer(ctypes.Structure):
 
 
 class Room(ctypes.Structure):
-    """`planarbend_lists` of planarbend.h: the address of each list, and the number of items that it has room for."""
+    """`planarbend_lists` of planarbend.h: the address of each list, and its capacity in items."""
 
     _fields_ = [field for name in ("angles", "turns", "vertex_prices", "face_prices", "points", "corner_starts", "corners")
                 for field in ((name, ctypes.c_void_p), (f"{name}_room", ctypes.c_size_t))]
@@ -314,8 +314,9 @@ class LibraryLayouts:
     """
 
     def __init__(self, graphs: Iterable[Any], outer: str = "first", drawing: str = "short") -> None:
-        from planarbend.laid_out import Layout, Record  # which drawing does without
+        from planarbend.laid_out import Layout, Record, refuse_single  # imported here: drawing does not need it
 
+        refuse_single(graphs)
         self.library = Library()
         self.records: Iterator[Record] = map(Record.of, graphs)
         self.layout_of = Layout.of

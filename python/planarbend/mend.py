@@ -1,8 +1,8 @@
-"""Mends boxes that are no rectangles: pieces of edges may bend free of charge, so that a box need not bend in their place.
+"""Mends boxes that are not rectangles: pieces of edges may bend at no cost, so that a box need not bend instead.
 
-planarbend finds the fewest bends, and a bend of a box counts as one of an edge. Where a cage has a step in a side, the
-edges that leave it between the two corners of the step could bend once each instead. A node of degree 2 lets an edge bend
-for nothing, so that this is the cheaper way.
+planarbend minimises bends, and a bend of a box counts like a bend of an edge. If a cage has a step in a side, the edges
+that leave it between the two corners of the step could bend once each instead. A node of degree 2 lets an edge bend at
+no cost, which makes this cheaper.
 """
 from __future__ import annotations
 
@@ -12,7 +12,7 @@ from collections.abc import Iterable, Iterator, Sequence
 GridPoint = tuple[int, int]
 Sections = Sequence[Sequence[GridPoint]]
 Loose = tuple[tuple[int, int], ...]
-"""Pieces that may bend free of charge, each with how many times."""
+"""Pieces that may bend at no cost, each with its number of bends."""
 
 
 def turns_of(points: Sequence[GridPoint]) -> list[int]:
@@ -25,7 +25,7 @@ def turns_of(points: Sequence[GridPoint]) -> list[int]:
 
 
 def ways_round_cage(sections: Sections) -> Iterator[list[int]]:
-    """Lists of connections of a cage by whose bends it could be a rectangle, each as often as it has to bend.
+    """Lists of connections whose bends could make a cage a rectangle, each as often as it has to bend.
 
     Parameters
     ----------
@@ -82,7 +82,7 @@ def ways_round_spine(sections: Sections, count: int) -> Iterator[list[int]]:
 
 
 def loosened(loose: Loose, pieces: Iterable[int]) -> Loose:
-    """Pieces that may bend free of charge, with one bend more for each of these."""
+    """Pieces that may bend at no cost, with one more bend for each of these."""
     found = dict(loose)
     for piece in pieces:
         found[piece] = found.get(piece, 0) + 1

@@ -1,4 +1,4 @@
-"""Places the names of nets beside their lines, where nothing else is."""
+"""Places the names of nets beside their lines, where there is room."""
 from __future__ import annotations
 
 import itertools
@@ -12,8 +12,8 @@ if TYPE_CHECKING:
     from planarbend.drawn import Box, Drawing
 
 FONT, HEIGHT = 10, 12  # pixels
-AWAY = 3.0  # pixels, from the line that a name belongs to
-ROOM = 2.0  # pixels, from all else
+AWAY = 3.0  # pixels, from the line to which a name belongs
+ROOM = 2.0  # pixels, from everything else
 STEP = 12.0  # pixels, between the places that are tried along a line
 
 
@@ -27,7 +27,7 @@ def net_labels(drawing: Drawing) -> dict[int, Box]:
     Returns
     -------
     dict from vertex to Box
-        A box for each net with a label, but for those beside whose lines there is no room.
+        A box for each net with a label, if there is room for it beside the lines of the net.
     """
     ends = ends_of(drawing)
     nets = [number for number in ends if drawing.graph.vertices[number].label]
@@ -56,7 +56,7 @@ def net_labels(drawing: Drawing) -> dict[int, Box]:
 
 
 def longest_first(piece: Box) -> float:
-    """Sorts straight pieces."""
+    """A sort key for straight pieces."""
     return piece[0] + piece[1] - piece[2] - piece[3]
 
 
@@ -81,6 +81,6 @@ def steps(first: float, last: float) -> list[float]:
 
 
 def near(place: Box) -> Callable[[Box], bool]:
-    """Whether a box comes near this place."""
+    """A test whether a box is near this place."""
     left, top, right, bottom = place[0] - ROOM, place[1] - ROOM, place[2] + ROOM, place[3] + ROOM
     return lambda box: box[0] < right and box[2] > left and box[1] < bottom and box[3] > top

@@ -1,7 +1,7 @@
-"""An expansion as it is handed to planarbend: its nodes in some order, and with one of its faces as the outer one.
+"""An expansion as it is passed to planarbend: with its nodes in some order, and one of its faces as the outer face.
 
-planarbend takes at most 255 nodes. Where an expansion has more, vertices of degree 2 are left out: each of them is put back
-in the middle of the line that takes its place.
+planarbend takes at most 255 nodes. If an expansion has more, vertices of degree 2 are left out; each is later put back
+in the middle of the line that replaces it.
 """
 from __future__ import annotations
 
@@ -17,19 +17,19 @@ Paths = dict[Dart, list[GridPoint]]
 Around = dict[int, list[int]]
 """For each node its neighbours, clockwise."""
 Runs = dict[Dart, list[int]]
-"""For two nodes that are joined the nodes between them that are left out, in order; both ways."""
+"""For two joined nodes, the nodes between them that are left out, in order; in both directions."""
 
 
 @dataclass(frozen=True, slots=True)
 class Form:
-    """An expansion as it is handed to planarbend.
+    """An expansion as it is passed to planarbend.
 
     Attributes
     ----------
     lists : neighbour lists
     order : list of int
-        The node that each vertex stands for. Those of the tail that makes a face the largest stand for none: they have
-        numbers above all nodes.
+        The node of each vertex. The vertices of the tail that makes a face the longest have no node: their numbers are
+        above all nodes.
     count : int
         The number of nodes.
     runs : dict from (int, int) to list of int
@@ -45,7 +45,7 @@ class Form:
     divided: tuple[int, int, int] | None = None
 
     def places(self, answer: Answer) -> tuple[list[GridPoint], Paths]:
-        """The place of each node, y downwards, and the points along each piece, one way at least."""
+        """The place of each node, y downwards, and the points along each piece, in at least one direction."""
         scale = 1 + max(map(len, self.runs.values()), default=0)
         points = [(0, 0)] * (max(self.count, max(self.order) + 1))
         for node, (x, y) in zip(self.order, answer.points):
@@ -86,12 +86,12 @@ def put_back(points: list[GridPoint], paths: Paths, nodes: list[int], whole: lis
 
 
 def contracted(expansion: Expansion, room: int = 0, kept: Sequence[int] = ()) -> tuple[Around, Runs]:
-    """The nodes of an expansion, without as many vertices of degree 2 as are too many.
+    """The nodes of an expansion, without some vertices of degree 2 if there are too many nodes.
 
     Parameters
     ----------
     room : int
-        The number of further vertices that there must be room for.
+        The number of further vertices that must fit.
     kept : sequence of int
         Nodes that are not left out.
     """
@@ -155,8 +155,8 @@ def outer_forms(expansion: Expansion, outer: Sequence[int] = ()) -> Iterator[For
 
 
 def form_with_outer(expansion: Expansion, walk: list[Dart], most: int) -> Form | None:
-    """A form of which `first` takes this face: the face begins with the first dart, and has a tail where others are
-    longer. None if that takes too many vertices."""
+    """A form of which `first` takes this face: the face begins with the first dart, and has a tail if others are
+    longer. None if this takes too many vertices."""
     count = len(expansion.around)
     if len(walk) == most:
         around, runs = contracted(expansion)
@@ -181,7 +181,7 @@ def form_with_outer(expansion: Expansion, walk: list[Dart], most: int) -> Form |
 
 
 def tail_needed(around: Around, tail: int, head: int) -> int:
-    """How long a tail makes the face to the left of a piece the longest."""
+    """The length of a tail that makes the face to the left of a piece the longest."""
     names = list(around)
     plane = Plane(numbered(around, names, {}).lists)
     dart = plane.darts.index((names.index(tail) + 1, names.index(head) + 1))

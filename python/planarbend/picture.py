@@ -14,7 +14,7 @@ from planarbend.texts import FAMILY, FONT, LINE_HEIGHT, lines_of, xml_text
 STROKE = 1.6  # pixels, of lines
 INK, LINE = "#1d2733", "#3f5873"
 FILL, PART_FILL, FLAG_FILL = "#f4f7fb", "#fdf6e3", "#e3f1e4"
-FILLS = {Kind.VERTEX: (FILL, 4), Kind.PART: (PART_FILL, 0), Kind.FLAG: (FLAG_FILL, 7)}  # and how round corners are
+FILLS = {Kind.VERTEX: (FILL, 4), Kind.PART: (PART_FILL, 0), Kind.FLAG: (FLAG_FILL, 7)}  # and the radius of the corners
 DOT = 3.5  # pixels, the radius of a dot
 LABEL_FONT, LABEL_HEIGHT = 10, 12
 CONVERTED = {".png": "png", ".pdf": "pdf"}
@@ -63,7 +63,7 @@ def box_elements(drawing: Drawing) -> list[str]:
 
 
 def text_lines(lines: list[str], x: float, y: float, height: float) -> list[str]:
-    """The lines of a text about a point."""
+    """The lines of a text around a point."""
     first = y - (len(lines) - 1) * height / 2
     return [f'<text x="{x:.1f}" y="{first + place * height:.1f}" dy=".35em">{xml_text(line)}</text>'
             for place, line in enumerate(lines) if line]
@@ -114,7 +114,7 @@ def look_at_output(path: str) -> None:
     if not os.path.isdir(folder):
         raise FileNotFoundError(errno.ENOENT, "no such folder", folder)
     if os.path.splitext(path)[1] in CONVERTED:
-        import shutil  # which takes long to load
+        import shutil  # slow to load
 
         if not shutil.which("rsvg-convert"):
             raise NoConverter(f"{path}: needs rsvg-convert (Debian: librsvg2-bin)")
@@ -130,7 +130,7 @@ def write_picture(text: str, path: str, scale: float = 1.0) -> None:
     OSError
         The file's folder is missing, or the file cannot be written.
     """
-    import subprocess  # this, and the next one, take long to load
+    import subprocess  # this and the next module are slow to load
     import tempfile
 
     look_at_output(path)

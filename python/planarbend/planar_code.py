@@ -1,5 +1,5 @@
-"""Reads and writes planar_code, one record at a time, and traces the faces of a record: what split.py, svg.py and
-the scripts of bench/ and checks/ share. Python's standard library alone."""
+"""Reads and writes planar_code, one record at a time, and traces the faces of a record. Shared by split.py, svg.py and
+the scripts of bench/ and checks/. Needs only Python's standard library."""
 from __future__ import annotations
 
 import collections
@@ -18,7 +18,8 @@ Lists = list[list[int]]
 
 
 class Unreadable(Exception):
-    """The bytes are not planar_code to their end; `ending` is the report's word for this ending, `why` says where and why."""
+    """The bytes are not planar_code up to their end; `ending` is the report's word for this, `why` says where and
+    why."""
 
     def __init__(self, ending: str, why: str) -> None:
         super().__init__(f"{ending}: {why}")
@@ -26,9 +27,10 @@ class Unreadable(Exception):
 
 
 def records(source: BinaryIO) -> Iterator[bytes]:
-    """Yield the bytes of each whole record of a stream, in order. It holds one record and one piece of the stream.
+    """Yield the bytes of each complete record of a stream, in order. Memory holds one record and one piece of the
+    stream.
 
-    Raises `Unreadable` after the last whole record if the stream does not end there; its ending is then `header`,
+    Raises `Unreadable` after the last complete record if the stream does not end there; its ending is then `header`,
     `truncated`, `large` or `oversize`.
     """
     if source.read(len(HEADER)) != HEADER:
@@ -49,7 +51,7 @@ def records(source: BinaryIO) -> Iterator[bytes]:
         if not piece:
             break
     if held:
-        raise Unreadable("truncated", f"record {number}, which begins at byte {offset}, is cut off")
+        raise Unreadable("truncated", f"record {number}, which begins at byte {offset}, is truncated")
 
 
 def split(text: bytes) -> tuple[list[bytes], str]:
@@ -70,7 +72,7 @@ def end_of_record(held: bytes, start: int) -> int | None:
     if start == len(held):
         return None
     if held[start] == 0:
-        raise Unreadable("large", "a byte 0 stands where a number of vertices should (two-byte form, or noise)")
+        raise Unreadable("large", "byte 0 where a number of vertices is expected (two-byte form, or a damaged file)")
     end = start + 1
     for _ in range(held[start]):
         zero = held.find(0, end, end + MOST_NEIGHBOURS + 1)
@@ -88,13 +90,13 @@ def lists_of(record: bytes) -> Lists:
 
 
 def record_of(lists: Iterable[Iterable[int]]) -> bytes:
-    """The record of such neighbour lists."""
+    """Return the record with these neighbour lists."""
     ended = [bytes(neighbours) + b"\0" for neighbours in lists]
     return bytes([len(ended)]) + b"".join(ended)
 
 
 class Plane:
-    """The darts, edges and faces of neighbour lists that break no rule, numbered as docs/JSON.md says."""
+    """The darts, edges and faces of neighbour lists that break no rule, numbered as in docs/JSON.md."""
 
     def __init__(self, lists: Lists) -> None:
         self.vertices = len(lists)

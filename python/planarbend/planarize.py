@@ -1,8 +1,8 @@
 """Makes a graph planar: crossings become vertices of degree 4.
 
-What is planar is embedded as it is. Of the rest each block (what no single vertex cuts) has its crossings apart: of
-its core (`core`), a large planar subgraph is embedded, each further edge is put in along a shortest path of the dual
-graph, and edges and vertices are moved where they cross less (`reinsert`).
+What is planar is embedded as it is. The crossings of each other block (a part that no single vertex cuts) are found
+separately: a large planar subgraph of its core (`core`) is embedded, each further edge is inserted along a shortest
+path of the dual graph, and edges and vertices are moved to places with fewer crossings (`reinsert`).
 """
 from __future__ import annotations
 
@@ -22,15 +22,15 @@ if TYPE_CHECKING:
 STARTS = 8
 """Number of first embeddings that are improved, for each unit of effort."""
 PATIENCE = 2
-"""Number of rounds in turn without success after which an embedding is left as it is."""
+"""Number of consecutive rounds without success after which an embedding is left as it is."""
 WORK = 12_000_000
-"""Number of darts to pass for each block and unit of effort (some ten seconds), after which no more is tried."""
+"""Number of darts to pass for each block and unit of effort (about ten seconds), after which the search ends."""
 EASY = 25_000
-"""Number of darts to pass without a planarity test: some of the time that loading networkx takes."""
+"""Number of darts to pass without a planarity test: part of the time that loading networkx takes."""
 TEST = 64
 """Work of a planarity test for each edge, in darts."""
 HOPELESS = 6
-"""How many times the allowed crossings a first embedding may have: improving it divides them by three at most."""
+"""A first embedding may have this many times the allowed crossings: improving it divides them by three at most."""
 MOST_TESTS = 100
 """Number of planarity tests for one first embedding."""
 
@@ -40,8 +40,8 @@ class Planarization:
     """An embedded planar graph that stands for another graph with crossings.
 
     Vertices below `vertex_count` are those of the graph; each further one is a crossing. Piece p has two darts: 2p
-    leaves `pieces[p][0]` and 2p + 1 leaves `pieces[p][1]`; so `dart ^ 1` is the way back. Two pieces may join the same
-    vertices.
+    leaves `pieces[p][0]` and 2p + 1 leaves `pieces[p][1]`; so `dart ^ 1` is the reverse of `dart`. Two pieces may join
+    the same vertices.
 
     Attributes
     ----------
@@ -50,8 +50,8 @@ class Planarization:
     pieces : list of (int, int)
         The ends of each piece.
     rotation : list of list of int
-        For each vertex and crossing the darts that leave it, in clockwise order. At a crossing the darts of the two
-        edges take turns.
+        For each vertex and crossing, the darts that leave it, in clockwise order. At a crossing, the darts of the two
+        edges alternate.
     chains : list of list of int
         For each edge of the graph its darts, from its tail to its head.
     """
@@ -73,13 +73,14 @@ class TooManyCrossings(Exception):
     Attributes
     ----------
     crossings : int
-        How many the best one has that was found, or any must have.
+        The number of the best one that was found, or a lower bound for every one.
     must : bool
-        Whether any planarization has so many.
+        Whether every planarization has at least this many.
     """
 
     def __init__(self, crossings: int, must: bool = False) -> None:
-        super().__init__(f"at least {crossings} crossings" if must else f"{crossings} or more crossings, as far as was tried")
+        super().__init__(f"at least {crossings} crossings" if must else
+                         f"{crossings} or more crossings in each attempt")
         self.crossings, self.must = crossings, must
 
 
@@ -95,17 +96,17 @@ def planarize(vertex_count: int, edges: Sequence[tuple[int, int]], *, effort: in
         Vertices are 0 to `vertex_count` - 1.
     edges : sequence of (int, int)
         The edges. Loops, and several edges between the same vertices, are allowed. The graph need not be connected:
-        then each connected part is embedded apart, and the faces of one part say nothing of another.
+        then each connected part is embedded separately, and the faces of different parts are unrelated.
     effort : int
-        How long to look for fewer crossings: 0 for not at all, 1 by default. The result depends on it and on the seed
-        alone.
+        How long to search for fewer crossings: 0 is not at all, 1 is the default. The result depends only on this and
+        on the seed.
     seed : int
         Seed of the random choices.
     together : sequence of int
         Vertices that must all lie on one face of the result; those of each connected part on one face of that part.
     most : int, optional
-        The number of crossings above which a result is of no use. Where it is certain or likely to be passed, this ends
-        early.
+        The number of crossings above which a result is useless. The search ends early if this number is certain or
+        likely to be exceeded.
 
     Returns
     -------
@@ -132,7 +133,7 @@ def planarize(vertex_count: int, edges: Sequence[tuple[int, int]], *, effort: in
     around = around or _planar(count, ends)
     if around is not None:
         return _read(vertex_count, count, ends, around)[0]
-    from .core import core_of  # which takes a while to load
+    from .core import core_of  # slow to load
 
     crossed: list[list[int]] = [[] for _ in ends]
     made = 0
@@ -147,9 +148,9 @@ def planarize(vertex_count: int, edges: Sequence[tuple[int, int]], *, effort: in
 
 
 def needed_crossings(vertex_count: int, edges: Sequence[tuple[int, int]]) -> int:
-    """A number of crossings that no drawing of the graph can do without.
+    """A lower bound for the crossings of every drawing of the graph.
 
-    By Euler's formula, and by the crossing lemma in the form of Ackerman (2019) for seven and more edges a vertex.
+    By Euler's formula, and by the crossing lemma in the form of Ackerman (2019) for seven or more edges per vertex.
     """
     count = len({(min(pair), max(pair)) for pair in edges if pair[0] != pair[1]})
     needed = count - (3 * vertex_count - 6) if vertex_count > 2 else 0
@@ -159,8 +160,9 @@ def needed_crossings(vertex_count: int, edges: Sequence[tuple[int, int]]) -> int
 
 
 def _certainly_least(vertex_count: int, ends: Sequence[tuple[int, int]], seed: int) -> Planarization | None:
-    """An embedding with as many crossings as Euler's formula asks for, so that no other has fewer, of a graph that has none
-    without; found without a planarity test. `None` if some work finds none, or there are loops or parallel edges.
+    """An embedding with as many crossings as Euler's formula requires, so that no other has fewer, of a graph that is
+    not planar; found without a planarity test. `None` if a short search finds none, or there are loops or parallel
+    edges.
     """
     if len({frozenset(pair) for pair in ends if pair[0] != pair[1]}) < len(ends):
         return None
@@ -180,8 +182,8 @@ def _certainly_least(vertex_count: int, ends: Sequence[tuple[int, int]], seed: i
 
 
 def needed_by_cycles(vertex_count: int, ends: Sequence[tuple[int, int]]) -> int:
-    """A number of crossings that no drawing of a simple graph can do without: by Euler's formula a planar graph without cycles
-    shorter than g has at most g (n - 2) / (g - 2) edges, and with one edge less for each crossing the graph is planar."""
+    """A lower bound for the crossings of a simple graph: by Euler's formula, a planar graph without cycles shorter than
+    g has at most g (n - 2) / (g - 2) edges, and removing one edge for each crossing makes the graph planar."""
     joined: list[list[int]] = [[] for _ in range(vertex_count)]
     for tail, head in ends:
         joined[tail].append(head)
@@ -193,8 +195,8 @@ def needed_by_cycles(vertex_count: int, ends: Sequence[tuple[int, int]]) -> int:
 
 
 def _shortest_cycle(joined: Sequence[Sequence[int]], start: int) -> int:
-    """The length of a shortest cycle through a vertex of a simple graph, or of one that is no longer; more than the number of
-    vertices if none is found."""
+    """The length of a shortest cycle through a vertex of a simple graph, or of a cycle that is no longer; more than the
+    number of vertices if none is found."""
     distance, parent = {start: 0}, {start: start}
     waiting, shortest = [start], len(joined) + 1
     for vertex in waiting:
@@ -213,7 +215,7 @@ def _joined(vertex_count: int, ends: list[tuple[int, int]], together: list[int]
     part = list(range(vertex_count))
 
     def root(vertex: int) -> int:
-        """The vertex that stands for a part."""
+        """The representative vertex of a part."""
         while part[vertex] != vertex:
             part[vertex] = vertex = part[part[vertex]]
         return vertex
@@ -275,7 +277,7 @@ class _Starts:
     Attributes
     ----------
     work : int
-        Darts that the planarity tests passed so far, as `Reinsertion.work` counts.
+        Darts that the planarity tests have passed so far, counted as in `Reinsertion.work`.
     """
 
     def __init__(self, core: Core, seed: int) -> None:
@@ -284,7 +286,7 @@ class _Starts:
         self.work = 0
 
     def next(self, limit: int = sys.maxsize) -> Reinsertion:
-        """One more embedding, with the work that it took.
+        """Another embedding, with the work that it took.
 
         Raises
         ------
@@ -310,7 +312,7 @@ class _Starts:
     def _planar_part(self, order: Sequence[int]) -> list[list[int]]:
         """The embedding of a large planar subgraph: a tree, then further edges in order while it stays planar.
 
-        Edges are tried many at once, and by halves where they are too many. After `MOST_TESTS` the rest is left out.
+        Many edges are tried at once, and halves of them if this fails. After `MOST_TESTS` tests the rest is left out.
         """
         core = self.core
         count = len(core.vertices)
@@ -359,7 +361,7 @@ def _least(core: Core, effort: int, seed: int, limit: int) -> Reinsertion:
     Raises
     ------
     TooManyCrossings
-        If the first start has so many more crossings than the limit that no search would bring it there.
+        If the first start has far more crossings than the limit, so that no search would reach it.
     """
     starts = _Starts(core, seed)
     best = starts.next(HOPELESS * max(limit, 1))
@@ -378,7 +380,7 @@ def _least(core: Core, effort: int, seed: int, limit: int) -> Reinsertion:
 
 
 def _unfold(core: Core, rotation: Rotation, crossed: list[list[int]], made: int) -> int:
-    """Writes the crossings of a core's folded edges to the edges of the graph; the number of crossings so far.
+    """Writes the crossings of a core's folded edges to the edges of the graph. Returns the number of crossings so far.
 
     Parameters
     ----------
@@ -415,12 +417,12 @@ def _unfold(core: Core, rotation: Rotation, crossed: list[list[int]], made: int)
 
 def _embedded(vertex_count: int, count: int, ends: Sequence[tuple[int, int]], crossed: list[list[int]]
               ) -> Planarization:
-    """The embedding of the graph whose edges cross as told.
+    """The embedding of the graph with the given crossings.
 
     Parameters
     ----------
     count
-        Number of vertices, with those from ``vertex_count`` on to be left out of the result.
+        Number of vertices, including those from ``vertex_count`` on, which are left out of the result.
     """
     while True:
         numbers = sorted({crossing for found in crossed for crossing in found})

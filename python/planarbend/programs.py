@@ -1,4 +1,4 @@
-"""The program planarbend: where it is, and what goes wrong with a run."""
+"""The program planarbend: its path, and the errors of its runs."""
 from __future__ import annotations
 
 import os
@@ -6,7 +6,7 @@ import os
 ROOT = os.path.dirname(os.path.dirname(os.path.dirname(os.path.abspath(__file__))))
 BUILT = os.path.join(ROOT, "crates/planarbend/out/planarbend")
 SCRIPT = os.path.join(ROOT, "planarbend")
-INSTALLED = os.path.join(os.path.dirname(os.path.dirname(ROOT)), "bin/planarbend")  # where --install put it with this package
+INSTALLED = os.path.join(os.path.dirname(os.path.dirname(ROOT)), "bin/planarbend")  # where --install puts it
 
 
 class PlanarbendError(Exception):
@@ -33,7 +33,7 @@ def program() -> str:
         if path and is_program(path):
             return os.path.abspath(path)
     if not named:
-        import shutil  # which takes long to load
+        import shutil  # slow to load
 
         found = shutil.which("planarbend")
         if found and is_program(found):

@@ -1,12 +1,12 @@
-"""Fewer crossings by reinsertion: edges and vertices are taken out of an embedding and put back where they cross least.
+"""Fewer crossings by reinsertion: edges and vertices are removed from an embedding and put back where they cross least.
 
 An edge goes back along a shortest path of the dual graph (Gutwenger and Mutzel 2004, with the embedding as it is), a
 vertex into the face from which the sum of such paths to its neighbours is least (after Clancy, Haythorpe and Newcombe
 2019). Neither ever adds a crossing. Where several places are equally good, one is chosen at random, which lets the
 embedding drift.
 
-Work is counted in darts that a search of the dual graph passes, never in seconds, so that the same seed gives the
-same embedding.
+Work is counted in darts that a search of the dual graph passes, not in seconds, so the same seed gives the same
+embedding.
 """
 from __future__ import annotations
 
@@ -68,14 +68,14 @@ class Reinsertion:
     # Distances
 
     def distances(self, vertex: int, goals: Sequence[int] = ()) -> list[int]:
-        """For each face the weight of the edges to cross from a vertex to it, `FAR` where no path goes.
+        """For each face the weight of the edges to cross from a vertex to it, `FAR` if there is no path.
 
         With ``goals``, faces farther than the nearest of these may be left out.
         """
         return self._by_steps(vertex, goals) if self.unit else self._by_weights(vertex, goals)
 
     def _by_steps(self, vertex: int, goals: Sequence[int]) -> list[int]:
-        """Distances where each edge that may be crossed has the weight 1: a breadth-first search."""
+        """Distances if each edge that may be crossed has weight 1: a breadth-first search."""
         rotation, weights = self.rotation, self.weights
         onward, back, face, corner, edge = (
             rotation.onward, rotation.back, rotation.face, rotation.corner, rotation.edge)
@@ -113,7 +113,7 @@ class Reinsertion:
         return distance
 
     def _by_weights(self, vertex: int, goals: Sequence[int]) -> list[int]:
-        """Distances with weights: Dial's buckets."""
+        """Distances with weights, by Dial's algorithm."""
         rotation, weights = self.rotation, self.weights
         onward, back, face, corner, edge = (
             rotation.onward, rotation.back, rotation.face, rotation.corner, rotation.edge)
@@ -180,12 +180,12 @@ class Reinsertion:
     # Moves
 
     def take(self, edge: int) -> None:
-        """Takes an edge out."""
+        """Removes an edge."""
         self.cost -= self.cost_of(edge)
         self.rotation.remove(edge)
 
     def put(self, edge: int) -> None:
-        """Puts an edge in along a shortest path between its ends, which have other edges."""
+        """Inserts an edge along a shortest path between its ends, which have other edges."""
         rotation = self.rotation
         tail, head = rotation.ends[edge]
         goals = sorted({rotation.face[dart] for dart in rotation.around(head)})
@@ -199,7 +199,7 @@ class Reinsertion:
         rotation.insert(edge, self._corner(tail, from_face), crossed, self._corner(head, goal))
 
     def put_at(self, edge: int, vertex: int, face: int, distance: list[int]) -> None:
-        """Puts the first edge of a vertex in, from a face, by the distances from the edge's other end."""
+        """Inserts the first edge of a vertex, from a face, by the distances from the edge's other end."""
         rotation = self.rotation
         tail, head = rotation.ends[edge]
         crossed = self.path(distance, face)
@@ -218,19 +218,19 @@ class Reinsertion:
         return corners[int(self.dice.random() * len(corners))] if len(corners) > 1 else corners[0]
 
     def move_edge(self, edge: int) -> None:
-        """Takes an edge out and puts it back."""
+        """Removes an edge and puts it back."""
         self.take(edge)
         self.put(edge)
 
     def move_vertex(self, vertex: int) -> None:
-        """Takes a vertex out with its edges and puts it back."""
+        """Removes a vertex with its edges and puts it back."""
         edges = self.at[vertex]
         for edge in edges:
             self.take(edge)
         self.put_vertex(vertex, edges)
 
     def put_vertex(self, vertex: int, edges: Sequence[int]) -> None:
-        """Puts a vertex in with these of its edges, whose other ends have further edges."""
+        """Inserts a vertex with these of its edges, whose other ends have further edges."""
         totals: list[int] = [0] * len(self.rotation.corner)
         near: list[list[int]] = []
         for edge in edges:
@@ -247,9 +247,9 @@ class Reinsertion:
             self.put(edge)
 
     def put_all(self) -> None:
-        """Puts all vertices of an embedding of no edge in, that one first which has most neighbours there."""
+        """Inserts all vertices into an embedding without edges, each time the one with the most embedded neighbours."""
         rotation, chance = self.rotation, self.dice.random
-        placed = [0] * rotation.vertex_count  # neighbours that are in
+        placed = [0] * rotation.vertex_count  # neighbours that are embedded
         waiting = dict.fromkeys(range(rotation.vertex_count))
         while waiting:
             vertex = max(waiting, key=lambda vertex: (placed[vertex], len(self.at[vertex]), chance()))
@@ -266,9 +266,9 @@ class Reinsertion:
                 self.put_vertex(vertex, edges)
 
     def improve(self, patience: int, most_work: int) -> None:
-        """Moves all vertices and edges in random order, again and again.
+        """Moves all vertices and edges in random order, repeatedly.
 
-        Ends after this many rounds in turn that save no crossing, or with a move after which `work` is above
+        Ends after this many consecutive rounds that save no crossing, or with a move after which `work` is above
         ``most_work``.
         """
         edges = [edge for edge in range(len(self.rotation.ends)) if self.weights[edge] != FIXED]

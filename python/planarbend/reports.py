@@ -1,5 +1,5 @@
-"""Reads what planarbend prints, a line at a time: reports of `layout` and of `frames`, and JSON lines. What collect.py,
-svg.py and the scripts of bench/ and checks/ share. Python's standard library alone."""
+"""Reads what planarbend prints, line by line: reports of `layout` and of `frames`, and JSON Lines. Shared by
+collect.py, svg.py and the scripts of bench/ and checks/. Needs only Python's standard library."""
 from __future__ import annotations
 
 import dataclasses
@@ -35,7 +35,7 @@ class File:
 
 @dataclasses.dataclass(frozen=True)
 class Record:
-    """The line that `frames` has for a record."""
+    """The line of `frames` for a record."""
     number: int
     vertices: int
     size: int
@@ -51,11 +51,11 @@ class Record:
 
 @dataclasses.dataclass(frozen=True)
 class Graph:
-    """The line of one graph: its size and fewest bends, or the rule that it breaks, or neither if memory ran out."""
+    """The line of one graph: its size and fewest bends, the rule that it breaks, or neither if memory ran out."""
     number: int
     size: tuple[int, int, int] | None = None  # vertices, edges, faces
     bends: int | None = None
-    drawn: str | None = None  # yes, or the cause why it is not drawn
+    drawn: str | None = None  # yes, or why it is not drawn
     rule: str | None = None
 
     @property
@@ -74,7 +74,7 @@ class Graph:
 
 @dataclasses.dataclass(frozen=True)
 class End:
-    """The last line of a file: how it ends, and how many graphs, or records, it has."""
+    """The last line of a file: its ending, and its number of graphs or records."""
     ending: str
     count: int
     of: str = "graphs"
@@ -87,7 +87,7 @@ Line = File | Record | Graph | End
 
 
 def line_of(text: str) -> Line:
-    """Return what a line of a report says, given without its line end. Raises `NoLine` if it is not such a line."""
+    """Return the entry in a line of a report, given without its line end. Raises `NoLine` if it is not such a line."""
     if match := RECORD.fullmatch(text):
         return Record(*map(int, match.groups()))
     if match := FILE.fullmatch(text):
@@ -96,15 +96,15 @@ def line_of(text: str) -> Line:
         return End(match[1], int(match[3]), match[2])
     graph = figures_of(text)
     if graph.size is not None and graph.drawn is None:
-        raise NoLine(f"a line that says nothing of a drawing: {text[:80]!r}")
+        raise NoLine(f"a line without `drawn`: {text[:80]!r}")
     return graph
 
 
 def figures_of(text: str) -> Graph:
-    """Return what the line of a graph says. The line may end after the bends, as other programs print it."""
+    """Return the entry in the line of a graph. The line may end after the bends, as other programs print it."""
     match = GRAPH.fullmatch(text)
     if match is None:
-        raise NoLine(f"a line that no report has: {text[:80]!r}")
+        raise NoLine(f"not a line of a report: {text[:80]!r}")
     number, vertices, edges, faces, bends, yes, cause, rule = match.groups()
     if vertices is None:
         return Graph(int(number), rule=rule)
@@ -119,12 +119,12 @@ def json_line(text: str) -> dict[str, Any]:
         if list(line) != KEYS.get(status) or not isinstance(line["file"], int):
             raise ValueError
     except (ValueError, AttributeError, TypeError):
-        raise NoLine(f"a line that no JSON lines have: {text[:80]!r}") from None
+        raise NoLine(f"not a JSON line of planarbend: {text[:80]!r}") from None
     return line
 
 
 def of_json(line: dict[str, Any]) -> Graph | End:
-    """Return what the object of a JSON line says, as a line of the report."""
+    """Return the entry in the object of a JSON line, as for a line of the report."""
     if "end" in line:
         return End(line["end"], int(line["graphs"]))
     if line["status"] == "ok":

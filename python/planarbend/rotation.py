@@ -2,8 +2,8 @@
 
 Each edge is a chain of *pieces*, cut where other edges cross it. Piece ``p`` is the pair of darts ``2 p`` and
 ``2 p + 1`` (``h ^ 1`` is the twin of ``h``); a dart leaves ``origin[h]`` and has ``face[h]`` on its left. Two
-edges cross in a *crossing*: a vertex of degree 4, numbered from ``vertex_count`` up, through which each of the two
-goes straight on. All state is in flat lists of integers, which a caller may read; only the methods write them.
+edges cross in a *crossing*: a vertex of degree 4, numbered from ``vertex_count`` up, which each of the two
+passes straight. All state is in flat lists of integers, which callers may read; only the methods write them.
 
 Turning counter-clockwise about a vertex, ``back[h] ^ 1`` follows ``h``; turning clockwise, ``onward[h ^ 1]`` does.
 """
@@ -31,7 +31,7 @@ class Rotation:
     ----------
     origin, onward, back, face : list of int
         For each dart: the vertex it leaves, the next and the previous dart of the face on its left, and that
-        face. ``face`` is `NONE` where the dart is unused.
+        face. ``face`` is `NONE` if the dart is unused.
     leaving : list of int
         For each vertex and crossing a dart that leaves it, `NONE` without edges, `FREE` for an unused crossing.
     corner : list of int
@@ -74,7 +74,7 @@ class Rotation:
         Raises
         ------
         ValueError
-            An edge is at one of its ends alone, or at a vertex that is not its end.
+            An edge is listed at only one of its ends, or at a vertex that is not its end.
         """
         made = cls(vertex_count, ends)
         piece = [NONE] * len(made.ends)
@@ -91,7 +91,7 @@ class Rotation:
                 made.back[last], made.onward[dart ^ 1] = dart ^ 1, last
                 made.leaving[vertex] = dart
         if any(dart == NONE for dart in made.back):
-            raise ValueError("an edge is embedded at one of its ends alone")
+            raise ValueError("an edge is listed at only one of its ends")
         made.name_faces()
         return made
 
@@ -122,7 +122,7 @@ class Rotation:
                 return
 
     def straight(self, dart: int) -> int:
-        """The dart that goes straight on where ``dart`` ends in a crossing."""
+        """The dart that continues ``dart`` straight through the crossing at its end."""
         back = self.back
         return back[back[dart ^ 1] ^ 1] ^ 1
 
@@ -158,7 +158,7 @@ class Rotation:
         Raises
         ------
         AssertionError
-            Something is wrong, in words.
+            Something is wrong; the message says what.
         """
         used = [dart for dart in range(len(self.origin)) if self.face[dart] != NONE]
         for dart in used:
@@ -239,7 +239,7 @@ class Rotation:
         self.start[edge] = piece if first == NONE else first
 
     def remove(self, edge: int) -> None:
-        """Takes an embedded edge out, and undoes its crossings."""
+        """Removes an embedded edge, and undoes its crossings."""
         darts = self.chain(edge)
         meetings = [self.origin[dart] for dart in darts[1:]]
         for dart in darts:
@@ -256,12 +256,12 @@ class Rotation:
                 self.edge[:], self.start[:], self.free_pieces[:], self.free_faces[:], self.free_crossings[:])
 
     def restore(self, saved: tuple[list[int], ...]) -> None:
-        """Goes back to a state of `save`, which can be used again."""
+        """Returns to a state of `save`. The state can be restored again."""
         (self.origin[:], self.onward[:], self.back[:], self.face[:], self.leaving[:], self.corner[:], self.edge[:],
          self.start[:], self.free_pieces[:], self.free_faces[:], self.free_crossings[:]) = saved
 
     def _new_piece(self, edge: int, tail: int, head: int) -> int:
-        """A piece without place."""
+        """A new piece, not yet in a face."""
         if self.free_pieces:
             piece = self.free_pieces.pop()
             self.origin[2 * piece], self.origin[2 * piece + 1] = tail, head
@@ -275,7 +275,7 @@ class Rotation:
         return len(self.edge) - 1
 
     def _new_face(self, dart: int) -> int:
-        """A face with a dart."""
+        """A new face with this dart."""
         if self.free_faces:
             face = self.free_faces.pop()
             self.corner[face] = dart
@@ -294,7 +294,7 @@ class Rotation:
                 return
 
     def _split(self, dart: int) -> int:
-        """Cuts a piece in two by a new crossing; the dart that leaves it onward, with the face of ``dart``.
+        """Cuts a piece in two by a new crossing. Returns the dart that leaves it onward, with the face of ``dart``.
 
         ``dart`` then ends at the crossing, and its twin leaves it.
         """
@@ -326,7 +326,7 @@ class Rotation:
         return ahead
 
     def _join(self, edge: int, tail: int, tail_corner: int, head: int, head_corner: int) -> int:
-        """A new piece between two corners; its dart from tail to head."""
+        """Adds a piece between two corners. Returns its dart from tail to head."""
         if tail == head:
             raise ValueError("a loop cannot be embedded")
         ahead = 2 * self._new_piece(edge, tail, head)
@@ -365,7 +365,7 @@ class Rotation:
         return ahead
 
     def _cut(self, dart: int) -> None:
-        """Takes a piece out."""
+        """Removes a piece."""
         onward, back, face = self.onward, self.back, self.face
         twin = dart ^ 1
         kept, other = face[dart], face[twin]
@@ -402,7 +402,7 @@ class Rotation:
                 self._label(twin_after, self._new_face(twin_after))
 
     def _smooth(self, crossing: int) -> None:
-        """Makes one piece of the two that are left at a crossing."""
+        """Joins the two pieces that are left at a crossing."""
         dart = self.leaving[crossing]
         other = self.back[dart] ^ 1
         onward, back = self.onward, self.back

@@ -1,4 +1,4 @@
-"""Cuts a planar_code file into parts, so that several machines can take some each."""
+"""Cuts a planar_code file into parts, so that several machines can share them."""
 from __future__ import annotations
 
 import argparse
@@ -9,19 +9,19 @@ from typing import BinaryIO
 from planarbend.planar_code import HEADER, Unreadable, records
 
 TEXT = """\
-Reads FILE once, from front to back, holds one record of it at a time, and writes FOLDER/NAME-0001.pc,
-FOLDER/NAME-0002.pc and so on, each with at most K records in the file's order. What cannot be cut (a file
-without the header, a record that is cut off, noise) is named on standard error; all whole records before it
-are in the parts, and it is in none.
+Reads FILE once from beginning to end, one record at a time, and writes FOLDER/NAME-0001.pc, FOLDER/NAME-0002.pc
+and so on, each with at most K records, in the order of the file. If the file is not planar_code up to its end (it lacks
+the header, a record is truncated, or its bytes are not a record), standard error says where. The parts then have all
+complete records before that place, and nothing after it.
 
-Needs Python's standard library alone. A million graphs of 8 vertices, 31 MB, take some ten seconds.
+Needs only Python's standard library. A million graphs of 8 vertices (31 MB) take about ten seconds.
 
-A part gets its name once it is whole. It replaces a file of the same name; older parts with higher numbers
-stay, so take an empty folder.
+A part appears under its name only when it is complete. It replaces a file of the same name. Older parts with
+higher numbers are not deleted, so use an empty folder.
 """
 STATUSES = """\
-status: 0 where the whole file was cut; 3 where it was cut up to something that is named; 1 where a file cannot
-be read or written; 2 where the command line is refused
+exit status: 0 if the whole file was cut; 3 if it was cut up to an error in it, which standard error names; 1 if a
+file cannot be read or written; 2 if the command line is wrong
 """
 
 
@@ -32,11 +32,11 @@ class Parts:
         self.stem = os.path.join(folder, name)
         self.most = most
         self.count = 0  # parts begun
-        self.held = 0  # records in the part that is open
+        self.held = 0  # records in the open part
         self.part: BinaryIO | None = None
 
     def add(self, record: bytes) -> None:
-        """Writes one record to the part that is open, or to a new one where that is full."""
+        """Writes one record to the open part, or to a new one if that is full."""
         if self.part is None or self.held == self.most:
             self.close()
             self.count, self.held = self.count + 1, 0
@@ -46,7 +46,7 @@ class Parts:
         self.held += 1
 
     def close(self) -> None:
-        """Ends the part that is open and gives it its name."""
+        """Closes the open part and gives it its name."""
         if self.part is not None:
             self.part.close()
             os.replace(self.path() + ".part", self.path())
@@ -57,10 +57,10 @@ class Parts:
 
 
 def positive(word: str) -> int:
-    """A whole number from 1."""
+    """A whole number of at least 1."""
     number = int(word)
     if number < 1:
-        raise argparse.ArgumentTypeError("K is at least 1")
+        raise argparse.ArgumentTypeError("K must be at least 1")
     return number
 
 
@@ -68,14 +68,14 @@ def command_line() -> argparse.Namespace:
     parser = argparse.ArgumentParser(description=__doc__ + "\n\n" + TEXT, epilog=STATUSES,
                                      formatter_class=argparse.RawDescriptionHelpFormatter)
     parser.add_argument("file", metavar="FILE", help="the planar_code file, or - for standard input")
-    parser.add_argument("folder", metavar="FOLDER", help="where the parts go; made where it is missing")
+    parser.add_argument("folder", metavar="FOLDER", help="the folder for the parts; created if it does not exist")
     parser.add_argument("-k", "--records", metavar="K", type=positive, default=10_000,
-                        help="at most so many records in a part (10000)")
+                        help="the most records in a part (default 10000)")
     return parser.parse_args()
 
 
 def split(source: BinaryIO, parts: Parts) -> tuple[int, Unreadable | None]:
-    """Cuts a stream into parts: how many records they have, and what could not be cut."""
+    """Cuts a stream into parts. Returns how many records they have, and the error that ended the stream, if any."""
     total, fault = 0, None
     try:
         for record in records(source):

@@ -1,6 +1,6 @@
-"""Gives a shape on the grid its places in pixels: room for names, and no more than that.
+"""Gives a shape on the grid its coordinates in pixels, with room for names and no more.
 
-Everything that has an extent is an item: boxes, labels of edges, and the straight pieces of edges. Along an axis an
+Everything with an extent is an item: boxes, labels of edges, and the straight pieces of edges. Along an axis an
 item lies between two coordinates: that of a piece across the axis, the two sides of a box. Two items are apart by a
 gap along one axis or the other. First x is settled, for items whose rows on the grid overlap; then y, for items that
 overlap in x; then both again, from the places so far. Each time all coordinates take their least values by longest
@@ -46,14 +46,14 @@ class Axis:
     same: list[int] = field(default_factory=list)  # another number of the same coordinate, or its own
 
     def add(self, value: float, rank: float = 0.0) -> int:
-        """Add a coordinate: its number."""
+        """Add a coordinate. Returns its number."""
         self.value.append(value)
         self.rank.append(rank)
         self.same.append(len(self.same))
         return len(self.value) - 1
 
     def find(self, number: int) -> int:
-        """The number that stands for a coordinate."""
+        """The representative number of a coordinate."""
         while self.same[number] != number:
             number = self.same[number]
         return number
@@ -65,7 +65,7 @@ class Axis:
 
 @dataclass(slots=True)
 class Item:
-    """What has an extent: along axis a from coordinate `low[a]` plus `before[a]` to `high[a]` plus `after[a]`."""
+    """A thing with an extent: along axis a from coordinate `low[a]` plus `before[a]` to `high[a]` plus `after[a]`."""
 
     kind: int
     low: list[int]
@@ -78,7 +78,7 @@ class Item:
 
 
 class Sheet:
-    """A shape that gets its places."""
+    """A shape that gets its coordinates."""
 
     def __init__(self, shape: Shape, graph: Graph, font_lines: bool = True) -> None:
         self.shape, self.graph = shape, graph
@@ -108,8 +108,8 @@ class Sheet:
                 self._add_label(number, edge.label)
 
     def _flat(self) -> list[list[int | None]]:
-        """For each vertex and axis where on the grid it lies if it has no extent along that axis: that of a net at one
-        point, or of a net whose lines across the axis all lie on one line."""
+        """For each vertex and axis, its grid coordinate if it has no extent along that axis, as a net at one point, or
+        a net whose lines across the axis are all on one line."""
         ends: list[tuple[set[int], set[int]]] = [(set(), set()) for _ in self.graph.vertices]
         has_loop = set()
         for edge, line in zip(self.graph.edges, self.shape.lines):
@@ -177,7 +177,7 @@ class Sheet:
         self.items += found
 
     def _add_loop(self, number: int) -> None:
-        """Put a loop on the side of its box that has the fewest lines, behind all others there."""
+        """Put a loop on the side of its box that has the fewest lines, after all other lines there."""
         host = self.graph.edges[number].tail
         box = self.boxes[host]
         along, is_low = min(((along, is_low) for along in (0, 1) for is_low in (True, False)),
@@ -268,7 +268,7 @@ class Sheet:
         self.items.append(item)
 
     def _unite(self) -> None:
-        """Give each coordinate the one number that stands for it."""
+        """Replace each coordinate by its representative number."""
         for item in self.items:
             item.low = [axis.find(number) for axis, number in zip(self.axes, item.low)]
             item.high = [axis.find(number) for axis, number in zip(self.axes, item.high)]
@@ -302,7 +302,7 @@ class Sheet:
         along.value = [round(value, 4) for value in solver.value]
 
     def _lengths(self, axis: int) -> list[tuple[int, int, float, float]]:
-        """What is to be short along an axis: pieces of edges, and boxes."""
+        """What should be short along an axis: pieces of edges, and boxes."""
         found = []
         for pieces in self.pieces:
             found += [(piece.low[axis], piece.high[axis], 0.0, 1.0) for piece in pieces if piece.owns[1 - axis]]
@@ -384,7 +384,7 @@ class Sheet:
         return found
 
     def _pull(self, axis: int, solver: Solver) -> None:
-        """Move coordinates to where lines are shorter and boxes no larger than they need be."""
+        """Move coordinates to make lines shorter, and boxes no larger than necessary."""
         other = 1 - axis
         ends: dict[int, list[int]] = {}
         for pieces in self.pieces:
@@ -412,7 +412,7 @@ class Sheet:
                 x[item.high[0]] + item.after[0], y[item.high[1]] + item.after[1])
 
     def bounds(self) -> Box:
-        """The rectangle round all items."""
+        """The rectangle around all items."""
         found = [self.extent(item) for item in self.items]
         return (min(box[0] for box in found), min(box[1] for box in found), max(box[2] for box in found),
                 max(box[3] for box in found))
@@ -446,7 +446,7 @@ class Solver:
         self.place = [0] * count
         for place, number in enumerate(order):
             self.place[number] = place
-        for low, high, distance in constraints:  # those of a box that is no rectangle may run against the order
+        for low, high, distance in constraints:  # those of a box that is not a rectangle may run against the order
             if self.place[low] < self.place[high] and best.get((low, high), -1.0) < distance:
                 best[low, high] = distance
         for (low, high), distance in best.items():
@@ -485,7 +485,7 @@ class Solver:
         self.value = found.value[1:-1]
 
     def move_to(self, number: int, wanted: float) -> None:
-        """Move one coordinate to a place, as far as it may."""
+        """Move one coordinate towards a place, as far as the constraints allow."""
         low, high = self.range(number)
         if low <= high:
             self.value[number] = min(max(wanted, low), high)
@@ -511,7 +511,8 @@ class Solver:
         return high
 
     def move(self, number: int, ends: list[int]) -> None:
-        """Move one coordinate to the middle of those at the other ends of its lines, as far as it may."""
+        """Move one coordinate to the middle of those at the other ends of its lines, as far as the constraints
+        allow."""
         wanted = sorted(self.value[other] for other in ends)
         middle = wanted[len(wanted) // 2] if len(wanted) % 2 else (
             min(max(self.value[number], wanted[len(wanted) // 2 - 1]), wanted[len(wanted) // 2]))
@@ -520,7 +521,7 @@ class Solver:
             self.value[number] = min(max(middle, low), high)
 
     def fit(self, low: int, high: int, lines: list[int], least: float, inset: float) -> None:
-        """Make a box as large as its lines and its name want it, about the middle of its lines."""
+        """Make a box as large as its lines and its name need, about the middle of its lines."""
         first, last = self.least(low, high), self.greatest(high, low)
         inner = [self.value[line] for line in lines]
         start = min(inner) - inset if inner else self.value[low]

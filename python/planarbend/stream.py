@@ -1,4 +1,4 @@
-"""Lays out a stream of planar_code of any length, and gives one report with one count."""
+"""Lays out a stream of planar_code of any length, and writes one report with consecutive numbers."""
 from __future__ import annotations
 
 import argparse
@@ -18,16 +18,16 @@ TEXT = """\
   geng -c -D4 12 | planarg -p | python3 examples/stream.py
   geng -c -D4 12 | planarg -p | python3 examples/stream.py --json --outer best
 
-planarbend reads at most a million graphs of a file. This cuts standard input into parts of so many graphs
-while it runs, hands each to a run of `planarbend layout -` with the options given, and writes what they say as
-one report, or as JSON lines, of one file: graphs are counted on from part to part, and the one last line says
-how the whole stream ends. Memory does not grow with the stream.
+planarbend reads at most a million graphs of a file. This script cuts standard input into parts of K graphs
+while it runs, passes each part to a run of `planarbend layout -` with the given options, and joins their output
+into one report, or JSON Lines, for one file: graph numbers continue from part to part, and the single last line
+gives the ending of the whole stream. Memory does not grow with the stream.
 
-Needs Python's standard library alone.
+Needs only Python's standard library.
 """
 STATUSES = """\
-status: that of planarbend: 0 where the stream is whole and there was memory for each graph; 3 where it ends otherwise,
-as the last line says; 1 after a fault, which is named on standard error; 2 where the command line is refused
+exit status, as that of planarbend: 0 if the stream is complete and every graph is answered, 3 if not; 1 after an
+error, which is printed on standard error; 2 if the command line is wrong
 """
 PIECE = 1 << 20  # bytes read at a time
 NUMBER = {False: re.compile(rb"^graph (\d+)"), True: re.compile(rb'"graph":(\d+)')}
@@ -38,7 +38,7 @@ FIRST_LINE = {False: b"file 1\n", True: b""}
 
 
 class Fault(Exception):
-    """What ends the whole run, and its status."""
+    """An error that ends the whole run, and its exit status."""
 
     def __init__(self, status: int) -> None:
         super().__init__()
@@ -47,18 +47,18 @@ class Fault(Exception):
 
 @functools.cache
 def record_of_order(vertices: int) -> re.Pattern[bytes]:
-    """A whole record of so many vertices."""
+    """The pattern of a complete record with this many vertices."""
     return re.compile(b"%s(?:[^\\0]{0,%d}\\0){%d}" % (re.escape(bytes([vertices])), MOST_NEIGHBOURS, vertices))
 
 
 class Stream:
-    """Standard input behind its header, cut into parts of whole records."""
+    """Standard input after its header, cut into parts of complete records."""
 
     def __init__(self, source: io.BufferedReader) -> None:
         self.source = source
         self.held = b""
         self.is_over = False  # whether the source has ended
-        self.is_noise = False  # whether what is held begins with no record: the rest goes as it is, to be named
+        self.is_noise = False  # whether `held` begins with no record: the rest is passed on as it is, and reported
 
     def read_on(self) -> None:
         piece = self.source.read1(PIECE)
@@ -71,7 +71,7 @@ class Stream:
         return bool(self.held)
 
     def whole(self, most: int) -> tuple[bytes, int]:
-        """The whole records that are held, at most so many, and their number."""
+        """The complete records that are held, at most `most` of them, and their number."""
         start = count = 0
         while count < most and start < len(self.held):
             vertices = self.held[start]
@@ -84,7 +84,7 @@ class Stream:
         return records, count
 
     def feed(self, sink: IO[bytes], most: int) -> None:
-        """Writes the next part, of at most so many records."""
+        """Writes the next part, of at most `most` records."""
         while most > 0 and self.has_more():
             records, count = self.whole(most)
             most -= count
@@ -93,7 +93,7 @@ class Stream:
                 break
             if not count:
                 self.read_on()
-        if most > 0:  # what is no whole record goes to the run that can still take one, which names it
+        if most > 0:  # an incomplete record goes to a run that can take one more, which reports it
             sink.write(self.held)
             self.held = b""
             while self.is_noise and not self.is_over:
@@ -103,18 +103,18 @@ class Stream:
 
 
 class Report:
-    """The one report: the lines of one part after another, counted on."""
+    """The joined report: the lines of each part in turn, with consecutive numbers."""
 
     def __init__(self, sink: IO[bytes], is_json: bool) -> None:
         self.sink, self.is_json = sink, is_json
-        self.graphs = 0  # of the parts that have ended
+        self.graphs = 0  # in the parts that have ended
         self.ending = ""  # of the last part
 
     def begin(self) -> None:
         self.sink.write(FIRST_LINE[self.is_json])
 
     def add(self, lines: IO[bytes]) -> None:
-        """Adds the lines of a part but for its first and its last."""
+        """Adds the lines of a part, except its first and its last."""
         number, base = NUMBER[self.is_json], self.graphs
         for line in lines:
             if line == FIRST_LINE[self.is_json]:
@@ -133,7 +133,7 @@ class Report:
 
 
 def run_part(words: list[str], stream: Stream, report: Report, most: int) -> int:
-    """One run over the next part: its status."""
+    """Runs the program on the next part. Returns its exit status."""
     report.ending = ""
     with subprocess.Popen(words, stdin=subprocess.PIPE, stdout=subprocess.PIPE) as child:
         adder = threading.Thread(target=lines_of, args=(report, child))
@@ -144,7 +144,7 @@ def run_part(words: list[str], stream: Stream, report: Report, most: int) -> int
                 sink.write(HEADER)
                 stream.feed(sink, most)
         except BrokenPipeError:
-            pass  # the run, or the reader of the report, went away
+            pass  # the program, or the reader of the report, has ended
         adder.join()
     if not report.ending:
         raise Fault(max(child.returncode, 0) or 1)
@@ -161,7 +161,7 @@ def lines_of(report: Report, child: subprocess.Popen[bytes]) -> None:
 
 
 def run_all(words: list[str], report: Report, most: int) -> int:
-    """All runs: the greatest status."""
+    """Runs the program on each part. Returns the greatest exit status."""
     source = sys.stdin.buffer
     assert isinstance(source, io.BufferedReader)
     beginning = source.read(len(HEADER))
@@ -178,7 +178,7 @@ def run_all(words: list[str], report: Report, most: int) -> int:
 
 
 def run_whole(words: list[str], beginning: bytes, source: IO[bytes]) -> int:
-    """One run over a stream that is no planar_code, which says so."""
+    """Runs the program on a stream that is not planar_code, so that it reports this."""
     with subprocess.Popen(words, stdin=subprocess.PIPE) as child:
         assert child.stdin is not None
         try:
@@ -190,19 +190,20 @@ def run_whole(words: list[str], beginning: bytes, source: IO[bytes]) -> int:
 
 
 def positive(word: str) -> int:
-    """A whole number from 1 to what planarbend reads of a file."""
+    """A whole number from 1 to the most graphs that planarbend reads of a file."""
     if not word.isdecimal() or not 1 <= int(word) <= MOST_RECORDS:
-        raise argparse.ArgumentTypeError(f"from 1 to {MOST_RECORDS:,}")
+        raise argparse.ArgumentTypeError(f"K must be 1 to {MOST_RECORDS:,}")
     return int(word)
 
 
 def command_line() -> argparse.Namespace:
     parser = argparse.ArgumentParser(description=__doc__ + "\n\n" + TEXT, epilog=STATUSES,
                                      formatter_class=argparse.RawDescriptionHelpFormatter)
-    parser.add_argument("--json", action="store_true", help="JSON lines in place of the report")
-    parser.add_argument("--outer", choices=["first", "best"], default="first", help="the outer face (first)")
+    parser.add_argument("--json", action="store_true", help="write JSON Lines instead of the report")
+    parser.add_argument("--outer", choices=["first", "best"], default="first",
+                        help="the outer face: longest boundary (first, the default) or fewest bends (best)")
     parser.add_argument("-k", "--records", metavar="K", type=positive, default=MOST_RECORDS,
-                        help=f"graphs of a part ({MOST_RECORDS})")
+                        help=f"number of graphs in a part (default {MOST_RECORDS})")
     return parser.parse_args()
 
 
@@ -219,7 +220,7 @@ def main() -> int:
 
 
 def run() -> int:
-    """Runs the command: its status, also after a closed output or an interrupt."""
+    """Runs the command. Returns its exit status, also if the output is closed or the user interrupts it."""
     try:
         status = main()
     except BrokenPipeError:

@@ -18,25 +18,24 @@ TEXT = """\
   ./planarbend layout --json FILE | python3 examples/svg.py FILE --graphs 1-12 --outer > grid.svg
   ./planarbend layout --json FILE | python3 examples/svg.py FILE --html > page.html
 
-reads JSON lines from standard input and takes from them the points of graphs of the first file, counted from
-1. Which vertices an edge joins is read from FILE itself, which must be that first file. In a grid and on a
-page a graph that is not drawn has its reason in place of a picture. A page loads nothing: it opens without a
-network. Needs Python's standard library alone, and takes some seconds at most.
+Reads JSON Lines from standard input and takes from them the coordinates of graphs of the first file, numbered
+from 1. The edges are read from FILE, which must be that first file. In a grid and on a page, a graph without a
+drawing shows the reason instead of a picture. A page loads nothing, so it opens without a network. Needs only
+Python's standard library, and takes a few seconds at most.
 """
 STATUSES = """\
-status: 0; 1 where something asked for cannot be drawn, which is named on standard error, with nothing
-written; 2 where the command line is refused; 3 where a whole page was written of a file that does not end
-complete
+exit status: 0; 1 if a requested graph cannot be drawn (standard error says why, and nothing is written); 2 if the
+command line is wrong; 3 if a page was written, but its file does not end complete
 """
 STEP = 40  # pixels between neighbouring whole numbers
 RADIUS = 11  # of a vertex
 LINE = 2  # how wide an edge is
-LABEL = 11  # pixels, the letters in a vertex
+LABEL = 11  # pixels, font size in a vertex
 CAPTION = 24  # pixels below a picture of a grid
-CAPTION_LINE = 14  # pixels from a picture down to the foot of its caption
-CAPTION_TEXT = 12  # pixels, the letters of a caption
+CAPTION_LINE = 14  # pixels from a picture down to the baseline of its caption
+CAPTION_TEXT = 12  # pixels, font size of a caption
 GAP = 12  # pixels between the columns of a grid
-REASON = (160, 80)  # pixels, the place of a graph without a picture
+REASON = (160, 80)  # pixels, size of the box for a graph without a picture
 MOST_NUMBER = 1_000_000  # of a graph
 MOST_ON_PAGE = 2_000
 SHADE = "#c9d7e8"
@@ -45,12 +44,12 @@ Point = list[int]
 
 
 class Refused(Exception):
-    """What cannot be drawn, and why."""
+    """Something cannot be drawn; the message says why."""
 
 
 @dataclasses.dataclass
 class Picture:
-    """One graph: a text below it, how large it is in pixels, and its SVG elements."""
+    """One graph: the caption below it, its size in pixels, and its SVG elements."""
     caption: str
     width: int
     height: int
@@ -59,17 +58,17 @@ class Picture:
 
 @dataclasses.dataclass
 class Lines:
-    """What the lines say of the first file: the line of each graph asked for, and how the file ends, which is
-    empty where no line says it."""
+    """What the lines contain for the first file: the line of each requested graph, and the file's ending, which is
+    empty if no line gives it."""
     graphs: dict[int, dict[str, Any]]
     ending: str
 
 
 def read_lines(lines: Iterable[str], numbers: list[int] | None) -> Lines:
-    """The lines of these graphs of the first file; where no numbers are given all of them, up to one more than
-    a page has."""
+    """The lines of these graphs of the first file; if `numbers` is None, of all graphs, up to one more than a page
+    shows."""
     found, wanted = Lines({}, ""), None if numbers is None else set(numbers)
-    for place, text in enumerate(lines, 1):  # all of them, so that their writer meets no closed pipe
+    for place, text in enumerate(lines, 1):  # reads all lines, so that their writer does not get SIGPIPE
         try:
             line = json_line(text)
         except NoLine:
@@ -84,7 +83,7 @@ def read_lines(lines: Iterable[str], numbers: list[int] | None) -> Lines:
 
 
 def read_lists(path: str, numbers: set[int]) -> dict[int, Lists]:
-    """The neighbour lists of these records of a file, which is read no further than the last of them."""
+    """The neighbour lists of these records of a file, which is read up to the last of them."""
     found: dict[int, Lists] = {}
     try:
         with open(path, "rb") as source:
@@ -101,11 +100,11 @@ def read_lists(path: str, numbers: set[int]) -> dict[int, Lists]:
 
 
 def reason_of(line: dict[str, Any]) -> str | None:
-    """Why a graph has no drawing, or None where it has one."""
+    """Why a graph has no drawing, or None if it has one."""
     if line["status"] == "refused":
         return f"breaks the rule {line['rule']}"
     if line["status"] != "ok":
-        return "no memory for it"
+        return "out of memory"
     return None if line["points"] is not None else f"not drawn: {line['drawn']}"
 
 
@@ -152,7 +151,7 @@ def draw(plane: Plane, line: dict[str, Any], shaded: bool) -> Picture:
 
 
 def reason_picture(number: int, reason: str) -> Picture:
-    """A place that says why there is no picture."""
+    """A box that says why there is no picture."""
     width, height = REASON
     text = (f'<text x="{width // 2}" y="{height // 2}" font-family="sans-serif" font-size="{LABEL}"'
             f' text-anchor="middle">{reason}</text>')
@@ -180,14 +179,14 @@ def pictures(path: str, lines: Lines, shaded: bool, alone: bool) -> Iterator[Pic
 
 
 def svg(width: int, height: int, elements: list[str]) -> str:
-    """An SVG picture on white ground."""
+    """An SVG picture on a white background."""
     ground = '<rect width="100%" height="100%" fill="white"/>'
     head = f'<svg xmlns="http://www.w3.org/2000/svg" width="{width}" height="{height}" viewBox="0 0 {width} {height}">'
     return "\n".join([head, ground, *elements, "</svg>"])
 
 
 def grid(shown: list[Picture], columns: int) -> str:
-    """The pictures in rows of so many columns, each above its caption."""
+    """The pictures in rows of `columns` columns, each above its caption."""
     columns = min(columns, len(shown))
     wide = [max(one.width for one in shown[column::columns]) for column in range(columns)]
     elements, top = [], 0
@@ -224,7 +223,7 @@ def numbers_of(word: str) -> list[int]:
             raise argparse.ArgumentTypeError(f"{word} is not a list such as 1-12 or 1,3,7-9")
         end = int(last if dash else first)
         if not 1 <= int(first) <= end <= MOST_NUMBER:
-            raise argparse.ArgumentTypeError(f"{part}: graphs count from 1 to {MOST_NUMBER:,}, upwards")
+            raise argparse.ArgumentTypeError(f"{part}: graph numbers are 1 to {MOST_NUMBER:,}, in increasing order")
         numbers.update(range(int(first), end + 1))
     return sorted(numbers)
 
@@ -232,32 +231,32 @@ def numbers_of(word: str) -> list[int]:
 def command_line() -> argparse.Namespace:
     parser = argparse.ArgumentParser(description=__doc__ + "\n\n" + TEXT, epilog=STATUSES,
                                      formatter_class=argparse.RawDescriptionHelpFormatter)
-    parser.add_argument("file", metavar="FILE", help="the planar_code file that the lines are of")
+    parser.add_argument("file", metavar="FILE", help="the planar_code file from which the JSON Lines were made")
     parser.add_argument("graph", metavar="GRAPH", nargs="?", type=numbers_of, help="the graph to draw, such as 2")
-    parser.add_argument("--graphs", metavar="LIST", type=numbers_of, help="several graphs in a grid, such as 1-12")
-    parser.add_argument("--columns", metavar="N", type=int, default=4, help="pictures in a row of the grid (4)")
+    parser.add_argument("--graphs", metavar="LIST", type=numbers_of, help="draw several graphs in a grid, such as 1-12")
+    parser.add_argument("--columns", metavar="N", type=int, default=4, help="pictures in a row of the grid (default 4)")
     parser.add_argument("--outer", action="store_true", help="shade the outer face")
     parser.add_argument("--html", action="store_true",
-                        help=f"an HTML page: of all graphs, at most {MOST_ON_PAGE}, or of those of --graphs")
+                        help=f"write an HTML page of all graphs (at most {MOST_ON_PAGE}), or of those of --graphs")
     words = parser.parse_args()
     if words.graph and words.graphs:
-        parser.error("either GRAPH or --graphs")
+        parser.error("give either GRAPH or --graphs, not both")
     if not (words.graph or words.graphs or words.html):
-        parser.error("say which graph, or --graphs LIST, or --html")
+        parser.error("give GRAPH, --graphs LIST or --html")
     if words.columns < 1:
-        parser.error("--columns is at least 1")
+        parser.error("--columns must be at least 1")
     return words
 
 
 def look_at_numbers(lines: Lines, numbers: list[int] | None) -> None:
-    """Looks that the lines have what was asked for."""
+    """Checks that the lines have the requested graphs."""
     if not lines.ending:
-        raise Refused("standard input: no line says how the first file ends, so lines are wanting")
+        raise Refused("standard input: incomplete, since no line gives the ending of the first file")
     missing = [str(number) for number in numbers or [] if number not in lines.graphs]
     if missing:
-        raise Refused(f"the lines have no graph {', '.join(missing[:5])}{', ..' if len(missing) > 5 else ''}")
+        raise Refused(f"the JSON Lines have no graph {', '.join(missing[:5])}{', ..' if len(missing) > 5 else ''}")
     if numbers is None and len(lines.graphs) > MOST_ON_PAGE:
-        raise Refused(f"more than {MOST_ON_PAGE} graphs are too many for a page; take --graphs")
+        raise Refused(f"a page shows at most {MOST_ON_PAGE} graphs: use --graphs")
 
 
 def main() -> int:
@@ -274,7 +273,7 @@ def main() -> int:
     if words.html:
         print(page(words.file, shown, lines.ending))
         if lines.ending != "complete":
-            print(f"svg.py: {words.file} ends {lines.ending}, so graphs may be wanting", file=sys.stderr)
+            print(f"svg.py: {words.file} ends {lines.ending}, so graphs may be missing", file=sys.stderr)
             return 3
     else:
         print(svg(shown[0].width, shown[0].height, shown[0].elements) if alone else grid(shown, words.columns))
@@ -282,12 +281,12 @@ def main() -> int:
 
 
 def run() -> int:
-    """Runs the command: its status, 1 where the reader of the output went away."""
+    """Runs the command. Returns its exit status, which is 1 if the reader of the output has gone."""
     try:
         status = main()
         sys.stdout.flush()
     except BrokenPipeError:
-        # The reader went away: nothing more is to be said, also not when Python closes the output.
+        # The reader has gone. Nothing is printed about it, not even when Python closes the output.
         os.dup2(os.open(os.devnull, os.O_WRONLY), sys.stdout.fileno())
         status = 1
     return status

@@ -1,25 +1,25 @@
-"""How wide a text is, and where it is cut into lines."""
+"""The width of a text, and its division into lines."""
 from __future__ import annotations
 
 import unicodedata
 
-FONT = 11  # pixels, the letters of a name
+FONT = 11  # pixels, font size of a name
 LINE_HEIGHT = 14  # pixels from line to line of a name
-LONGEST_LINE = 110  # pixels: a name that is wider goes on in the next line, at a space
+LONGEST_LINE = 110  # pixels: a wider name is broken at a space
 FAMILY = "DejaVu Sans, Verdana, sans-serif"
 
-WIDTHS = {0.32: " ", 0.40: "ijlI.,:;'|!()[]{}`frt-\"/\\", 0.98: "mMwW@%&"}  # of letters, over the font's size
+WIDTHS = {0.32: " ", 0.40: "ijlI.,:;'|!()[]{}`frt-\"/\\", 0.98: "mMwW@%&"}  # of characters, relative to the font size
 WIDTH = {letter: width for width, letters in WIDTHS.items() for letter in letters}
 LOWER, UPPER, OTHER, WIDE = 0.64, 0.80, 0.85, 1.05
 
 
 def width_of(text: str, font: float = FONT) -> float:
-    """How wide a text is at most, in pixels."""
+    """The greatest width of a text, in pixels."""
     return font * sum(map(letter_width, text))
 
 
 def letter_width(letter: str) -> float:
-    """How wide a letter is, over the font's size."""
+    """The width of a character, relative to the font size."""
     if unicodedata.combining(letter):
         return 0.0
     if unicodedata.east_asian_width(letter) in "WF":
@@ -33,7 +33,7 @@ def letter_width(letter: str) -> float:
 
 
 def lines_of(name: str, longest: float = LONGEST_LINE) -> list[str]:
-    """A name in lines, none wider than `longest` if it has spaces to be cut at."""
+    """A name in lines, none wider than `longest` if it has spaces at which to break."""
     lines = []
     for whole in name.split("\n"):
         line = ""
@@ -48,6 +48,6 @@ def lines_of(name: str, longest: float = LONGEST_LINE) -> list[str]:
 
 
 def xml_text(text: str) -> str:
-    """A text as XML has it; what XML has no letter for becomes the sign for that."""
+    """A text with XML escapes; characters that XML does not allow become U+FFFD."""
     known = "".join(letter if letter >= " " and letter not in "\ufffe\uffff" else "\ufffd" for letter in text)
     return known.replace("&", "&amp;").replace("<", "&lt;").replace(">", "&gt;")

@@ -66,7 +66,7 @@ class Lists(Case):
         self.refused('a -- "b', "quote without an end", 1)
         self.refused("a -- b\nc\xe9 d".encode("latin-1"), "not UTF-8 text .byte 0xe9.", 2)
         self.refused("", "empty")
-        self.refused("# nothing\n", "names no vertex")
+        self.refused("# nothing\n", "contains no vertices")
 
 
 @support.needs_graphviz
@@ -120,7 +120,7 @@ class Dot(Case):
         self.refused("graph { a -> b }", "syntax error", 1)
         self.refused("graph { a -- b", "syntax error", 1, "plan.gv")
         self.refused("nonsense", "syntax error", 1, "plan.dot")
-        self.refused("graph {a} graph {b}", "2 graphs; one can be drawn")
+        self.refused("graph {a} graph {b}", "2 graphs; only one can be drawn")
 
     def test_without_graphviz(self) -> None:
         with mock.patch.object(shutil, "which", return_value=None):
@@ -164,7 +164,7 @@ class Networks(Case):
 
     def test_graphml_refusals(self) -> None:
         head = '<graphml><graph edgedefault="directed">\n<node id="a"/>\n'
-        self.refused(head + '<edge source="a" target="z"/></graph></graphml>', "end z is no node", 3)
+        self.refused(head + '<edge source="a" target="z"/></graph></graphml>', "end z is not a node", 3)
         self.refused(head + "<edge/></graph></graphml>", "edge without source and target", 3)
         self.refused(head + "<hyperedge/></graph></graphml>", "hyperedge", 3)
         self.refused(head + "</graph><graph/></graphml>", "a second graph", 3)
@@ -186,7 +186,7 @@ class Networks(Case):
         for header, name, form in ((True, "any", None), (False, "petersen.g6", None), (False, "any", "graph6")):
             graph = of(networkx.to_graph6_bytes(petersen, header=header), name, form)
             self.assertEqual((len(graph.vertices), len(graph.edges)), (10, 15))
-        self.refused(2 * networkx.to_graph6_bytes(petersen, header=False), "2 graphs; one can be drawn", 2, "many.g6")
+        self.refused(2 * networkx.to_graph6_bytes(petersen, header=False), "2 graphs; only one can be drawn", 2, "many.g6")
         self.refused(">>graph6<<I!", "not graph6", 1)
         self.refused(">>graph6<<\n", "no graph")
 
@@ -211,10 +211,10 @@ class Json(Case):
         self.refused("[" * 100_000, "lists within lists|not JSON")
         self.refused('{"nodes":[1],"links":[]}', "node 1 is not an object")
         self.refused('{"nodes":[{"id":1},{"id":1}],"links":[]}', "two nodes have the id 1")
-        self.refused('{"nodes":[{"id":1}],"links":[{"source":1,"target":7}]}', "target of link 1 is no node: 7")
+        self.refused('{"nodes":[{"id":1}],"links":[{"source":1,"target":7}]}', "target of link 1 is not a node: 7")
         self.refused('{"nodes":[{"id":1}],"links":[{"source":1}]}', "target of link 1")
         self.refused('{"nodes":[{"id":{}}],"links":[]}', "an id is an object")
-        self.refused('{"nodes":[],"links":[]}', "names no vertex")
+        self.refused('{"nodes":[],"links":[]}', "contains no vertices")
 
 
 class Circuits(Case):
@@ -253,7 +253,7 @@ class Circuits(Case):
         self.refused("(kicad_pcb\n (net 1", "list net has no end", 2)
         self.refused("(kicad_pcb))", "closing parenthesis too many", 1)
         self.refused('(export (components\n (comp (value "1"))))', "a comp without ref", 2)
-        self.refused('(export (nets (net (code "1")\n (node (ref "R9") (pin "1")))))', "pin of R9, which is no component", 2)
+        self.refused('(export (nets (net (code "1")\n (node (ref "R9") (pin "1")))))', "pin of R9, which is not a component", 2)
         self.refused("* spice\nR1 a b 1k\n", "word outside the list", 1, "amp.net")
         self.refused("<export version='D'/>", "netlist of KiCad in XML", 1)
         self.refused("(footprint x)", "a footprint of KiCad", 1)
@@ -295,9 +295,9 @@ class Content(Case):
                    b"GIF89a": "GIF", b"%PDF-1.4": "PDF", b"%!PS-Adobe": "PostScript", b"PK\x03\x04": "zip", b"\x1f\x8b\x08": "gzip",
                    b"\x7fELF\x02": "program", b"<svg xmlns='x'>": "SVG image", b"<?xml version='1.0'?><!-- c --><gexf>": "GEXF",
                    b"<html>": "HTML", b"<thing>": "root thing", b">>sparse6<<:I`": "sparse6", b":An": "sparse6",
-                   b">>digraph6<<&": "digraph6", b"\xff\xfea\0": "UTF-16", b"a -- b\n\0\0": "not a text: it has the byte 0x00",
+                   b">>digraph6<<&": "digraph6", b"\xff\xfea\0": "UTF-16", b"a -- b\n\0\0": "not text: it contains the byte 0x00",
                    b'{"vertices":[],"edges":[],"crossings":[]}': "a drawing that planarbend-draw wrote",
-                   b'{"angles":[],"file":1,"graph":1,"status":"ok"}\n{"end":"complete"}': "JSON lines of planarbend",
+                   b'{"angles":[],"file":1,"graph":1,"status":"ok"}\n{"end":"complete"}': "JSON Lines of planarbend",
                    b"SQLite format 3\0": "SQLite"}
         for data, words in foreign.items():
             for name in ("input", "input.txt", "input.dot"):

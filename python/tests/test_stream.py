@@ -16,6 +16,7 @@ from unittest import mock
 
 import support
 import planarbend
+from planarbend import library
 from planarbend.planar_code import HEADER
 from planarbend.reports import End, Graph, line_of
 
@@ -124,6 +125,20 @@ class Exceptions(unittest.TestCase):
                              (networkx.path_graph(2), TypeError), ([networkx.path_graph(2)], TypeError)):
             with self.subTest(graphs), self.assertRaises(kind):
                 list(planarbend.layouts(graphs))
+
+    @support.needs_networkx
+    def test_a_single_graph_is_refused_by_the_call(self) -> None:
+        import networkx
+
+        graph = {"a": ["b"], "b": ["a"]}
+        stand_in = mock.patch.multiple(library, is_wanted=lambda: True, Library=mock.Mock())
+        for single in (graph, planarbend.Record.of(graph), networkx.path_graph(2), networkx.PlanarEmbedding(), "ab"):
+            with self.subTest(single), self.assertRaisesRegex(TypeError, "single graph"):
+                planarbend.Layouts(single)
+            with self.subTest(single, by="the library"), stand_in, self.assertRaisesRegex(TypeError, "single graph"):
+                planarbend.layouts(single)
+        with stand_in:
+            self.assertIsInstance(planarbend.layouts([graph]), library.LibraryLayouts)
 
     def test_what_the_caller_raises(self) -> None:
         def graphs() -> Iterator[dict[str, list[str]]]:

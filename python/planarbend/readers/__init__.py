@@ -36,17 +36,17 @@ def read(data: bytes, name: str, form: str | None = None) -> Graph:
     Raises
     ------
     ReadError
-        The file is not of this format or of any known one, it names no vertex, or the library or program that reads its
-        format is missing.
+        The file is not of this format or of any known one, it contains no vertices, or the library or program that
+        reads its format is missing.
     ValueError
         `form` is not one of `FORMS`.
     """
     if form is not None and form not in READERS:
-        raise ValueError(f"no such format: {form} (there are {', '.join(FORMS)})")
+        raise ValueError(f"no such format: {form} (known: {', '.join(FORMS)})")
     try:
         graph = reader_of(form or form_of(data, name))(data)
         if not graph.vertices:
-            raise Fault("the file names no vertex")
+            raise Fault("the file contains no vertices")
     except Fault as fault:
         raise ReadError(name, fault.line, fault.reason) from None
     return graph

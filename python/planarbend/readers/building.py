@@ -7,7 +7,7 @@ from planarbend.graph import Arrow, Edge, Graph, Kind, Vertex
 
 
 class Builder:
-    """A graph in the making: its vertices are found again by the keys that the input has for them."""
+    """A graph that is being built: its vertices are found by the keys that the input uses for them."""
 
     def __init__(self, directed: bool = False) -> None:
         self.directed = directed

@@ -11,7 +11,7 @@ from planarbend.readers.building import Builder
 from planarbend.readers.fault import Fault, program
 
 PACKAGE = "graphviz"
-# One line a graph, node or edge: a letter, then values in DOT's quotes, HTML strings behind an h. `canon` quotes.
+# One line for each graph, node or edge: a letter, then values in DOT's quotes, HTML strings after an h. `canon` quotes.
 LISTING = r"""
 BEG_G {
   node_t n; edge_t e;
@@ -68,12 +68,12 @@ def read_dot(data: bytes) -> Graph:
         else:
             add_edge(found, values, name)
     if graphs != 1:
-        raise Fault("the file has no graph" if not graphs else f"the file has {graphs} graphs; one can be drawn")
+        raise Fault("the file has no graph" if not graphs else f"the file has {graphs} graphs; only one can be drawn")
     return found.graph()
 
 
 def run(words: list[str], data: bytes) -> bytes:
-    """What a program of Graphviz writes when it reads these bytes."""
+    """The output of a program of Graphviz for these bytes."""
     ran = subprocess.run(words, input=data, capture_output=True, check=False)
     for error in map(SYNTAX.match, ran.stderr.decode(errors="replace").splitlines()):
         if error and error[1]:

@@ -1,10 +1,10 @@
-"""What a reader raises, and how a library or a program that it needs is asked for."""
+"""The errors of readers, and look-up of the libraries and programs that they need."""
 from __future__ import annotations
 
 import importlib
 from types import ModuleType
 
-MOST_SHOWN = 60  # letters of the input that a message repeats
+MOST_SHOWN = 60  # characters of the input that a message quotes
 
 
 class ReadError(Exception):
@@ -15,7 +15,7 @@ class ReadError(Exception):
     file : str
         The name of the input.
     line : int or None
-        The line where the fault is, counted from 1, or None if it has no one line.
+        The line of the fault, counted from 1, or None if it does not belong to one line.
     reason : str
         What is wrong.
     """
@@ -50,7 +50,7 @@ def library(name: str, package: str) -> ModuleType:
 
 def program(name: str, package: str) -> str:
     """The path of a program; raises `Fault` with the name of Debian's package if it is missing."""
-    import shutil  # which takes long to load
+    import shutil  # slow to load
 
     path = shutil.which(name)
     if path is None:
@@ -59,7 +59,8 @@ def program(name: str, package: str) -> str:
 
 
 def decoded(data: bytes) -> str:
-    """The text of UTF-8 bytes, without a byte order mark; raises `Fault` with the line of the first byte that is none."""
+    """The text of UTF-8 bytes, without a byte order mark; raises `Fault` with the line of the first byte that is not
+    UTF-8."""
     try:
         return data.decode("utf-8-sig")
     except UnicodeDecodeError as error:

@@ -1,4 +1,4 @@
-"""Finds out what a file is, from its content."""
+"""Determines the format of a file from its content."""
 from __future__ import annotations
 
 import os
@@ -6,11 +6,11 @@ import re
 
 from planarbend.readers.fault import Fault, shown
 
-HEAD = 1 << 16  # bytes that are looked at
+HEAD = 1 << 16  # bytes that are examined
 ENDINGS = {".dot": "dot", ".gv": "dot", ".graphml": "graphml", ".gml": "gml", ".g6": "graph6", ".json": "json",
            ".net": "netlist", ".kicad_pcb": "board"}
 
-# What is not a graph, by its first bytes.
+# Kinds of files that are not graphs, by their first bytes.
 FOREIGN: list[tuple[bytes, str] | tuple[bytes, str, bytes]] = [
     (b">>planar_code", "a planar_code file of embedded graphs; `planarbend layout` reads it"),
     (b">>edge_code", "an edge_code file; plantri writes it, and nothing here reads it"),
@@ -41,7 +41,7 @@ FOREIGN_XML = {"svg": "an SVG image", "html": "an HTML page", "gexf": "a GEXF gr
                "export": "a netlist of KiCad in XML; export it in KiCad's own format"}
 FOREIGN_OBJECTS = [
     ({"crossings", "vertices", "edges"}, "a drawing that planarbend-draw wrote, and not a graph"),
-    ({"status", "record"}, "JSON lines of planarbend"), ({"status", "graph"}, "JSON lines of planarbend"),
+    ({"status", "record"}, "JSON Lines of planarbend"), ({"status", "graph"}, "JSON Lines of planarbend"),
     ({"meta", "project"}, "a project or settings of KiCad"), ({"cells", "nbformat"}, "a Jupyter notebook"),
 ]
 
@@ -55,7 +55,7 @@ BINARY = re.compile(rb"[\x00-\x08\x0e-\x1f]")
 
 
 def form_of(data: bytes, name: str) -> str:
-    """The format of a file: of its content, or, where that has no mark of its own, of the ending of its name.
+    """The format of a file, by its content or, if that does not identify a format, by the extension of its name.
 
     Parameters
     ----------
@@ -72,7 +72,7 @@ def form_of(data: bytes, name: str) -> str:
     Raises
     ------
     Fault
-        The file is of a known kind that is no graph, is empty, or is not text.
+        The file is of a known kind that is not a graph, is empty, or is not text.
     """
     data = data.removeprefix(b"\xef\xbb\xbf")
     look_for_foreign(data)
@@ -91,7 +91,7 @@ def form_of(data: bytes, name: str) -> str:
 
 
 def look_for_foreign(data: bytes) -> None:
-    """Raises `Fault` where the first bytes are those of a known kind of file that is no graph, or of none."""
+    """Raises `Fault` if the file is empty, is not text, or is of a known kind that is not a graph."""
     for mark, what, *pattern in FOREIGN:
         if data.startswith(mark) and (not pattern or re.match(pattern[0], data, re.S)):
             raise Fault(f"{what}, not a graph" if "graph" not in what else what, 1)
@@ -102,11 +102,11 @@ def look_for_foreign(data: bytes) -> None:
     strange = BINARY.search(data)
     if strange:
         line = data.count(b"\n", 0, strange.start()) + 1
-        raise Fault(f"not a text: it has the byte {strange[0][0]:#04x}", line)
+        raise Fault(f"not text: it contains the byte {strange[0][0]:#04x}", line)
 
 
 def of_expression(data: bytes) -> str | None:
-    """The format of an S-expression, or None where it is not one."""
+    """The format of an S-expression, or None if it is not one."""
     match = EXPRESSION.match(data)
     if match is None:
         return None
@@ -114,23 +114,24 @@ def of_expression(data: bytes) -> str | None:
     if word in FOREIGN_EXPRESSIONS:
         raise Fault(FOREIGN_EXPRESSIONS[word], line)
     if word not in EXPRESSIONS and data.rstrip().endswith(b")"):
-        raise Fault(f"a list in parentheses that begins with {shown(word)}, which is no graph that is known", line)
+        raise Fault(f"a list in parentheses that begins with {shown(word)}, which is not a known graph format", line)
     return EXPRESSIONS.get(word)
 
 
 def of_xml(head: bytes) -> str | None:
-    """The format of an XML text, or None where it is not one."""
+    """The format of an XML text, or None if it is not one."""
     match = XML.match(head)
     if match is None:
         return None
     word, line = match[1].decode(errors="replace"), head.count(b"\n", 0, match.start(1)) + 1
     if word == "graphml":
         return "graphml"
-    raise Fault(FOREIGN_XML.get(word.lower(), f"XML with the root {shown(word)}, which is no graph that is known"), line)
+    unknown = f"XML with the root {shown(word)}, which is not a known graph format"
+    raise Fault(FOREIGN_XML.get(word.lower(), unknown), line)
 
 
 def of_json(data: bytes) -> str | None:
-    """`json` where the text begins as JSON does, or None."""
+    """`json` if the text begins like JSON, or None."""
     match = re.match(rb'\s*(?:\{\s*(?:"|\}|$)|\[)', data)
     if match is None:
         return None

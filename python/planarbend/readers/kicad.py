@@ -40,7 +40,7 @@ class Circuit:
         """The graph of the circuit, in which a net joins each of its parts once, with however many pins.
 
         Parts, and nets that join three or more, are vertices; a net of two parts is an edge, and a net that joins pins
-        of one part alone is a loop. A single pin is no connection.
+        of only one part is a loop. A single pin is not a connection.
         """
         built = Builder()
         for number, part in enumerate(self.parts):
@@ -81,7 +81,7 @@ def read_netlist(data: bytes) -> Graph:
             for node in net.all("node"):
                 reference = wanted(node, "ref")
                 if reference not in places:
-                    raise Fault(f"the net {name} has a pin of {reference}, which is no component", node.line)
+                    raise Fault(f"the net {name} has a pin of {reference}, which is not a component", node.line)
                 circuit.nets[name][places[reference], wanted(node, "pin")] = None
     return circuit.graph()
 
@@ -124,7 +124,7 @@ def field_of(footprint: Expression, name: str) -> str:
 
 
 def wanted(expression: Expression, head: str) -> str:
-    """The value of an inner list that has to be there."""
+    """The value of a required inner list."""
     value = expression.value(head)
     if value is None:
         raise Fault(f"a {expression.head} without {head}", expression.line)

@@ -47,10 +47,10 @@ def read_graphml(data: bytes) -> Graph:
             element.tag = NAMESPACE + element.tag
     for edge, number in zip(root.iter(NAMESPACE + "edge"), range(len(directions))):
         edge.attrib.pop("directed", None)
-        edge.set("id", str(number))  # networkx gives it back as the key, so that no two edges are taken for one
+        edge.set("id", str(number))  # networkx returns it as the key, so that no two edges are merged
     for node in root.iter(NAMESPACE + "node"):
         if node.find(NAMESPACE + "graph") is not None:
-            node.set("yfiles.foldertype", "group")  # else networkx passes over what is inside
+            node.set("yfiles.foldertype", "group")  # else networkx skips what is inside
     with warnings.catch_warnings():
         warnings.simplefilter("ignore")
         try:
@@ -69,7 +69,7 @@ def read_graphml(data: bytes) -> Graph:
 
 
 def scanned(data: bytes) -> list[tuple[str, str, bool | None]]:
-    """The edges of a GraphML text in order: source, target, and `directed` where it is given."""
+    """The edges of a GraphML text in order: source, target, and `directed` if it is given."""
     from xml.parsers import expat
 
     parser = expat.ParserCreate(namespace_separator="}")
@@ -90,7 +90,7 @@ def scanned(data: bytes) -> list[tuple[str, str, bool | None]]:
         if kind == "graph" and len(open_elements) == 2:
             graphs += 1
             if graphs > 1:
-                raise Fault("a second graph; one can be drawn", line)
+                raise Fault("a second graph; only one can be drawn", line)
         if kind == "node":
             nodes.add(values["id"])
         if kind == "edge":
@@ -108,17 +108,17 @@ def scanned(data: bytes) -> list[tuple[str, str, bool | None]]:
     for line, *ends, _ in edges:
         for end in ends:
             if end not in nodes:
-                raise Fault(f"the edge's end {shown(str(end))} is no node", line)
+                raise Fault(f"the edge's end {shown(str(end))} is not a node", line)
     return [(tail, head, directed) for _, tail, head, directed in edges]
 
 
 def read_gml(data: bytes) -> Graph:
-    """The graph of a GML text, with parallel edges also where it does not announce them.
+    """The graph of a GML text, with parallel edges even if it does not declare them.
 
     Raises
     ------
     Fault
-        networkx refuses the text; the fault has the line that it names.
+        networkx refuses the text; the fault has the line given by networkx.
     """
     networkx = library("networkx", PACKAGE)
     text = re.sub(*PARALLEL, decoded(data), flags=re.M)
@@ -149,7 +149,7 @@ def read_graph6(data: bytes) -> Graph:
     networkx = library("networkx", PACKAGE)
     lines = [(number, line.strip()) for number, line in enumerate(data.removeprefix(GRAPH6).split(b"\n"), 1) if line.strip()]
     if len(lines) != 1:
-        count = f"{len(lines)} graphs; one can be drawn" if lines else "no graph"
+        count = f"{len(lines)} graphs; only one can be drawn" if lines else "no graph"
         raise Fault(f"the file has {count}", lines[1][0] if lines else None)
     number, line = lines[0]
     try:
@@ -167,7 +167,7 @@ def read_graph6(data: bytes) -> Graph:
 def read_json(data: bytes) -> Graph:
     """The graph of node-link JSON: `nodes` with `id`, and `links` or `edges` with `source` and `target`.
 
-    A node without `id` is known by its place from 0, as D3 has it. Labels are `label` or `name`.
+    A node without `id` is identified by its position from 0, as in D3. Labels are `label` or `name`.
 
     Raises
     ------
@@ -194,14 +194,14 @@ def read_json(data: bytes) -> Graph:
         ends = [hashable(edge.get(key)) for key in ("source", "target")]
         for key, end in zip(("source", "target"), ends):
             if end is None or not built.has(end):
-                raise Fault(f"not node-link JSON: the {key} of link {number} is no node: {shown(str(end))}")
+                raise Fault(f"not node-link JSON: the {key} of link {number} is not a node: {shown(str(end))}")
         label = edge.get("label")
         built.edge(ends[0], ends[1], "" if label is None else str(label), Arrow.FORWARD if built.directed else Arrow.NONE)
     return built.graph()
 
 
 def objects(found: Iterable[Any], what: str) -> Iterable[dict[str, Any]]:
-    """The entries of a list of JSON, each of which has to be an object."""
+    """The entries of a JSON list, each of which must be an object."""
     for number, one in enumerate(found, 1):
         if not isinstance(one, dict):
             raise Fault(f"not node-link JSON: {what} {number} is not an object")
@@ -209,7 +209,7 @@ def objects(found: Iterable[Any], what: str) -> Iterable[dict[str, Any]]:
 
 
 def hashable(key: Any) -> Hashable:
-    """A node's id as networkx has it: a list becomes a tuple."""
+    """A node's id as in networkx: a list becomes a tuple."""
     if isinstance(key, dict):
         raise Fault("not node-link JSON: an id is an object")
     found: Hashable = tuple(map(hashable, key)) if isinstance(key, list) else key

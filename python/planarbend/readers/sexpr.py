@@ -39,7 +39,7 @@ def parsed(text: str) -> Expression:
     Raises
     ------
     Fault
-        Parentheses or quotes do not match, or something stands outside the list.
+        Parentheses or quotes do not match, or something is outside the list.
     """
     open_lists: list[Expression] = []
     place, line = 0, 1

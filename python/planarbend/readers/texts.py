@@ -15,7 +15,7 @@ def plain(label: str, names: dict[str, str]) -> str:
 
 
 def escape(letter: str, names: dict[str, str]) -> str:
-    """What a backslash and this letter stand for."""
+    """The meaning of a backslash and this letter."""
     return "\n" if letter in "nlr" else names.get(letter, letter)
 
 
@@ -47,7 +47,7 @@ def of_html(label: str) -> str:
 
 
 def of_tag(tag: str, name: str | None) -> str:
-    """What a tag of an HTML label leaves in its text."""
+    """The text that replaces a tag of an HTML label."""
     kind = ("/" if tag.startswith("</") else "") + (name or "").lower()
     if kind in LINE_ENDS:
         return "\n"
