@@ -1,14 +1,15 @@
 //! The first stage of a lane.
-ghost use Rattle.std.specs.Prelude.{◌<◌, IfSome, OnOk, length, vec_len};
+ghost use Rattle.std.specs.Prelude.{◌≡◌, ◌<◌, [], IfSome, OnOk, length, vec_len};
 ghost use Rattle.ruled_lanes.specs.LinkEnds.{given, GivesToSame};
 ghost use Rattle.lanes.specs.Notes.{notes};
 ghost use Rattle.lane_runs.specs.Lanes.{ReadsSeat, StartsToRead, TellsFile};
 ghost use Rattle.lane_runs.specs.Accepting.{AcceptsAll};
 
 use crate::lane_kind::LaneKind;
-use crate::record_giver::{Gone, RecordGiver};
+use crate::record_giver::RecordGiver;
+use crate::links::records_in_message;
 use crate::shared::Shared;
-use lanes::{Gate, Message, Numbered, Opener, read_file};
+use lanes::{Filling, Gate, Gone, MOST_ITEMS, Message, Numbered, Opener, read_file};
 use ruled_lanes::{Giver, Seat};
 use std::sync::Wait;
 
@@ -49,6 +50,9 @@ impl<R: Wait, O: Opener, G: Gate, L: LaneKind> Shared<'_, R, O, G, L> {
             kind: self.kind,
             lane,
             giver,
+            filling: Filling::new(self.run.alloc, MOST_ITEMS),
+            bytes: 0,
+            most: records_in_message(self.run.capacity) as usize,
         };
         for _ in self.run.rt.forever() {
             let Some(file) = self.tickets.draw(&mut seat) else {
@@ -73,9 +77,11 @@ impl<R: Wait, O: Opener, G: Gate, L: LaneKind> Shared<'_, R, O, G, L> {
         gives: &mut RecordGiver<'_, R, G, L>,
     ) -> Result<(), Gone>
         requires room { 0 < length buffer.old }
+        requires none { gives.old.filling ≡ [] }
         requires accepts { AcceptsAll L.accepts L.ends (O.meaning self.now.run.now.opener.now) }
         ensures told { OnOk result (TellsFile self.now.run.now.choice (O.meaning self.now.run.now.opener.now file) file
             (notes L.Framed.about (given gives.old.giver)) (notes L.Framed.about (given gives.new.giver))) }
+        ensures none { OnOk result (gives.new.filling ≡ []) }
         ensures same { GivesToSame gives.old.giver gives.new.giver }
     {
         let run = self.run;
@@ -83,6 +89,10 @@ impl<R: Wait, O: Opener, G: Gate, L: LaneKind> Shared<'_, R, O, G, L> {
             Ok(end) => end,
             Err(gone) => return Err(gone),
         };
+        match gives.give_all() {
+            Ok(()) => {}
+            Err(gone) => return Err(gone),
+        }
         let mark = end.mark;
         let known = self.kind.end(file, end);
         let Ok(()) = gives.giver.give(run.rt, Message::End(file, mark, known)) else {

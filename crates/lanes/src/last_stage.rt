@@ -6,9 +6,11 @@ ghost use Rattle.lanes.specs.declared.message.Message.TheVariants.{Stop};
 ghost use Rattle.lanes.specs.Notes.{notes, GoOn};
 ghost use Rattle.lanes.specs.Stages.{IsHandedOn};
 
+use crate::bench::Bench;
+use crate::filling::{Filling, MOST_ITEMS};
 use crate::gate::Gate;
 use crate::message::Message;
-use crate::numbered::{Numbered, Staged};
+use crate::numbered::Staged;
 use ruled_lanes::{LaneGiver, Taker};
 use std::alloc::Global;
 use std::sync::Wait;
@@ -23,7 +25,7 @@ pub fn run_last_stage<A: Staged, M: Drop, R: Wait, G: Gate>(
     rt: &R,
     alloc: Global,
     gate: &G,
-    mut scratch: A::Scratch,
+    scratch: A::Scratch,
     mut taker: Taker<Message<A, M>>,
     giver: &mut LaneGiver<Message<A::Next, M>>,
 ) -> Option<Taker<Message<A, M>>>
@@ -34,17 +36,27 @@ pub fn run_last_stage<A: Staged, M: Drop, R: Wait, G: Gate>(
     ensures same_link { IfSome result (λ took. TakesFromSame taker took) }
     ensures handed_on { IfSome result (λ took. IsHandedOn A.about A.Next.about (taken took) (given_at giver.new ++ Stop ∷ [])) }
 {
-    let lane = giver.lane();
+    let mut bench = Bench::<A, R, G> {
+        rt,
+        alloc,
+        gate,
+        lane: giver.lane(),
+        scratch,
+        filling: Filling::new(alloc, MOST_ITEMS),
+    };
     for _ in rt.forever() {
         match taker.take(rt) {
             Ok(Message::Item(item)) => {
-                gate.pass(lane, A::STAGE, item.ordinal());
-                A::exchange(rt, &mut scratch);
-                match giver.give(rt, Message::Item(item.work(alloc, &mut scratch))) {
+                let next = bench.work_on(item);
+                match giver.give(rt, Message::Item(next)) {
                     Ok(()) => {}
                     Err(_) => return None,
                 }
             }
+            Ok(Message::Items(batch)) => match bench.pass_on(batch, giver) {
+                Ok(()) => {}
+                Err(_) => return None,
+            },
             Ok(Message::End(file, mark, known)) => match giver.give(
                 rt,
                 Message::End(file, mark, known),

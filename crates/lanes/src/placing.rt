@@ -43,7 +43,7 @@ impl<K: Keep> Receiver for Places<'_, K> {
             }
             ordinal += 1;
         }
-        Ok(())
+        self.keep.pass_on()
     }
 
     ghost received_none = { λ x. (same_itself x.choice x.file, keeps_none x.choice x.file (K.kept x.keep.now)) };
