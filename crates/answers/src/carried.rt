@@ -4,7 +4,7 @@ ghost use Rattle.std.specs.Prelude.{◌≡◌, ℕ, List};
 use planar_code::Record;
 use std::snapshot::Snapshot;
 
-/// A record on its way through a lane, or what is left of it.
+/// What a lane carries of a record once its graph is read: the record itself, or nothing.
 pub trait Carried: Drop + Send {
     /// The record's bytes.
     ghost bytes: { Self → List ℕ };

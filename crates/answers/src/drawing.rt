@@ -26,7 +26,7 @@ use std::mem;
 use std::sync::Wait;
 use visibility::compact_by_visibility_in;
 
-/// Buffers that the drawing of one shape after another reuses.
+/// The buffers of the stage that draws shapes, reused for the next shape.
 #[derive(Drop)]
 pub struct DrawScratch {
     boxes: BoxesScratch,
@@ -41,7 +41,7 @@ pub struct DrawScratch {
 }
 
 impl DrawScratch {
-    /// An empty scratch, through which nothing returns. It allocates nothing.
+    /// An empty scratch, without queues on which buffers return. It allocates nothing.
     pub fn empty(alloc: Global) -> DrawScratch {
         DrawScratch {
             boxes: BoxesScratch::empty(alloc),
@@ -105,11 +105,11 @@ impl DrawScratch {
     }
 }
 
-/// Points that draw the shape so, whose darts arrive in these directions, or why there are none.
+/// Points that draw a shape whose darts arrive in these directions, or the cause why there are none.
 ///
-/// For a short drawing the points are compacted. Those found are handed out only where their edges are together no
+/// For a short drawing the points are compacted. The compacted points are returned only if their edges are together no
 /// longer than before, no coordinate is as great as the number of boxes' vertices, and they are checked to draw the
-/// shape; else the points before are.
+/// shape. Otherwise the points before are.
 pub(crate) fn draw(
     alloc: Global,
     scratch: &mut DrawScratch,

@@ -18,7 +18,7 @@ enum Slot<T: Drop, S: Drop> {
     Spent(S),
 }
 
-/// An empty holder, in which lists that are no longer needed may return.
+/// An empty holder. Lists that are no longer needed may return to an earlier stage in it.
 #[derive(Drop)]
 pub struct Shell<T: Drop, S: Drop> {
     slot: Box<Slot<T, S>>,
@@ -61,7 +61,7 @@ impl<T: Drop, S: Drop> Shell<T, S> {
         *self.slot = Slot::Spent(spent);
     }
 
-    /// Takes what is done with out of the holder, where there is any.
+    /// Takes the spent value out of the holder, if there is one.
     pub(crate) fn unload(&mut self) -> Option<S> {
         match mem::replace(&mut *self.slot, Slot::Empty) {
             Slot::Spent(spent) => Some(spent),

@@ -12,7 +12,7 @@ use drawing_check::Drawing;
 use planar_code::Record;
 use std::alloc::Global;
 
-/// A plane with a shape that keeps conditions, and a drawing of it, or why there is none.
+/// A plane with a shape that keeps conditions, and its drawing or the reason why there is none.
 #[derive(Drop)]
 pub struct KeptLayout {
     pub kept: KeptPlane,

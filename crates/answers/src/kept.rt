@@ -22,7 +22,7 @@ use ortho_rep::Points;
 use planar_code::Record;
 use std::alloc::{AllocError, Global};
 
-/// Buffers that all stages reuse for one record after another.
+/// The buffers of all stages, reused for the next record.
 #[derive(Drop)]
 pub struct RecordScratch {
     planes: faces::Scratch,
@@ -61,12 +61,14 @@ impl RecordScratch {
         shape(alloc, &mut self.shapes, plane, choice, drawing_kind)
     }
 
-    /// Points that draw the shape of a plane. Each least shape has some. Where a short drawing is asked for, its edges are
-    /// together no longer than those of a quick one. For n vertices and b bends, coordinates are below 3n + 2b + 5.
+    /// A drawing of a plane with a least shape, quick or short. Each least shape has one.
+    ///
+    /// The edges of a short drawing are together no longer than those of a quick one. For n vertices and b bends,
+    /// coordinates are below 3n + 2b + 5.
     ///
     /// # Errors
     ///
-    /// `AllocError` where there is no memory for them or on the way to them.
+    /// `AllocError` if memory runs out.
     pub fn draw(
         &mut self,
         alloc: Global,
@@ -96,12 +98,11 @@ impl RecordScratch {
         }
     }
 
-    /// The points of a quick drawing of the plane, as `draw` gives them. That they draw its shape is proved, and here
-    /// nothing checks them.
+    /// The points of a quick drawing, as `draw` makes them, but not checked: it is proved that they draw the shape.
     ///
     /// # Errors
     ///
-    /// `AllocError` where there is no memory for them or on the way to them.
+    /// `AllocError` if memory runs out.
     pub fn quick_points(
         &mut self,
         alloc: Global,
@@ -123,11 +124,11 @@ impl RecordScratch {
         )
     }
 
-    /// The plane of a record with the chosen outer face among those that may be outside, a least shape of those that keep
-    /// edges straight, and prices that prove it.
+    /// The plane of a record, a least shape of it that keeps the conditions, and prices that prove it.
     ///
-    /// `First` is the face with the most darts of those that may be outside; `Best` the one with which the fewest bends
-    /// are needed; among equals both are the one with the least number, which has the least dart. Nothing is drawn.
+    /// The outer face is the chosen one of those that may be outside. `First` is the face with the most darts, and
+    /// `Best` the one that minimises bends; among equals both are the one with the least number, which has the least
+    /// dart. Nothing is drawn.
     ///
     /// # Errors
     ///
@@ -152,8 +153,9 @@ impl RecordScratch {
         }
     }
 
-    /// Points that draw a shape that keeps conditions, as [`RecordScratch::draw`] draws a least one. An edge without turns
-    /// has no corners.
+    /// A drawing of a shape that keeps conditions, in which an edge without turns has no corners.
+    ///
+    /// It is made as by [`RecordScratch::draw`].
     ///
     /// # Errors
     ///

@@ -9,7 +9,7 @@ use conditions::KeepFault;
 use faces::Plane;
 use ortho_rep::{Prices, Shape};
 
-/// A plane with an orthogonal representation, and the directions in which its darts arrive at their heads.
+/// A plane with an orthogonal representation, its prices, and the directions in which its darts arrive at their heads.
 ///
 /// Of all representations that keep conditions it has the fewest bends, as the prices prove: `shape_keeping` says so.
 #[derive(Drop)]
@@ -22,7 +22,7 @@ pub struct KeptPlane {
     pub ghost directed: { AreDirectionsOf plane shape directions.items } by { Prim.hlevel props },
 }
 
-/// Why a record has no shape that keeps conditions.
+/// The reason why a record has no shape that keeps conditions.
 #[derive(Debug, Drop)]
 pub enum KeptFault {
     /// It has no plane.
@@ -31,7 +31,7 @@ pub enum KeptFault {
     Conditions(KeepFault),
 }
 
-/// Why a shape is not drawn.
+/// The reason why a shape is not drawn.
 #[derive(Clone, Copy, Debug, PartialEq, Eq)]
 pub enum DrawFault {
     /// No coordinates in the order of the shape's boxes are in the grid.

@@ -10,8 +10,8 @@ ghost use Rattle.entries.specs.Lengths.{AreBelow, IsBelow, edge_length, path_len
 use faces::Plane;
 use ortho_rep::{Point, Points};
 
-/// Whether the edges of some points are together no longer than those of others. Where a length takes more than 64
-/// bits, they are said to be longer.
+/// Whether the edges of some points are together no longer than those of others. False if a length takes more than 64
+/// bits.
 pub(crate) fn is_no_longer(plane: &Plane, points: &Points, others: &Points) -> bool
     requires vertices { length points.now.vertices ≡ vertices plane.now }
     requires corners { 2 * length points.now.corners ≡ darts plane.now }
@@ -28,7 +28,7 @@ pub(crate) fn is_no_longer(plane: &Plane, points: &Points, others: &Points) -> b
     }
 }
 
-/// How long all edges are together, where the number has 64 bits.
+/// The length of all edges together; `None` if it takes more than 64 bits.
 fn edge_length(plane: &Plane, points: &Points) -> Option<u64>
     requires vertices { length points.now.vertices ≡ vertices plane.now }
     requires corners { 2 * length points.now.corners ≡ darts plane.now }
@@ -48,7 +48,7 @@ fn edge_length(plane: &Plane, points: &Points) -> Option<u64>
     Some(length)
 }
 
-/// How long the edge with this number is, whose lesser dart and its reverse are given, where the number has 64 bits.
+/// The length of the edge with this number, lesser dart and reverse; `None` if it takes more than 64 bits.
 fn length_along(plane: &Plane, points: &Points, dart: u16, reverse: u16, edge: u16) -> Option<u64>
     requires inside { dart < darts plane.now }
     requires lesser { IsTrue (is_lesser plane.now dart) }
@@ -64,7 +64,7 @@ fn length_along(plane: &Plane, points: &Points, dart: u16, reverse: u16, edge: u
     path_length(start, points.corners(edge), end)
 }
 
-/// How many steps lead from one point by the corners to another, where the number has 64 bits.
+/// The number of steps from one point by the corners to another; `None` if it takes more than 64 bits.
 fn path_length(start: Point, corners: &[Point], end: Point) -> Option<u64>
     ensures { IfSome result (λ found. found ≡ path_length (start ∷ (corners.now ++ end ∷ []))) }
 {
@@ -84,7 +84,7 @@ fn distance(from: Point, to: Point) -> u64
     u64::from(from.x.abs_diff(to.x)) + u64::from(from.y.abs_diff(to.y))
 }
 
-/// Whether the coordinates of all vertices and of the corners of so many edges, which are all, are less than a limit.
+/// Whether all coordinates of the vertices and of the corners of all `edges` edges are less than a limit.
 pub(crate) fn are_below(points: &Points, edges: u16, limit: u32) -> bool
     requires { edges ≡ length points.now.corners }
     ensures { IsTrue result ↔ AreBelow limit points.now }

@@ -11,7 +11,7 @@ use lanes::ReturnQueue;
 use std::alloc::{AllocError, Global};
 use std::sync::Wait;
 
-/// Buffers that reading the graph and tracing the faces of one record after another reuse.
+/// The buffers of the stage that makes planes, reused for the next record.
 #[derive(Drop)]
 pub struct EmbedScratch {
     pub(crate) planes: faces::Scratch,
@@ -21,7 +21,7 @@ pub struct EmbedScratch {
 }
 
 impl EmbedScratch {
-    /// An empty scratch, through which nothing returns. It allocates nothing.
+    /// An empty scratch, without queues on which buffers return. It allocates nothing.
     pub fn empty(alloc: Global) -> EmbedScratch {
         EmbedScratch {
             planes: faces::Scratch::empty(alloc),
@@ -30,7 +30,7 @@ impl EmbedScratch {
         }
     }
 
-    /// Takes in the holder of a plane, and the lists of one that is done with, where they have come back.
+    /// Takes in the holder of a plane and the lists of a spent one, if they have returned.
     pub(crate) fn restock<R: Wait>(&mut self, rt: &R) {
         if let Some(mut shell) = self.spent.receive(rt) {
             if let Some(plane) = shell.unload() {
@@ -40,7 +40,7 @@ impl EmbedScratch {
         }
     }
 
-    /// The plane in a holder, where there is memory for one.
+    /// The plane in a holder, if there is memory for one.
     pub(crate) fn hold(
         &mut self,
         alloc: Global,
@@ -59,7 +59,7 @@ impl EmbedScratch {
     }
 }
 
-/// The scratch of each stage of a lane, through which holders and lists return from each stage to the one before.
+/// The scratches of the stages of a lane, joined by queues on which each stage returns buffers to the one before.
 #[derive(Drop)]
 pub struct StageScratch {
     pub embed: EmbedScratch,

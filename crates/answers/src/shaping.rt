@@ -24,7 +24,7 @@ use std::mem;
 use std::sync::Wait;
 use straightening::straighten_in;
 
-/// Buffers that finding the shape of one plane after another reuses.
+/// The buffers of the stage that finds shapes, reused for the next plane.
 #[derive(Drop)]
 pub struct ShapeScratch {
     shapes: ortho_rep::Scratch,
@@ -39,8 +39,8 @@ pub struct ShapeScratch {
     pub(crate) return_queues: Passages,
 }
 
-/// The ways back of the stage that finds shapes: holders of planes go to the stage before, and holders of shaped planes
-/// come from the next one.
+/// The return queues of the stage that finds shapes: holders of planes go to the stage before, and holders of shaped
+/// planes come from the next one.
 #[derive(Drop)]
 pub(crate) struct Passages {
     pub(crate) planes: ReturnQueue<Shell<Plane, Plane>>,
@@ -48,7 +48,7 @@ pub(crate) struct Passages {
 }
 
 impl ShapeScratch {
-    /// An empty scratch, through which nothing returns. It allocates nothing.
+    /// An empty scratch, without queues on which buffers return. It allocates nothing.
     pub fn empty(alloc: Global) -> ShapeScratch {
         ShapeScratch {
             shapes: ortho_rep::Scratch::empty(alloc),
@@ -65,7 +65,7 @@ impl ShapeScratch {
         }
     }
 
-    /// Takes in the holder of a shaped plane that is done with and its lists, where they have come back.
+    /// Takes in the holder of a shaped plane and the lists of a spent one, if they have returned.
     pub(crate) fn restock<R: Wait>(&mut self, rt: &R) {
         if let Some(mut shell) = self.return_queues.shaped_planes.receive(rt) {
             if let Some(spent) = shell.unload() {
@@ -84,7 +84,7 @@ impl ShapeScratch {
         }
     }
 
-    /// Sends the holder of the plane that was taken last back, with a plane that is done with, where there is one.
+    /// Returns the last holder of a plane, with a spent plane if there is one.
     pub(crate) fn send_back<R: Wait>(&mut self, rt: &R) {
         if let Some(mut shell) = self.plane_shell.take() {
             if let Some(plane) = self.plane.take() {
@@ -94,7 +94,7 @@ impl ShapeScratch {
         }
     }
 
-    /// The plane out of its holder, which goes back.
+    /// The plane out of its holder, which is kept to be returned.
     pub(crate) fn unpack(
         &mut self,
         plane: Result<Holder<Plane, Plane>, ShapeFault>,
@@ -106,7 +106,7 @@ impl ShapeScratch {
         Ok(plane)
     }
 
-    /// The shaped plane in a holder, where there is memory for one.
+    /// The shaped plane in a holder, if there is memory for one.
     pub(crate) fn hold(
         &mut self,
         alloc: Global,
@@ -132,7 +132,7 @@ impl ShapeScratch {
 ///
 /// # Errors
 ///
-/// `AllocError` where there is no memory for it; the plane is dropped then.
+/// `AllocError` if there is no memory for it; the plane is then dropped.
 pub(crate) fn with_least_shape(
     alloc: Global,
     scratch: &mut ShapeScratch,
@@ -220,8 +220,8 @@ fn shape_of(
     Ok(found)
 }
 
-/// The shape that is drawn so: for a short drawing one in which few vertices of degree 2 turn, and else the shape as it
-/// is. The same prices prove it least.
+/// The shape to draw: for a short drawing one in which few vertices of degree 2 turn, otherwise the shape as it is. The
+/// same prices prove it least.
 fn shape_for(
     alloc: Global,
     scratch: &mut straightening::Scratch,

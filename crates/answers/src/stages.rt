@@ -20,8 +20,8 @@ use faces::{Plane, TraceFault};
 use planar_code::Record;
 use std::alloc::{AllocError, Global};
 
-/// Why a record has no plane if there is no memory for its graph: the first rule that it breaks, or else that. The rules
-/// are tried in no memory.
+/// Why a record has no plane if there is no memory for its graph: the first rule that it breaks, or else out of memory.
+/// Trying the rules allocates nothing.
 fn fault_without_graph(rec: &Record) -> ShapeFault
     ensures { IsRefused rec.now result }
 {
@@ -31,7 +31,7 @@ fn fault_without_graph(rec: &Record) -> ShapeFault
     }
 }
 
-/// The plane of a record, or why there is none, in memory that is lent.
+/// The plane of a record, or why there is none; reuses the caller's scratch.
 pub(crate) fn embed(
     alloc: Global,
     scratch: &mut faces::Scratch,

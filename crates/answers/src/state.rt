@@ -8,7 +8,7 @@ use crate::holder::Holder;
 use crate::shaped_plane::{ShapedPlane, SpentShapedPlane};
 use faces::Plane;
 
-/// What was made of a record so far.
+/// What the stages have made of a record so far.
 pub trait State: Drop + Send {
     /// It was made of this record.
     ghost describes: { About → Self → Type 0 };

@@ -21,7 +21,7 @@ use streams::{Mark, Sink, Tap, TextBuffer, WriteFault};
 use text_lines::{Lines, Next};
 use verdicts::{Given, Said, Scratch, Verdict, judge_record, push_end, push_verdict, said_in};
 
-/// The lines behind those of the records.
+/// The lines after those of the records.
 #[derive(Clone, Copy, Debug)]
 pub(crate) struct Rest {
     /// How many they are.
@@ -30,7 +30,7 @@ pub(crate) struct Rest {
     pub(crate) failed: bool,
 }
 
-/// What is given behind the last record.
+/// What is given after the last record.
 #[derive(Clone, Copy, Debug)]
 pub(crate) enum Behind {
     /// A line that is not the end of a run.
@@ -205,11 +205,11 @@ impl<L: Tap> Judge<L> {
         unreachable!()
     }
 
-    /// Reads the lines behind those of the records.
+    /// Reads the lines after those of the records.
     ///
     /// # Errors
     ///
-    /// `Memory` if there is no memory to tell whether a line is the end of a run.
+    /// `Memory` if memory runs out before it is known whether a line is the end of a run.
     fn read_rest<R: Wait>(&mut self, rt: &R) -> Result<Rest, WriteFault>
         ensures reads { IfOk result (λ rest. (known : Option (List ℕ)) (fails : Bool) (kept : List (List ℕ))
             → HasKept L.to_come L.fails known fails self.old.lines kept
@@ -231,7 +231,7 @@ impl<L: Tap> Judge<L> {
         unreachable!()
     }
 
-    /// Reads the lines behind the last record, and writes the last line.
+    /// Reads the lines after the last record, and writes the last line.
     pub(crate) fn finish<R: Wait, S: Sink>(
         mut self,
         rt: &R,
@@ -285,7 +285,7 @@ fn is_wanting(given: &Given) -> bool
     }
 }
 
-/// What is given behind the last record.
+/// What is given after the last record.
 fn follows(given: Given) -> Behind
     ensures { result ≡ behind_of given }
 {

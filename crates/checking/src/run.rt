@@ -8,7 +8,7 @@ use std::alloc::Global;
 use std::sync::Wait;
 use streams::{Mark, PieceOutcome, Sink, Tap, WriteFault, piece_buffer, read_piece};
 
-/// How verdicts are asked for.
+/// The options of a check: the output format, and whether regions are checked.
 #[derive(Clone, Copy, Debug, PartialEq, Eq)]
 pub struct Asked {
     /// JSON objects in place of a report.
@@ -17,7 +17,7 @@ pub struct Asked {
     pub faces: bool,
 }
 
-/// How a run ended whose text was written whole.
+/// The outcome of a check whose output was written completely.
 #[derive(Clone, Copy, Debug, PartialEq, Eq)]
 pub struct Checked {
     /// How the file of graphs ended.
@@ -34,10 +34,13 @@ pub struct Checked {
 /// Line K that is no end of a run belongs to record K. Records are judged as they are read, one after another; it keeps
 /// those of one piece, one line and one drawing.
 ///
+/// If memory runs out for a line, the verdict on the record is `memory`. If that line was the end of a run, later lines
+/// may be one off, each judged with the record after its own.
+///
 /// # Errors
 ///
-/// `Write` exactly if the sink has then failed; `Memory` if there is no memory for the buffers, or to tell whether a line
-/// behind the last record is the end of a run. A prefix of the text was then written.
+/// `Write` if a write to the sink fails. `Memory` if memory runs out for the buffers, or before it is known whether a
+/// line after the last record is the end of a run. A prefix of the text was then written.
 pub fn check_files<R: AllocGlobal + Wait, G: Tap, L: Tap, S: Sink>(
     rt: &R,
     mut graphs: G,

@@ -9,7 +9,7 @@ use lanes::Keep;
 use planar_code::Record;
 use std::alloc::{AllocError, Global};
 
-/// The entries of the records that were kept, in order.
+/// A `Keep` that answers each record and keeps the entries, in order.
 #[derive(Drop)]
 pub struct Entries {
     pub entries: Vec<Entry>,

@@ -9,7 +9,7 @@ use lanes::{OpenFault, Opener};
 use std::alloc::Global;
 use std::sync::atomic::{AtomicU64, Ordering};
 
-/// An opener of the files in a list of names; a file's number is the index of its name.
+/// An opener of the files in a list of file names; a file's number is the index of its name.
 ///
 /// A name may be listed more than once. A number past the list is not opened. Each call of `open` for a name is counted
 /// in `opened`, even if it is refused. How each file begins, and why it fails, is written to `notes`.

@@ -3,7 +3,7 @@
 use planar_code::{Ending, HEADER};
 use streams::Mark;
 
-/// How a file ended that is not planar_code in the one-byte form.
+/// The ending of a file that is not planar_code in the one-byte form.
 #[derive(Clone, Copy, Debug, PartialEq, Eq)]
 pub enum Misfit {
     Header,

@@ -67,7 +67,7 @@ where
     }
 }
 
-/// Files by name, where the name `-` stands for standard input, which is file 0 of `input`.
+/// Files by name, and under the name `-` standard input, which is file 0 of `input`.
 #[derive(Drop)]
 pub struct FilesAndInput<'r, N, I> {
     pub files: &'r N,

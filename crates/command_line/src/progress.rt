@@ -40,7 +40,7 @@ pub trait Console {
     /// The time since some fixed start, in milliseconds, or 0 if the clock cannot be read.
     fn time(&self) -> u64;
 
-    /// Writes a text. A failure of this write changes nothing.
+    /// Writes `text`. A failure of this write changes nothing.
     fn show(&self, text: &[u8]);
 }
 

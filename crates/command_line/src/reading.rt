@@ -122,7 +122,7 @@ fn given_after<'a>(front: &str, word: &'a str) -> Option<&'a str>
     word.strip_prefix(front)
 }
 
-/// The text given for this number by the first argument that gives it; `None` if no argument does.
+/// The value of the first option that sets `number`, unparsed; `None` if no option does.
 pub fn number_text<'a>(number: Number, words: &'a [String]) -> Option<&'a str>
     ensures { option_map (λ text. text.now) result ≡ number_text_in number words.now }
 {

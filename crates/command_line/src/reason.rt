@@ -21,7 +21,7 @@ impl Reason {
         self.code == Some(32)
     }
 
-    /// The reason of this error.
+    /// The reason that a system error carries.
     pub fn of(error: Error) -> Reason {
         Reason {
             code: error.raw_os_error(),

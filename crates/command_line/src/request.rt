@@ -200,7 +200,7 @@ fn waiting_of(words: &[String]) -> u32
     number_or(64, number_text(Number::Waiting, words))
 }
 
-/// The number in a text, 0 if it is not a number; `otherwise` if there is no text.
+/// The number that `text` contains, 0 if it is not a number; `otherwise` if there is no text.
 fn number_or(otherwise: u32, text: Option<&str>) -> u32
     ensures { IsNumberOf otherwise (option_map (λ t. t.now) text.entry) result }
 {

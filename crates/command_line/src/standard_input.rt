@@ -10,17 +10,17 @@ use std::io::Read;
 use std::os::fd::AsFd;
 use streams::Tap;
 
-/// The name that stands for standard input.
+/// The file name that means standard input.
 pub const INPUT: &str = "-";
 
-/// Whether a file name stands for standard input.
+/// Whether a file name means standard input.
 pub fn is_input(name: &str) -> bool
     ensures { result ≡ is_input name.now }
 {
     name == INPUT
 }
 
-/// Standard input, as the only file of an opener. Nothing is known of its bytes.
+/// An opener whose only file is standard input. Nothing is known of its bytes.
 #[derive(Drop)]
 pub struct StandardInput<I> {
     input: I,
@@ -28,7 +28,7 @@ pub struct StandardInput<I> {
 }
 
 impl<I: AsFd + Copy> StandardInput<I> {
-    /// Standard input in its current state, to be called before any file is opened.
+    /// Standard input, open or closed as it is now; to be called before any file is opened.
     ///
     /// If it is closed it stays closed, even after a file that was opened has got its file descriptor.
     pub fn new(input: I) -> StandardInput<I> {

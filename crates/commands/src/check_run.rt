@@ -9,8 +9,9 @@ use reports::Form;
 use std::sync::Wait;
 use streams::Sink;
 
-/// Checks the drawings in one file of the graphs in another one, and writes the verdicts, and the lines about the files.
-/// Returns the exit status of the verdicts.
+/// Writes the verdicts that a `check` request asks for; returns their exit status.
+///
+/// It checks the drawings in one file of the graphs in another one. Lines about the two files are written to `err`.
 ///
 /// # Errors
 ///

@@ -255,7 +255,7 @@ fn show_version<S: Sink + KeepsReason, E: Sink>(out: &mut S, err: &mut E) -> u8
     }
 }
 
-/// Writes the help that was asked for, and returns the exit status. A text that does not begin as help does is refused.
+/// Writes the help that was asked for, and returns the exit status. Output that does not begin like help is refused.
 fn show_help<S: Sink + KeepsReason, E: Sink>(
     alloc: Global,
     help: &Error,
@@ -283,7 +283,7 @@ fn show_help<S: Sink + KeepsReason, E: Sink>(
     }
 }
 
-/// Whether a text begins as help does, and as no text of a run does.
+/// Whether output begins like help, and like no text of a run.
 fn begins_as_help(text: &[u8]) -> bool
     ensures no_text { IsTrue result → IsNoText text.now }
     ensures capital { IsTrue result → (65 ≤ slice_index text.now 0) × (slice_index text.now 0 ≤ 90) }
@@ -291,7 +291,7 @@ fn begins_as_help(text: &[u8]) -> bool
     begins_with_capital(text)
 }
 
-/// Whether a text begins with a capital letter.
+/// Whether output begins with a capital letter.
 fn begins_with_capital(text: &[u8]) -> bool
     ensures { IsTrue result → (65 ≤ slice_index text.now 0) × (slice_index text.now 0 ≤ 90) }
 {

@@ -25,7 +25,7 @@ use std::sync::Wait;
 use std::thread::Threads;
 use streams::{BatchFault, Sink, WriteFault};
 
-/// The reason why the text of a run was not written completely. What was written is then a prefix of one.
+/// The reason why the text of a run was not written completely. What was written is then a prefix of such a text.
 #[derive(Clone, Copy, Debug, PartialEq, Eq)]
 pub enum TextFault {
     /// The run failed.
@@ -187,7 +187,7 @@ fn write_files<
     }
 }
 
-/// Drops a text, whose sink stays as it is.
+/// Drops a consumer, and leaves its sink unchanged.
 fn let_go<S: Sink>(texts: Texts<'_, S, Lines>)
     ensures { texts.exit.0.now ≡ texts.entry.sink.now }
 {

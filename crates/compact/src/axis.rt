@@ -18,7 +18,7 @@ use dissect::Boxes;
 use geometry::Direction;
 use std::alloc::AllocError;
 
-/// An axis, by the direction in which its coordinates grow.
+/// One of the two axes along which coordinates are computed.
 #[derive(Clone, Copy, Debug)]
 pub enum Axis {
     /// x, which grows to the east.
@@ -62,11 +62,11 @@ fn constraints_along(
     Ok(())
 }
 
-/// Whether the arc from a vertex to a neighbour is satisfied: the coordinate along it grows, and that across it stays the
-/// same. So it does where it leads to no vertex.
+/// Whether the arc from a vertex to a neighbour is satisfied: the coordinate along it grows, and that across it stays
+/// the same. An arc that leads to no vertex is satisfied.
 ///
-/// The vertex itself then stands in the place of the next one, so that no branch hangs on whether there is
-/// one, which cannot be foreseen.
+/// The vertex itself then takes the place of the next one, so that no branch depends on whether there is
+/// one, which cannot be predicted.
 fn is_arc_satisfied(along: &[u16], across: &[u16], vertex: usize, to: u32) -> bool
     requires vertex { vertex < length along.now }
     requires count { length across.now ≡ length along.now }
@@ -115,7 +115,7 @@ fn neighbours_along(around: &[u32], axis: Axis) -> Neighbours<'_>
 }
 
 /// Coordinates that are nowhere above any that grow along the darts of an axis: the lengths of longest
-/// paths, found segment by segment, in the memory of the list that is lent. `around` has the neighbours of each
+/// paths, found segment by segment, in the buffer of a list. `around` has the neighbours of each
 /// vertex. Linear in the darts.
 fn low_along(
     boxes: &Boxes,
@@ -164,7 +164,7 @@ fn relaxed_along(
     Ok(coordinates)
 }
 
-/// The least x and y coordinates of the vertices that grow along the darts.
+/// The x and y coordinates of the vertices: the least such that they grow along the darts.
 ///
 /// They reuse the buffers of `x` and `y`. `around` has the neighbours of each vertex.
 pub fn least_coordinates(

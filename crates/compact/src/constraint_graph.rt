@@ -25,7 +25,7 @@ pub enum Relaxation {
     Wide,
 }
 
-/// Raises the coordinate that a constraint ends at, where the constraint is not satisfied.
+/// Raises the coordinate that a constraint ends at, if the constraint is not satisfied.
 fn relax(constraint: Constraint, coordinates: &mut [u16]) -> Relaxation
     requires from { constraint.from < length coordinates.old }
     requires to { constraint.to < length coordinates.old }
@@ -44,7 +44,7 @@ fn relax(constraint: Constraint, coordinates: &mut [u16]) -> Relaxation
     Relaxation::Raised
 }
 
-/// Raises coordinates, constraint by constraint, where a constraint is not satisfied.
+/// Raises coordinates, constraint by constraint, if a constraint is not satisfied.
 fn relax_all(constraints: &[Constraint], coordinates: &mut [u16]) -> Relaxation
     requires inside { AreInRange (length coordinates.old) constraints.now }
     requires low { IsLow constraints.now (length coordinates.old) (λ v. slice_index coordinates.old v) }

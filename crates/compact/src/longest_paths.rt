@@ -7,10 +7,10 @@ use crate::neighbours::NO_VERTEX;
 use ortho_rep::MAX_COORDINATE;
 use std::alloc::{AllocError, Global};
 
-/// The neighbours of each vertex along an axis and across it, by their directions.
+/// The neighbours of each vertex, with the numbers of the four directions as seen along an axis.
 #[derive(Clone, Copy)]
 pub struct Neighbours<'a> {
-    /// For each vertex the next one in each of the four directions, out of range where there is none.
+    /// The next vertex of each vertex in each of the four directions, out of range if there is none.
     pub around: &'a [u32],
     /// The direction along the axis.
     pub ahead: u8,
@@ -61,10 +61,10 @@ impl<'a> Neighbours<'a> {
 /// The segments of all vertices along an axis, in a topological order. Its buffers are reused for the next dissection.
 #[derive(Drop)]
 pub struct AxisSegments {
-    /// For each vertex the first one of its segment. A segment has one coordinate, which stands there.
+    /// For each vertex the first one of its segment. The one coordinate of a segment is at its first vertex.
     segments: Vec<u32>,
     // Time alone rests on what follows: whatever it holds, coordinates are raised along arcs alone.
-    /// The first vertices of all segments, and others behind them.
+    /// The first vertices of all segments, followed by others.
     segment_firsts: Vec<u32>,
     /// How many segments there are.
     count: usize,
@@ -86,7 +86,7 @@ impl AxisSegments {
         }
     }
 
-    /// Makes a segment of each of so many vertices, and lists the first ones of the segments that are to be
+    /// Makes a segment of each of this many vertices, and lists the first ones of the segments that are to be
     /// written: those with no vertex to their right.
     fn begin(&mut self, neighbours: Neighbours<'_>, vertices: u32) -> Result<(), AllocError>
         requires right { neighbours.right < 4 }
@@ -271,7 +271,7 @@ pub fn find_segments(
 struct ReadyQueue<'a> {
     /// The in-degree of a segment by arcs still to come, at the place of its first vertex.
     in_degrees: &'a mut [u32],
-    /// The first vertices of the segments that have come, and others behind them.
+    /// The first vertices of the segments that have come, followed by others.
     segment_firsts: &'a mut [u32],
     /// How many have come.
     count: usize,
@@ -286,8 +286,8 @@ impl ReadyQueue<'_> {
         }
     }
 
-    /// Puts a segment behind the others, if it is to come now. The place behind them is written in any case:
-    /// which segments come cannot be foreseen, so no branch is to hang on it.
+    /// Appends a segment to the others, if it is to come now. The place after them is written in any case:
+    /// which segments come cannot be predicted, so no branch depends on it.
     fn put_last(&mut self, first: u32, comes: bool) {
         if self.count < self.segment_firsts.len() {
             self.segment_firsts[self.count] = first;
@@ -295,7 +295,7 @@ impl ReadyQueue<'_> {
         }
     }
 
-    /// Puts the segments of in-degree 0, among so many, behind the others.
+    /// Appends those of the first `segments` segments whose in-degree is 0.
     fn begin(&mut self, segment_firsts: &[u32], segments: usize) {
         for first in segment_firsts.iter().take(segments) {
             let comes = self.in_degrees.get(*first as usize).copied() == Some(0);
@@ -315,7 +315,7 @@ impl ReadyQueue<'_> {
 }
 
 /// Raises the coordinate of the segment of the next vertex along the axis, if there is one, to that of the segment of a
-/// vertex and one more, and gives back the first vertex of that segment. No coordinate exceeds 65,535.
+/// vertex and one more, and returns the first vertex of that segment. No coordinate exceeds 65,535.
 fn raise(
     around: &[u32],
     ahead: u8,

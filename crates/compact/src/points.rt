@@ -16,7 +16,7 @@ use ortho_rep::{Point, Points};
 use std::alloc::{AllocError, Global};
 use std::mem;
 
-/// The points of the plane's vertices, in the memory of a list that is lent, with room for so many points.
+/// The points of the plane's vertices, in the buffer of a list, with room for `room` points.
 fn vertex_points(
     lent: Vec<Point>,
     room: usize,
@@ -37,7 +37,7 @@ fn vertex_points(
 }
 
 /// The corner points of all edges in one list, one edge after another, and the places where those of each edge
-/// start; one place more, where the last ones end. Both lists stand in the memory of those that are lent.
+/// start, and finally where the last ones end. Both lists reuse their buffers.
 fn list_corners(
     mut corners: Vec<Point>,
     starts: Vec<usize>,
@@ -62,7 +62,7 @@ fn list_corners(
     Ok((corners, starts))
 }
 
-/// The least integer coordinates, 0 to 65,535, that grow along the darts of boxes, as points for the plane in them.
+/// The points of a plane in boxes: the least coordinates, 0 to 65,535, that grow along the darts of the boxes.
 ///
 /// x grows to the east and y to the north. Edges run along the axes between their ends and corners.
 ///

@@ -1,4 +1,4 @@
-//! Memory for coordinates, which is used again.
+//! Buffers for coordinates, which are reused.
 
 ghost use Rattle.std.specs.Prelude.{◌≡◌, []};
 
@@ -7,11 +7,10 @@ use crate::longest_paths::SegmentsByAxis;
 use ortho_rep::{Point, Points};
 use std::alloc::Global;
 
-/// Memory in which points are found for one dissection after another. What it holds between two of
-/// them is of no use.
+/// The buffers of `compact_in`, reused for the next dissection. Their contents between two calls do not matter.
 ///
-/// The points take their list with them. Where it is given back before the next ones are found, these take no memory
-/// for it unless they have more vertices, edges or corners; where it is not, it takes memory for just what it holds.
+/// The points take their list with them. If it is returned before the next ones are found, these allocate no list
+/// unless they have more vertices, edges or corners; if it is not, they allocate one for just what it holds.
 #[derive(Drop)]
 pub struct Scratch {
     pub(crate) around: Vec<u32>,

@@ -20,18 +20,17 @@ use flow_network::has_mark;
 use ortho_rep::{Prices, Scratch, Shape, ShapeFault, best_shape_keeping, least_shape_keeping_in};
 use std::alloc::{AllocError, Global};
 
-/// Makes the chosen face among those that may be outside the outer one, and gives a least shape among those that keep the
-/// edges straight, with prices that prove it.
+/// Makes the chosen face the outer one, and returns a least shape that keeps the conditions, with prices that prove it.
 ///
 /// `First` is the face with the most darts of those that may be outside; `Best` the one with which the fewest bends are
 /// needed to keep the edges straight; among equals both are the one with the least number, which has the least dart.
 ///
 /// # Errors
 ///
-/// `NoEdge` exactly if two vertices that are named are no neighbours, otherwise `NoOuter` exactly if no face may be
-/// outside, otherwise `NoShape` exactly if no shape with a chosen face keeps the edges straight, memory aside, with vertices
-/// and faces that show it of the face with the most darts; `Memory` if memory runs out. The outer face may then be another
-/// one.
+/// `NoEdge` exactly if two vertices that are named are not adjacent; otherwise `NoOuter` exactly if no face may be
+/// outside; otherwise `NoShape` exactly if, memory aside, no shape with a chosen face keeps the edges straight. It has
+/// vertices and faces that show this for the face with the most darts. `Memory` if memory runs out. The outer face may
+/// have changed.
 pub fn shape_keeping_in(
     alloc: Global,
     scratch: &mut Scratch,

@@ -10,7 +10,7 @@ pub struct DartEnds {
     pub to: u8,
 }
 
-/// What a layout is to keep.
+/// The conditions that a layout must keep: edges that stay straight, and faces that stay inside.
 #[repr(C)]
 #[derive(Clone, Copy)]
 pub struct Conditions<'a> {

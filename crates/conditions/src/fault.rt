@@ -6,7 +6,7 @@ use thiserror::Error;
 /// The reason why there is no shape that keeps the conditions.
 #[derive(Debug, Drop, Error)]
 pub enum KeepFault {
-    /// Two vertices that name an edge or a face are no neighbours.
+    /// Two vertices that name an edge or a face are not adjacent.
     #[error("two vertices are no neighbours")]
     NoEdge,
     /// All faces are to stay inside.
@@ -20,8 +20,7 @@ pub enum KeepFault {
     Memory,
 }
 
-/// Why no shape keeps edges straight: with one of the faces that may be outside, these vertices and faces turn more than can
-/// leave them.
+/// A proof that no shape keeps edges straight with the outer face `outer`: a cut that turns more than can leave it.
 #[derive(Debug, Drop)]
 pub struct Unkept {
     /// That face: the one with the most darts, among equals the one with the least number.

@@ -79,7 +79,7 @@ pub(crate) fn barred_of(
     Ok(barred)
 }
 
-/// Marks the darts of a list, where none is marked yet.
+/// Marks the darts of a list, among marks that are all unset.
 fn mark_darts(plane: &Plane, list: &[DartEnds], marks: &mut [bool])
     requires { marks.old ≡ replicate (darts plane.now) false }
     ensures { AreMarks plane.now list.now marks.new }
@@ -89,7 +89,7 @@ fn mark_darts(plane: &Plane, list: &[DartEnds], marks: &mut [bool])
     }
 }
 
-/// Marks the faces on the left of the darts of a list, where none is marked yet.
+/// Marks the faces on the left of the darts of a list, among marks that are all unset.
 fn mark_faces(plane: &Plane, list: &[DartEnds], barred: &mut [bool])
     requires { barred.old ≡ replicate plane.now.faces false }
     ensures { AreBarred plane.now list.now barred.new }

@@ -1,6 +1,6 @@
 //! Sets of vertices and faces.
 
-/// A set of vertices and faces, by marks.
+/// A set of vertices and faces, stored as a mark for each.
 ///
 /// With a vertex, each of its faces is in the set, since a right angle can go to each; with a face, each face across an edge
 /// that may bend, since a bend can. So what they have to turn stays among them, and if that is more than 0, there is no

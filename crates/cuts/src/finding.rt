@@ -1,4 +1,4 @@
-//! The cut of a plane with edges that stay straight: what the solver reaches from an excess in the plane's network, where
+//! The cut of a plane with edges that stay straight: what the solver reaches from an excess in the plane's network if
 //! nothing crosses these edges (Gale 1957, Tamassia 1987).
 
 ghost use Rattle.std.specs.Prelude.{◌≡◌, ◌+◌, ◌-◌, ◌<◌, ◌≤◌, ℕ, Bool, List, true, false, IfOk, IfSome, IfNone, length};
@@ -17,8 +17,9 @@ use flow_network::{FaceNet, has_mark};
 use min_cost_flow::overfull_in;
 use std::alloc::{AllocError, Global};
 
-/// Why no representation keeps the edges of marked darts straight: a set of vertices and faces that turn more than can
-/// leave them. `None` if a representation keeps them.
+/// If no representation keeps marked edges straight, a cut that proves it; `None` if some representation does.
+///
+/// The cut is a set of vertices and faces that turn more than can leave it.
 ///
 /// An edge is to stay straight if one of its two darts is marked; darts past the end of the list are not marked.
 ///
@@ -88,7 +89,7 @@ fn has_faces_in(plane: &Plane, faces: &[bool], vertex: u8) -> bool
     true
 }
 
-/// Vertices and faces that turn more than can leave them show that no representation keeps the edges straight.
+/// If a set of vertices and faces turns more than can leave it, no representation keeps the edges straight.
 pub fn cut_shows_none()
     ensures { (p : PlaneModel) (marks vertices faces : List Bool) → IsPlane p → ShowsNone p marks vertices faces → HasNoneKeeping p marks }
 {}

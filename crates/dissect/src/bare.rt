@@ -30,8 +30,9 @@ pub fn room_for(plane: &Plane, shape: &Shape) -> u32
     u32::from(graph.darts()) + 3 * turns + 8 * u32::from(graph.vertices()) + RECTANGLE_ROOM
 }
 
-/// A table of so many darts and vertices, of which nothing is written yet, with room for `places` darts at least,
-/// in the memory of this one. Only where that is too short are its lists filled anew.
+/// A table of `darts` darts and `vertices` vertices, not written yet, with room for at least `places` darts.
+///
+/// It reuses the buffers of `table`, and fills its lists anew only if they are too short.
 fn blank_table(
     table: DartTable,
     darts: u32,

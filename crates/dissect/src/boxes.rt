@@ -38,7 +38,7 @@ impl Model for Boxes {
 }
 
 impl Boxes {
-    /// The boxes that a table holds, for a plane of so many vertices, these lesser darts and their paths.
+    /// The boxes that a table holds, for a plane with `old` vertices, these lesser darts and their paths.
     pub(crate) fn of(table: DartTable, old: u8, edges: Vec<u16>, paths: FlatLists<u32>) -> Boxes
         requires { AreBoxes (parts_of table old edges.items paths) }
         ensures { result ≡ parts_of table old edges.items paths }
@@ -121,7 +121,9 @@ impl Boxes {
         Direction::from_quarters(self.table.direction[dart as usize])
     }
 
-    /// The vertices that the darts go to, in the order of the darts; others may stand behind them.
+    /// The head of each dart, by number.
+    ///
+    /// The slice may be longer than the number of darts.
     pub fn heads(&self) -> &[u32]
         ensures value { result.now ≡ self.now.head }
         ensures count { self.now.darts ≤ length result.now }
@@ -130,7 +132,9 @@ impl Boxes {
         self.table.head.as_slice()
     }
 
-    /// The darts along the same edges in the other direction, in the order of the darts; others may stand behind them.
+    /// The reverse of each dart, by number.
+    ///
+    /// The slice may be longer than the number of darts.
     pub fn reverse_darts(&self) -> &[u32]
         ensures value { result.now ≡ self.now.reverse_dart }
         ensures count { self.now.darts ≤ length result.now }
@@ -138,8 +142,9 @@ impl Boxes {
         self.table.reverse_dart.as_slice()
     }
 
-    /// The directions in which the darts run, in quarter turns to the left from east and in the order of the darts;
-    /// others may stand behind them.
+    /// The direction of each dart, by number, in quarter turns to the left from east.
+    ///
+    /// The slice may be longer than the number of darts.
     pub fn directions(&self) -> &[u8]
         ensures value { result.now ≡ self.now.direction }
         ensures count { self.now.darts ≤ length result.now }
@@ -169,7 +174,7 @@ impl Boxes {
         self.old
     }
 
-    /// The vertex here of a vertex of the plane, whose vertices are numbered from 1.
+    /// The number, among the vertices of the boxes, of a vertex of the plane, which is numbered from 1.
     pub fn old(&self, vertex: u8) -> u32
         requires from { 1 ≤ vertex }
         requires to { vertex ≤ self.now.old }

@@ -9,7 +9,7 @@ pub fn cuts_stay_sound()
     ensures { (w new : DartMap) → IsSound w → IsCutUp w new → IsSound new }
 {}
 
-/// If each dart leads to a corner, it still does after cuts.
+/// If the walk on from each dart reaches a corner, it still does after cuts.
 pub fn cuts_reach_corners()
     ensures { (w new : DartMap) → IsSound w → IsCutUp w new → ReachesCorners w → ReachesCorners new }
 {}

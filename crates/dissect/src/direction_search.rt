@@ -39,7 +39,7 @@ impl DirectionSearch {
         }
     }
 
-    /// A search in which none of so many darts has a direction, in the memory of this one.
+    /// A search in which none of this many darts has a direction yet, in the same buffers.
     fn begun(self, darts: usize) -> Result<DirectionSearch, AllocError>
         ensures unset { IfOk result (λ s. s.directions.items ≡ replicate darts NO_DIRECTION) }
         ensures waiting { IfOk result (λ s. s.waiting.items ≡ []) }

@@ -3,8 +3,8 @@
 //!
 //! A map is a table of darts whose edges run along the axes. A face is given by its corners, in
 //! walking order. Read from the place on where the walk has turned left most, a stack of corners
-//! takes them one by one; wherever a right turn stands below two left turns, a chord from the right
-//! turn to the edge behind the second left turn cuts a box off. Four left turns are left at the end.
+//! takes them one by one; wherever a right turn lies below two left turns, a chord from the right
+//! turn to the edge after the second left turn cuts a box off. Four left turns are left at the end.
 
 ghost use Rattle.std.specs.Prelude.{◌≡◌, ◌≢◌, ℕ, ◌+◌, ◌-◌, ◌*◌, ◌^◌, ◌<◌, ◌≤◌, ◌↔◌, List, [], ◌∷◌, length, map, drop, take, ◌++◌, sum, slice_index, true, All};
 ghost use Rattle.dissect.specs.DartMaps.{IsSound, IsCut, IsCutUp};
@@ -85,8 +85,8 @@ fn read_corner(table: &mut DartTable, ring: &mut [u32], height: usize, read: usi
     height
 }
 
-/// The place before which the walk along the corners has turned left most, the first of them. What is kept is how many
-/// quarter turns the walk is behind that place.
+/// The place before which the walk along the corners has turned left most, the first of them. It tracks by how many
+/// quarter turns the walk has fallen short of that place.
 fn peak(angle: &[u8], ring: &[u32]) -> usize
     requires inside { All (λ a. a < length angle.now) ring.now }
     requires small { All (λ a. slice_index angle.now a ≤ 4) ring.now }
@@ -144,9 +144,10 @@ pub fn cut_face(table: &mut DartTable, ring: &mut [u32])
     }
 }
 
-/// Cuts all faces into boxes, one after another: `corners` holds their corners, those of each face in
-/// walking order, and `counts` how many each face has. What remains in `corners` is of no use. Each dart
-/// keeps the face of the plane in which it lies, and new edges divide none.
+/// Cuts all faces into boxes, one after another.
+///
+/// `corners` has the corners of each face in walking order, and `counts` their number for each face. What remains in
+/// `corners` does not matter. Each dart keeps the face of the plane in which it lies, and new edges divide none.
 /// Linear in the corners.
 pub fn cut_faces(table: &mut DartTable, corners: &mut [u32], counts: &[u32])
     requires sound { IsSound (dart_map_of table.old) }

@@ -14,7 +14,7 @@ use std::alloc::{AllocError, Global};
 /// The corners of faces, those of each face in walking order. Its buffers can be reused.
 #[derive(Drop)]
 pub struct Faces {
-    /// The corners of the inner faces, one face after another, and behind them those of the merged face
+    /// The corners of the inner faces, one face after another, followed by those of the merged face
     /// once it is added.
     pub(crate) corners: Vec<u32>,
     /// How many corners each of these faces has.

@@ -26,19 +26,20 @@ use faces::Plane;
 use ortho_rep::Shape;
 use std::alloc::{AllocError, Global};
 
-/// The map of a plane in four directions by an orthogonal representation, with a vertex at each
-/// bend, so that each edge is straight: its darts and vertices, with room for a rectangle round it and
-/// for cuts at all right turns. The lesser darts of the edges are given.
+/// The map of a plane with a vertex at each bend, so that each edge is straight; directions are those of the shape.
+///
+/// The table has its darts and vertices, with room for a rectangle round it and for cuts at all right turns. `edges`
+/// has the lesser darts of the edges.
 ///
 /// The plane's darts keep their numbers, heads, angles and faces; vertex v has the number v - 1. Each of
 /// them is the last dart of its edge: `before` leads back along the edge, which turns as its string says. Each
 /// dart of the map lies in the face of the plane's dart of which it is a part.
-/// The directions are counted by quarter turns to the left from east. Linear in the darts and the turns,
-/// in the memory of the table that is lent, with one allocation for each of its arrays that has not enough.
+/// The directions are counted by quarter turns to the left from east. Linear in the darts and the turns. It reuses the
+/// buffers of `table`, with one allocation for each array that is too small.
 ///
 /// # Errors
 ///
-/// `AllocError` where there is no memory for the table; the memory that was lent is then gone.
+/// `AllocError` if there is no memory for the table, whose buffers are then gone.
 pub fn normalize_into(
     table: DartTable,
     plane: &Plane,

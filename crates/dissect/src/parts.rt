@@ -9,7 +9,7 @@ use common::emptied;
 use ortho_rep::FlatLists;
 use std::alloc::AllocError;
 
-/// Puts the darts of the path that ends with a dart behind a list, in walking order. Linear in
+/// Appends to a list the darts of the path that ends with a dart, in walking order. Linear in
 /// them.
 fn push_path(darts: &mut Vec<u32>, table: &DartTable, last: u32) -> Result<(), AllocError>
     requires path { (first : ℕ) × (rest : List ℕ) × IsPath (dart_map_of table.now) last first rest }
@@ -27,9 +27,9 @@ fn push_path(darts: &mut Vec<u32>, table: &DartTable, last: u32) -> Result<(), A
     Ok(())
 }
 
-/// The darts that make up each of these edges, which are named by their last darts.
+/// The paths of edges, each the list of the darts that make it up. Each edge is given by its last dart.
 ///
-/// It reuses the buffers of `darts` and `starts`. Linear in these darts.
+/// It reuses the buffers of `darts` and `starts`. Linear in the darts of the paths.
 pub fn paths_of(
     table: &DartTable,
     edges: &[u16],

@@ -32,16 +32,17 @@ fn cut_side(table: &DartTable, right: u32) -> u32
     u32::from(table.direction[right as usize] + 4 - table.angle[right as usize]) % 4
 }
 
-/// Puts a rectangle round the map, connects it to a right turn of the outer face, which is that of
-/// the dart `outer`, and cuts all faces into boxes. The table needs room for four darts for each
-/// right turn, and for `RECTANGLE_ROOM` more. Each dart keeps the face of the plane in which it lies, new edges
-/// divide none, and the rectangle lies in that of `outer`. Linear in the darts. Faces are listed in the memory that is
-/// lent, which is given back.
+/// Puts a rectangle round the map and cuts all faces into boxes; returns the buffers of `faces`.
+///
+/// The rectangle is connected to a right turn of the outer face, which is that of the dart `outer`. The table needs
+/// room for four darts for each right turn, and for `RECTANGLE_ROOM` more. Each dart keeps the face of the plane in
+/// which it lies, new edges divide none, and the rectangle lies in that of `outer`. Linear in the darts. Faces are
+/// listed in the buffers of `faces`.
 ///
 /// # Errors
 ///
-/// `AllocError` where there is no memory for the lists of faces; the table is then as it was, and the memory
-/// that was lent is gone.
+/// `AllocError` if there is no memory for the lists of faces; the table is then unchanged, and the buffers of `faces`
+/// are gone.
 pub fn refine_in(table: &mut DartTable, outer: u32, faces: Faces) -> Result<Faces, AllocError>
     requires sound { IsSound (dart_map_of table.old) }
     requires turns { (face_number : ℕ → ℕ) × HasTurns (dart_map_of table.old) face_number (face_number outer) }

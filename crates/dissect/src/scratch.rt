@@ -8,7 +8,7 @@ use crate::face_list::Faces;
 use crate::table::DartTable;
 use std::alloc::Global;
 
-/// Buffers that one dissection after another reuses. Their contents between two calls do not matter.
+/// The buffers of a dissection, reused for the next one. Their contents between two calls do not matter.
 #[derive(Drop)]
 pub struct Scratch {
     pub(crate) table: DartTable,

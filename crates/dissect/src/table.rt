@@ -8,14 +8,15 @@ use std::alloc::Global;
 /// The value for a missing dart.
 pub const NO_DART: u32 = u32::MAX;
 
-/// The number of darts for which a table needs additional room if a rectangle is put round its map.
+/// The additional room, in darts, that a table needs for a rectangle round its map.
 ///
 /// These are 8 for the sides, and 4 for each of the four right turns at its corners, as for each other right turn.
 pub const RECTANGLE_ROOM: u32 = 24;
 
-/// The darts of a map in four directions, in flat arrays with room for more of them. Darts and
-/// vertices are numbered from 0, directions by quarter turns to the left from east, and angles
-/// count right angles.
+/// The darts of a map whose edges run along the axes, in flat arrays with room for more darts.
+///
+/// Darts and vertices are numbered from 0, directions by quarter turns to the left from east, and angles count right
+/// angles.
 #[derive(Drop)]
 pub struct DartTable {
     /// The next dart of the face on the left.

@@ -1,4 +1,4 @@
-//! Writes to the lists of a table: what follows on a face, what stands before on an edge, what is reverse.
+//! Writes to the lists of a table: the next dart of a face, the dart before on an edge, the reverse.
 
 ghost use Rattle.std.specs.Prelude.{◌≡◌, ◌<◌, vec_len, slice_index, slice_set};
 

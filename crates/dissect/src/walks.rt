@@ -30,8 +30,8 @@ pub fn find_right(table: &DartTable, outer: u32) -> u32
     dart
 }
 
-/// Puts a dart behind the corners if it is one, that is, if its angle is not straight. It is put there in any case,
-/// and let go again if it is none: whether it is one could not be foreseen by a branch.
+/// Appends a dart to the corners if it is one, that is, if its angle is not straight. It is appended in any case,
+/// and removed again if it is none: a branch could not be predicted.
 fn push_corner(corners: &mut Vec<u32>, dart: u32, angle: u8) -> Result<(), AllocError>
     ensures { OnOk result (((angle ≢ 2) × (corners.new.items ≡ corners.old.items ++ (dart ∷ [])))
         ⊎ ((angle ≡ 2) × (corners.new.items ≡ corners.old.items))) }

@@ -7,10 +7,10 @@ ghost use Rattle.drawing_check.specs.Cells.{cell, IsOrder, IsWithin, HaveFaces, 
 use crate::parts::Part;
 use std::alloc::AllocError;
 
-/// What stands for a face that is not known yet: no face has this number.
+/// The value for a face that is not known yet: no face has this number.
 pub(crate) const BLANK: u16 = u16::MAX;
 
-/// Where the cells of a table stand: place c of line l at `l * line_step + c * place_step`.
+/// The order of the cells of a table: place c of line l is at `l * line_step + c * place_step`.
 #[derive(Clone, Copy)]
 pub(crate) struct CellOrder {
     pub(crate) lines: usize,
@@ -19,8 +19,8 @@ pub(crate) struct CellOrder {
     pub(crate) place_step: usize,
 }
 
-/// Gives each cell the face that the parts before it tell, in place of what the table held: that behind the last line
-/// with a part at its place, and the outer face where there is none.
+/// Gives each cell the face that the parts before it determine, in place of what the table held: that after the last
+/// line with a part at its place, or the outer face if there is none.
 pub(crate) fn sweep(
     cells: &mut Vec<u16>,
     size: usize,
@@ -55,7 +55,8 @@ fn sweep_blank(cells: &mut [u16], order: &CellOrder, parts: &[Part], outer: u16)
     fill(cells, order.lines, order.line_step);
 }
 
-/// Writes the faces of the first line and those behind parts into a table, in place of what it held. All others are blank.
+/// Writes the faces of the first line and those after parts into a table, in place of what it held. All others are
+/// blank.
 pub(crate) fn mark(
     cells: &mut Vec<u16>,
     size: usize,
@@ -73,7 +74,7 @@ pub(crate) fn mark(
     Ok(())
 }
 
-/// Makes so many blank cells, in place of what the table held.
+/// Makes `size` blank cells, in place of what the table held.
 fn make_blank(cells: &mut Vec<u16>, size: usize) -> Result<(), AllocError>
     ensures size { OnOk result (length cells.new.items ≡ size) }
     ensures blank { OnOk result ((i : ℕ) → i < size → slice_index cells.new.items i ≡ BLANK) }
@@ -105,7 +106,7 @@ fn mark_start(cells: &mut [u16], order: &CellOrder, outer: u16)
     }
 }
 
-/// Writes the face behind each part into the cells behind it.
+/// Writes the face after each part into the cells after it.
 fn mark_parts(cells: &mut [u16], order: &CellOrder, parts: &[Part])
     requires order { IsOrder order.now (length cells.old) }
     requires inside { All (IsWithin order.now) parts.now }
@@ -204,7 +205,7 @@ pub(crate) fn are_filled(marks: &[u16], cells: &[u16]) -> bool
     filled
 }
 
-/// Whether the faces of all parts stand beside them.
+/// Whether each part has the faces of the cells beside it.
 pub(crate) fn sides_hold(cells: &[u16], order: &CellOrder, parts: &[Part]) -> bool
     requires order { IsOrder order.now (length cells.now) }
     requires inside { All (IsWithin order.now) parts.now }

@@ -17,7 +17,7 @@ use ortho_rep::{Points, Shape};
 use std::alloc::Global;
 use std::marker::Model;
 
-/// How many darts are few: a list of so many directions is quickly made.
+/// The maximum number of darts that are few: a list of this many directions is quickly made.
 const FEW_DARTS: usize = 128;
 
 /// Points that `check` has found to draw a shape of a plane. In contracts it is the points.
@@ -115,7 +115,7 @@ pub fn check_in(
     }
 }
 
-/// The first condition that fails, or want of memory. The directions of darts stand in a short list where that is enough.
+/// The first condition that fails, or want of memory. The directions of darts are in a short list if that is enough.
 fn find_fault(
     alloc: Global,
     scratch: &mut Scratch,
@@ -139,7 +139,7 @@ fn find_fault(
     first_fault(alloc, scratch, plane, shape, points, &mut directions)
 }
 
-/// The same, where the directions of the darts are written over a list that is lent.
+/// Does the same, and writes the directions of the darts over a list.
 fn first_fault(
     alloc: Global,
     scratch: &mut Scratch,

@@ -1,4 +1,4 @@
-//! What one walk over all edges tells of their paths.
+//! The results of one walk over all edges.
 
 ghost use Rattle.std.specs.Prelude.{◌≡◌, ℕ, ◌*◌, ◌<◌, ◌≤◌, ◌↔◌, ◌++◌, length, map, IsTrue, All};
 ghost use Rattle.std.specs.List.{flat_map};
@@ -33,8 +33,8 @@ pub(crate) struct EdgesSeen {
 }
 
 /// Walks over all edges once. All three tests are made of each edge, so that it is known which fails first; and the
-/// rectangles of all vertices and all paths are listed, as far as there is memory. The direction in which each dart leaves
-/// its tail is written over the list that is lent.
+/// rectangles of all vertices and all paths are listed, as far as there is memory. The direction in which each dart
+/// leaves its tail is written over the list `directions`.
 pub(crate) fn scan_edges(
     plane: &Plane,
     shape: &Shape,

@@ -2,7 +2,7 @@
 
 use thiserror::Error;
 
-/// The first condition of a drawing that fails, in this order.
+/// The first condition of a drawing that fails; the variants are in the order in which they are checked.
 #[derive(Clone, Copy, Debug, PartialEq, Eq, Error)]
 pub enum CheckFault {
     /// Some coordinate is above 65,535.

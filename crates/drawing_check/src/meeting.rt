@@ -10,8 +10,8 @@ use geometry::Rectangle;
 use ortho_rep::{Point, Points};
 use std::alloc::AllocError;
 
-/// Lists what the vertices cover, in place of what the list held: each a rectangle of one point. There is room
-/// for one of each of so many edges besides.
+/// Lists the vertices as rectangles of one point, in place of what the list held. It also reserves room for this many
+/// edges, a rectangle for each.
 pub(crate) fn list_vertices(
     rectangles: &mut Vec<Rectangle>,
     points: &Points,

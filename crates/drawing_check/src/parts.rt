@@ -55,7 +55,7 @@ pub(crate) fn list_parts(
     Ok(())
 }
 
-/// Adds the parts of one path, where these are the faces on its left and on its right.
+/// Adds the parts of one path, which has these faces on its left and on its right.
 fn add_route_parts(
     uprights: &mut Vec<Part>,
     levels: &mut Vec<Part>,

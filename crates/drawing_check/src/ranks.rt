@@ -6,8 +6,8 @@ ghost use Rattle.drawing_check.specs.Ranks.{rank_in, last_rank, ranked, IsRankTa
 use crate::parts::Part;
 use std::alloc::AllocError;
 
-/// Lists the ranks of the coordinates up to the one behind the greatest, in place of what the list held. The rank of one is
-/// how many lesser ones are the line of a part of the first list or an end of one of the second.
+/// Lists the ranks of the coordinates up to the greatest plus 1, in place of what the list held. The rank of one is
+/// the number of lesser ones that are the line of a part of the first list or an end of one of the second.
 pub(crate) fn list_ranks(
     ranks: &mut Vec<usize>,
     lines: &[Part],
@@ -77,7 +77,7 @@ fn mark_ends(marks: &mut [usize], places: &[Part])
     }
 }
 
-/// Marks that a coordinate is used, behind it.
+/// Marks that a coordinate is used, at the place after it.
 fn mark(marks: &mut [usize], coordinate: usize)
     requires { coordinate + 1 < length marks.old }
     ensures adds { AddsMarks marks.old marks.new }

@@ -14,7 +14,7 @@ use crate::scratch::Scratch;
 use faces::Plane;
 use std::alloc::{AllocError, Global};
 
-/// Whether the regions into which a drawing of this plane cuts the grid's plane are its faces.
+/// Whether the regions of a drawing of this plane are the plane's faces.
 ///
 /// Each face lies on the left of its darts, and the outer one outside. So it is false of a drawing that is mirrored, or
 /// whose outside is another face.
@@ -61,7 +61,8 @@ pub fn has_regions_in(
 /// How many cells a table may have for each upright part, so that coordinates are not ranked.
 const FEW_CELLS: usize = 32;
 
-/// Whether the listed parts tell the same both ways, and the truth beside themselves. They are ranked if that saves much.
+/// Whether both sweeps over the listed parts agree, also with the faces beside parts. Ranks are used if that saves
+/// much.
 fn sweeps_agree(scratch: &mut Scratch, outer: u16) -> Result<bool, AllocError>
     requires outer { outer ≢ BLANK }
     requires uprights { HaveFaces scratch.old.uprights.items }
@@ -76,7 +77,7 @@ fn sweeps_agree(scratch: &mut Scratch, outer: u16) -> Result<bool, AllocError>
     ranked_agree(scratch, outer)
 }
 
-/// Whether a table over all coordinates to these has few cells for so many parts.
+/// Whether a table over all coordinates up to these has few cells for this many parts.
 fn are_few(east: usize, north: usize, parts: usize) -> bool
     ensures { IsTrue result → (east + 2 < 2 ^ 64) × (north + 2 < 2 ^ 64) }
 {
@@ -105,9 +106,9 @@ fn ranked_agree(scratch: &mut Scratch, outer: u16) -> Result<bool, AllocError>
     tables_agree(scratch, columns, rows, outer)
 }
 
-/// Whether the table that the level parts tell is what the upright ones tell, and the faces of all parts stand beside them.
+/// Whether the tables by level parts and by upright parts agree, and each part has the faces of the cells beside it.
 ///
-/// It has so many columns and rows.
+/// The tables have this many columns and rows.
 fn tables_agree(
     scratch: &mut Scratch,
     columns: usize,

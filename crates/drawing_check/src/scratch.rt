@@ -6,7 +6,7 @@ use crate::parts::Part;
 use geometry::Rectangle;
 use std::alloc::Global;
 
-/// Buffers that the check of one drawing after another reuses. Their contents between two calls do not matter.
+/// The buffers of a check, reused for the next drawing. Their contents between two calls do not matter.
 #[derive(Drop)]
 pub struct Scratch {
     pub(crate) rectangles: Vec<Rectangle>,
@@ -17,7 +17,7 @@ pub struct Scratch {
     /// The ranks of coordinates.
     pub(crate) columns: Vec<usize>,
     pub(crate) rows: Vec<usize>,
-    /// The faces east of upright parts, and the face of each cell as the level ones tell.
+    /// The faces east of upright parts, and the face of each cell by the level ones.
     pub(crate) marks: Vec<u16>,
     pub(crate) cells: Vec<u16>,
 }

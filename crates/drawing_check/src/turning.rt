@@ -12,8 +12,8 @@ use faces::Plane;
 use geometry::Direction;
 use ortho_rep::{Point, Shape, Turn};
 
-/// Whether each corner is the shape's, as a walk over the edges has told, and each angle, where the darts leave their tails
-/// in these directions.
+/// Whether each corner is the shape's, as a walk over the edges has found, and each angle, if the darts leave their
+/// tails in these directions.
 pub(crate) fn turn_as_said(
     plane: &Plane,
     shape: &Shape,
@@ -46,7 +46,7 @@ pub(crate) fn is_turning(route: &Route<'_>, turns: &[Turn]) -> bool
     true
 }
 
-/// Whether the angle at the head of each dart is that of the shape, where the darts leave their tails in these
+/// Whether the angle at the head of each dart is that of the shape, if the darts leave their tails in these
 /// directions.
 fn heads_turn(plane: &Plane, shape: &Shape, directions: &[Direction]) -> bool
     requires lengths { HasDarts plane.now shape.now }

@@ -18,17 +18,17 @@ ghost use Rattle.entries.specs.Answers.{IsLaid};
 ghost use Rattle.drawing_laws.specs.Least.{HasNoCoordinates};
 ghost use Rattle.drawing_laws.specs.Remaining.{MayShow};
 
-/// Least points and their corners are within the grid, so no boxes of a shape show `OutOfGrid`.
+/// Least points and their corners are within the grid, so boxes of a shape never show the cause `OutOfGrid`.
 pub fn least_points_are_in_grid()
     ensures points { (b : BoxesModel) (points : PointsModel) → AreBoxes b → AreLeastPoints b points → AreInGrid points }
     ensures cause { (plane : PlaneModel) (shape : ShapeModel) (b : BoxesModel)
         → IsBoxed plane shape b → ¬ ShowsCause plane shape b Cause.OutOfGrid }
 {}
 
-/// Boxes that are not too many for the grid show `Wide` only if no coordinates grow along their darts.
+/// Boxes with at most 65,536 vertices show the cause `Wide` only if no coordinates grow along their darts.
 ///
-/// They have at most as many vertices as the grid has columns. The boxes of a shape with the fewest bends have so few,
-/// so this holds for each cause in place of points in a laid answer.
+/// This is the number of columns of the grid. The boxes of a shape with the fewest bends have fewer vertices, so this
+/// holds for each cause in place of points in a laid answer.
 pub fn remaining_causes()
     ensures vertices { (plane : PlaneModel) (shape : ShapeModel) (b : BoxesModel) (cause : Cause)
         → IsBoxed plane shape b → b.vertices ≤ MAX_COORDINATE + 1
@@ -41,7 +41,7 @@ pub fn remaining_causes()
         → (boxes : BoxesModel) × IsBoxed plane shape boxes × MayShow boxes cause }
 {}
 
-/// Of the causes, boxes of a shape of a plane can show only `Wide`, since their least points draw the shape.
+/// The only cause that boxes of a shape can show is `Wide`, since their least points draw the shape.
 ///
 /// In place of points a laid answer has it only if some boxes of its shape have no coordinates that grow along their
 /// darts at all.

@@ -19,8 +19,10 @@ pub fn cells_are_covered_once()
         → IsCoveredOnce (dart_map b) x y i j }
 {}
 
-/// In any such coordinates each cell lies in one face of the plane: beside a dart of the boxes in that which the dart has on this side, with a
-/// neighbour in the same where no dart passes between them, and in the outer one to the west and the south of all.
+/// In any coordinates that grow along the darts of boxes, each unit cell lies in one face of the plane.
+///
+/// A cell beside a dart of the boxes lies in the face that the dart has on this side. Neighbouring cells lie in the
+/// same face if no dart passes between them. Cells to the west and the south of all boxes lie in the outer face.
 pub fn cells_lie_in_faces()
     ensures { (p : PlaneModel) (shape : ShapeModel) (b : BoxesModel) (x y : ℕ → ℕ) → (boxed : IsBoxed p shape b) → IsMonotone (dart_map b) x y
         → (r : ℕ → ℕ → ℕ) × AreCellLabels (dart_map b) x y boxed.enclosed.labelled.label p.outer r }

@@ -1,4 +1,4 @@
-//! That no cause stands in place of points.
+//! Laws: no answer has a cause in place of points.
 
 ghost use Rattle.std.specs.Prelude.{◌≡◌, ℕ, List, Result, Ok, Err};
 ghost use Rattle.common.specs.declared.choice.Choice.{Choice};
@@ -15,7 +15,7 @@ ghost use Rattle.entries.specs.Drawn.{ShowsCause, IsDrawingOf};
 ghost use Rattle.entries.specs.Answers.{IsLaid, Answers};
 ghost use Rattle.drawing_laws.specs.Drawings.{IsDrawnIfLaid};
 
-/// Boxes that dissect a shape with the fewest bends show no cause.
+/// Boxes that dissect a shape with the fewest bends have a drawing: they show no cause.
 ///
 /// Some coordinates grow along their darts, so the least ones are within the grid, and points that are derived from
 /// these draw the shape.
@@ -24,7 +24,7 @@ pub fn no_cause_is_shown()
         → IsPlane plane → IsLeast plane shape → IsBoxed plane shape b → ¬ ShowsCause plane shape b cause }
 {}
 
-/// So a laid answer has no cause in place of points. It has points for the whole plane, which draw the shape, each face where it belongs.
+/// A laid answer has points that draw its shape, with each face where it belongs, and never a cause.
 pub fn laid_answers_are_drawn()
     ensures cause { (choice : Choice) (bytes : List ℕ) (plane : PlaneModel) (shape : ShapeModel) (prices : PricesModel) (cause : Cause)
         → ¬ IsLaid choice bytes plane shape prices (Err cause) }

@@ -1,5 +1,5 @@
-//! Prices tell just which shapes are least, and each plane has a least one: laws, each as the contract of a function that does
-//! nothing.
+//! Laws: prices prove exactly the least shapes, and each plane has a least shape. Each law is the contract of a
+//! function that does nothing.
 
 ghost use Rattle.std.specs.Prelude.{◌↔◌};
 ghost use Rattle.faces.specs.Planes.{IsPlane, PlaneModel};

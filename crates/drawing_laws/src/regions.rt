@@ -17,7 +17,7 @@ ghost use Rattle.drawing_check.specs.Paths.{paths};
 ghost use Rattle.drawing_check.specs.Regions.{HasRegions, IsRegionMap};
 ghost use Rattle.entries.specs.Lengths.{AreBelow};
 
-/// Points derived from coordinates that grow along the darts of boxes of a shape have regions, which are the faces.
+/// The regions of points derived from coordinates that grow along the darts of boxes are the plane's faces.
 ///
 /// The boxes dissect a shape of a plane. Each region is a face on the left of its darts, with the outer face outside.
 /// Least points have regions, too.

@@ -5,7 +5,7 @@ ghost use Rattle.drawn_lines.specs.declared.fault.LineFault.TheVariants.{Memory}
 use std::alloc::{AllocError, AllocFailed};
 use thiserror::Error;
 
-/// Why a line is none of a drawing, or that memory ran out.
+/// The reason why a line does not describe a drawing, or that memory ran out.
 #[derive(Clone, Copy, Debug, PartialEq, Eq, Error)]
 pub enum LineFault {
     /// The line is no JSON value.

@@ -30,7 +30,7 @@ pub fn points_of_line(alloc: Global, line: &[u8]) -> Result<Points, LineFault>
     }
 }
 
-/// Why a text is no value.
+/// The fault that parsing a line as JSON returned.
 fn fault_of(error: &Error) -> LineFault
     ensures { result ≢ Memory → ¬ IsMemory error.now }
 {

@@ -1,4 +1,4 @@
-//! Whether a record's lists break each of the first seven rules. No test takes memory of the heap.
+//! Whether a record's lists break each of the first seven rules. No test allocates.
 
 ghost use Rattle.std.specs.Prelude.{◌≡◌, ℕ, ◌+◌, ◌<◌, ◌≤◌, ◌↔◌, ◌⊎◌, List, [], length, slice_index, IsTrue, MatchOption, Any, Contains};
 ghost use Rattle.embedding.specs.Lists.{list_of};

@@ -1,4 +1,4 @@
-//! Whether a record breaks any of the eight rules, found in no memory of the heap.
+//! Whether a record breaks any of the eight rules, found without allocating.
 
 ghost use Rattle.std.specs.Prelude.{◌≡◌, ◌<◌, ◌↔◌, length, IsTrue, MatchOption};
 ghost use Rattle.embedding.specs.Rules.{Breaks, KeepsBefore, FirstBroken};

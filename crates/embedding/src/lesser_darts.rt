@@ -8,10 +8,10 @@ use crate::graphs::Graph;
 use std::iter::FusedIterator;
 use std::marker::Model;
 
-/// The darts of a graph that are lesser than their reverses, in order: one of each edge. In
-/// contracts it is the list of those that remain.
+/// An iterator over the lesser dart of each edge, in order: the one of its two darts with the smaller number.
+/// In contracts it is the list of those that remain.
 ///
-/// It takes no memory; all its calls together are linear in the darts.
+/// It allocates nothing; all its calls together are linear in the darts.
 #[derive(Debug, Drop)]
 pub struct LesserDarts<'a> {
     graph: &'a Graph,
@@ -50,7 +50,7 @@ impl<'a> Iterator for LesserDarts<'a> {
 impl<'a> FusedIterator for LesserDarts<'a> {}
 
 impl Graph {
-    /// The darts that are lesser than their reverses, in order: one of each edge.
+    /// The lesser dart of each edge, in order: the one of its two darts with the smaller number.
     pub fn lesser_darts(&self) -> LesserDarts<'_>
         ensures { result ≡ lesser_darts_of self.now }
     {

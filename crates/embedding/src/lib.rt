@@ -1,7 +1,7 @@
 //! Graphs of maximum degree at most 4 with a rotation: the neighbours of each vertex in clockwise order.
 //!
 //! Vertices are numbered from 1. Each entry v in the list of u is the dart from u to v, and darts are
-//! numbered from 0 in the order in which their entries stand.
+//! numbered from 0 in the order of their entries.
 #![tactic(auto)]
 
 mod breaks;

@@ -32,7 +32,7 @@ impl<'a> Model for Lists<'a> {
 }
 
 /// Where each of the lists begins, in one pass over their bytes. Each byte might be the last of its
-/// list, so the place behind it is written, and stays where it is the last.
+/// list, so the place after it is always written, and kept only if the byte is the last.
 fn starts_in(bytes: &[u8]) -> [u16; 256]
     requires spelt { bytes.now ≡ flat_map ended (lists_in bytes.now) }
     requires each { All IsList (lists_in bytes.now) }
@@ -95,7 +95,7 @@ impl<'a> Lists<'a> {
         &self.bytes[from..to - 1]
     }
 
-    /// The first three bytes from where the list at a place begins. One behind the last byte is that byte again.
+    /// The first three bytes from where the list at a place begins. Past the last byte of all it is that byte again.
     fn three_at(&self, place: u8) -> [u8; 3]
         requires within { place < length self.now }
         requires some { 0 < length (slice_index_or self.now place []) }
@@ -107,8 +107,8 @@ impl<'a> Lists<'a> {
         [self.bytes[first], self.bytes[first + 1], self.bytes[third]]
     }
 
-    /// Where a vertex stands in the short list at a place, which holds it. No branch hangs on where that is, and no look
-    /// at the list's end is needed: what stands behind it comes after the vertex.
+    /// The place of a vertex in the short list at a place, which contains it. No branch depends on it, and the end
+    /// of the list is not looked for: what follows the list comes after the vertex.
     pub(crate) fn place_in(&self, place: u8, vertex: u8) -> u16
         requires within { place < length self.now }
         requires held { Contains (slice_index_or self.now place []) vertex }

@@ -67,7 +67,7 @@ fn count_degrees(faces: &[u16], degrees: &mut [u16])
     }
 }
 
-/// Puts the face of each dart, and behind them the degree of each face, at the end of the table.
+/// Appends to the table the face of each dart, and then the degree of each face.
 fn add_table(table: &mut Vec<u16>, faces: &[u16], count: u16) -> Result<(), AllocError>
     requires few { length faces.now ≤ MAX_DARTS }
     requires named { (d : ℕ) → d < length faces.now → slice_index faces.now d < count }
@@ -81,8 +81,8 @@ fn add_table(table: &mut Vec<u16>, faces: &[u16], count: u16) -> Result<(), Allo
     Ok(())
 }
 
-/// Puts the face of each dart and the degree of each face behind the rotation, and says how many faces there are. They are
-/// numbered in this memory.
+/// Appends the face of each dart and the degree of each face after the rotation; returns the number of faces. `faces`
+/// is scratch in which they are numbered.
 fn add_on(table: &mut Vec<u16>, faces: &mut [u16]) -> Result<u16, AllocError>
     requires tied { AreRotations (length faces.old) table.old.items }
     requires few { length faces.old ≤ MAX_DARTS }
@@ -94,7 +94,7 @@ fn add_on(table: &mut Vec<u16>, faces: &mut [u16]) -> Result<u16, AllocError>
     Ok(count)
 }
 
-/// The same for so many darts.
+/// Does the same for this many darts.
 pub(crate) fn add_faces(table: &mut Vec<u16>, darts: usize) -> Result<u16, AllocError>
     requires tied { AreRotations darts table.old.items }
     requires few { darts ≤ MAX_DARTS }
@@ -110,7 +110,7 @@ pub(crate) fn add_faces(table: &mut Vec<u16>, darts: usize) -> Result<u16, Alloc
     add_on(table, faces)
 }
 
-/// How many faces so many darts have. They are numbered in no memory of the heap.
+/// The number of faces of a rotation of this many darts. It allocates nothing.
 pub(crate) fn count_faces(rotation: &[u16], darts: usize) -> u16
     requires tied { AreRotations darts rotation.now }
     requires few { darts ≤ MAX_DARTS }

@@ -1,4 +1,4 @@
-//! A set of pairs of vertices, as an adjacency matrix of one bit each, that takes no memory of the heap.
+//! A set of pairs of vertices, as an adjacency matrix of one bit each, that allocates nothing.
 
 ghost use Rattle.std.specs.Prelude.{◌≡◌, ℕ, ◌<◌, ◌↔◌, ◌⊎◌, IsTrue, length};
 ghost use Rattle.embedding.specs.Pairs.{HasPair};

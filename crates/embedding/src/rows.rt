@@ -7,7 +7,7 @@ ghost use Rattle.embedding.specs.Rows.{HasBit, IsRow, IsRows, IsClosedUnderRows}
 
 use crate::lists::Lists;
 
-/// How many vertices a small graph has at most: a word has a bit for each, and two more.
+/// The maximum number of vertices of a small graph: a `u64` has a bit for each, and two more.
 const FEW: u8 = 62;
 
 /// Whether an entry may be that of another vertex, of n.
@@ -17,8 +17,8 @@ fn is_other(entry: u8, vertex: u8, n: u8) -> bool
     (entry <= n) & (entry != vertex)
 }
 
-/// A word with a bit for each entry of a vertex's list, and the vertex's bit put into the words of its entries; nothing
-/// where the list is empty or has more than four entries, or an entry is no other vertex or stands there twice.
+/// A bit set of the entries of a vertex's list; also adds the vertex's bit to the columns of these entries. `None` if
+/// the list is empty or has more than four entries, or an entry is no other vertex or occurs twice.
 fn row_of(list: &[u8], vertex: u8, n: u8, columns: &mut [u64; 64]) -> Option<u64>
     requires vertex { vertex ≤ FEW }
     requires few { n ≤ FEW }

@@ -9,11 +9,11 @@ ghost use Rattle.std.specs.Prelude.{◌≡◌};
 pub enum Rule {
     /// Some entry is greater than the number of vertices.
     Range,
-    /// Some vertex stands in its own list.
+    /// Some vertex is in its own list.
     Loop,
     /// Some list names a neighbour twice.
     Multi,
-    /// Some vertex v stands in the list of a vertex u, and u does not stand in the list of v.
+    /// Some vertex v is in the list of a vertex u, and u is not in the list of v.
     Asymmetric,
     /// All lists are empty.
     Edgeless,

@@ -1,5 +1,4 @@
-//! What a graph keeps, made from lists that keep rules 1 to 7. Each list stands in the memory of an old one where
-//! that is enough.
+//! The fields of a graph, made from lists that keep rules 1 to 7. Each reuses an old buffer if it is large enough.
 
 ghost use Rattle.std.specs.Prelude.{◌≡◌, ℕ, ◌+◌, ◌*◌, ◌<◌, ◌≤◌, ◌++◌, List, drop, take, length, vec_capacity, IfOk, OnOk, Contains};
 ghost use Rattle.embedding.specs.Lists.{list_of};
@@ -12,7 +11,7 @@ use crate::numbering::add_faces;
 use common::emptied;
 use std::alloc::AllocError;
 
-/// The reverse of the dart from `tail` to `head`, which stands in the list of `tail`.
+/// The reverse of the dart from `tail` to `head`, which is in the list of `tail`.
 fn reverse_between(lists: &Lists<'_>, tail: u8, head: u8) -> u16
     requires rules { KeepsBefore lists.now 8 }
     requires listed { Contains (list_of lists.now tail) head }
@@ -103,7 +102,7 @@ fn add_starts(table: &mut Vec<u16>, lists: &Lists<'_>) -> Result<(), AllocError>
     Ok(())
 }
 
-/// What a graph keeps: the heads of all darts, a table, and how many faces there are. In the table stand the rotation of
+/// The fields of a graph: the heads of all darts, a table, and the number of faces. The table contains the rotation of
 /// all darts, their faces, the degrees of the faces, and where each list begins.
 #[derive(Drop)]
 pub(crate) struct DartTables {
@@ -112,7 +111,7 @@ pub(crate) struct DartTables {
     pub(crate) faces: u16,
 }
 
-/// What the graph of these lists keeps, in the memory of old lists where that is enough. The room is just what a plane
+/// The fields of the graph of these lists, in old buffers if these are large enough. The room is just what a plane
 /// needs.
 pub(crate) fn darts_in(
     old_heads: Vec<u8>,

@@ -13,7 +13,7 @@ use crate::entry::Entry;
 use lanes::Draft;
 use std::alloc::{AllocError, Global};
 
-/// The books of drafts, each of which holds all of its file.
+/// The batch with a book for each draft; each draft must hold all of its file.
 ///
 /// # Errors
 ///

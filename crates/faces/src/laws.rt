@@ -8,7 +8,7 @@ ghost use Rattle.embedding.specs.Rules.{KeepsBefore};
 ghost use Rattle.faces.specs.Faces.{IsFace, IsClosedUnder, steps};
 ghost use Rattle.faces.specs.Planes.{HasEnds, IsPlane, PlaneModel, darts, degree, face_at, reverse_dart};
 
-/// The faces are a partition of the darts: the darts of each number are a face, and each face has one of the numbers.
+/// Faces partition the darts: the darts with each number are one face, and each face has a number.
 pub fn faces_are_numbered()
     ensures { (n f : ℕ) (next face : ℕ → ℕ) → HasFaces n next face f
         → ((k : ℕ) → k < f → IsFace n next (λ d. face d == k))
@@ -23,7 +23,7 @@ pub fn numbering_is_unique()
         → (f ≡ g) × ((d : ℕ) → d < n → face d ≡ other d) }
 {}
 
-/// The darts of a face are one orbit: those that some number of steps by "next" leads to.
+/// Two darts are in the same face if and only if some number of steps by "next" leads from one to the other.
 pub fn faces_are_orbits()
     ensures { (n f : ℕ) (next face : ℕ → ℕ) → HasFaces n next face f
         → ((d : ℕ) → d < n → next d < n)
@@ -54,7 +54,7 @@ pub fn faces_are_connected()
         → (k j : ℕ) → k < p.faces → j < p.faces → t k ≡ true → t j ≡ true }
 {}
 
-/// The ends, the reverses, the next darts and the faces of a plane's darts are all within the plane.
+/// The ends, reverses, next darts and faces of a plane's darts are in range.
 pub fn planes_have_ends()
     ensures { (p : PlaneModel) → IsPlane p → HasEnds p }
 {}

@@ -14,7 +14,7 @@ use std::alloc::Global;
 use std::marker::Model;
 use thiserror::Error;
 
-/// The maximum number of faces of a plane: 510 edges less 255 vertices, and two more.
+/// The maximum number of faces of a plane: 510 edges - 255 vertices + 2.
 pub const MAX_FACES: usize = 257;
 
 /// A connected graph of maximum degree at most 4 embedded on the sphere, with its faces, one of them the outer face.

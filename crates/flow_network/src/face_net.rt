@@ -14,8 +14,9 @@ use std::alloc::{AllocError, Global};
 use std::marker::Model;
 use std::mem;
 
-/// The flow network of a plane (Tamassia 1987). A unit on a corner arc is a right angle beyond the first, and
-/// a unit on a crossing arc is a bend.
+/// The flow network of a plane (Tamassia 1987), whose flows give its orthogonal representations.
+///
+/// A unit on a corner arc is a right angle beyond the first, and a unit on a crossing arc is a bend.
 ///
 /// For a plane with n vertices and D darts:
 ///
@@ -24,7 +25,7 @@ use std::mem;
 /// | node of vertex v | v - 1; it supplies 4 less its degree |
 /// | node of face f | n + f; an inner face supplies 4 less its degree, the outer face -4 less its degree |
 /// | corner arc of dart d | d, from its head to its face, at most 3 units, cost 0 |
-/// | crossing arc of dart d | D + d, from its face to the face across, any number of units, cost 1 each; none where its edge is to stay straight |
+/// | crossing arc of dart d | D + d, from its face to the face across, any number of units, cost 1 each; none if its edge is to stay straight |
 #[derive(Debug, Drop)]
 pub struct FaceNet {
     network: Network,
@@ -78,9 +79,10 @@ impl FaceNet {
         FaceNet::build_keeping_in(alloc, scratch, plane, &[])
     }
 
-    /// The network of a plane where the edges of marked darts are to stay straight: nothing crosses them. Darts past
-    /// the end of the list are not marked, and an edge is to stay straight where one of its two darts is. There need
-    /// not be a flow, unless no dart is marked. Linear in the darts.
+    /// The flow network of a plane in which nothing crosses the edges of marked darts, so that these stay straight.
+    ///
+    /// An edge stays straight if one of its two darts is marked; darts past the end of the list are not marked. There
+    /// need not be a flow, unless no dart is marked. Linear in the darts. It reuses the caller's scratch.
     ///
     /// # Errors
     ///

@@ -1,4 +1,4 @@
-//! Memory that one call after another is lent.
+//! The buffers that one call after another reuses.
 
 use min_cost_flow::Arc;
 use std::alloc::Global;

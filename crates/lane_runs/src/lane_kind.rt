@@ -23,7 +23,7 @@ pub type ScratchOf<L> = LaneScratch<
     <<L as LaneKind>::Shaped as Staged>::Scratch,
 >;
 
-/// What the lanes of a run do: the item of each of the four stages, and what is known of the end of a file.
+/// The work of the lanes of a run: the item types of the four stages, and the type of a file's end.
 ///
 /// Each stage makes the next item from its own. All lanes share one value of this type.
 pub trait LaneKind: Sync {

@@ -20,7 +20,7 @@ pub trait Numbered: Drop + Send {
         ensures { result ≡ (about self.now).ordinal };
 }
 
-/// An item on which a stage has not worked yet, together with the work of that stage.
+/// An item that waits for a stage, together with the work of that stage.
 pub trait Staged: Numbered {
     /// The item after the work.
     type Next: Numbered;
@@ -32,7 +32,7 @@ pub trait Staged: Numbered {
     /// The stage that does the work.
     const STAGE: Stage;
 
-    /// An empty scratch, through which nothing returns. It allocates nothing.
+    /// An empty scratch, without queues on which buffers return. It allocates nothing.
     fn scratch(alloc: Global) -> Self::Scratch;
 
     /// Takes in lists that later stages of the lane no longer need, and returns those that this stage no longer needs.

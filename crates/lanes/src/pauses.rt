@@ -15,7 +15,7 @@ pub struct Pauses {
 }
 
 impl Pauses {
-    /// A value with which no file pauses.
+    /// Pauses in which no file is paused.
     pub fn none() -> Pauses {
         Pauses {
             first: AtomicU64::new(NO_FILE),

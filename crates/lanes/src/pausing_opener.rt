@@ -6,7 +6,7 @@ use crate::pausing_tap::PausingTap;
 use std::alloc::Global;
 use std::sync::Wait;
 
-/// An opener of another opener's files, each of which blocks before each read as long as it is paused.
+/// An opener that wraps another one: each read of a file blocks as long as the file is paused.
 #[derive(Drop)]
 pub struct PausingOpener<'r, R, O> {
     pub rt: &'r R,

@@ -1,24 +1,24 @@
-//! What goes back, by a bounded queue, from one thread of a lane to another that fills it anew.
+//! A bounded queue by which a stage of a lane, or the calling thread, returns buffers to the stage that fills them anew.
 ghost use Rattle.std.specs.Prelude.{◌<◌};
 
 use crossbeam_queue::ArrayQueue;
 use std::alloc::{AllocError, Global};
 use std::sync::{Arc, Wait};
 
-/// One end of a way on which things go back from a thread to another one, or of none. What stands on the way says
-/// nothing about results: it is only memory to be filled anew.
+/// One end of a queue on which buffers return from one thread to another, or of none. The items in the queue have no
+/// influence on results: they are only buffers to be reused.
 #[derive(Drop)]
 pub struct ReturnQueue<T: Drop> {
     queue: Option<Arc<ArrayQueue<T>>>,
 }
 
 impl<T: Drop + Send> ReturnQueue<T> {
-    /// No way: what is sent is dropped, and nothing comes.
+    /// No queue: what is sent is dropped, and nothing arrives.
     pub fn none() -> ReturnQueue<T> {
         ReturnQueue { queue: None }
     }
 
-    /// Both ends of a way with room for so many things.
+    /// Both ends of a queue with room for this many items.
     pub fn new(
         alloc: Global,
         room: usize,
@@ -33,7 +33,7 @@ impl<T: Drop + Send> ReturnQueue<T> {
         ))
     }
 
-    /// One end of a way with room for so many things; `again` gives others.
+    /// One end of a queue with room for this many items; `again` gives others.
     pub fn alone(alloc: Global, room: usize) -> Result<ReturnQueue<T>, AllocError>
         requires { 0 < room }
     {
@@ -41,7 +41,7 @@ impl<T: Drop + Send> ReturnQueue<T> {
         Ok(ReturnQueue { queue: Some(queue) })
     }
 
-    /// Another end of the same way.
+    /// Another end of the same queue.
     pub fn again(&self) -> ReturnQueue<T> {
         match &self.queue {
             Some(queue) => match Arc::try_clone(queue) {
@@ -52,7 +52,7 @@ impl<T: Drop + Send> ReturnQueue<T> {
         }
     }
 
-    /// Sends a thing back. Where the way is full, or there is none, it is dropped.
+    /// Sends an item back. If the queue is full, or there is none, the item is dropped.
     pub fn send<R: Wait>(&self, rt: &R, thing: T) {
         if let Some(queue) = &self.queue {
             match queue.push(rt, thing) {
@@ -62,7 +62,7 @@ impl<T: Drop + Send> ReturnQueue<T> {
         }
     }
 
-    /// What has come back first, where there is any.
+    /// The item that has returned first, if there is any.
     pub fn receive<R: Wait>(&self, rt: &R) -> Option<T> {
         match &self.queue {
             Some(queue) => queue.pop(rt),

@@ -1,2 +1,3 @@
 pub mod Lengths
 pub mod Weights
+pub mod Searching

@@ -76,7 +76,7 @@ fn is_balanced_in(wires: &[Wire], sights: &[Sight], up: &mut [u64], down: &mut [
 }
 
 /// Adds a unit up where each wire starts, and one down where it ends.
-fn add_wires(wires: &[Wire], up: &mut [u64], down: &mut [u64])
+pub(crate) fn add_wires(wires: &[Wire], up: &mut [u64], down: &mut [u64])
     requires few { length wires.now ≤ MAX_WIRES }
     requires starts { (i : ℕ) → i < length wires.now → (wire_at wires.now i).from < length up.old }
     requires ends { (i : ℕ) → i < length wires.now → (wire_at wires.now i).to < length down.old }
@@ -94,7 +94,7 @@ fn add_wires(wires: &[Wire], up: &mut [u64], down: &mut [u64])
 }
 
 /// Adds the weight of each pair to `up` at its second segment, and to `down` at its first.
-fn add_sights(sights: &[Sight], up: &mut [u64], down: &mut [u64])
+pub(crate) fn add_sights(sights: &[Sight], up: &mut [u64], down: &mut [u64])
     requires few { length sights.now ≤ MAX_SIGHTS }
     requires behind { (i : ℕ) → i < length sights.now → (sight_at sights.now i).behind < length up.old }
     requires before { (i : ℕ) → i < length sights.now → (sight_at sights.now i).before < length down.old }
@@ -110,7 +110,7 @@ fn add_sights(sights: &[Sight], up: &mut [u64], down: &mut [u64])
 }
 
 /// Whether two lists of equal length are equal.
-fn are_same(up: &[u64], down: &[u64]) -> bool
+pub(crate) fn are_same(up: &[u64], down: &[u64]) -> bool
     requires { length up.now ≡ length down.now }
     ensures { (result ≡ true) ↔ ((r : ℕ) → r < length up.now → slice_index up.now r ≡ slice_index down.now r) }
 {

@@ -65,12 +65,24 @@ pub(crate) fn certify(
 }
 
 /// Whether both ends of each wire are segments.
-fn have_ends(segments: &[Segment], wires: &[Wire]) -> bool
+pub(crate) fn have_ends(segments: &[Segment], wires: &[Wire]) -> bool
     ensures { (result ≡ true) ↔ ((i : ℕ) → i < length wires.now → HasEnds segments.now (wire_at wires.now i)) }
 {
     let count = segments.len();
     for wire in wires {
         if usize::from(wire.from) >= count || usize::from(wire.to) >= count {
+            return false;
+        }
+    }
+    true
+}
+
+/// Whether no wire has a level above this one.
+pub(crate) fn have_levels(wires: &[Wire], top: u16) -> bool
+    ensures { (result ≡ true) ↔ ((i : ℕ) → i < length wires.now → (wire_at wires.now i).level ≤ top) }
+{
+    for wire in wires {
+        if wire.level > top {
             return false;
         }
     }
@@ -152,7 +164,7 @@ fn weigh(sights: &[Sight]) -> u64
 }
 
 /// The total length of the wires.
-fn measure(wires: &[Wire], coordinates: &[u16]) -> u64
+pub(crate) fn measure(wires: &[Wire], coordinates: &[u16]) -> u64
     requires few { length wires.now ≤ MAX_WIRES }
     requires ends { (i : ℕ) → i < length wires.now → ((wire_at wires.now i).from < length coordinates.now) × ((wire_at wires.now i).to < length coordinates.now) }
     ensures { result ≡ total_length wires.now (coordinates_in coordinates.now) }

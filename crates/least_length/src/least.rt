@@ -1,13 +1,15 @@
 //! Coordinates of least total length, by the primal-dual method (Ahuja, Magnanti and Orlin, Network Flows, 1993, section
 //! 9.8).
 
-ghost use Rattle.std.specs.Prelude.{◌≡◌, ◌≤◌, length, true, IfOk, IfSome};
+ghost use Rattle.std.specs.Prelude.{◌≡◌, ◌<◌, ◌≤◌, ℕ, length, true, IfOk, IfSome};
 ghost use Rattle.least_length.specs.declared.segments.TheConstants.{MAX_WIRES};
-ghost use Rattle.least_length.specs.Lengths.{coordinates_in, IsShortest};
+ghost use Rattle.least_length.specs.Weights.{HasEnds};
+ghost use Rattle.least_length.specs.Lengths.{coordinates_in, segment_at, total_length, wire_at, IsShortest};
 
-use crate::certificate::certify;
+use crate::certificate::{certify, have_ends, have_levels, measure};
 use crate::scratch::Scratch;
-use crate::segments::{MAX_SIGHTS, MAX_WIRES, Segment, Wire};
+use crate::segments::{MAX_SEGMENTS, MAX_SIGHTS, MAX_WIRES, Segment, Wire};
+use crate::sweep::highest;
 use std::alloc::{AllocError, Global};
 
 /// Coordinates of the segments with which the total length of the wires is least, or `None` if none were found.
@@ -37,7 +39,9 @@ pub fn shortest_coordinates(
     shortest_coordinates_in(alloc, &mut scratch, segments, wires)
 }
 
-/// Coordinates of least total length, or `None`, exactly as [`shortest_coordinates`]; reuses the caller's scratch.
+/// Coordinates of the segments with which the total length of the wires is least, or `None` if none were found.
+///
+/// Exactly as [`shortest_coordinates`], but it reuses the caller's scratch.
 pub fn shortest_coordinates_in(
     alloc: Global,
     scratch: &mut Scratch,
@@ -57,7 +61,8 @@ pub fn shortest_coordinates_in(
 
 /// Writes coordinates of least total length into `coordinates`, and returns whether any were found.
 ///
-/// They are as in [`shortest_coordinates`]. It reuses the caller's scratch and list.
+/// They are as in [`shortest_coordinates`]. It reuses the caller's scratch and list; if none are found, what the list
+/// holds does not matter.
 pub fn find_shortest(
     scratch: &mut Scratch,
     segments: &[Segment],
@@ -67,13 +72,15 @@ pub fn find_shortest(
     ensures least { IfOk result (λ found. found ≡ true → IsShortest segments.now wires.now (coordinates_in coordinates.new.items)) }
     ensures count { IfOk result (λ found. found ≡ true → length coordinates.new.items ≡ length segments.now) }
 {
-    if wires.len() > MAX_WIRES || !scratch.pulling.balance(segments, wires)? {
+    if wires.len() > MAX_WIRES || !balance(scratch, segments, wires)? {
         return Ok(false);
     }
     write_certified(scratch, segments, wires, coordinates)
 }
 
-/// Exactly as [`find_shortest`], but also false if the segments' own coordinates are already shortest.
+/// Writes coordinates of least total length into `coordinates`, and returns whether any shorter than now were found.
+///
+/// Exactly as [`find_shortest`], but also false if the wires are no shorter than with the segments' own coordinates.
 pub fn find_shorter(
     scratch: &mut Scratch,
     segments: &[Segment],
@@ -82,14 +89,28 @@ pub fn find_shorter(
 ) -> Result<bool, AllocError>
     ensures least { IfOk result (λ found. found ≡ true → IsShortest segments.now wires.now (coordinates_in coordinates.new.items)) }
     ensures count { IfOk result (λ found. found ≡ true → length coordinates.new.items ≡ length segments.now) }
+    ensures shorter { IfOk result (λ found. found ≡ true → total_length wires.now (coordinates_in coordinates.new.items) < total_length wires.now (λ r. (segment_at segments.now r).coordinate)) }
 {
-    if wires.len() > MAX_WIRES || !scratch.pulling.balance(segments, wires)? {
+    if wires.len() > MAX_WIRES || !balance(scratch, segments, wires)? {
         return Ok(false);
     }
-    if !scratch.pulling.has_moved() {
+    if !scratch.pulling.has_moved() || !write_certified(scratch, segments, wires, coordinates)? {
         return Ok(false);
     }
-    write_certified(scratch, segments, wires, coordinates)
+    Ok(measure(wires, coordinates.as_slice()) < measure_own(segments, wires))
+}
+
+/// Computes coordinates and weights in balance; false if there are too many segments or pairs, or if a wire has an end
+/// that is no segment or a level above all segments.
+fn balance(scratch: &mut Scratch, segments: &[Segment], wires: &[Wire]) -> Result<bool, AllocError>
+    requires { length wires.now ≤ MAX_WIRES }
+    ensures { IfOk result (λ found. found ≡ true → ((i : ℕ) → i < length wires.now → HasEnds segments.now (wire_at wires.now i))) }
+{
+    let top = highest(segments);
+    if segments.len() > MAX_SEGMENTS || !have_ends(segments, wires) || !have_levels(wires, top) {
+        return Ok(false);
+    }
+    scratch.pulling.balance(segments, wires, top)
 }
 
 /// Writes the coordinates that the pulls led to, and returns whether the weights of pairs certify them as least.
@@ -103,11 +124,28 @@ fn write_certified(
     ensures least { IfOk result (λ found. found ≡ true → IsShortest segments.now wires.now (coordinates_in coordinates.new.items)) }
     ensures count { IfOk result (λ found. found ≡ true → length coordinates.new.items ≡ length segments.now) }
 {
-    scratch.pulling.write(coordinates)?;
+    if !scratch.pulling.write(coordinates)? {
+        return Ok(false);
+    }
     let balance = &mut scratch.balance;
     let sights = scratch.pulling.sight_lists.sights.as_slice();
     if sights.len() > MAX_SIGHTS || coordinates.len() != segments.len() {
         return Ok(false);
     }
     certify(balance, segments, wires, coordinates.as_slice(), sights)
+}
+
+/// The total length of the wires with the segments' own coordinates.
+fn measure_own(segments: &[Segment], wires: &[Wire]) -> u64
+    requires few { length wires.now ≤ MAX_WIRES }
+    requires ends { (i : ℕ) → i < length wires.now → HasEnds segments.now (wire_at wires.now i) }
+    ensures { result ≡ total_length wires.now (λ r. (segment_at segments.now r).coordinate) }
+{
+    let mut total: u64 = 0;
+    for wire in wires {
+        let from = segments[usize::from(wire.from)].coordinate;
+        let to = segments[usize::from(wire.to)].coordinate;
+        total += u64::from(from.abs_diff(to));
+    }
+    total
 }

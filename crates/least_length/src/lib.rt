@@ -9,6 +9,7 @@
 
 mod balance;
 mod certificate;
+mod chains;
 mod laws;
 mod least;
 mod pulling;

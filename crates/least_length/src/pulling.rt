@@ -1,8 +1,13 @@
 //! The primal-dual method (Ahuja, Magnanti and Orlin, Network Flows, 1993, section 9.8): wires pull segments until all
 //! are in balance.
 
-ghost use Rattle.std.specs.Prelude.{◌≡◌, []};
+ghost use Rattle.std.specs.Prelude.{◌≡◌, ◌<◌, ◌≤◌, ◌+◌, ℕ, [], length, vec_len, slice_index, IfOk, IfSome, OnOk};
+ghost use Rattle.least_length.specs.declared.segments.TheConstants.{MAX_SEGMENTS, MAX_SIGHTS, MAX_WIRES};
+ghost use Rattle.least_length.specs.Lengths.{segment_at, wire_at};
+ghost use Rattle.least_length.specs.Weights.{HasEnds};
+ghost use Rattle.least_length.specs.Searching.{AreMarks, ArePairs, AreSegments, IsPair, IsReady};
 
+use crate::balance::{add_sights, add_wires, are_same};
 use crate::segments::{MAX_SIGHTS, Segment, Sight, Wire};
 use crate::sight_lists::SightLists;
 use std::alloc::{AllocError, Global};
@@ -10,22 +15,27 @@ use std::alloc::{AllocError, Global};
 /// The maximum number of pulls on one segment.
 const MAX_PULLS: usize = 65_536;
 
-/// Marks a segment that the search has not reached, in place of the pair by which it was reached.
-const UNREACHED: u16 = u16::MAX;
+/// Marks a segment that the search has not reached.
+const UNREACHED: u16 = 0;
 
-/// Marks the segment where the search began, in place of the pair by which it was reached.
-const ROOT: u16 = u16::MAX - 1;
+/// Marks the segment where the search began.
+const ROOT: u16 = 1;
+
+/// The first of the marks that give the pair by which a segment was reached.
+const PAIRS: u16 = 2;
 
 /// The state and buffers of the search for least coordinates.
 #[derive(Drop)]
 pub(crate) struct Pulling {
     pub(crate) sight_lists: SightLists,
-    /// For each segment, the number of units that pull it up less those that pull it down.
-    excess: Vec<i32>,
+    /// For each segment, the number of units that pull it up.
+    up: Vec<u64>,
+    /// For each segment, the number of units that pull it down.
+    down: Vec<u64>,
     /// The current coordinates of the segments.
     coordinates: Vec<u32>,
-    /// For each segment, the pair by which the search reached it.
-    from: Vec<u16>,
+    /// For each segment, how the search reached it: `UNREACHED`, `ROOT`, or by a pair.
+    marks: Vec<u16>,
     /// The segments that the search has reached.
     reached: Vec<u16>,
     /// The segments reached that the search has not looked at yet.
@@ -41,9 +51,10 @@ impl Pulling {
     {
         Pulling {
             sight_lists: SightLists::empty(alloc),
-            excess: Vec::new(alloc),
+            up: Vec::new(alloc),
+            down: Vec::new(alloc),
             coordinates: Vec::new(alloc),
-            from: Vec::new(alloc),
+            marks: Vec::new(alloc),
             reached: Vec::new(alloc),
             unlooked: Vec::new(alloc),
             moved: false,
@@ -58,32 +69,34 @@ impl Pulling {
     /// Computes weights in balance at each segment, and coordinates with which weighted pairs are adjacent; returns
     /// whether it succeeded.
     ///
-    /// The segments are in the order of their coordinates.
+    /// The segments are in the order of their coordinates, and no level is above `top`.
     pub(crate) fn balance(
         &mut self,
         segments: &[Segment],
         wires: &[Wire],
-    ) -> Result<bool, AllocError> {
-        self.sight_lists.list(segments, wires)?;
-        if self.sight_lists.sights.len() > MAX_SIGHTS || segments.len() >= usize::from(ROOT) {
+        top: u16,
+    ) -> Result<bool, AllocError>
+        requires few { length segments.now ≤ MAX_SEGMENTS }
+        requires wires { length wires.now ≤ MAX_WIRES }
+        requires ends { (i : ℕ) → i < length wires.now → HasEnds segments.now (wire_at wires.now i) }
+        requires levels { (i : ℕ) → i < length wires.now → (wire_at wires.now i).level ≤ top }
+        requires crossed { (r : ℕ) → (segment_at segments.now r).high ≤ top }
+    {
+        self.sight_lists.list(segments, wires, top)?;
+        if self.sight_lists.sights.len() > MAX_SIGHTS {
             return Ok(false);
         }
         self.begin(segments, wires)?;
-        if self.excess.iter().all(|units| *units == 0) {
+        if are_same(self.up.as_slice(), self.down.as_slice()) {
             return Ok(true);
         }
-        self.sight_lists.list_pairs(segments.len())?;
-        self.from.clear();
-        self.from.resize(segments.len(), UNREACHED)?;
+        self.sight_lists.list_ends(segments.len())?;
+        self.marks.clear();
+        self.marks.resize(segments.len(), UNREACHED)?;
         self.reached.clear();
         for root in 0..segments.len() as u16 {
-            for _ in 0..MAX_PULLS {
-                if self.excess_at(root) <= 0 {
-                    break;
-                }
-                if !self.send(root)? {
-                    return Ok(false);
-                }
+            if !self.relieve(root)? {
+                return Ok(false);
             }
         }
         Ok(true)
@@ -91,46 +104,72 @@ impl Pulling {
 
     /// Initialises the search with the coordinates of the segments, and one unit up where each wire begins and one down
     /// where it ends, less the weights of adjacent pairs. No other pair has a weight yet.
-    fn begin(&mut self, segments: &[Segment], wires: &[Wire]) -> Result<(), AllocError> {
+    fn begin(&mut self, segments: &[Segment], wires: &[Wire]) -> Result<(), AllocError>
+        requires few { vec_len self.old.sight_lists.sights ≤ MAX_SIGHTS }
+        requires pairs { ArePairs (length segments.now) self.old.sight_lists.sights.items }
+        requires wires { length wires.now ≤ MAX_WIRES }
+        requires ends { (i : ℕ) → i < length wires.now → HasEnds segments.now (wire_at wires.now i) }
+        ensures same { OnOk result (vec_len self.new.sight_lists.sights ≡ vec_len self.old.sight_lists.sights) }
+        ensures pairs { OnOk result (ArePairs (length segments.now) self.new.sight_lists.sights.items) }
+        ensures coordinates { OnOk result (vec_len self.new.coordinates ≡ length segments.now) }
+        ensures up { OnOk result (vec_len self.new.up ≡ length segments.now) }
+        ensures down { OnOk result (vec_len self.new.down ≡ length segments.now) }
+    {
         self.moved = false;
         self.coordinates.clear();
-        self.excess.clear();
         for segment in segments {
             self.coordinates.push(u32::from(segment.coordinate))?;
         }
-        self.excess.resize(segments.len(), 0)?;
-        let coordinates = self.coordinates.as_slice();
-        let excess = self.excess.as_mut_slice();
-        for wire in wires {
-            add(excess, wire.from, 1);
-            add(excess, wire.to, -1);
-        }
-        for sight in self.sight_lists.sights.iter_mut() {
-            if slack_between(coordinates, *sight) != 0 {
-                sight.weight = 0;
-            } else if sight.weight != 0 {
-                let units = sight.weight.min(MAX_PULLS as u32) as i32;
-                add(excess, sight.before, -units);
-                add(excess, sight.behind, units);
+        self.up.clear();
+        self.up.resize(segments.len(), 0)?;
+        self.down.clear();
+        self.down.resize(segments.len(), 0)?;
+        let up = self.up.as_mut_slice();
+        let down = self.down.as_mut_slice();
+        add_wires(wires, up, down);
+        add_adjacent(
+            self.sight_lists.sights.as_mut_slice(),
+            self.coordinates.as_slice(),
+            up,
+            down,
+        );
+        Ok(())
+    }
+
+    /// Sends units that pull a segment up to others, until no more pull it up than down; returns whether that succeeds.
+    fn relieve(&mut self, root: u16) -> Result<bool, AllocError>
+        requires ready { IsReady self.old }
+        requires root { root < vec_len self.old.coordinates }
+        ensures ready { OnOk result (IsReady self.new) }
+        ensures count { vec_len self.new.coordinates ≡ vec_len self.old.coordinates }
+    {
+        for _ in 0..MAX_PULLS {
+            if self.up[usize::from(root)] <= self.down[usize::from(root)] {
+                return Ok(true);
+            }
+            if !self.send(root)? {
+                return Ok(false);
             }
         }
-        Ok(())
+        Ok(true)
     }
 
     /// Sends units that pull a segment up along pairs to one that is pulled down; returns whether there is one. If no
     /// pair leads on, all segments reached move up together until one does.
-    fn send(&mut self, root: u16) -> Result<bool, AllocError> {
-        let from = self.from.as_mut_slice();
-        for segment in self.reached.as_slice() {
-            set(from, *segment, UNREACHED);
-        }
-        set(from, root, ROOT);
+    fn send(&mut self, root: u16) -> Result<bool, AllocError>
+        requires ready { IsReady self.old }
+        requires root { root < vec_len self.old.coordinates }
+        requires pulled { slice_index self.old.down.items root < slice_index self.old.up.items root }
+        ensures ready { OnOk result (IsReady self.new) }
+        ensures count { vec_len self.new.coordinates ≡ vec_len self.old.coordinates }
+    {
+        clear_marks(self.marks.as_mut_slice(), self.reached.as_slice());
+        self.marks[usize::from(root)] = ROOT;
         self.reached.clear();
         self.reached.push(root)?;
-        for _ in 0..self.from.len() {
+        for _ in 0..self.marks.len() {
             if let Some(target) = self.search_pairs()? {
-                self.augment(target);
-                return Ok(true);
+                return Ok(self.augment(root, target));
             }
             if !self.move_up() {
                 return Ok(false);
@@ -141,10 +180,18 @@ impl Pulling {
 
     /// Reaches all segments to which pairs lead, up to the first one that is pulled down, which it returns. It searches
     /// depth first, which finds one after fewer segments than their order does.
-    fn search_pairs(&mut self) -> Result<Option<u16>, AllocError> {
+    fn search_pairs(&mut self) -> Result<Option<u16>, AllocError>
+        requires ready { IsReady self.old }
+        ensures ready { OnOk result (IsReady self.new) }
+        ensures count { vec_len self.new.coordinates ≡ vec_len self.old.coordinates }
+        ensures up { self.new.up ≡ self.old.up }
+        ensures down { self.new.down ≡ self.old.down }
+        ensures target { IfOk result (λ found. IfSome found (λ target. target < vec_len self.new.coordinates)) }
+        ensures pulled { IfOk result (λ found. IfSome found (λ target. slice_index self.new.up.items target < slice_index self.new.down.items target)) }
+    {
         self.unlooked.clear();
         self.unlooked.extend_from_slice(self.reached.as_slice())?;
-        for _ in 0..self.from.len() {
+        for _ in 0..self.marks.len() {
             let Some(segment) = self.unlooked.pop() else {
                 break;
             };
@@ -157,26 +204,42 @@ impl Pulling {
 
     /// Reaches the segments to which the pairs of one segment lead, up to the first one that is pulled down, which it
     /// returns.
-    fn visit(&mut self, segment: u16) -> Result<Option<u16>, AllocError> {
-        let (from, to) = self.sight_lists.span(segment);
-        for place in from..to {
-            let pair = self.sight_lists.pair_at(place);
+    fn visit(&mut self, segment: u16) -> Result<Option<u16>, AllocError>
+        requires ready { IsReady self.old }
+        requires unlooked { AreSegments (vec_len self.old.coordinates) self.old.unlooked.items }
+        requires segment { segment < vec_len self.old.coordinates }
+        ensures ready { OnOk result (IsReady self.new) }
+        ensures unlooked { OnOk result (AreSegments (vec_len self.new.coordinates) self.new.unlooked.items) }
+        ensures count { vec_len self.new.coordinates ≡ vec_len self.old.coordinates }
+        ensures up { self.new.up ≡ self.old.up }
+        ensures down { self.new.down ≡ self.old.down }
+        ensures target { IfOk result (λ found. IfSome found (λ target. target < vec_len self.new.coordinates)) }
+        ensures pulled { IfOk result (λ found. IfSome found (λ target. slice_index self.new.up.items target < slice_index self.new.down.items target)) }
+    {
+        let mut end = self.sight_lists.ends.first(segment);
+        while end != 0 {
+            let pair = self.sight_lists.pair_of(end);
             if let Some(next) = self.next(pair, segment) {
-                set(self.from.as_mut_slice(), next, pair);
+                self.marks[usize::from(next)] = pair as u16 + PAIRS;
                 self.reached.push(next)?;
                 self.unlooked.push(next)?;
-                if self.excess_at(next) < 0 {
+                if self.up[usize::from(next)] < self.down[usize::from(next)] {
                     return Ok(Some(next));
                 }
             }
+            end = self.sight_lists.ends.next(end);
         }
         Ok(None)
     }
 
     /// The segment to which a pair leads from this one, if it is not reached yet: the second of the pair, if the two
     /// are adjacent, or the first, if the pair has a weight to take back.
-    fn next(&self, pair: u16, segment: u16) -> Option<u16> {
-        let sight = self.sight_lists.sight(pair)?;
+    fn next(&self, pair: usize, segment: u16) -> Option<u16>
+        requires ready { IsReady self.now }
+        requires pair { pair < vec_len self.now.sight_lists.sights }
+        ensures { IfSome result (λ next. next < vec_len self.now.coordinates) }
+    {
+        let sight = self.sight_lists.sights[pair];
         let next = if sight.before == segment {
             if self.slack(sight) != 0 {
                 return None;
@@ -188,31 +251,37 @@ impl Pulling {
             }
             sight.before
         };
-        if self.is_reached(next) {
+        if self.marks[usize::from(next)] != UNREACHED {
             return None;
         }
         Some(next)
     }
 
     /// Moves all segments reached up until one of them is adjacent to one that is not reached; returns whether there is
-    /// one.
-    fn move_up(&mut self) -> bool {
+    /// one, and whether there is room.
+    fn move_up(&mut self) -> bool
+        requires ready { IsReady self.old }
+        ensures ready { IsReady self.new }
+        ensures count { vec_len self.new.coordinates ≡ vec_len self.old.coordinates }
+        ensures up { self.new.up ≡ self.old.up }
+        ensures down { self.new.down ≡ self.old.down }
+    {
         let slack = self.least_slack();
         if slack == u32::MAX {
             return false;
         }
         self.moved = true;
-        let coordinates = self.coordinates.as_mut_slice();
-        for segment in self.reached.as_slice() {
-            if let Some(coordinate) = coordinates.get_mut(usize::from(*segment)) {
-                *coordinate = coordinate.saturating_add(slack);
-            }
-        }
-        true
+        raise(
+            self.coordinates.as_mut_slice(),
+            self.reached.as_slice(),
+            slack,
+        )
     }
 
     /// How far all segments reached can move up together; `u32::MAX` if none is in their way.
-    fn least_slack(&self) -> u32 {
+    fn least_slack(&self) -> u32
+        requires { IsReady self.now }
+    {
         let mut least = u32::MAX;
         for segment in self.reached.as_slice() {
             least = least.min(self.slack_of(*segment));
@@ -221,49 +290,63 @@ impl Pulling {
     }
 
     /// How far this segment can move up towards segments that are not reached; `u32::MAX` if none is in its way.
-    fn slack_of(&self, segment: u16) -> u32 {
-        let (from, to) = self.sight_lists.span(segment);
+    fn slack_of(&self, segment: u16) -> u32
+        requires ready { IsReady self.now }
+        requires segment { segment < vec_len self.now.coordinates }
+    {
         let mut least = u32::MAX;
-        for place in from..to {
-            if let Some(sight) = self.sight_lists.sight(self.sight_lists.pair_at(place)) {
-                if sight.before == segment && !self.is_reached(sight.behind) {
-                    least = least.min(self.slack(sight));
-                }
+        let mut end = self.sight_lists.ends.first(segment);
+        while end != 0 {
+            let sight = self.sight_lists.sights[self.sight_lists.pair_of(end)];
+            if sight.before == segment && self.marks[usize::from(sight.behind)] == UNREACHED {
+                least = least.min(self.slack(sight));
             }
+            end = self.sight_lists.ends.next(end);
         }
         least
     }
 
-    /// Sends as many units as possible from where the search began to this segment.
-    fn augment(&mut self, target: u16) {
-        let (root, units) = self.measure(target);
-        let mut segment = target;
-        for _ in 0..self.from.len() {
-            let pair = self.from_at(segment);
-            let Some(sight) = self.sight_lists.sights.get_mut(usize::from(pair)) else {
-                break;
-            };
-            if sight.behind == segment {
-                sight.weight = sight.weight.saturating_add(units);
-                segment = sight.before;
-            } else {
-                sight.weight = sight.weight.saturating_sub(units);
-                segment = sight.behind;
-            }
+    /// Sends as many units as possible from where the search began to this segment; false if a weight has no room.
+    fn augment(&mut self, root: u16, target: u16) -> bool
+        requires ready { IsReady self.old }
+        requires root { root < vec_len self.old.coordinates }
+        requires target { target < vec_len self.old.coordinates }
+        requires pulled_up { slice_index self.old.down.items root < slice_index self.old.up.items root }
+        requires pulled_down { slice_index self.old.up.items target < slice_index self.old.down.items target }
+        ensures ready { IsReady self.new }
+        ensures count { vec_len self.new.coordinates ≡ vec_len self.old.coordinates }
+    {
+        let spare = self.up[usize::from(root)] - self.down[usize::from(root)];
+        let wanted = self.down[usize::from(target)] - self.up[usize::from(target)];
+        let most = spare.min(wanted).min(u64::from(u32::MAX)) as u32;
+        let units = self.measure(target, most);
+        if !shift(
+            self.sight_lists.sights.as_mut_slice(),
+            self.marks.as_slice(),
+            target,
+            units,
+        ) {
+            return false;
         }
-        let amount = units.min(MAX_PULLS as u32) as i32;
-        add(self.excess.as_mut_slice(), root, -amount);
-        add(self.excess.as_mut_slice(), target, amount);
+        self.down[usize::from(root)] += u64::from(units);
+        self.up[usize::from(target)] += u64::from(units);
+        true
     }
 
-    /// The segment where the path to this one begins, and how many units the path carries.
-    fn measure(&self, target: u16) -> (u16, u32) {
-        let mut units = self.excess_at(target).unsigned_abs();
+    /// How many of these units the path from where the search began to this segment carries.
+    fn measure(&self, target: u16, most: u32) -> u32
+        requires ready { IsReady self.now }
+        requires target { target < vec_len self.now.coordinates }
+        ensures { result ≤ most }
+    {
+        let mut units = most;
         let mut segment = target;
-        for _ in 0..self.from.len() {
-            let Some(sight) = self.sight_lists.sight(self.from_at(segment)) else {
+        for _ in 0..self.marks.len() {
+            let mark = self.marks[usize::from(segment)];
+            if mark < PAIRS {
                 break;
-            };
+            }
+            let sight = self.sight_lists.sights[usize::from(mark - PAIRS)];
             if sight.behind == segment {
                 segment = sight.before;
             } else {
@@ -271,62 +354,132 @@ impl Pulling {
                 segment = sight.behind;
             }
         }
-        (segment, units.min(self.excess_at(segment).unsigned_abs()))
+        units
     }
 
     /// How far the segments of a pair can come nearer to each other.
-    fn slack(&self, sight: Sight) -> u32 {
+    fn slack(&self, sight: Sight) -> u32
+        requires { IsPair (vec_len self.now.coordinates) sight }
+    {
         slack_between(self.coordinates.as_slice(), sight)
     }
 
-    fn is_reached(&self, segment: u16) -> bool {
-        self.from_at(segment) != UNREACHED
-    }
-
-    fn from_at(&self, segment: u16) -> u16 {
-        self.from.get(usize::from(segment)).copied().unwrap_or(ROOT)
-    }
-
-    fn excess_at(&self, segment: u16) -> i32 {
-        self.excess.get(usize::from(segment)).copied().unwrap_or(0)
-    }
-
-    /// Writes the coordinates of all segments, shifted so that the least is 0.
-    pub(crate) fn write(&self, coordinates: &mut Vec<u16>) -> Result<(), AllocError> {
-        let mut least = u32::MAX;
-        for coordinate in self.coordinates.as_slice() {
-            least = least.min(*coordinate);
-        }
+    /// Writes the coordinates of all segments, shifted so that the least is 0; false if one is above 65,535.
+    pub(crate) fn write(&self, coordinates: &mut Vec<u16>) -> Result<bool, AllocError> {
+        let least = least_of(self.coordinates.as_slice());
         coordinates.clear();
         for coordinate in self.coordinates.as_slice() {
-            let above = coordinate.saturating_sub(least);
-            coordinates.push(above.min(u32::from(u16::MAX)) as u16)?;
+            let Ok(above) = u16::try_from(*coordinate - least) else {
+                return Ok(false);
+            };
+            coordinates.push(above)?;
         }
-        Ok(())
+        Ok(true)
     }
 }
 
-/// Sets the entry of a segment.
-fn set(list: &mut [u16], segment: u16, value: u16) {
-    if let Some(entry) = list.get_mut(usize::from(segment)) {
-        *entry = value;
+/// The least of these coordinates.
+fn least_of(coordinates: &[u32]) -> u32
+    ensures { (r : ℕ) → r < length coordinates.now → result ≤ slice_index coordinates.now r }
+{
+    let mut least = u32::MAX;
+    for coordinate in coordinates {
+        least = least.min(*coordinate);
+    }
+    least
+}
+
+/// Adds the weight of each adjacent pair to `up` at its second segment and to `down` at its first; other pairs have no
+/// weight then.
+fn add_adjacent(sights: &mut [Sight], coordinates: &[u32], up: &mut [u64], down: &mut [u64])
+    requires few { length sights.old ≤ MAX_SIGHTS }
+    requires pairs { ArePairs (length coordinates.now) sights.old }
+    requires up { length up.old ≡ length coordinates.now }
+    requires down { length down.old ≡ length coordinates.now }
+    requires light { (r : ℕ) → slice_index up.old r ≤ MAX_WIRES }
+    requires slight { (r : ℕ) → slice_index down.old r ≤ MAX_WIRES }
+    ensures { ArePairs (length coordinates.now) sights.new }
+{
+    drop_distant(sights, coordinates);
+    add_sights(sights, up, down);
+}
+
+/// Takes the weights of pairs that are not adjacent away.
+fn drop_distant(sights: &mut [Sight], coordinates: &[u32])
+    requires { ArePairs (length coordinates.now) sights.old }
+    ensures { ArePairs (length coordinates.now) sights.new }
+{
+    for pair in 0..sights.len() {
+        if slack_between(coordinates, sights[pair]) != 0 {
+            sights[pair].weight = 0;
+        }
     }
 }
 
-/// Adds to the entry of a segment.
-fn add(list: &mut [i32], segment: u16, amount: i32) {
-    if let Some(entry) = list.get_mut(usize::from(segment)) {
-        *entry = entry.saturating_add(amount);
+/// Marks these segments as not reached.
+fn clear_marks(marks: &mut [u16], segments: &[u16])
+    requires { AreSegments (length marks.old) segments.now }
+    ensures { (r : ℕ) → slice_index marks.new r ≤ slice_index marks.old r }
+{
+    for segment in segments {
+        marks[usize::from(*segment)] = UNREACHED;
     }
+}
+
+/// Moves these segments up; false if a coordinate has no room.
+fn raise(coordinates: &mut [u32], segments: &[u16], slack: u32) -> bool
+    requires { AreSegments (length coordinates.old) segments.now }
+{
+    for segment in segments {
+        let Some(raised) = coordinates[usize::from(*segment)].checked_add(slack) else {
+            return false;
+        };
+        coordinates[usize::from(*segment)] = raised;
+    }
+    true
+}
+
+/// Adds units to the weights of the pairs by which the search went up on its way to this segment, and takes them from
+/// the others; false if a weight has no room.
+fn shift(sights: &mut [Sight], marks: &[u16], target: u16, units: u32) -> bool
+    requires few { length sights.old ≤ MAX_SIGHTS }
+    requires pairs { ArePairs (length marks.now) sights.old }
+    requires marks { AreMarks (length sights.old) marks.now }
+    requires target { target < length marks.now }
+    ensures { ArePairs (length marks.now) sights.new }
+{
+    let mut segment = target;
+    for _ in 0..marks.len() {
+        let mark = marks[usize::from(segment)];
+        if mark < PAIRS {
+            break;
+        }
+        let sight = &mut sights[usize::from(mark - PAIRS)];
+        let is_up = sight.behind == segment;
+        let shifted = if is_up {
+            sight.weight.checked_add(units)
+        } else {
+            sight.weight.checked_sub(units)
+        };
+        let Some(weight) = shifted else {
+            return false;
+        };
+        sight.weight = weight;
+        segment = if is_up { sight.before } else { sight.behind };
+    }
+    true
 }
 
 /// How far the segments of a pair can come nearer to each other with these coordinates.
-fn slack_between(coordinates: &[u32], sight: Sight) -> u32 {
-    let before = coordinate_of(coordinates, sight.before).saturating_add(1);
-    coordinate_of(coordinates, sight.behind).saturating_sub(before)
-}
-
-/// The coordinate of a segment.
-fn coordinate_of(coordinates: &[u32], segment: u16) -> u32 {
-    coordinates.get(usize::from(segment)).copied().unwrap_or(0)
+fn slack_between(coordinates: &[u32], sight: Sight) -> u32
+    requires { IsPair (length coordinates.now) sight }
+{
+    let before = coordinates[usize::from(sight.before)];
+    let behind = coordinates[usize::from(sight.behind)];
+    // Nothing here proves that pairs keep their order: the certificate tests it in the end.
+    if before < behind {
+        behind - before - 1
+    } else {
+        0
+    }
 }

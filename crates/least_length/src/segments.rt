@@ -1,9 +1,12 @@
 //! Segments, wires between them, and pairs that share a level.
 
-/// The maximum number of wires.
+/// The maximum number of wires of a search or a certificate.
 pub const MAX_WIRES: usize = 65_536;
 
-/// The maximum number of pairs of segments that have a weight.
+/// The maximum number of segments of a search.
+pub(crate) const MAX_SEGMENTS: usize = 65_533;
+
+/// The maximum number of pairs of segments with a weight, of a search or a certificate.
 pub const MAX_SIGHTS: usize = 4_096;
 
 /// A segment: its coordinate along the axis, and the levels that it crosses, from the lowest to the highest.

@@ -1,11 +1,14 @@
 //! The visibility graph of segments (Lengauer 1990): the pairs that see each other on a level, listed by segment.
 
-ghost use Rattle.std.specs.Prelude.{◌≡◌, []};
+ghost use Rattle.std.specs.Prelude.{◌≡◌, ◌<◌, ◌≤◌, ◌+◌, ◌-◌, ◌*◌, ◌/◌, ℕ, [], length, vec_len, OnOk};
+ghost use Rattle.least_length.specs.declared.segments.TheConstants.{MAX_SEGMENTS, MAX_SIGHTS, MAX_WIRES};
+ghost use Rattle.least_length.specs.Lengths.{segment_at, wire_at};
+ghost use Rattle.least_length.specs.Weights.{HasEnds};
+ghost use Rattle.least_length.specs.Searching.{seen_at, ArePairs, IsMet};
 
+use crate::chains::Chains;
 use crate::segments::{Segment, Sight, Wire};
-use crate::sweep::highest;
 use std::alloc::{AllocError, Global};
-use std::mem;
 
 /// The last segment and wire end met on a level.
 #[derive(Clone, Copy, Debug)]
@@ -25,14 +28,10 @@ pub(crate) struct SightLists {
     pub(crate) sights: Vec<Sight>,
     /// For each level, what was met last.
     frontier: Vec<LastSeen>,
-    /// For each segment, the index of a wire that begins there, plus 1; 0 if none.
-    firsts: Vec<u32>,
-    /// For each wire, the index of another wire that begins at the same segment, plus 1; 0 if none.
-    nexts: Vec<u32>,
-    /// For each segment, where its pairs begin in `pairs`; a last entry says where the last ones end.
-    starts: Vec<u16>,
-    /// The indices of the pairs of each segment, segment after segment.
-    pairs: Vec<u16>,
+    /// The wires, by the segments where they begin.
+    wires: Chains,
+    /// The ends of pairs, by their segments: from the last pair to the first, two for each.
+    pub(crate) ends: Chains,
 }
 
 impl SightLists {
@@ -43,133 +42,145 @@ impl SightLists {
         SightLists {
             sights: Vec::new(alloc),
             frontier: Vec::new(alloc),
-            firsts: Vec::new(alloc),
-            nexts: Vec::new(alloc),
-            starts: Vec::new(alloc),
-            pairs: Vec::new(alloc),
+            wires: Chains::empty(alloc),
+            ends: Chains::empty(alloc),
         }
     }
 
     /// Lists the pairs of segments that are in the order of their coordinates: for each segment those immediately
     /// before it. The weight of a pair is the number of wires that run from one to the other. A pair that is met on
-    /// several adjacent levels is listed once.
-    pub(crate) fn list(&mut self, segments: &[Segment], wires: &[Wire]) -> Result<(), AllocError> {
-        self.list_wires(segments.len(), wires)?;
+    /// several adjacent levels is listed once. No level is above `top`.
+    pub(crate) fn list(
+        &mut self,
+        segments: &[Segment],
+        wires: &[Wire],
+        top: u16,
+    ) -> Result<(), AllocError>
+        requires few { length segments.now ≤ MAX_SEGMENTS }
+        requires wires { length wires.now ≤ MAX_WIRES }
+        requires ends { (i : ℕ) → i < length wires.now → HasEnds segments.now (wire_at wires.now i) }
+        requires levels { (i : ℕ) → i < length wires.now → (wire_at wires.now i).level ≤ top }
+        requires crossed { (r : ℕ) → (segment_at segments.now r).high ≤ top }
+        ensures pairs { OnOk result (ArePairs (length segments.now) self.new.sights.items) }
+    {
+        list_wires(&mut self.wires, segments.len(), wires)?;
         self.sights.clear();
         self.frontier.clear();
-        self.frontier
-            .resize(usize::from(highest(segments)) + 1, NONE_SEEN)?;
-        for (place, segment) in segments.iter().enumerate() {
-            let behind = place.min(usize::from(u16::MAX) - 1) as u16;
-            let frontier = self.frontier.as_mut_slice();
-            if let Some(met) = frontier.get_mut(
-                usize::from(segment.low)..usize::from(segment.high) + 1,
-            ) {
-                list_before(&mut self.sights, met, behind)?;
-            }
-            self.begin_wires(wires, place);
-        }
-        Ok(())
+        self.frontier.resize(usize::from(top) + 1, NONE_SEEN)?;
+        list_pairs(
+            &mut self.sights,
+            self.frontier.as_mut_slice(),
+            &self.wires,
+            segments,
+            wires,
+        )
     }
 
-    /// Lists the wires by the segments where they begin.
-    fn list_wires(&mut self, segments: usize, wires: &[Wire]) -> Result<(), AllocError> {
-        self.firsts.clear();
-        self.firsts.resize(segments, 0)?;
-        self.nexts.clear();
-        let firsts = self.firsts.as_mut_slice();
-        let mut count: u32 = 0;
-        for wire in wires {
-            count = count.wrapping_add(1);
-            let next = match firsts.get_mut(usize::from(wire.from)) {
-                Some(first) => mem::replace(first, count),
-                None => 0,
-            };
-            self.nexts.push(next)?;
-        }
-        Ok(())
+    /// Lists the ends of all pairs by their segments.
+    pub(crate) fn list_ends(&mut self, segments: usize) -> Result<(), AllocError>
+        requires few { vec_len self.old.sights ≤ MAX_SIGHTS }
+        requires pairs { ArePairs segments self.old.sights.items }
+        ensures same { self.new.sights ≡ self.old.sights }
+        ensures lists { OnOk result (vec_len self.new.ends.firsts ≡ segments) }
+        ensures ends { OnOk result (vec_len self.new.ends.nexts ≡ 2 * vec_len self.new.sights) }
+    {
+        list_ends(&mut self.ends, segments, self.sights.as_slice())
     }
 
-    /// Notes at the frontier the ends of the wires that begin at this segment.
-    fn begin_wires(&mut self, wires: &[Wire], segment: usize) {
-        let mut listed = self.firsts.get(segment).copied().unwrap_or(0);
-        for _ in 0..wires.len() {
-            let place = (listed as usize).wrapping_sub(1);
-            let Some(wire) = wires.get(place) else {
-                break;
-            };
-            if let Some(met) = self.frontier.get_mut(usize::from(wire.level)) {
-                met.end = wire.to.saturating_add(1);
-            }
-            listed = self.nexts.get(place).copied().unwrap_or(0);
-        }
-    }
-
-    /// Lists, by counting, the pairs of each of `segments` segments.
-    pub(crate) fn list_pairs(&mut self, segments: usize) -> Result<(), AllocError> {
-        self.starts.clear();
-        self.starts.resize(segments.saturating_add(2), 0)?;
-        self.pairs.clear();
-        self.pairs.resize(self.sights.len().saturating_mul(2), 0)?;
-        let starts = self.starts.as_mut_slice();
-        for sight in self.sights.as_slice() {
-            count(starts, sight.before);
-            count(starts, sight.behind);
-        }
-        let mut total: u16 = 0;
-        for start in starts.iter_mut() {
-            total = total.wrapping_add(*start);
-            *start = total;
-        }
-        let pairs = self.pairs.as_mut_slice();
-        for (place, sight) in self.sights.as_slice().iter().enumerate() {
-            let pair = place.min(usize::from(u16::MAX)) as u16;
-            put(starts, pairs, sight.before, pair);
-            put(starts, pairs, sight.behind, pair);
-        }
-        Ok(())
-    }
-
-    /// Where the list of pairs of a segment begins and ends.
-    pub(crate) fn span(&self, segment: u16) -> (u16, u16) {
-        let place = usize::from(segment);
-        let from = self.starts.get(place).copied().unwrap_or(0);
-        let to = self.starts.get(place + 1).copied().unwrap_or(0);
-        (from, to)
-    }
-
-    /// The index of the pair listed at this place.
-    pub(crate) fn pair_at(&self, place: u16) -> u16 {
-        self.pairs
-            .get(usize::from(place))
-            .copied()
-            .unwrap_or(u16::MAX)
-    }
-
-    /// The pair with this index.
-    pub(crate) fn sight(&self, pair: u16) -> Option<Sight> {
-        self.sights.get(usize::from(pair)).copied()
+    /// The pair to which this end belongs.
+    pub(crate) fn pair_of(&self, end: u32) -> usize
+        requires some { 0 < end }
+        requires end { end ≤ 2 * vec_len self.now.sights }
+        ensures { result < vec_len self.now.sights }
+    {
+        self.sights.len() - (end as usize + 1) / 2
     }
 }
 
-/// Lists the segments that are before this one at the frontier on these levels, where it replaces them.
+/// Lists the wires by the segments where they begin.
+fn list_wires(chains: &mut Chains, segments: usize, wires: &[Wire]) -> Result<(), AllocError>
+    requires few { length wires.now ≤ MAX_WIRES }
+    requires from { (i : ℕ) → i < length wires.now → (wire_at wires.now i).from < segments }
+    ensures lists { OnOk result (vec_len chains.new.firsts ≡ segments) }
+    ensures wires { OnOk result (vec_len chains.new.nexts ≡ length wires.now) }
+{
+    chains.begin(segments)?;
+    for wire in wires {
+        chains.add(wire.from)?;
+    }
+    Ok(())
+}
+
+/// Lists the pairs of all segments, level by level at the frontier.
+fn list_pairs(
+    sights: &mut Vec<Sight>,
+    frontier: &mut [LastSeen],
+    begun: &Chains,
+    segments: &[Segment],
+    wires: &[Wire],
+) -> Result<(), AllocError>
+    requires few { length segments.now ≤ MAX_SEGMENTS }
+    requires none { vec_len sights.old ≡ 0 }
+    requires met { IsMet 0 frontier.old }
+    requires crossed { (r : ℕ) → r < length segments.now → (segment_at segments.now r).high < length frontier.old }
+    requires lists { vec_len begun.now.firsts ≡ length segments.now }
+    requires wires { vec_len begun.now.nexts ≡ length wires.now }
+    requires to { (i : ℕ) → i < length wires.now → (wire_at wires.now i).to < MAX_SEGMENTS }
+    requires levels { (i : ℕ) → i < length wires.now → (wire_at wires.now i).level < length frontier.old }
+    ensures { OnOk result (ArePairs (length segments.now) sights.new.items) }
+{
+    for place in 0..segments.len() {
+        let behind = place as u16;
+        list_before(sights, frontier, segments[place], behind)?;
+        note_ends(frontier, begun, wires, behind);
+    }
+    Ok(())
+}
+
+/// Lists the ends of pairs by their segments, from the last pair to the first.
+fn list_ends(chains: &mut Chains, segments: usize, sights: &[Sight]) -> Result<(), AllocError>
+    requires few { length sights.now ≤ MAX_SIGHTS }
+    requires pairs { ArePairs segments sights.now }
+    ensures lists { OnOk result (vec_len chains.new.firsts ≡ segments) }
+    ensures ends { OnOk result (vec_len chains.new.nexts ≡ 2 * length sights.now) }
+{
+    chains.begin(segments)?;
+    let count = sights.len();
+    for done in 0..count {
+        let sight = sights[count - 1 - done];
+        chains.add(sight.behind)?;
+        chains.add(sight.before)?;
+    }
+    Ok(())
+}
+
+/// Lists the segments that are before this one at the frontier on its levels, where it replaces them.
 fn list_before(
     sights: &mut Vec<Sight>,
-    met: &mut [LastSeen],
+    frontier: &mut [LastSeen],
+    segment: Segment,
     behind: u16,
-) -> Result<(), AllocError> {
+) -> Result<(), AllocError>
+    requires behind { behind < MAX_SEGMENTS }
+    requires crossed { segment.high < length frontier.old }
+    requires met { IsMet behind frontier.old }
+    requires pairs { ArePairs behind sights.old.items }
+    ensures met { IsMet (behind + 1) frontier.new }
+    ensures pairs { OnOk result (ArePairs (behind + 1) sights.new.items) }
+{
     let mut last = 0;
-    let mut weight = 0;
-    for here in met.iter_mut() {
+    let mut weight: u32 = 0;
+    for level in usize::from(segment.low)..usize::from(segment.high) + 1 {
+        let here = frontier[level];
         if here.segment != last {
             list_pair(sights, last, behind, weight)?;
             weight = 0;
         }
         if here.end > behind {
-            weight = weight.saturating_add(1);
+            weight += 1;
         }
         last = here.segment;
-        here.segment = behind.saturating_add(1);
+        frontier[level].segment = behind + 1;
     }
     list_pair(sights, last, behind, weight)
 }
@@ -180,10 +191,14 @@ fn list_pair(
     before: u16,
     behind: u16,
     weight: u32,
-) -> Result<(), AllocError> {
+) -> Result<(), AllocError>
+    requires before { before ≤ behind }
+    requires pairs { ArePairs (behind + 1) sights.old.items }
+    ensures { ArePairs (behind + 1) sights.new.items }
+{
     if before != 0 {
         sights.push(Sight {
-            before: before.wrapping_sub(1),
+            before: before - 1,
             behind,
             weight,
         })?;
@@ -191,19 +206,18 @@ fn list_pair(
     Ok(())
 }
 
-/// Counts a pair of a segment, two entries further on.
-fn count(starts: &mut [u16], segment: u16) {
-    if let Some(start) = starts.get_mut(usize::from(segment) + 2) {
-        *start = start.wrapping_add(1);
-    }
-}
-
-/// Writes a pair of a segment to its next free entry.
-fn put(starts: &mut [u16], pairs: &mut [u16], segment: u16, pair: u16) {
-    if let Some(start) = starts.get_mut(usize::from(segment) + 1) {
-        if let Some(entry) = pairs.get_mut(usize::from(*start)) {
-            *entry = pair;
-        }
-        *start = start.wrapping_add(1);
+/// Notes at the frontier the ends of the wires that begin at this segment.
+fn note_ends(frontier: &mut [LastSeen], begun: &Chains, wires: &[Wire], segment: u16)
+    requires list { segment < vec_len begun.now.firsts }
+    requires wires { vec_len begun.now.nexts ≡ length wires.now }
+    requires to { (i : ℕ) → i < length wires.now → (wire_at wires.now i).to < MAX_SEGMENTS }
+    requires levels { (i : ℕ) → i < length wires.now → (wire_at wires.now i).level < length frontier.old }
+    ensures { (level : ℕ) → (seen_at frontier.new level).segment ≡ (seen_at frontier.old level).segment }
+{
+    let mut listed = begun.first(segment);
+    while listed != 0 {
+        let wire = wires[listed as usize - 1];
+        frontier[usize::from(wire.level)].end = wire.to + 1;
+        listed = begun.next(listed);
     }
 }

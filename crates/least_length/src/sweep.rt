@@ -1,7 +1,7 @@
 //! A sweep along the axis with a frontier (after Shamos and Hoey 1976) that checks whether segments keep their order.
 
 ghost use Rattle.std.specs.Prelude.{◌≡◌, ◌<◌, ◌≤◌, ◌+◌, ◌^◌, ◌↔◌, ℕ, [], length, true, IfOk, slice_index};
-ghost use Rattle.least_length.specs.Lengths.{coordinates_in, HasLevel, KeepsOrder};
+ghost use Rattle.least_length.specs.Lengths.{coordinates_in, segment_at, HasLevel, KeepsOrder};
 
 use crate::certificate::keep_order;
 use crate::segments::Segment;
@@ -89,7 +89,9 @@ fn move_past(frontier: &mut [u32], segment: Segment, coordinate: u32) -> bool
 }
 
 /// The highest level that a segment crosses, or 0 if there are no segments.
-pub(crate) fn highest(segments: &[Segment]) -> u16 {
+pub(crate) fn highest(segments: &[Segment]) -> u16
+    ensures { (r : ℕ) → (segment_at segments.now r).high ≤ result }
+{
     let mut most = 0;
     for segment in segments {
         most = most.max(segment.high);

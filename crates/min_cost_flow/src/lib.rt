@@ -5,7 +5,6 @@
 //! cost below 0. (Successive shortest paths: Ahuja, Magnanti and Orlin, Network Flows, 1993.)
 #![tactic(auto)]
 
-mod augment;
 mod laws;
 mod overfull;
 mod resume;

@@ -10,8 +10,9 @@ use common::emptied;
 use networks::{FAR, Network, Visit};
 use std::alloc::{AllocError, Global};
 
-/// A set of nodes that supplies more than the arcs out of it can carry, as a mark for each node, if the network has no
-/// flow; `None` if it has one. It solves the network anew, in the caller's scratch.
+/// If the network has no flow, a set of nodes that supplies more than the arcs out of it can carry; otherwise `None`.
+///
+/// The set has a mark for each node. The network is solved anew, in the caller's scratch.
 ///
 /// The set is what the last search reached, from a node with an excess by unsaturated residual arcs. It is such a set if
 /// the supplies sum to 0; otherwise nothing is said of it.

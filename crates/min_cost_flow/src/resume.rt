@@ -1,8 +1,8 @@
 //! Going on from the flow that is there after supplies have moved: successive shortest paths (Ahuja, Magnanti and
-//! Orlin, Network Flows, 1993, section 9.7) from the node that supplies more, under the potentials that stand.
+//! Orlin, Network Flows, 1993, section 9.7) from the node that supplies more, under the current potentials.
 //!
 //! A move is of at most 2,048 units. It takes as many searches as units at most, each of which looks at each residual
-//! arc once at most, and no memory; where it solves from nothing, it takes as long as that.
+//! arc once at most, and allocates nothing; if it solves from nothing, it takes as long as that.
 ghost use Rattle.std.specs.Prelude.{◌≡◌, ◌≢◌, ◌<◌, ◌≤◌, ◌+◌, ◌*◌, ℕ, length, pos, ◌≤ℤ◌, ◌+ℤ◌, ◌-ℤ◌, true};
 ghost use Rattle.networks.specs.declared.fault.TheConstants.{MAX_SUPPLY};
 ghost use Rattle.networks.specs.declared.network.TheConstants.{MAX_NODES};
@@ -20,9 +20,9 @@ use networks::{Network, ResidualCapacity, move_units};
 pub(crate) const MAX_CARRIED: u32 = 2_097_152;
 
 impl Solver {
-    /// Lets node `from` supply so many units more, and node `to` so many less, and goes on from the flow that
-    /// stands; whether there is a flow still.
-    /// Where potentials have drifted too far apart, or an arc carries too much, it solves from nothing.
+    /// Lets node `from` supply this many units more, and node `to` as many less, and goes on from the current flow;
+    /// returns whether there still is a flow.
+    /// If potentials have drifted too far apart, or an arc carries too much, it solves from nothing.
     pub(crate) fn resume(&mut self, network: &mut Network, from: u32, to: u32, amount: u32) -> bool
         requires all_sent { IsAllSent network.old self.old }
         requires from { from < node_count network.old }
@@ -61,7 +61,7 @@ impl Solver {
     }
 }
 
-/// Whether each arc can carry so many units more, at most [`MAX_CARRIED`] in all.
+/// Whether each arc can carry `amount` units more, at most [`MAX_CARRIED`] in all.
 fn carries_little(capacities: &[ResidualCapacity], forward: &[u32], amount: u32) -> bool
     requires read { CanRead capacities.now forward.now }
     requires few { amount ≤ MAX_SUPPLY }

@@ -1,8 +1,8 @@
-//! Memory that one call after another is lent.
+//! The buffers that one call after another reuses.
 use crate::state::Solver;
 use std::alloc::Global;
 
-/// Buffers that one solve after another reuses. Their contents between two solves do not matter.
+/// The buffers of a solve, reused for the next one. Their contents between two solves do not matter.
 ///
 /// A solution takes two of the lists with it. If each solution is returned before the next solve, none allocates for a
 /// network with no more nodes and no more arcs than one before it had; if one is not, the next solve allocates these

@@ -1,11 +1,13 @@
-//! Successive shortest paths (Ahuja, Magnanti and Orlin, Network Flows, 1993, section 9.7): initialise, and
-//! then, as long as a node has an excess, search for a shortest path by reduced costs, update the
-//! potentials, and augment along the path.
+//! Successive shortest paths (Ahuja, Magnanti and Orlin, Network Flows, 1993, section 9.7): initialise, and then, as
+//! long as a node has an excess, search for a shortest path by reduced costs, update the potentials, and augment along
+//! the path.
 //!
-//! Networks have at most 1,024 nodes and 4,096 arcs of cost 0 or 1, and nodes supply or want at most 2,048
-//! units. Each search looks at each residual arc once at most and sends at least one unit, so all is done in at most
-//! as many searches as units are supplied. A search also goes over the nodes that wait, for each distance.
-ghost use Rattle.std.specs.Prelude.{◌≡◌, ◌≢◌, ◌<◌, ◌≤◌, ◌+◌, ◌*◌, ◌^◌, ℕ, length, pos, ◌≤ℤ◌, ◌<ℤ◌, ◌-ℤ◌, IfOk, IfErr, true, false, IfSome, IfNone};
+//! Networks have at most 1,024 nodes and 4,096 arcs of cost 0 or 1, and nodes supply or want at most 2,048 units. Each
+//! search looks at each residual arc once at most and sends at least one unit, so the number of searches is at most the
+//! number of units supplied. A search also goes over the nodes that wait, for each distance. It sends as many units as
+//! fit along the path, but no more than the excess where it starts or the deficit where it ends. Potentials stay then:
+//! along the path reduced costs are 0, so the residual arcs back, which get capacity, have reduced costs of 0 too.
+ghost use Rattle.std.specs.Prelude.{◌≡◌, ◌≢◌, ◌<◌, ◌≤◌, ◌+◌, ◌*◌, ◌^◌, ℕ, length, pos, ◌≤ℤ◌, ◌<ℤ◌, ◌+ℤ◌, ◌-ℤ◌, IfOk, IfErr, true, false, IfSome, IfNone};
 ghost use Rattle.networks.specs.declared.network.TheConstants.{MAX_NODES};
 ghost use Rattle.min_cost_flow.specs.declared.solver.SolveFault.TheVariants.{Memory};
 ghost use Rattle.networks.specs.Networks.{NetworkModel, arc_count, node_count, IsNetwork};
@@ -15,83 +17,15 @@ ghost use Rattle.networks.specs.Search.{far, labels, orders, label_at, IsPut, Is
 ghost use Rattle.min_cost_flow.specs.Existence.{SuppliesSumToZero};
 ghost use Rattle.min_cost_flow.specs.Overfull.{IsOverfull, HasStopped, was_reached};
 ghost use Rattle.min_cost_flow.specs.Round.{carrying, supply_sum, IsRoundDone, HasSupply, AreInBounds};
-ghost use Rattle.min_cost_flow.specs.SolverState.{excess_at, potential_at, flow_in, IsSized, IsReady, IsBetweenSearches, IsVerdict, HasSentFrom, IsAugmented, CanUpdate, HasReachedOrder, CanRead, IsCleared, IsReadyIn, CanAugmentIn};
+ghost use Rattle.min_cost_flow.specs.SolverState.{excess_at, potential_at, flow_in, IsSized, IsReady, IsBetweenSearches, IsVerdict, HasSentFrom, IsAugmented, CanUpdate, HasReachedOrder, CanRead, IsCleared, IsReadyIn, CanAugmentIn, CanAugment, IsSentAlong, IsBottleneck, IsPaired, IsPushedAlong};
 
 use crate::scratch::Scratch;
 use crate::solved::Solved;
 use crate::state::{Nodes, Solver};
-use networks::{FAR, Network, Residual, ResidualCapacity, Search, SearchInput, Visit};
+use networks::{FAR, Network, Residual, ResidualCapacity, Search, SearchInput, Visit, move_units};
 use std::alloc::{AllocError, Global};
 use std::mem;
 use thiserror::Error;
-
-/// The reason why there is no solution.
-#[derive(Clone, Copy, Debug, PartialEq, Eq, Error)]
-pub enum SolveFault {
-    /// No flow meets the supplies.
-    #[error("no flow meets the supplies")]
-    Infeasible,
-    /// An allocation was refused.
-    #[error("out of memory")]
-    Memory,
-}
-
-impl From<AllocError> for SolveFault {
-    ghost from_gives = { λ _ fault. fault ≡ Memory };
-
-    fn from(_refused: AllocError) -> SolveFault {
-        SolveFault::Memory
-    }
-}
-
-/// A flow of least cost that meets all supplies, with potentials that prove it.
-///
-/// All memory is allocated before it begins. Each search sends at least one unit, so there are no more searches than
-/// units are supplied, and looks at each residual arc at most once, so there are no more looks than twice the number of
-/// arcs a search. The potentials are at most twice the number of nodes in absolute value.
-///
-/// # Errors
-/// `Infeasible` exactly if there is no flow, memory aside, and `Memory` if an allocation was refused.
-pub fn solve(alloc: Global, network: &Network) -> Result<Solved, SolveFault>
-    ensures ok { IfOk result (λ solved. Solves network.now solved) }
-    ensures infeasible { IfErr result (λ fault. fault ≡ SolveFault.Infeasible → HasNoFlow network.now) }
-    ensures searches { IfOk result (λ solved. solved.searches ≤ supply_sum network.now) }
-    ensures looks { IfOk result (λ solved. solved.looks ≤ solved.searches * (2 * arc_count network.now)) }
-    ensures begun { IfOk result (λ solved. HasSupply network.now → 1 ≤ solved.searches) }
-    ensures carrying { IfOk result (λ solved. carrying network.now (amounts solved.flow) ≤ solved.looks) }
-    ensures in_bounds { IfOk result (λ solved. AreInBounds network.now (at_nodes solved.potential)) }
-{
-    let mut scratch = Scratch::empty(alloc);
-    solve_in(alloc, &mut scratch, network)
-}
-
-/// A flow of least cost that meets all supplies, exactly as [`solve`]; reuses the caller's scratch.
-///
-/// The solution takes its two lists with it; [`Solved::give_back`] returns them. If there is no solution, or an
-/// allocation was refused, all lists stay in the scratch, which can be used again.
-pub fn solve_in(
-    alloc: Global,
-    scratch: &mut Scratch,
-    network: &Network,
-) -> Result<Solved, SolveFault>
-    ensures ok { IfOk result (λ solved. Solves network.now solved) }
-    ensures infeasible { IfErr result (λ fault. fault ≡ SolveFault.Infeasible → HasNoFlow network.now) }
-    ensures searches { IfOk result (λ solved. solved.searches ≤ supply_sum network.now) }
-    ensures looks { IfOk result (λ solved. solved.looks ≤ solved.searches * (2 * arc_count network.now)) }
-    ensures begun { IfOk result (λ solved. HasSupply network.now → 1 ≤ solved.searches) }
-    ensures carrying { IfOk result (λ solved. carrying network.now (amounts solved.flow) ≤ solved.looks) }
-    ensures in_bounds { IfOk result (λ solved. AreInBounds network.now (at_nodes solved.potential)) }
-{
-    let solver = &mut scratch.solver;
-    solver.prepare(network)?;
-    if !solver.solve(network) {
-        return Err(SolveFault::Infeasible);
-    }
-    read_flow(&solver.residual.capacities, &mut solver.residual.forward);
-    let flow = mem::replace(&mut solver.residual.forward, Vec::new(alloc));
-    let potential = mem::replace(&mut solver.nodes.potential, Vec::new(alloc));
-    Ok(Solved::new(flow, potential, solver.searches, solver.looks))
-}
 
 impl Solver {
     /// Sends all units from nothing; whether that can be done.
@@ -166,12 +100,116 @@ impl Solver {
         self.augment(root);
         true
     }
+
+    /// Augment: sends along the path as much as can go, at least one unit.
+    pub(crate) fn augment(&mut self, root: usize)
+        requires { (net : NetworkModel) × CanAugment net self.old root }
+        ensures sent { (net : NetworkModel) → CanAugment net self.old root → IsSentAlong net self.old self.new }
+        ensures work { (self.new.searches ≡ self.old.searches) × (self.new.looks ≡ self.old.looks) }
+    {
+        let amount = self.bottleneck(root);
+        let found = self.found;
+        let target = u32::from(self.residual.arcs[found].end);
+        let mut node = self.residual.start(found);
+        move_units(&mut self.nodes.excess, target, root as u32, amount);
+        push(&mut self.residual, found, amount);
+        'along: while self.visits[node].place > 0 {
+            let number = self.visits[node].predecessor as usize;
+            push(&mut self.residual, number, amount);
+            node = self.residual.start(number);
+        }
+    }
+
+    /// How much can go along the path: as much as fits, at most the root's excess and the end's deficit.
+    fn bottleneck(&self, root: usize) -> u32
+        requires { (net : NetworkModel) × CanAugment net self.now root }
+        ensures { IsBottleneck self.now root result }
+    {
+        let found = self.found;
+        let target = usize::from(self.residual.arcs[found].end);
+        let most = most_between(&self.nodes.excess, root, target);
+        let mut amount = most.min(self.residual.capacities[found].capacity);
+        let mut node = self.residual.start(found);
+        'narrow: while self.visits[node].place > 0 {
+            let number = self.visits[node].predecessor as usize;
+            amount = amount.min(self.residual.capacities[number].capacity);
+            node = self.residual.start(number);
+        }
+        amount
+    }
 }
 
-/// Searches for a shortest path from a node with an excess to the nearest one with a deficit, and
-/// updates the potentials. It gives back the last residual arc of the path; each node before has the one by which it
-/// was reached. `None` where there is no such path; the nodes that were reached keep their labels then, and supply more
-/// than can leave them.
+/// The reason why there is no solution.
+#[derive(Clone, Copy, Debug, PartialEq, Eq, Error)]
+pub enum SolveFault {
+    /// No flow meets the supplies.
+    #[error("no flow meets the supplies")]
+    Infeasible,
+    /// An allocation was refused.
+    #[error("out of memory")]
+    Memory,
+}
+
+impl From<AllocError> for SolveFault {
+    ghost from_gives = { λ _ fault. fault ≡ Memory };
+
+    fn from(_refused: AllocError) -> SolveFault {
+        SolveFault::Memory
+    }
+}
+
+/// A flow of least cost that meets all supplies, with potentials that prove it.
+///
+/// All memory is allocated before it begins. Each search sends at least one unit, so there are no more searches than
+/// units are supplied, and looks at each residual arc at most once, so there are no more looks than twice the number of
+/// arcs a search. The potentials are at most twice the number of nodes in absolute value.
+///
+/// # Errors
+/// `Infeasible` exactly if there is no flow, memory aside, and `Memory` if an allocation was refused.
+pub fn solve(alloc: Global, network: &Network) -> Result<Solved, SolveFault>
+    ensures ok { IfOk result (λ solved. Solves network.now solved) }
+    ensures infeasible { IfErr result (λ fault. fault ≡ SolveFault.Infeasible → HasNoFlow network.now) }
+    ensures searches { IfOk result (λ solved. solved.searches ≤ supply_sum network.now) }
+    ensures looks { IfOk result (λ solved. solved.looks ≤ solved.searches * (2 * arc_count network.now)) }
+    ensures begun { IfOk result (λ solved. HasSupply network.now → 1 ≤ solved.searches) }
+    ensures carrying { IfOk result (λ solved. carrying network.now (amounts solved.flow) ≤ solved.looks) }
+    ensures in_bounds { IfOk result (λ solved. AreInBounds network.now (at_nodes solved.potential)) }
+{
+    let mut scratch = Scratch::empty(alloc);
+    solve_in(alloc, &mut scratch, network)
+}
+
+/// A flow of least cost that meets all supplies, exactly as [`solve`]; reuses the caller's scratch.
+///
+/// The solution takes its two lists with it; [`Solved::give_back`] returns them. If there is no solution, or an
+/// allocation was refused, all lists stay in the scratch, which can be used again.
+pub fn solve_in(
+    alloc: Global,
+    scratch: &mut Scratch,
+    network: &Network,
+) -> Result<Solved, SolveFault>
+    ensures ok { IfOk result (λ solved. Solves network.now solved) }
+    ensures infeasible { IfErr result (λ fault. fault ≡ SolveFault.Infeasible → HasNoFlow network.now) }
+    ensures searches { IfOk result (λ solved. solved.searches ≤ supply_sum network.now) }
+    ensures looks { IfOk result (λ solved. solved.looks ≤ solved.searches * (2 * arc_count network.now)) }
+    ensures begun { IfOk result (λ solved. HasSupply network.now → 1 ≤ solved.searches) }
+    ensures carrying { IfOk result (λ solved. carrying network.now (amounts solved.flow) ≤ solved.looks) }
+    ensures in_bounds { IfOk result (λ solved. AreInBounds network.now (at_nodes solved.potential)) }
+{
+    let solver = &mut scratch.solver;
+    solver.prepare(network)?;
+    if !solver.solve(network) {
+        return Err(SolveFault::Infeasible);
+    }
+    read_flow(&solver.residual.capacities, &mut solver.residual.forward);
+    let flow = mem::replace(&mut solver.residual.forward, Vec::new(alloc));
+    let potential = mem::replace(&mut solver.nodes.potential, Vec::new(alloc));
+    Ok(Solved::new(flow, potential, solver.searches, solver.looks))
+}
+
+/// Searches for a shortest path from a node with an excess to the nearest one with a deficit, and updates the
+/// potentials. Returns the last residual arc of the path; each node before has the one by which it was reached. `None`
+/// if there is no such path; the nodes that were reached then keep their labels, and supply more than can leave them.
 pub(crate) fn find_path(
     residual: &Residual,
     nodes: &mut Nodes,
@@ -251,7 +289,7 @@ pub(crate) fn has_deficit(excess: &[i32]) -> bool
 }
 
 /// Scores each node, to pick one of those that are equally near: its supply, and what is supplied where arcs of
-/// cost 0 to it start. The least score comes first. No clause rests on it, but it tells which of
+/// cost 0 to it start. The least score comes first. No clause rests on it, but it decides which of
 /// several flows of least cost is found.
 fn score_nodes(network: &Network, scores: &mut [i32])
     requires { IsNetwork network.now }
@@ -295,4 +333,32 @@ fn write_all(numbers: &mut [i32], number: i32)
     for at_node in numbers.iter_mut() {
         *at_node = number;
     }
+}
+
+/// How much can go from one node to another: the lesser of the one's excess and the other's deficit.
+fn most_between(excess: &[i32], root: usize, target: usize) -> u32
+    requires root { root < length excess.now }
+    requires target { target < length excess.now }
+    requires remaining { pos 0 <ℤ at_nodes excess.now root }
+    requires deficit { at_nodes excess.now target <ℤ pos 0 }
+    ensures some { 0 < result }
+    ensures remaining { pos result ≤ℤ at_nodes excess.now root }
+    ensures deficit { (at_nodes excess.now target +ℤ pos result) ≤ℤ pos 0 }
+    ensures most { (k : ℕ) → pos k ≤ℤ at_nodes excess.now root → (at_nodes excess.now target +ℤ pos k) ≤ℤ pos 0 → k ≤ result }
+{
+    excess[root]
+        .unsigned_abs()
+        .min(excess[target].unsigned_abs())
+}
+
+/// Sends along a residual arc, and so gives as much capacity to its reverse.
+fn push(residual: &mut Residual, number: usize, amount: u32)
+    requires pair { IsPaired residual.old number }
+    requires some { 0 < amount }
+    requires fits { amount ≤ capacity_at residual.old.capacities.items number }
+    ensures { IsPushedAlong residual.old residual.new number amount }
+{
+    let back = residual.capacities[number].reverse as usize;
+    residual.take_capacity(number, amount);
+    residual.add_capacity(back, amount);
 }

@@ -32,7 +32,7 @@ pub struct Solver {
 }
 
 impl Solver {
-    /// One with empty lists, for which no memory is taken.
+    /// A state with empty lists. It allocates nothing.
     pub(crate) fn empty(alloc: Global) -> Solver {
         Solver {
             residual: Residual {
@@ -53,8 +53,8 @@ impl Solver {
         }
     }
 
-    /// Gives each list the length that a network needs, and takes the labels of all nodes away. Where memory is
-    /// refused, some have it not. What else they hold is of no use: a solve writes it anew.
+    /// Gives each list the length that a network needs, and removes the labels of all nodes. If an allocation is
+    /// refused, some lists do not have it. What else they contain does not matter: a solve overwrites it.
     pub(crate) fn prepare(&mut self, network: &Network) -> Result<(), AllocError>
         ensures { OnOk result (IsSized network.now self.new) }
     {

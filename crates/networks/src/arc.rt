@@ -3,7 +3,7 @@
 /// The capacity of an arc.
 #[derive(Clone, Copy, Debug, PartialEq, Eq)]
 pub enum Cap {
-    /// At most so many units.
+    /// At most this many units.
     AtMost(u32),
     /// Any number of units.
     Any,

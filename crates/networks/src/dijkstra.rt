@@ -12,7 +12,7 @@ use crate::residual::ResidualArc;
 use crate::state::{Candidate, FAR, Search, SearchInput, Visit};
 
 impl<'a> Search<'a> {
-    /// Labels the nodes around a root in order of their distance, up to the nearest one with a deficit.
+    /// Searches from the root for the nearest node with a deficit, and labels the nodes that it reaches.
     ///
     /// Distances are by reduced costs. Then `bound` is the distance of that node, and `found` the last residual arc on
     /// the way there; if unsaturated residual arcs lead to no such node, `bound` is `FAR`. A node's label is the root's
@@ -87,7 +87,7 @@ impl<'a> Search<'a> {
         true
     }
 
-    /// The least distance of the nodes behind those that are ordered, or the bound if that is less.
+    /// The least distance of the nodes after those that are ordered, or the bound if that is less.
     fn least_distance(&self, input: SearchInput<'_>) -> i32
         requires search { IsSearch input self.now }
         ensures bound { result ≤ℤ self.now.bound }
@@ -104,7 +104,7 @@ impl<'a> Search<'a> {
         least
     }
 
-    /// Moves the radius, and puts the nodes at that distance behind those that are ordered.
+    /// Moves the radius, and puts the nodes at that distance after those that are ordered.
     fn raise_radius(&mut self, input: SearchInput<'_>, radius: i32)
         requires search { IsSearch input self.old }
         requires radius { IsNextRadius input self.old radius }
@@ -117,7 +117,7 @@ impl<'a> Search<'a> {
         }
     }
 
-    /// Puts the node at place j of the order behind those that are ordered, if it is at the radius.
+    /// Puts the node at place j of the order after those that are ordered, if it is at the radius.
     fn take_up(&mut self, input: SearchInput<'_>, j: usize)
         requires waiting { IsWaiting input self.old j }
         ensures ordered { IsReordered input.entry self.old self.new }

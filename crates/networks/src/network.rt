@@ -16,8 +16,8 @@ pub const MAX_NODES: usize = 1_024;
 /// The maximum number of arcs of a network.
 pub const MAX_ARCS: usize = 4_096;
 
-/// Nodes with supplies, joined by arcs. Nodes and arcs are numbered from 0; a node whose
-/// supply is below 0 wants units.
+/// A flow network: nodes with supplies, joined by arcs. A supply below 0 is a demand.
+/// Nodes and arcs are numbered from 0.
 #[derive(Debug, Drop)]
 pub struct Network {
     supplies: Vec<i32>,
@@ -60,7 +60,7 @@ impl Network {
         Ok(Network { supplies, arcs })
     }
 
-    /// The network with these supplies and arcs, which must be those of a network.
+    /// The network with these supplies and arcs, unchecked: they must be those of a network.
     ///
     /// It looks at none of them, and allocates nothing.
     pub fn of_lists(supplies: Vec<i32>, arcs: Vec<Arc>) -> Network

@@ -26,7 +26,7 @@ impl Search<'_> {
         }
     }
 
-    /// Gives a node without a deficit a label, and puts it behind those that are ordered if it is at
+    /// Gives a node without a deficit a label, and puts it after those that are ordered if it is at
     /// the radius.
     fn label_node(&mut self, input: SearchInput<'_>, step: Candidate)
         requires candidate { HasCandidate input self.old step }
@@ -55,7 +55,7 @@ impl Search<'_> {
         }
     }
 
-    /// Gives a node a label, and a place behind all that were reached if it has none.
+    /// Gives a node a label, and a place after all that were reached if it has none.
     fn set_label(&mut self, step: Candidate)
         requires end { HasEnd self.old step }
         requires room { far ≤ℤ labels self.old step.end → self.old.reached < length self.old.visits.now }
@@ -68,7 +68,7 @@ impl Search<'_> {
         }
     }
 
-    /// Gives a node that was not reached before a label, and a place behind all others.
+    /// Gives a node that was not reached before a label, and a place after all others.
     fn enlist(&mut self, step: Candidate)
         requires end { HasEnd self.old step }
         requires room { self.old.reached < length self.old.visits.now }
@@ -96,7 +96,7 @@ impl Search<'_> {
         visit.predecessor = step.number as u16;
     }
 
-    /// Puts a node behind those that are ordered, in exchange for the node that is there.
+    /// Puts a node after those that are ordered, in exchange for the node that is there.
     pub(crate) fn advance(&mut self, node: usize)
         requires { CanAdvance self.old node }
         ensures swapped { IsSwapped (orders self.old) (places self.old) (orders self.new) (places self.new) node (places self.old node) self.old.ordered }

@@ -1,5 +1,5 @@
-//! Residual arcs in forward star form (Ahuja, Magnanti and Orlin, Network Flows, 1993, section 2.3): those that start at
-//! a node stand side by side.
+//! Residual arcs in forward star form (Ahuja, Magnanti and Orlin, Network Flows, 1993, section 2.3): those that start
+//! at a node are consecutive.
 ghost use Rattle.std.specs.Prelude.{◌≡◌, ◌<◌, ◌≤◌, ◌+◌, ◌-◌, ◌^◌, length, ℤ, pos, negsuc, ◌≤ℤ◌};
 ghost use Rattle.networks.specs.ResidualArcs.{end_at, reverse_at, capacity_at, IsRated, IsCosted};
 ghost use Rattle.networks.specs.Residuals.{HasNumber, IsSetTo};
@@ -9,17 +9,17 @@ use crate::network::MAX_ARCS;
 /// The maximum number of residual arcs of a network: two for each arc.
 pub const MAX_RESIDUAL_ARCS: usize = 2 * MAX_ARCS;
 
-/// The amount by which the cost of a saturated residual arc is raised.
+/// The amount that is added to the cost of a residual arc while it is saturated.
 pub const SATURATED: i16 = 16_000;
 
-/// The end and the cost of a residual arc, which a search reads. The cost is raised by `SATURATED` if it is saturated.
+/// The end and the cost of a residual arc, as a search reads them; `SATURATED` is added to the cost if it is saturated.
 #[derive(Clone, Copy, Debug, Default, PartialEq, Eq)]
 pub struct ResidualArc {
     pub end: u16,
     pub cost: i16,
 }
 
-/// The reverse and the residual capacity of a residual arc, which sending units along it reads.
+/// The reverse and the residual capacity of a residual arc, read when units are sent along it.
 #[derive(Clone, Copy, Debug, Default, PartialEq, Eq)]
 pub struct ResidualCapacity {
     pub reverse: u32,
@@ -27,7 +27,7 @@ pub struct ResidualCapacity {
 }
 
 impl ResidualArc {
-    /// One to a node along which so many units fit, where a unit costs so much.
+    /// A residual arc to a node, with this capacity and this cost of a unit.
     pub(crate) fn new(end: u16, cost: i16, capacity: u32) -> ResidualArc
         requires { cost ≤ℤ pos 1 }
         ensures end { result.end ≡ end }

@@ -1,7 +1,7 @@
 //! What a search reads, and what it keeps.
 use crate::residual::ResidualArc;
 
-/// The label of a node that was not reached, above that of each node that was.
+/// The label of a node that was not reached; it exceeds the label of each node that was.
 pub const FAR: i16 = 8_000;
 
 /// The input of a search: residual arcs, the state of each node, and the node where the search begins.
@@ -19,7 +19,7 @@ pub struct SearchInput<'a> {
     pub root: usize,
 }
 
-/// The state of a node in a search, and the node at this place in the order of the nodes that were reached.
+/// An entry of the table of a search: entry i has the state of node i, and the i-th node in the order of reached nodes.
 ///
 /// That order begins with those that were scanned, then come those at the radius, then those further off.
 #[derive(Clone, Copy)]
@@ -41,9 +41,9 @@ pub struct Search<'a> {
     pub visits: &'a mut [Visit],
     /// How many nodes were scanned: the first ones of the order.
     pub scanned: usize,
-    /// How many nodes stand first in the order, sorted by their distance; the scanned ones are among them.
+    /// The number of nodes at the beginning of the order that are sorted by their distance, with the scanned ones.
     pub ordered: usize,
-    /// How many nodes were reached: all that stand in the order.
+    /// The number of nodes that were reached: all in the order.
     pub reached: usize,
     /// The distance of the nodes that are scanned now.
     pub radius: i32,

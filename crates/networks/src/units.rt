@@ -1,4 +1,4 @@
-//! Units by node: so many more at one node, and so many less at another.
+//! Units by node, moved from one node to another.
 ghost use Rattle.std.specs.Prelude.{◌≡◌, ◌<◌, ◌≤◌, ℕ, pos, ◌-ℤ◌, ◌≤ℤ◌, length, slice_index_or};
 ghost use Rattle.networks.specs.declared.fault.TheConstants.{MAX_SUPPLY};
 ghost use Rattle.networks.specs.Networks.{moved};

@@ -27,7 +27,7 @@ pub(crate) struct Incumbent {
 }
 
 impl Incumbent {
-    /// Whether so many bends with a face are better: fewer, or as few and the face has a lesser number.
+    /// Whether a face with this many bends is better: fewer bends, or as many and the face has a lesser number.
     fn loses_to(&self, bends: u64, face: u16) -> bool
         ensures yes { IsTrue result → bends ≤ self.now.bends }
         ensures first { IsTrue result → bends ≡ self.now.bends → face < self.now.face }
@@ -64,7 +64,7 @@ pub fn best_shape(alloc: Global, plane: &mut Plane) -> Result<(Shape, Prices), A
     }
 }
 
-/// The same, but where memory runs out some face that was tried may be left as the outer one.
+/// Does the same, but if memory runs out, some face that was tried may be left as the outer one.
 fn best_found(alloc: Global, plane: &mut Plane) -> Result<(Shape, Prices), AllocError>
     ensures outer_moved { plane.new ≡ with_outer plane.old plane.new.outer }
     ensures best { OnOk result (IsBest plane.new) }
@@ -100,8 +100,8 @@ fn begin(alloc: Global, plane: &Plane) -> Result<Moving, AllocError>
     }
 }
 
-/// Goes on to another outer face: the deficit of the old one is eight units less, and eight more at the
-/// new one. It takes no memory.
+/// Moves the outer face to `face`: the deficit of the old one is eight units less, and that of the new one eight more.
+/// It allocates nothing.
 fn outer_moved(moving: Moving, plane: &Plane, face: u16) -> Moving
     requires moving { IsMoving plane.now moving }
     requires face { face < plane.now.faces }
@@ -145,8 +145,8 @@ fn best_incumbent(plane: &mut Plane, moving: Moving) -> (Moving, Incumbent)
 /// Tries faces in depth-first order over shared edges, so that each move is short. Which faces it
 /// comes to is not proved: no result rests on it.
 ///
-/// It walks round the outer face, and through each edge behind which it has not been yet. It walks round
-/// each face that it enters so, and goes back through the edge by which it came.
+/// It walks round the outer face, and crosses each edge to a face that it has not visited yet. It walks round
+/// each face that it enters this way, and goes back across the edge by which it came.
 fn tour(plane: &mut Plane, moving: Moving, incumbent: &mut Incumbent, bounds: &mut [u64]) -> Moving
     requires moving { IsMoving plane.old moving }
     requires incumbent { IsIncumbent plane.old incumbent.old }
@@ -237,8 +237,8 @@ fn visit(
     moving
 }
 
-/// How many bends are needed with the plane's outer face. The bounds of all faces rise to what the
-/// potentials prove. It takes no memory.
+/// The number of bends that the plane's outer face needs. The bounds of all faces rise to what the
+/// potentials prove. It allocates nothing.
 fn bends_and_bounds(plane: &Plane, moving: &Moving, bounds: &mut [u64]) -> u64
     requires moving { IsMoving plane.now moving.now }
     requires room { plane.now.faces ≤ length bounds.old }

@@ -17,17 +17,17 @@ use faces::Plane;
 use flow_network::has_mark;
 use std::alloc::{AllocError, Global};
 
-/// Makes the best face among those that are not barred the outer one, and gives a least shape among those that keep the
-/// edges of marked darts straight, with prices that prove it.
+/// Makes the best face that is not barred the outer one; returns a least shape that keeps marked edges straight.
 ///
-/// The best face is the one with which the fewest bends are needed for that, among equals the one with the least number.
-/// `straight` has a place for each dart and `barred` one for each face; places past the end of either count as false. An
-/// edge is to have no turns where one of its two darts is marked. Each face is tried by a flow of its own.
+/// The shape comes with prices that prove it. The best face minimises the bends of such shapes, and has the least
+/// number among equals. `straight` has a place for each dart and `barred` one for each face; places past the end of
+/// either count as false. An edge keeps straight if one of its two darts is marked. Each face is tried by a flow of its
+/// own.
 ///
 /// # Errors
 ///
-/// `NoShape` exactly where with no face that is not barred a representation keeps these edges straight, memory aside, and
-/// `Memory` where there is none for the network, its flow, the shape or the prices. The plane is then what it was.
+/// `NoShape` exactly if, memory aside, no face that is not barred has a shape that keeps these edges straight; `Memory`
+/// if memory runs out for the network, its flow, the shape or the prices. The plane is then unchanged.
 pub fn best_shape_keeping(
     alloc: Global,
     plane: &mut Plane,
@@ -124,7 +124,7 @@ fn bends_with(
     }
 }
 
-/// The better one of the best face so far and a face with which so many bends are needed, if there is a shape.
+/// The better of the best face so far and a face with this many bends; `None` if neither has a shape.
 fn better(best: Option<Incumbent>, face: u16, bends: Option<u64>) -> Option<Incumbent>
     ensures { result ≡ better_of best face bends }
 {
@@ -137,7 +137,7 @@ fn better(best: Option<Incumbent>, face: u16, bends: Option<u64>) -> Option<Incu
     }
 }
 
-/// The face, if so many bends are fewer, or the incumbent.
+/// The face if it has fewer bends than the incumbent, otherwise the incumbent.
 fn with_fewer_bends(incumbent: Incumbent, face: u16, bends: u64) -> Incumbent
     ensures { result ≡ (if nat_lt bends incumbent.bends then record { face = face; bends = bends } else incumbent) }
 {

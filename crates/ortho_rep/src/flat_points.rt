@@ -9,8 +9,8 @@ use crate::points::Point;
 use std::alloc::AllocError;
 use std::marker::Model;
 
-/// The points of the vertices, behind them the corners of all edges, and behind these for each edge where its corners
-/// stand: a point too, whose x is their place among all corners and whose y is the place behind them. In contracts it
+/// The points of the vertices, followed by the corners of all edges, and then for each edge the span of its corners.
+/// A span is stored as a point too: x is the first place among all corners, y the place after the last. In contracts it
 /// is the list of the vertex points and the list of the lists of corners.
 #[derive(Debug, Drop)]
 pub(crate) struct FlatPoints {
@@ -57,7 +57,7 @@ impl FlatPoints {
         })
     }
 
-    /// The one list, whose memory can be used again.
+    /// Returns the one list, whose buffer can be reused.
     pub(crate) fn into_list(self) -> Vec<Point> {
         self.points
     }
@@ -87,7 +87,7 @@ impl FlatPoints {
     }
 }
 
-/// Puts behind a list where each edge's corners stand.
+/// Appends to a list the span of each edge's corners.
 fn push_spans(points: &mut Vec<Point>, starts: &[usize]) -> Result<(), AllocError>
     requires some { 0 < length starts.now }
     requires small { All (λ place. place < 2 ^ 32) starts.now }

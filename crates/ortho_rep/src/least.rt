@@ -171,7 +171,7 @@ fn crossing_flow(net: &FaceNet, solved: &Solved, dart: u16) -> u32
     solved.flow(net.crossing_arc(dart))
 }
 
-/// The angles and the turns of a flow, in the memory of a list that is lent.
+/// The angles and the turns of a flow, in the buffer of a list.
 fn darts_in(
     lent: Vec<DartShape>,
     plane: &Plane,
@@ -223,7 +223,7 @@ fn dart_shape(plane: &Plane, net: &FaceNet, solved: &Solved, dart: u16) -> DartS
     }
 }
 
-/// The potentials of the vertices and behind them those of the faces, in the memory of one list that is lent.
+/// The potentials of the vertices followed by those of the faces, in the buffer of one list.
 fn prices_in(
     lent: Vec<i32>,
     plane: &Plane,

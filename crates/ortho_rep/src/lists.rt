@@ -1,4 +1,4 @@
-//! Lists of items that stand in one.
+//! Lists of items that are stored in one.
 
 ghost use Rattle.std.specs.Prelude.{◌≡◌, ◌+◌, ◌<◌, [], length, slice_index_or};
 ghost use Rattle.ortho_rep.specs.Storage.{slices_at, AreStarts};
@@ -8,7 +8,7 @@ use std::marker::Model;
 /// A list of lists of items, stored in one flat list. In contracts it is the list of these lists.
 #[derive(Debug, Drop)]
 pub struct FlatLists<T> {
-    // all items, and where those of each list start; one place more, where the last ones end
+    // all items; where those of each list start, and finally where the last ones end
     items: Vec<T>,
     starts: Vec<usize>,
 }
@@ -25,7 +25,9 @@ impl<T> Model for FlatLists<T> {
 }
 
 impl<T> FlatLists<T> {
-    /// The lists between consecutive places of `starts` in one flat list of items. It allocates nothing.
+    /// The lists into which `starts` divides `items`: list i goes from `starts[i]` to `starts[i + 1]`.
+    ///
+    /// It allocates nothing.
     pub fn new(items: Vec<T>, starts: Vec<usize>) -> FlatLists<T>
         requires { AreStarts starts.items items.items }
         ensures { result ≡ slices_at starts.items items.items }
@@ -33,7 +35,7 @@ impl<T> FlatLists<T> {
         FlatLists { items, starts }
     }
 
-    /// Returns the flat list and the places, whose buffers can be reused.
+    /// Returns the flat list of items and the starts of the lists in it, whose buffers can be reused.
     pub fn into_parts(self) -> (Vec<T>, Vec<usize>)
         ensures { self ≡ slices_at result.1.items result.0.items }
     {

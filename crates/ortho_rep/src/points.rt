@@ -83,9 +83,9 @@ impl Points {
         })
     }
 
-    /// Returns the list of these points, whose buffer can be reused. It allocates nothing.
+    /// Returns the list in which these points are stored, whose buffer can be reused. It allocates nothing.
     ///
-    /// If the points are not in one list, it is that of the vertices.
+    /// If the points are in two lists, it returns that of the vertices.
     pub fn into_list(self) -> Vec<Point> {
         match self.store {
             PointStore::InTwoLists {

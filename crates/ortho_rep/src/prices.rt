@@ -18,7 +18,7 @@ pub struct Prices {
 #[derive(Debug, Drop)]
 enum PriceStore {
     InTwoLists { vertices: Vec<i32>, faces: Vec<i32> },
-    // those of so many vertices, and behind them those of the faces
+    // those of this many vertices, followed by those of the faces
     Concatenated { prices: Vec<i32>, vertices: usize },
 }
 
@@ -34,8 +34,9 @@ impl Model for Prices {
 }
 
 impl Prices {
-    /// The prices with these lists: `vertices[v - 1]` is that of vertex v, `faces[f]` that of face f. It allocates
-    /// nothing.
+    /// The prices with these lists: `vertices[v - 1]` is that of vertex v, `faces[f]` that of face f.
+    ///
+    /// It allocates nothing.
     pub fn new(vertices: Vec<i32>, faces: Vec<i32>) -> Prices
         ensures { result ≡ record { vertices = vertices.items; faces = faces.items } }
     {
@@ -44,7 +45,7 @@ impl Prices {
         }
     }
 
-    /// The prices of so many vertices, and behind them those of the faces, in one list.
+    /// The prices of this many vertices, followed by those of the faces, in one list.
     pub(crate) fn concatenated(prices: Vec<i32>, vertices: usize) -> Prices
         requires { vertices ≤ length prices.items }
         ensures { result ≡ record { vertices = take vertices prices.items; faces = drop vertices prices.items } }

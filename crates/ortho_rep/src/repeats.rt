@@ -10,7 +10,7 @@ ghost use Rattle.ortho_rep.specs.Repeats.{AreRepeats, shape_in};
 use crate::turn::{Turn, repeat};
 use std::marker::Model;
 
-/// The angle of a dart, in right angles, and the number of its turns, if they are all of one kind.
+/// The shape of a dart whose turns all go to one side: its angle in right angles, the side, and the number of turns.
 #[derive(Clone, Copy, Debug)]
 pub struct DartShape {
     pub angle: u8,
@@ -48,7 +48,7 @@ impl Repeats {
         Repeats { darts }
     }
 
-    /// The list, whose memory can be used again.
+    /// Returns the list, whose buffer can be reused.
     pub(crate) fn into_darts(self) -> Vec<DartShape>
         ensures { self ≡ shape_in result.items }
     {

@@ -1,9 +1,9 @@
-//! Memory that one call after another is lent.
+//! The buffers that one call after another reuses.
 
 use crate::repeats::DartShape;
 use std::alloc::Global;
 
-/// Buffers that finding one least shape after another reuses. Their contents between two calls do not matter.
+/// The buffers of `least_shape_in`, reused for the next shape. Their contents between two calls do not matter.
 ///
 /// A shape and its prices take their lists with them. If both are returned before the next call, none allocates for a
 /// plane with no more vertices, faces and darts than one before it had; if one is not, the next call allocates its
@@ -35,7 +35,7 @@ pub(crate) struct ShapeLists {
 }
 
 impl ShapeLists {
-    /// Lists without memory.
+    /// Empty lists.
     pub(crate) fn empty(alloc: Global) -> ShapeLists {
         ShapeLists {
             darts: Vec::new(alloc),

@@ -68,7 +68,7 @@ impl Shape {
         }
     }
 
-    /// The shape of darts that turn to one side only, indexed by dart. It allocates nothing.
+    /// The shape in which dart i has the angle and the turns of `darts[i]`, all to one side. It allocates nothing.
     pub fn of_darts(darts: Vec<DartShape>) -> Shape
         requires few { vec_len darts ≤ MAX_DARTS }
         requires short { All (λ dart. dart.count ≤ MAX_REPEATS) darts.items }
@@ -148,8 +148,9 @@ impl Shape {
         }
     }
 
-    /// The number of bends: half the sum of the lengths of all strings, rounded down. Linear
-    /// in the strings.
+    /// The number of bends: half the sum of the lengths of all strings, rounded down.
+    ///
+    /// Linear in the strings.
     pub fn bends(&self) -> u32
         ensures { result ≡ bends_of (length self.now.strings) (turns_at self.now) }
     {

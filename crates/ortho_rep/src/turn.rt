@@ -4,7 +4,7 @@ ghost use Rattle.std.specs.Prelude.{◌≡◌, ◌≤◌, ◌↔◌, IsTrue, len
 ghost use Rattle.ortho_rep.specs.declared.turn.TheConstants.{MAX_REPEATS};
 ghost use Rattle.ortho_rep.specs.Turns.{lefts, mirrored};
 
-/// A quarter turn of an edge, seen in walking along a dart.
+/// A quarter turn of an edge, as seen when walking along a dart.
 #[derive(Clone, Copy, Debug, PartialEq, Eq)]
 pub enum Turn {
     Left,
@@ -14,14 +14,14 @@ pub enum Turn {
 // A turn takes one byte.
 const _: () = prove!(size_of::<Turn>() == 1);
 
-/// The length of the prepared strings of turns of one kind. No string of a least shape is longer.
+/// The maximum number of turns of a `DartShape`. No string of a least shape is longer.
 pub const MAX_REPEATS: usize = 6_144;
 
 static LEFTS: [Turn; MAX_REPEATS] = [Turn::Left; MAX_REPEATS];
 
 static RIGHTS: [Turn; MAX_REPEATS] = [Turn::Right; MAX_REPEATS];
 
-/// So many turns of one kind.
+/// `count` turns of one kind.
 pub(crate) fn repeat(turn: Turn, count: u16) -> &'static [Turn]
     requires { count ≤ MAX_REPEATS }
     ensures { result.now ≡ replicate count turn }

@@ -99,7 +99,7 @@ impl PartialRecord {
         result
     }
 
-    /// Continues the record with `text`; if it ends there, returns it and how many bytes of `text` it took.
+    /// Appends `text` up to the record's end; if the record ends, returns it and the number of bytes taken.
     ///
     /// `None` if the record is still partial after all of `text`. It runs out of memory only if `text` ends the record.
     pub fn read(&mut self, alloc: Global, text: &[u8]) -> Result<Option<(Record, usize)>, FeedFault>

@@ -10,7 +10,7 @@ use crate::record::Record;
 use crate::{HEADER, MAX_LIST, MAX_RECORDS};
 use std::alloc::{AllocError, Global};
 
-/// Where the first list or record in some bytes ends.
+/// The place where the first list or record in some bytes ends, or the reason why there is none.
 pub enum End {
     /// After this many bytes.
     After(usize),

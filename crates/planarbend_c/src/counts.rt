@@ -20,7 +20,7 @@ pub struct Counts {
     pub corners: u32,
 }
 
-/// The counts of a layout, where the number of corners has 32 bits.
+/// The counts of a layout, if the number of corners has 32 bits.
 pub(crate) fn counts_of(layout: &Layout) -> Option<Counts>
     requires { IsDrawnIfAsked layout.now.plane layout.now.shape layout.now.drawing }
     ensures { IfSome result (AreCounts (finding_of layout.now)) }

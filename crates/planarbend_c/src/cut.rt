@@ -1,11 +1,15 @@
-//! Why no shape keeps the edges straight, as C is told it.
+//! Why no shape keeps the edges straight, in lists for C.
 
 ghost use Rattle.std.specs.Prelude.{◌≡◌};
 ghost use Rattle.planarbend_c.specs.Cuts.{HoldsCut, HoldsMarks, cut_contents};
 
 use conditions::Unkept;
 
-/// Where a call puts vertices and faces that turn more than can leave them: for each 1, or 0 where it is not one of them.
+/// The output of a call if no shape keeps the edges straight: marks of a cut that proves it.
+///
+/// The cut is a set of vertices and faces that turn more than can leave it.
+///
+/// An entry is 1 for each vertex or face of the set, and otherwise 0.
 #[repr(C)]
 pub struct CutLists<'a> {
     pub vertices: &'a mut [u8],

@@ -20,10 +20,10 @@ use crate::request::{Request, choice_of, drawing_of};
 use crate::shapes::{put_angles, put_face_prices, put_turns, put_vertex_prices};
 use std::alloc::Global;
 
-/// Lays out the record that the bytes are, with the outer face and the drawing of these numbers, and gives the number of
-/// what comes of it. `planarbend.h` says what each number means.
+/// Lays out the record in `bytes`, and returns the code of the outcome.
 ///
-/// The counts are written where the record is laid out, and the lists too where each has room.
+/// `outer` and `drawing` are the numbers of an outer face and of a kind of drawing; `planarbend.h` says what each
+/// number means. The counts are written if the record is laid out, and the lists too if each has room.
 #[unsafe(no_mangle)]
 pub extern "C" fn planarbend_c_layout(
     alloc: Global,
@@ -39,10 +39,10 @@ pub extern "C" fn planarbend_c_layout(
     answer(alloc, bytes, outer, drawing, counts, lists).code()
 }
 
-/// Lays out the record that the bytes are as it is asked for, and gives the number of what comes of it.
+/// Lays out the record in `bytes` under the conditions of a request; returns the code of the outcome.
 ///
-/// What is written is as for [`planarbend_c_layout`]; the shape has the fewest bends of all that keep the conditions. Where
-/// no shape keeps the edges straight, the cut is written instead.
+/// What is written is as for [`planarbend_c_layout`]; the shape has the fewest bends of all that keep the conditions.
+/// If no shape keeps the edges straight, the cut is written instead.
 #[unsafe(no_mangle)]
 pub extern "C" fn planarbend_c_layout_keeping(
     alloc: Global,
@@ -58,7 +58,7 @@ pub extern "C" fn planarbend_c_layout_keeping(
     answer_keeping(alloc, bytes, request, counts, lists, cut).code()
 }
 
-/// Lays the record out as it is asked for, and says what comes of it.
+/// Lays out the record as requested; returns the outcome.
 fn answer_keeping(
     alloc: Global,
     bytes: &[u8],
@@ -81,7 +81,7 @@ fn answer_keeping(
     }
 }
 
-/// Lays the record out, and says what comes of it.
+/// Lays out the record; returns the outcome.
 fn answer(
     alloc: Global,
     bytes: &[u8],
@@ -104,7 +104,7 @@ fn answer(
     }
 }
 
-/// What comes of a call where conditions are not kept for this reason. Where no shape keeps the edges straight, the cut is
+/// The outcome of a call if conditions are not kept for this reason. If no shape keeps the edges straight, the cut is
 /// written.
 fn unlaid(fault: KeepingFault, cut: &mut CutLists<'_>) -> Outcome
     ensures outcome { result ≡ outcome_of fault }
@@ -122,7 +122,7 @@ fn unlaid(fault: KeepingFault, cut: &mut CutLists<'_>) -> Outcome
     }
 }
 
-/// What comes of a call where bytes are not laid out for this reason.
+/// The outcome of a call if bytes are not laid out for this reason.
 fn refused(fault: Fault) -> Outcome
     ensures { result ≡ refusal_of fault }
 {
@@ -133,7 +133,7 @@ fn refused(fault: Fault) -> Outcome
     }
 }
 
-/// Writes the counts of a layout, and the lists where each has room.
+/// Writes the counts of a layout, and the lists if each has room.
 fn tell(layout: &Layout, counts: &mut Counts, lists: &mut Lists<'_>) -> Outcome
     requires { IsDrawnIfAsked layout.now.plane layout.now.shape layout.now.drawing }
     ensures { IsTold (finding_of layout.now) counts.new (contents lists.new) result }
@@ -149,7 +149,7 @@ fn tell(layout: &Layout, counts: &mut Counts, lists: &mut Lists<'_>) -> Outcome
     Outcome::Laid
 }
 
-/// Writes the lists of a layout with these counts, but for those that are left out.
+/// Writes the lists of a layout with these counts, except those that are left out.
 fn write(layout: &Layout, counts: Counts, lists: &mut Lists<'_>)
     requires drawn { IsDrawnIfAsked layout.now.plane layout.now.shape layout.now.drawing }
     requires counted { AreCounts (finding_of layout.now) counts }

@@ -27,7 +27,7 @@ pub(crate) enum KeepingFault {
     Record(Fault),
     /// No shape with the outer face that was asked for keeps the edges straight.
     NoShape(Unkept),
-    /// Two vertices that are named are no neighbours.
+    /// Two vertices that are named are not adjacent.
     NoEdge,
     /// All faces are to stay inside.
     NoOuter,

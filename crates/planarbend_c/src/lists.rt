@@ -64,7 +64,7 @@ impl Lists<'_> {
     }
 }
 
-/// Whether a list of this length has room for so many items, or is left out.
+/// Whether a list of this length has room for `count` items, or is left out.
 fn has_room(length: usize, count: usize) -> bool
     ensures { IsTrue result ↔ (0 < length → count ≤ length) }
 {

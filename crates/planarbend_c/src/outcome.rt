@@ -23,7 +23,7 @@ pub(crate) enum Outcome {
     Argument,
     /// No shape with the outer face that was asked for keeps the edges straight.
     NoShape,
-    /// Two vertices that are named are no neighbours.
+    /// Two vertices that are named are not adjacent.
     NoEdge,
     /// All faces are to stay inside.
     NoOuter,

@@ -33,7 +33,7 @@ fn grid_point(point: Point) -> GridPoint
     }
 }
 
-/// How many corners so many edges have, where the number has 32 bits.
+/// The number of corners of all `edges` edges; `None` if it takes more than 32 bits.
 pub(crate) fn corner_count(edges: u16, points: &Points) -> Option<u32>
     requires { edges ≡ length points.now.corners }
     ensures { IfSome result (λ count. count ≡ length (all_corners points.now.corners)) }

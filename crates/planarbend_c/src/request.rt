@@ -6,7 +6,7 @@ ghost use Rattle.planarbend_c.specs.Requests.{choice_in, drawing_in};
 use common::{Choice, DrawingKind};
 use conditions::Conditions;
 
-/// What is asked for: numbers of an outer face and a drawing, and what is to be kept.
+/// The options of a call: numbers of an outer face and of a kind of drawing, and the conditions to keep.
 #[repr(C)]
 #[derive(Clone, Copy)]
 pub struct Request<'a> {
@@ -15,7 +15,7 @@ pub struct Request<'a> {
     pub conditions: Conditions<'a>,
 }
 
-/// Which face is the outer one: 0 the greatest, 1 the one with which the fewest bends are needed.
+/// The outer face with this number: 0 the face with the most darts, 1 the one that minimises bends.
 pub(crate) fn choice_of(outer: u32) -> Option<Choice>
     ensures { result ≡ choice_in outer }
 {
@@ -26,7 +26,7 @@ pub(crate) fn choice_of(outer: u32) -> Option<Choice>
     }
 }
 
-/// Which drawing is made: 0 none, 1 a quick one, 2 a short one.
+/// The kind of drawing with this number: 0 none, 1 quick, 2 short.
 pub(crate) fn drawing_of(drawing: u32) -> Option<Option<DrawingKind>>
     ensures { result ≡ drawing_in drawing }
 {

@@ -13,9 +13,9 @@ use streams::{Sink, TextBuffer};
 /// The minimum capacity of a chunk, in bytes.
 const CHUNK: usize = 16_384;
 
-/// Text in chunks, which are never moved and mostly of one size.
+/// A buffer of text in chunks, which are never moved and mostly have one size.
 ///
-/// It holds exactly as much memory as `size` says, and memory that one text frees fits another.
+/// It holds exactly as much memory as `size` says, and memory that one piece of text frees fits another.
 #[derive(Drop)]
 pub struct Chunks {
     /// The chunks before the last.
@@ -52,7 +52,7 @@ impl Chunks {
         self.size
     }
 
-    /// Appends a text, undivided, and returns how many bytes of memory that took.
+    /// Appends `text`, undivided, and returns how many bytes of memory that took.
     ///
     /// # Errors
     ///

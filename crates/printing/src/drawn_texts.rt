@@ -19,12 +19,12 @@ pub fn books_are_drawn()
         → AreAllBooks choice meaning files books → AreDrawnBooks books }
 {}
 
-/// The text of books in which each shape has a drawing reports no graph without a drawing.
+/// If each shape in books has a drawing, the output of the books reports no graph as undrawn.
 pub fn texts_tell_none_undrawn()
     ensures { (form : Form) (books : List BookModel) → AreDrawnBooks books → TellsNoneUndrawn (text_in form books) }
 {}
 
-/// A text that contains the answer of an undrawn graph, in either format, is one that reports an undrawn graph.
+/// Output that contains the answer of an undrawn graph, in either format, reports an undrawn graph.
 ///
 /// This holds whatever precedes and follows the answer.
 pub fn undrawn_is_told()

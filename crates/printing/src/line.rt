@@ -39,7 +39,7 @@ impl Line {
         self.text.as_slice()
     }
 
-    /// A copy of a text. It allocates only if the text is not short.
+    /// A copy of `text`. It allocates only if the text is not short.
     pub(crate) fn copied(alloc: Global, text: &[u8]) -> Result<Line, AllocError>
         ensures { IfOk result (λ line. line ≡ text.now) }
     {

@@ -16,7 +16,7 @@ impl Meant for Brand {
     ghost meaning = { λ _. Silent };
 }
 
-/// The end of a file, with the guarantee that it fits what `J` means by the file.
+/// The end of a file, with the guarantee that it fits the meaning that `J` gives the file.
 ///
 /// A file of which `J` means this by its number has this many records and this mark.
 #[derive(Drop)]
@@ -31,7 +31,7 @@ pub struct KnownEnd<J: Meant> {
     pub ghost is_end: { ∥ IsEndAt (J.meaning file) count mark ∥₁ } by { Prim.hlevel props },
 }
 
-/// Makes a `KnownEnd` of the end of a file, which must fit what `J` means by its number.
+/// The `KnownEnd` for the end of a file, which must fit the meaning that `J` gives the file.
 pub fn known_end<J: Meant>(file: u32, end: SourceEnd) -> KnownEnd<J>
     requires { IsEndAt (J.meaning file) end.count end.mark }
 {

@@ -36,7 +36,7 @@ pub struct Texts<'s, S, W: Drop> {
 }
 
 impl<'s, S: Sink> Texts<'s, S, Lines> {
-    /// A text that writes these lines to this sink at this pace. Nothing is written yet.
+    /// A consumer that streams `lines` to `sink`, and pauses reading by `pace`. Nothing is written yet.
     pub fn new(alloc: Global, sink: &'s mut S, lines: Lines, pace: Pace<'s>) -> Texts<'s, S, Lines>
         ensures same { result.sink.ghost_name ≡ sink.entry.ghost_name }
         ensures now { result.sink.now ≡ sink.old }

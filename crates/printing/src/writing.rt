@@ -9,7 +9,7 @@ use reports::{Form, push_line};
 use std::alloc::Global;
 use streams::{Sink, SourceEnd, TextBuffer};
 
-/// Writes a text to the sink through the buffer.
+/// Writes `text` to the sink through the buffer.
 pub(crate) fn put<S: Sink>(
     buffer: &mut TextBuffer,
     sink: &mut S,

@@ -11,7 +11,7 @@ use faces::Plane;
 use ortho_rep::{Prices, Shape, Turn, certify};
 use thiserror::Error;
 
-/// What is said of a drawing besides its points; `None` where it is not said.
+/// Claims about a drawing, besides its points. `None` means that the claim is not made.
 #[derive(Debug, Drop)]
 pub struct Claims {
     /// The angle of each dart.
@@ -26,7 +26,7 @@ pub struct Claims {
     pub outer: Option<u16>,
 }
 
-/// The first claim that does not hold, in this order.
+/// The first claim that does not hold; the variants are in the order in which claims are tested.
 #[derive(Clone, Copy, Debug, PartialEq, Eq, Error)]
 pub enum FalseClaim {
     /// The angles are not those of the drawing.
@@ -46,9 +46,9 @@ pub enum FalseClaim {
     Outer,
 }
 
-/// The first claim that does not hold of the orthogonal representation that points draw, if there is one.
+/// The first claim about the drawing with this shape that does not hold; `None` if all hold.
 ///
-/// Where prices are claimed and all claims hold, the drawing has the fewest bends that its outer face allows.
+/// If prices are claimed and all claims hold, the drawing has the fewest bends that its outer face allows.
 pub fn false_claim(plane: &Plane, shape: &Shape, claims: &Claims) -> Option<FalseClaim>
     requires { IsShape plane.now shape.now }
     ensures hold { IfNone result (Hold plane.now shape.now claims.now) }

@@ -11,7 +11,7 @@ use faces::Plane;
 use geometry::Direction;
 use ortho_rep::Points;
 
-/// Writes the direction in which each dart leaves its tail over a list that is lent.
+/// Writes the direction in which each dart leaves its tail over a list.
 pub(crate) fn list_directions(plane: &Plane, points: &Points, directions: &mut [Direction])
     requires whole { HasPoints plane.now points.now }
     requires room { darts plane.now ≤ length directions.old }

@@ -6,7 +6,7 @@ ghost use Rattle.referee.specs.declared.fault.Fault.TheVariants.{Memory};
 use std::alloc::AllocError;
 use thiserror::Error;
 
-/// The first condition of a drawing of an embedding that fails, in this order.
+/// The first condition of a drawing that fails; the variants are in the order in which they are checked.
 ///
 /// Edges are numbered from 0 in the order of their lesser darts. The path of an edge leads from the tail of its lesser
 /// dart, point 0, by its corners to the head.

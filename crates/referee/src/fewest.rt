@@ -8,7 +8,7 @@ use faces::Plane;
 use ortho_rep::least_shape_in;
 use std::alloc::{AllocError, Global};
 
-/// The number of bends of the orthogonal representations of this plane, with its outer face, that have the fewest.
+/// The minimum number of bends of an orthogonal representation of this plane with its outer face.
 ///
 /// # Errors
 ///

@@ -24,9 +24,9 @@ pub struct Judged {
     pub drawing: Drawing,
 }
 
-/// The orthogonal representation of a plane's embedding that these points draw, with whatever outer face.
+/// Checks that points draw a plane's embedding; returns drawing and shape, and sets the plane's outer face.
 ///
-/// The outer face of the drawing is then that of the plane. The points determine it and the representation.
+/// The points determine the outer face of the drawing, which becomes that of the plane, and the representation.
 ///
 /// # Errors
 ///
@@ -61,7 +61,7 @@ pub fn judge_in(
     }
 }
 
-/// A meeting, but for want of memory: nothing else is left where the shape is that of the points.
+/// A meeting, unless memory ran out: no other condition can fail if the shape is that of the points.
 fn meeting(fault: CheckFault) -> Fault
     ensures { result ≢ Fault.Memory → fault ≢ CheckFault.Memory }
 {

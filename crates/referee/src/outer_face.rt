@@ -28,7 +28,7 @@ pub(crate) fn find_outer(plane: &Plane, shape: &Shape) -> Result<u16, Fault>
     Err(Fault::Outer)
 }
 
-/// Whether so many turns to the left, and so many to the right, are one turn to the right.
+/// Whether these numbers of left and right turns make one turn to the right.
 fn turns_right(lefts: u64, rights: u64) -> bool
     ensures { IsTrue result ↔ ((pos lefts -ℤ pos rights) ≡ negsuc 3) }
 {

@@ -61,7 +61,7 @@ pub(crate) fn route_of<'a>(
     }
 }
 
-/// Where `to` lies from `from`, if the two differ in one coordinate.
+/// The direction from `from` to `to`, if the two differ in one coordinate.
 pub(crate) fn direction_from(from: Point, to: Point) -> Direction
     ensures { result ≡ direction_between from to }
 {

@@ -2,7 +2,7 @@
 
 use std::alloc::Global;
 
-/// Buffers that one verdict after another reuses. Their contents between two calls do not matter.
+/// The buffers of `judge_in`, reused for the next drawing. Their contents between two calls do not matter.
 #[derive(Drop)]
 pub struct Scratch {
     pub(crate) drawings: drawing_check::Scratch,

@@ -18,7 +18,7 @@ use geometry::Direction;
 use ortho_rep::{Points, Shape};
 use std::alloc::{AllocError, Global};
 
-/// The shape of these points, where each path turns at each of its corners.
+/// The shape of these points, if each path turns at each of its corners.
 pub(crate) fn shape_of(alloc: Global, plane: &Plane, points: &Points) -> Result<Shape, Fault>
     requires { HasPoints plane.now points.now }
     ensures taken { IfOk result (IsTaken plane.now points.now) }
@@ -33,7 +33,7 @@ pub(crate) fn shape_of(alloc: Global, plane: &Plane, points: &Points) -> Result<
     Ok(Shape::new(angles, strings))
 }
 
-/// The angles of all darts, where they leave their tails in these directions.
+/// The angles of all darts, if they leave their tails in these directions.
 fn list_angles(
     alloc: Global,
     plane: &Plane,

@@ -20,7 +20,7 @@ use geometry::Direction;
 use ortho_rep::{Points, Turn};
 use std::alloc::{AllocError, Global};
 
-/// The turns of all darts, where each path turns at each of its corners.
+/// The turns of all darts, if each path turns at each of its corners.
 pub(crate) fn list_turns(
     alloc: Global,
     plane: &Plane,
@@ -48,7 +48,7 @@ pub(crate) fn list_turns(
     Ok(strings)
 }
 
-/// The turns of a dart, where those of all darts before it are listed.
+/// The turns of a dart, if those of all darts before it are listed.
 fn string_of(
     alloc: Global,
     plane: &Plane,

@@ -23,10 +23,10 @@ ghost use Rattle.drawing_check.specs.Draws.{Draws};
 ghost use Rattle.drawing_check.specs.Regions.{PassesNorth, HasRegions};
 ghost use Rattle.region_laws.specs.Outside.{IsWestmost, IsLevel};
 
-/// Points that draw a shape have its faces as regions just where one dart says so.
+/// The regions of a drawing of a shape are its faces if and only if a certain dart has the outer face on its left.
 ///
-/// A dart that goes north, with no dart to the west of it in some row that it crosses, has the outer face on its left. Where all parts of
-/// edges are level, any dart has it.
+/// It is any dart that goes north with no dart to the west of it in some row that it crosses. If all parts of
+/// edges are level, it is any dart at all.
 pub fn regions_are_told_at_one_place()
     ensures westmost { (p : PlaneModel) (shape : ShapeModel) (points : PointsModel) → IsPlane p → IsShape p shape
         → length points.vertices ≡ vertices p → Draws p shape points

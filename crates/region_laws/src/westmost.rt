@@ -1,4 +1,4 @@
-//! The westmost upright part of a drawing: it tells whether the regions are the faces.
+//! The westmost upright part of a drawing, which determines whether the regions are the faces.
 
 ghost use Rattle.std.specs.Prelude.{◌≡◌, ◌*◌, ◌<◌, ◌↔◌, ◌∷◌, ◌++◌, [], length, IsTrue};
 ghost use Rattle.faces.specs.Planes.{darts, vertices, reverse_dart, face_at};
@@ -27,11 +27,11 @@ struct Sides {
     right: u16,
 }
 
-/// Whether the regions into which a drawing of a shape of this plane cuts the grid's plane are its faces.
+/// Whether the regions of a drawing of a shape of this plane are the plane's faces.
 ///
-/// So it is if the outer face lies on the west of the westmost upright part: all else follows from the shape. It takes
-/// O(s) time for s parts of edges, and allocates nothing. It may answer either way of points that draw no shape of the
-/// plane; `has_regions` of `drawing_check` asks nothing of them.
+/// They are if the outer face lies on the west of the westmost upright part: all else follows from the shape. It takes
+/// O(s) time for s parts of edges, and allocates nothing. The answer means nothing for points that draw no shape of the
+/// plane; `has_regions` of `drawing_check` requires no shape.
 pub fn outside_is_outer(plane: &Plane, drawing: &Drawing) -> bool
     requires vertices { length drawing.now.vertices ≡ vertices plane.now }
     requires corners { 2 * length drawing.now.corners ≡ darts plane.now }

@@ -45,7 +45,7 @@ impl ReportLine {
         &self.bytes[..self.len]
     }
 
-    /// Appends a text, for which there must be room.
+    /// Appends `text`, for which there must be room.
     pub(crate) fn push(&mut self, text: &[u8])
         requires { length self.old + length text.now ≤ LONGEST }
         ensures { self.new ≡ self.old ++ text.now }

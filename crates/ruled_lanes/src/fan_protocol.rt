@@ -5,9 +5,9 @@ ghost use Rattle.ruled_lanes.specs.FanProtocol.{fan_log, giver, given_in, Accoun
 use crossbeam_channel::protocol::{Join, Lesson, Outcome, Protocol, Split};
 use std::collections::LinkedList;
 
-// What a pass of a fan knows: whether it may take, what was taken, and what it gave at each of its lanes.
-//
-// If it may take, it also knows how many lanes it has made. No value of it is made.
+/// The log of an end of a fan, for proofs: whether it may take, what was taken, and what it gave at each of its lanes.
+///
+/// An end that may take also knows how many lanes it has made. No value of this type is made.
 pub struct FanLog<T> {
     pub takes: bool,
     pub made: u32,
@@ -15,7 +15,7 @@ pub struct FanLog<T> {
     pub lanes: LinkedList<(u32, LinkedList<T>)>,
 }
 
-// The protocol of a fan.
+/// The invariant of a fan, for proofs: how the items that it holds relate to the logs of its ends.
 pub struct Fanned;
 
 impl<T> Protocol<(u32, T), FanLog<T>> for Fanned {
@@ -27,7 +27,7 @@ impl<T> Protocol<(u32, T), FanLog<T>> for Fanned {
     ghost first = { gatherer 0 [] };
 }
 
-// The step by which the pass that takes makes the next lane; only that lane's pass gives there.
+/// The split that makes the next lane: its new end gives there, and the other one goes on taking.
 pub struct NewLane;
 
 impl<T> Split<FanLog<T>> for NewLane {
@@ -48,7 +48,7 @@ impl<T> Join<FanLog<T>> for NewLane {
     ghost spent = { nobody };
 }
 
-// The step of a give: the item is appended to those given at the lane whose number it carries.
+/// The step of a give: the item is appended to those given at the lane whose number it carries.
 pub struct Gives;
 
 impl<T> Outcome<(u32, T), FanLog<T>> for Gives {
@@ -59,7 +59,7 @@ impl<T> Lesson<(u32, T), FanLog<T>> for Gives {
     ghost fact = { λ v items. ⊤ };
 }
 
-// The step of a take: the item, of one of the lanes that were made, is appended to those taken.
+/// The step of a take: the item, of one of the lanes that were made, is appended to those taken.
 pub struct Takes;
 
 impl<T> Outcome<(u32, T), FanLog<T>> for Takes {
@@ -70,9 +70,9 @@ impl<T> Lesson<(u32, T), FanLog<T>> for Takes {
     ghost fact = { λ v items. ⊤ };
 }
 
-// A `Lesson`: the pass that takes learns that each lane's given items are those taken and those still held.
-//
-// It also learns that no lane other than those made has any items.
+/// What settling a fan proves: the items given at each lane are those taken, then those still held.
+///
+/// Also, no lane other than those made has any items.
 pub struct EachLane;
 
 impl<T> Lesson<(u32, T), FanLog<T>> for EachLane {

@@ -5,9 +5,9 @@ ghost use Rattle.ruled_lanes.specs.LinkProtocol.{log};
 use crossbeam_channel::protocol::{Join, Lesson, Outcome, Protocol, Split};
 use std::collections::LinkedList;
 
-// What a pass of a link knows: whether it may give or take, and what it has given and taken.
-//
-// No value of it is made.
+/// The log of an end of a link, for proofs: whether it may give or take, and what it has given and taken.
+///
+/// No value of this type is made.
 pub struct Log<T> {
     pub gives: bool,
     pub takes: bool,
@@ -15,7 +15,7 @@ pub struct Log<T> {
     pub taken: LinkedList<T>,
 }
 
-// The protocol of a link.
+/// The invariant of a link, for proofs: how the items that it holds relate to the logs of its two ends.
 pub struct Linked;
 
 impl<T> Protocol<T, Log<T>> for Linked {
@@ -27,7 +27,7 @@ impl<T> Protocol<T, Log<T>> for Linked {
     ghost first = { log true true [] [] };
 }
 
-// The split of a pass of a link into one that gives and one that takes.
+/// The split of a link into an end that gives and an end that takes.
 pub struct Roles;
 
 impl<T> Split<Log<T>> for Roles {
@@ -48,7 +48,7 @@ impl<T> Join<Log<T>> for Roles {
     ghost spent = { log false false [] [] };
 }
 
-// The step of a give: the item is appended to those given.
+/// The step of a give: the item is appended to those given.
 pub struct Gives;
 
 impl<T> Outcome<T, Log<T>> for Gives {
@@ -59,7 +59,7 @@ impl<T> Lesson<T, Log<T>> for Gives {
     ghost fact = { λ v items. ⊤ };
 }
 
-// The step of a take: the item is appended to those taken.
+/// The step of a take: the item is appended to those taken.
 pub struct Takes;
 
 impl<T> Outcome<T, Log<T>> for Takes {
@@ -70,7 +70,7 @@ impl<T> Lesson<T, Log<T>> for Takes {
     ghost fact = { λ v items. ⊤ };
 }
 
-// A `Lesson`: a pass with both roles learns that the items taken, then those still held, are the items given.
+/// What settling a link proves: the items taken, then those still held, are the items given.
 pub struct Total;
 
 impl<T> Lesson<T, Log<T>> for Total {

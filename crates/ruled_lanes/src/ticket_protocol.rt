@@ -2,9 +2,9 @@
 use atomic_table::{Join, Play, Split, TableRule};
 use std::collections::LinkedList;
 
-// What a pass of tickets knows: the limit, and of the seats that it represents how many there are and have ended.
-//
-// It also knows the numbers that these seats drew. No value of it is made.
+/// The log of one or more seats, for proofs: the limit, the number of seats, and how many of them have ended.
+///
+/// It also has the numbers that these seats drew. No value of this type is made.
 pub struct Draws {
     pub limit: u64,
     pub shares: u64,
@@ -12,7 +12,7 @@ pub struct Draws {
     pub drawn: LinkedList<u32>,
 }
 
-// The rule of the shared word of tickets.
+/// The invariant of tickets, for proofs: how their shared word relates to the logs of the seats.
 pub struct Dealt;
 
 // The key is the limit and the number of seats.
@@ -25,7 +25,7 @@ impl TableRule<(), Draws, (u64, u64)> for Dealt {
     ghost first = { λ key. draws key.0 key.1 0 [] };
 }
 
-// The split of one seat off a pass that represents several, of which none has drawn yet.
+/// The split of one seat, which has drawn nothing yet, from several.
 pub struct Shares;
 
 impl Split<Draws> for Shares {
@@ -47,7 +47,7 @@ impl Join<Draws> for Shares {
     ghost spent = { draws 0 0 0 [] };
 }
 
-// The step of a draw: the number found is drawn if it is below the limit, and else the seat has ended.
+/// The step of a draw: the number found is drawn if it is below the limit, and else the seat has ended.
 pub struct Draw;
 
 impl Play<(), Draws> for Draw {

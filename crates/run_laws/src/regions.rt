@@ -20,7 +20,7 @@ pub fn least_corner_is_outer()
         → IsLeastCorner p points q → (d : ℕ) × (d < darts p) × (face_at p d ≡ p.outer) × Meets p points d q }
 {}
 
-/// Two cells of a drawing lie in one face exactly where they are joined, so each face is one connected region.
+/// Two cells of a drawing lie in one face if and only if they are joined, so each face is one connected region.
 ///
 /// The points draw a shape of the plane, and the map gives the face of each cell.
 pub fn regions_are_connected()

@@ -88,7 +88,7 @@ impl ShapeFlow {
     ///
     /// # Errors
     ///
-    /// `AllocError` where there is no memory for it.
+    /// `AllocError` if there is no memory for it.
     pub(crate) fn shape(&self, alloc: Global, plane: &Plane) -> Result<Shape, AllocError>
         requires rep { Rep plane.now (angle_in self.now.angles) (string_in plane.now self.now.lefts) }
         requires agree { (t : PricesModel) × Agree plane.now self.now.angles self.now.lefts t }
@@ -177,7 +177,7 @@ fn reduced_cost(face: i32, across: i32) -> i64
     1 + i64::from(face) - i64::from(across)
 }
 
-/// How many of these turns are left turns, or 65,535 where there are more.
+/// The number of left turns among these turns, at most 65,535.
 fn left_turns(turns: &[Turn]) -> u16
     ensures { result ≤ lefts turns.now }
 {

@@ -20,7 +20,7 @@ pub(crate) struct PathEnds {
     pub(crate) to: u16,
 }
 
-/// A step out of a face: the dart by which it leaves, where the path is to lead, and the price of the face.
+/// A step out of a face: the dart by which it leaves, the target of the path, and the price of the face.
 #[derive(Clone, Copy)]
 struct FaceStep {
     dart: u16,
@@ -36,7 +36,7 @@ pub(crate) struct FaceSearch {
     goals: [u16; MAX_FACES],
     gives: [u16; MAX_FACES],
     takes: [u16; MAX_FACES],
-    // the darts by which faces were reached, in the order in which they were; behind them no dart
+    // the darts by which faces were reached, in that order, followed by no dart
     queue: [u16; MAX_FACES],
     found: usize,
 }
@@ -115,7 +115,7 @@ impl FaceSearch {
         }
     }
 
-    /// Takes the step across the edge of a dart, where that is tight.
+    /// Takes the step across the edge of a dart, if it is tight.
     fn step_across_edge(&mut self, plane: &Plane, prices: &Prices, flow: &ShapeFlow, step: FaceStep)
         requires prices { HasPrices plane.now prices.now }
         requires dart { step.dart < darts plane.now }
@@ -127,7 +127,7 @@ impl FaceSearch {
         }
     }
 
-    /// Takes each step from the angle of a dart to others at the same vertex, where that is tight and no vertex of degree
+    /// Takes each step from the angle of a dart to others at the same vertex, if it is tight and no vertex of degree
     /// 2 begins to turn.
     fn step_at_vertex(&mut self, plane: &Plane, prices: &Prices, flow: &ShapeFlow, step: FaceStep)
         requires prices { HasPrices plane.now prices.now }
@@ -148,7 +148,7 @@ impl FaceSearch {
         self.step_to_angle(plane, prices, step, third);
     }
 
-    /// Takes the step from the angle of its dart to this one, where that is another one and tight.
+    /// Takes the step from the angle of its dart to this one, if that is another one and tight.
     fn step_to_angle(&mut self, plane: &Plane, prices: &Prices, step: FaceStep, take: u16)
         requires prices { HasPrices plane.now prices.now }
         requires take { take < darts plane.now }

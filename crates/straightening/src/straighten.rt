@@ -17,15 +17,16 @@ use ortho_rep::{Prices, Shape};
 use std::alloc::{AllocError, Global};
 use std::boxed::Box;
 
-/// What straightening works in, to be lent to one shape after another. It takes no memory until a shape has a vertex
-/// that may be made straight, and 5 KB from then on. What it holds between two calls is of no use.
+/// The buffers of `straighten_in`, reused for the next shape. Their contents between two calls do not matter.
+///
+/// It allocates nothing until a shape has a vertex that may be made straight, and 5 KB from then on.
 #[derive(Drop)]
 pub struct Scratch {
     workspace: Option<Box<Workspace>>,
 }
 
 impl Scratch {
-    /// No memory yet.
+    /// An empty scratch. It allocates nothing.
     pub fn new() -> Scratch {
         Scratch { workspace: None }
     }
@@ -52,20 +53,20 @@ impl Workspace {
 /// The reflex angle at a vertex of degree 2 that turns. No other vertex has it.
 const REFLEX: u8 = 3;
 
-/// A shape with as many bends as the given one, in which few vertices of degree 2 turn. The same prices prove it least.
+/// A least shape with as many bends as the given one, in which no more vertices of degree 2 turn.
 ///
-/// At a vertex of degree 2 that turns, one angle is of three right angles and the other of one. Such vertices are
-/// made straight one after another: a unit goes from the reflex angle to the right angle, and back from the face of
-/// the right angle to that of the reflex angle, where there is a path of residual arcs whose reduced cost is 0 by the
-/// prices (a flow of least cost stays one along a cycle of such arcs, by complementary slackness). On that path no
-/// vertex of degree 2 begins to turn. Each unit is moved only where the prices
-/// stay a proof. What comes of these moves is handed out only where it has fewer reflex angles and is tested to be a
-/// representation; else the given shape comes back: after one look at each angle where no vertex can be made straight so.
-/// How few turn in the end is measured and not proved.
+/// The same prices prove it least. At a vertex of degree 2 that turns, one angle is of three right angles and the other
+/// of one. Such vertices are made straight one after another: a unit goes from the reflex angle to the right angle, and
+/// back from the face of the right angle to that of the reflex angle, if there is a path of residual arcs whose reduced
+/// cost is 0 by the prices (a flow of least cost stays one along a cycle of such arcs, by complementary slackness). On
+/// that path no vertex of degree 2 begins to turn. Each unit is moved only if the prices stay a proof. The result of
+/// these moves is returned only if it has fewer reflex angles and is tested to be a representation. Otherwise the given
+/// shape is returned: after one look at each angle if no vertex can be made straight. How few vertices turn in the end
+/// is measured and not proved.
 ///
 /// # Errors
 ///
-/// `AllocError` where there is no memory for the new shape or to work in; the given one is dropped then.
+/// `AllocError` if there is no memory for the new shape or the buffers; the given shape is then dropped.
 pub fn straighten_in(
     alloc: Global,
     scratch: &mut Scratch,

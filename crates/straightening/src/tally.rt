@@ -80,7 +80,7 @@ fn turns_faces(plane: &Plane, flow: &ShapeFlow) -> bool
     true
 }
 
-/// Whether so many turns to the left, and so many to the right, are one turn round a face.
+/// Whether these numbers of left and right turns make one turn round a face.
 fn turns_once(left_sum: u32, right_sum: u32, is_outer: bool) -> bool
     ensures { IsTrue result → (pos left_sum -ℤ pos right_sum) ≡ (if is_outer then negsuc 3 else pos 4) }
 {

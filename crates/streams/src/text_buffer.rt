@@ -1,4 +1,4 @@
-//! A buffer of fixed size before a sink, so that many short lines need few writes.
+//! A buffer of fixed size before a sink: many short lines need few writes.
 ghost use Rattle.std.specs.Prelude.{◌≡◌, ◌↔◌, ◌+◌, ◌^◌, ◌<◌, ◌≤◌, ℕ, List, [], ◌++◌, Option, false, length, take, decimal, IsTrue, OnOk};
 ghost use Rattle.streams.specs.Sink.{Writes, StaysInTransit};
 ghost use Rattle.streams.specs.declared.text_buffer.TheConstants.{LINE, ROOM};
@@ -8,10 +8,10 @@ use super::output::Sink;
 use itoa::Buffer;
 use std::marker::Model;
 
-/// The number of bytes that the buffer holds.
+/// The capacity of a `TextBuffer`, in bytes.
 pub const ROOM: usize = 16_384;
 
-/// The number of bytes that are free at least after `make_room`. A line that may be longer is added in pieces.
+/// The minimum number of free bytes after `make_room`. A line that may be longer is added in pieces.
 pub const LINE: usize = 512;
 
 /// A fixed-size buffer of text that is still to be written to a sink.

@@ -88,7 +88,7 @@ impl Held {
         }
     }
 
-    /// Reads the next piece of the source, where no bytes are left.
+    /// Reads the next piece of the source, if no bytes are left.
     pub(crate) fn refill<T: Tap>(&mut self, source: &mut T) -> Refill
         requires { self.old ≡ [] }
         ensures { IsRefilled (T.to_come source.old) (T.fails source.old) (T.to_come source.new) (T.fails source.new) self.new result }

@@ -20,7 +20,7 @@ pub enum State {
     Failed,
 }
 
-/// What was read of the next line.
+/// The outcome of reading the next line.
 #[derive(Clone, Copy, Debug, PartialEq, Eq)]
 pub enum Next {
     /// The whole line, of at most `MAX_LINE` bytes: `Lines::line` has it.

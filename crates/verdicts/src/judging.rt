@@ -14,7 +14,7 @@ use planar_code::Record;
 use referee::{Claims, Fault, Judged, false_claim, fewest_in, judge_in};
 use std::alloc::{AllocError, Global};
 
-/// Buffers that one verdict after another reuses. Their contents between two calls do not matter.
+/// The buffers of `judge_record`, reused for the next record. Their contents between two calls do not matter.
 #[derive(Drop)]
 pub struct Scratch {
     planes: faces::Scratch,
@@ -33,10 +33,10 @@ impl Scratch {
     }
 }
 
-/// The verdict on a record and what is given for it; with `faces` also on the regions of a drawing.
+/// The verdict on a record and its line; with `faces`, also on the regions of the drawing.
 ///
-/// `Ok` is said exactly where the record breaks no rule, and points are given that draw a representation of its
-/// embedding, with whatever outer face, of which all claims hold; unless memory runs out.
+/// `Ok` exactly if, unless memory runs out, the record breaks no rule, and points are given that draw a representation
+/// of its embedding, with whatever outer face, of which all claims hold.
 pub fn judge_record(
     alloc: Global,
     scratch: &mut Scratch,
@@ -107,7 +107,7 @@ fn judge_drawing(
     }
 }
 
-/// Whether each region of a drawing is its face, where faces are asked for.
+/// Whether each region of a drawing is its face, if faces are asked for; otherwise true.
 fn keeps_faces(
     scratch: &mut Scratch,
     faces: bool,

@@ -15,14 +15,14 @@ use referee::Claims;
 use serde_json::{Error, Value};
 use std::alloc::Global;
 
-/// A drawing as a line says it: its points, and what else it claims of them.
+/// A drawing read from a line: its points, and the claims about them.
 #[derive(Debug, Drop)]
 pub struct SaidDrawing {
     pub points: Points,
     pub claims: Claims,
 }
 
-/// What a line says.
+/// The content of a line: a drawing, or the end of a run.
 #[derive(Debug, Drop)]
 pub enum Said {
     /// The line is the last one of a run.
@@ -31,7 +31,7 @@ pub enum Said {
     Drawing(SaidDrawing),
 }
 
-/// What is given for a record.
+/// The input for a record: its drawing, or the reason why there is none.
 #[derive(Debug, Drop)]
 pub enum Given {
     /// A line that says a drawing.
@@ -44,7 +44,7 @@ pub enum Given {
     Unread,
 }
 
-/// What a line says.
+/// The drawing in a line, or `End` if the line ends a run.
 ///
 /// # Errors
 ///
@@ -88,7 +88,7 @@ fn value_of(alloc: Global, line: &[u8]) -> Result<Value, LineFault>
     }
 }
 
-/// Why a text is no value.
+/// The fault that parsing a line as JSON returned.
 fn fault_of(error: &Error) -> LineFault
     ensures { result ≢ Memory → ¬ IsMemory error.now }
 {

@@ -8,7 +8,9 @@ use crate::words::word_of;
 use referee::Fault;
 use streams::{Mark, TextBuffer, mark_word};
 
-/// Appends the line of the graph with this number: in a report, or as a JSON object. There must be room for a line.
+/// Appends the verdict on the graph with this number, as a line of a report or a JSON object.
+///
+/// There must be room for a line.
 pub fn push_verdict(lines: &mut TextBuffer, json: bool, number: u64, verdict: Verdict)
     requires { length lines.old + LINE ≤ ROOM }
     ensures { lines.new ≡ lines.old ++ verdict_line json number verdict }
@@ -19,8 +21,9 @@ pub fn push_verdict(lines: &mut TextBuffer, json: bool, number: u64, verdict: Ve
     push_tail(lines, json);
 }
 
-/// Appends the last line: how the graph file ended, the number of its graphs, and the number of lines that belong to none
-/// of them. There must be room for a line.
+/// Appends the last line: the graph file's mark, its number of graphs, and the number of lines without a graph.
+///
+/// There must be room for a line.
 pub fn push_end(lines: &mut TextBuffer, json: bool, mark: Mark, graphs: u64, surplus: u64)
     requires { length lines.old + LINE ≤ ROOM }
     ensures { lines.new ≡ lines.old ++ last_line json mark graphs surplus }

@@ -4,7 +4,7 @@ use drawn_lines::LineFault;
 use embedding::Rule;
 use referee::{FalseClaim, Fault};
 
-/// What is said of a record and the line of its drawing: the first of these that holds, in this order.
+/// The verdict on a record and the line of its drawing: the first of these that holds, in this order.
 #[derive(Clone, Copy, Debug, PartialEq, Eq)]
 pub enum Verdict {
     /// The record breaks this rule, and none before it.
@@ -21,7 +21,7 @@ pub enum Verdict {
     Regions,
     /// This claim does not hold of the drawing, and those before it do.
     Claim(FalseClaim),
-    /// The points draw the record's embedding with so many bends, and all claims hold.
+    /// The points draw the record's embedding with this many bends, and all claims hold.
     Ok {
         bends: u32,
         /// The least number of bends of a representation with the drawing's outer face.

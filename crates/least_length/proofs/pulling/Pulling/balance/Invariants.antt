@@ -1,0 +1,9 @@
+use Rattle.std.proofs.Common.{◌≡◌, length, vec_len}
+use Rattle.least_length.specs.Searching.{IsReady}
+use Rattle.least_length.proofs.pulling.Pulling.balance.Given as goal
+
+abbrev pub invariant-loop-root : goal.invariant-loop-root
+invariant-loop-root l = record {
+  ready : IsReady l.self;
+  count : vec_len l.self.coordinates ≡ length l.segments;
+}
