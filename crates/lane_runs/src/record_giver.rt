@@ -57,15 +57,20 @@ impl<R: Wait, G: Gate, L: LaneKind> Keep for RecordGiver<'_, R, G, L> {
             Ok(()) => {}
             Err(gone) => return Err(gone),
         }
-        if self.filling.len() >= self.most || self.bytes >= MOST_BYTES {
-            self.give_all()
-        } else {
-            Ok(())
+        if self.filling.len() < self.most && self.bytes < MOST_BYTES {
+            return Ok(());
+        }
+        match self.give_all() {
+            Ok(()) => Ok(()),
+            Err(gone) => Err(gone),
         }
     }
 
     fn pass_on(&mut self) -> Result<(), Gone> {
-        self.give_all()
+        match self.give_all() {
+            Ok(()) => Ok(()),
+            Err(gone) => Err(gone),
+        }
     }
 
     ghost accepts_on = { λ _ _ _ _ _ _ accepts. accepts };
@@ -84,6 +89,9 @@ impl<R: Wait, G: Gate, L: LaneKind> RecordGiver<'_, R, G, L> {
         ensures same { GivesToSame self.old.giver self.new.giver }
     {
         self.bytes = 0;
-        self.filling.give(self.rt, &mut self.giver)
+        match self.filling.give(self.rt, &mut self.giver) {
+            Ok(()) => Ok(()),
+            Err(gone) => Err(gone),
+        }
     }
 }

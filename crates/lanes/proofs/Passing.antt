@@ -70,3 +70,40 @@ module _ {A B M : Type 0} where
       → notes next_about gave' ≡ notes about took'
   passed_one about next_about took took' gave gave' x y same more_taken more_given told =
       passed_on about next_about took took' gave gave' x (notes_of next_about y) same more_taken (notes-after next_about gave gave' y more_given) told
+
+module _ {A B : Type 0} where
+  -- the work was done on one record more, which waits or was given
+  pub worked_more : (about : A → About) (next_about : B → About) (start gave gave' : List Note) (waited before after : List B) (done : List A) (item : A) (next : B)
+      → before ≡ waited → next_about next ≡ about item → gave ++ notes_of_items next_about waited ≡ start ++ notes_of_items about done
+      → gave' ++ notes_of_items next_about after ≡ gave ++ notes_of_items next_about before ++ Item (next_about next) ∷ []
+      → gave' ++ notes_of_items next_about after ≡ start ++ notes_of_items about (done ++ item ∷ [])
+  worked_more about next_about start gave gave' waited before after done item next is same was now =
+      now
+      ∙ ap (λ l. gave ++ notes_of_items next_about l ++ Item (next_about next) ∷ []) is
+      ∙ ap (λ l. l ++ Item (next_about next) ∷ []) was
+      ∙ append_assoc start (notes_of_items about done) (Item (next_about next) ∷ [])
+      ∙ ap (λ a. start ++ (notes_of_items about done ++ Item a ∷ [])) same
+      ∙ ap (λ l. start ++ l) (sym (items-more about done item))
+
+module _ {A : Type 0} where
+  -- one item more waits
+  pub waits_more : (about : A → About) (gave : List Note) (before after : List A) (item : A) → after ≡ before ++ item ∷ []
+      → gave ++ notes_of_items about after ≡ gave ++ notes_of_items about before ++ Item (about item) ∷ []
+  waits_more about gave before after item more =
+      ap (λ l. gave ++ notes_of_items about l) more ∙ ap (λ l. gave ++ l) (items-more about before item)
+      ∙ sym (append_assoc gave (notes_of_items about before) (Item (about item) ∷ []))
+
+  -- all that waited was given, and then one item more
+  pub gives_more : (about : A → About) (gave gave' gave'' : List Note) (waited left : List A) (item other : A) → gave' ≡ gave ++ notes_of_items about waited → left ≡ []
+      → gave'' ≡ gave' ++ Item (about other) ∷ [] → other ≡ item
+      → gave'' ++ notes_of_items about left ≡ gave ++ notes_of_items about waited ++ Item (about item) ∷ []
+  gives_more about gave gave' gave'' waited left item other all none more same =
+      ap (λ l. gave'' ++ notes_of_items about l) none ∙ append-nil gave'' ∙ more ∙ ap (λ l. l ++ Item (about other) ∷ []) all
+      ∙ ap (λ x. gave ++ notes_of_items about waited ++ Item (about x) ∷ []) same
+
+-- what is told goes on where what is added does
+pub going_told : (before after more : List Note) → after ≡ before ++ more → GoOn more → GoOn before → GoOn after
+going_told before after more is goes on = subst GoOn (sym is) (going_both before more on goes)
+
+pub going_still : (before after : List Note) → after ≡ before → GoOn before → GoOn after
+going_still before after same on = subst GoOn (sym same) on

@@ -1,11 +1,10 @@
 //! The work of a stage on the records of its messages.
-ghost use Rattle.std.specs.Prelude.{◌≡◌, ◌++◌, ◌∷◌, [], OnOk};
-ghost use Rattle.lanes.specs.Notes.{notes, notes_of_items, GoOn};
+ghost use Rattle.std.specs.Prelude.{◌≡◌, ◌++◌, [], OnOk};
+ghost use Rattle.lanes.specs.Notes.{notes_of_items, GoOn};
 
 use crate::batch::Batch;
 use crate::filling::Filling;
 use crate::gate::Gate;
-use crate::message::Message;
 use crate::numbered::{Numbered, Staged};
 use crate::outlet::{Gone, Outlet};
 use std::alloc::Global;
@@ -34,15 +33,15 @@ impl<A: Staged, R: Wait, G: Gate> Bench<'_, A, R, G> {
     }
 
     /// Does the work on several records, in order, and gives them.
-    pub(crate) fn pass_on<M: Drop, O: Outlet<Message<A::Next, M>>>(
+    pub(crate) fn pass_on<M: Drop, O: Outlet<A::Next, M>>(
         &mut self,
         batch: Batch<A>,
         to: &mut O,
     ) -> Result<(), Gone>
         requires { self.old.filling ≡ [] }
-        ensures told { OnOk result (notes A.Next.about (O.sent to.new) ≡ notes A.Next.about (O.sent to.old) ++ notes_of_items A.about batch.items.items) }
+        ensures told { OnOk result (O.told to.new ≡ O.told to.old ++ notes_of_items A.about batch.items.items) }
         ensures none { OnOk result (self.new.filling ≡ []) }
-        ensures going { GoOn (notes A.Next.about (O.sent to.old)) → GoOn (notes A.Next.about (O.sent to.new)) }
+        ensures going { GoOn (O.told to.old) → GoOn (O.told to.new) }
         ensures stays { O.stays to.old to.new }
     {
         let Batch { mut items, home } = batch;
@@ -54,6 +53,9 @@ impl<A: Staged, R: Wait, G: Gate> Bench<'_, A, R, G> {
             }
         }
         home.send(self.rt, items);
-        self.filling.give(self.rt, to)
+        match self.filling.give(self.rt, to) {
+            Ok(()) => Ok(()),
+            Err(gone) => Err(gone),
+        }
     }
 }

@@ -1,6 +1,6 @@
 //! The items that the next message of a stage takes along.
-ghost use Rattle.std.specs.Prelude.{◌≡◌, ◌∷◌, ◌++◌, [], List, OnOk, length};
-ghost use Rattle.lanes.specs.Notes.{Note, Item, notes, notes_of_items, GoOn};
+ghost use Rattle.std.specs.Prelude.{◌≡◌, ◌∷◌, ◌++◌, [], List, OnOk, IfSome, IfNone, length};
+ghost use Rattle.lanes.specs.Notes.{Item, notes_of, notes_of_items, GoOn};
 
 use crate::batch::Batch;
 use crate::message::Message;
@@ -63,15 +63,15 @@ impl<T: Numbered> Filling<T> {
     }
 
     /// Adds an item. Where there is no memory for that, all of them are given at once.
-    pub fn add<M: Drop, R: Wait, O: Outlet<Message<T, M>>>(
+    pub fn add<M: Drop, R: Wait, O: Outlet<T, M>>(
         &mut self,
         rt: &R,
         to: &mut O,
         item: T,
     ) -> Result<(), Gone>
-        ensures told { OnOk result (notes T.about (O.sent to.new) ++ notes_of_items T.about self.new
-            ≡ notes T.about (O.sent to.old) ++ notes_of_items T.about self.old ++ Item (T.about item) ∷ []) }
-        ensures going { GoOn (notes T.about (O.sent to.old)) → GoOn (notes T.about (O.sent to.new)) }
+        ensures told { OnOk result (O.told to.new ++ notes_of_items T.about self.new
+            ≡ O.told to.old ++ notes_of_items T.about self.old ++ Item (T.about item) ∷ []) }
+        ensures going { GoOn (O.told to.old) → GoOn (O.told to.new) }
         ensures stays { O.stays to.old to.new }
     {
         match self.items.push(item) {
@@ -81,33 +81,51 @@ impl<T: Numbered> Filling<T> {
                     Ok(()) => {}
                     Err(gone) => return Err(gone),
                 }
-                to.give_message(rt, Message::Item(failed.value))
+                match to.tell(rt, Message::Item(failed.value)) {
+                    Ok(()) => Ok(()),
+                    Err(gone) => Err(gone),
+                }
             }
         }
     }
 
     /// Gives the items in one message, where there are any.
-    pub fn give<M: Drop, R: Wait, O: Outlet<Message<T, M>>>(
+    pub fn give<M: Drop, R: Wait, O: Outlet<T, M>>(
         &mut self,
         rt: &R,
         to: &mut O,
     ) -> Result<(), Gone>
-        ensures told { OnOk result (notes T.about (O.sent to.new)
-            ≡ notes T.about (O.sent to.old) ++ notes_of_items T.about self.old) }
+        ensures told { OnOk result (O.told to.new ≡ O.told to.old ++ notes_of_items T.about self.old) }
         ensures none { OnOk result (self.new ≡ []) }
-        ensures going { GoOn (notes T.about (O.sent to.old)) → GoOn (notes T.about (O.sent to.new)) }
+        ensures going { GoOn (O.told to.old) → GoOn (O.told to.new) }
         ensures stays { O.stays to.old to.new }
+    {
+        let message = match self.next_message(rt) {
+            Some(message) => message,
+            None => return Ok(()),
+        };
+        match to.tell(rt, message) {
+            Ok(()) => Ok(()),
+            Err(gone) => Err(gone),
+        }
+    }
+
+    /// The items in one message, where there are any: one item alone without a list.
+    fn next_message<M: Drop, R: Wait>(&mut self, rt: &R) -> Option<Message<T, M>>
+        ensures told { IfSome result (λ message. notes_of T.about message ≡ notes_of_items T.about self.old) }
+        ensures nothing { IfNone result (self.old ≡ []) }
+        ensures none { self.new ≡ [] }
     {
         if self.items.len() <= 1 {
             return match self.items.pop() {
-                Some(item) => to.give_message(rt, Message::Item(item)),
-                None => Ok(()),
+                Some(item) => Some(Message::Item(item)),
+                None => None,
             };
         }
         let next = self.next_list(rt);
         let items = mem::replace(&mut self.items, next);
         let home = self.home.again();
-        to.give_message(rt, Message::Items(Batch { items, home }))
+        Some(Message::Items(Batch { items, home }))
     }
 
     /// An empty list: one that has come back, or a new one.

@@ -11,6 +11,7 @@ use crate::filling::{Filling, MOST_ITEMS};
 use crate::gate::Gate;
 use crate::message::Message;
 use crate::numbered::Staged;
+use crate::outlet::Outlet;
 use ruled_lanes::{LaneGiver, Taker};
 use std::alloc::Global;
 use std::sync::Wait;
@@ -48,7 +49,7 @@ pub fn run_last_stage<A: Staged, M: Drop, R: Wait, G: Gate>(
         match taker.take(rt) {
             Ok(Message::Item(item)) => {
                 let next = bench.work_on(item);
-                match giver.give(rt, Message::Item(next)) {
+                match giver.tell(rt, Message::Item(next)) {
                     Ok(()) => {}
                     Err(_) => return None,
                 }
@@ -57,7 +58,7 @@ pub fn run_last_stage<A: Staged, M: Drop, R: Wait, G: Gate>(
                 Ok(()) => {}
                 Err(_) => return None,
             },
-            Ok(Message::End(file, mark, known)) => match giver.give(
+            Ok(Message::End(file, mark, known)) => match giver.tell(
                 rt,
                 Message::End(file, mark, known),
             ) {

@@ -1,9 +1,12 @@
 //! Ends to which a stage gives its messages.
-ghost use Rattle.std.specs.Prelude.{◌≡◌, ◌∷◌, ◌++◌, [], List, OnOk, OnErr};
+ghost use Rattle.std.specs.Prelude.{◌≡◌, ◌++◌, List, OnOk, OnErr};
 ghost use Rattle.std.proofs.Common.{refl, ◌∙◌};
 ghost use Rattle.ruled_lanes.specs.LinkEnds.{given, GivesToSame};
 ghost use Rattle.ruled_lanes.specs.FanEnds.{given_at, GivesToSameLane};
+ghost use Rattle.lanes.specs.Notes.{Note, notes, notes_of};
 
+use crate::message::Message;
+use crate::numbered::Numbered;
 use ruled_lanes::{Giver, LaneGiver};
 use std::sync::Wait;
 
@@ -13,16 +16,16 @@ pub struct Gone;
 
 /// The end of a link, or of the fan at one lane, to which a stage gives its messages.
 ///
-/// In proofs it has what was given to it so far, in order.
-pub trait Outlet<T: Drop>: Drop {
-    ghost sent: { Self → List T };
+/// In proofs it has what was told so far: the notes of all messages given to it, in order.
+pub trait Outlet<T: Numbered, M: Drop>: Drop {
+    ghost told: { Self → List Note };
 
     ghost stays: { Self → Self → Type 0 };
 
-    /// Gives a message, and waits while there is no room for it.
-    fn give_message<R: Wait>(&mut self, rt: &R, message: T) -> Result<(), Gone>
-        ensures given { OnOk result (sent self.new ≡ sent self.old ++ message ∷ []) }
-        ensures refused { OnErr result (sent self.new ≡ sent self.old) }
+    /// Gives a message, and waits while there is no room for it. At an error nothing was given.
+    fn tell<R: Wait>(&mut self, rt: &R, message: Message<T, M>) -> Result<(), Gone>
+        ensures more { OnOk result (told self.new ≡ told self.old ++ notes_of T.about message) }
+        ensures refused { OnErr result (told self.new ≡ told self.old) }
         ensures stays { stays self.old self.new };
 
     // What stays the same stays so over any number of calls.
@@ -31,12 +34,12 @@ pub trait Outlet<T: Drop>: Drop {
     ghost stays_on: { (x y z : Self) → stays x y → stays y z → stays x z };
 }
 
-impl<T: Drop> Outlet<T> for Giver<T> {
-    ghost sent = { λ g. given g };
+impl<T: Numbered, M: Drop> Outlet<T, M> for Giver<Message<T, M>> {
+    ghost told = { λ g. notes T.about (given g) };
 
     ghost stays = { λ x y. GivesToSame x y };
 
-    fn give_message<R: Wait>(&mut self, rt: &R, message: T) -> Result<(), Gone> {
+    fn tell<R: Wait>(&mut self, rt: &R, message: Message<T, M>) -> Result<(), Gone> {
         match self.give(rt, message) {
             Ok(()) => Ok(()),
             Err(_) => Err(Gone),
@@ -48,12 +51,12 @@ impl<T: Drop> Outlet<T> for Giver<T> {
     ghost stays_on = { λ x y z p q. q ∙ p };
 }
 
-impl<T: Drop> Outlet<T> for LaneGiver<T> {
-    ghost sent = { λ g. given_at g };
+impl<T: Numbered, M: Drop> Outlet<T, M> for LaneGiver<Message<T, M>> {
+    ghost told = { λ g. notes T.about (given_at g) };
 
     ghost stays = { λ x y. GivesToSameLane x y };
 
-    fn give_message<R: Wait>(&mut self, rt: &R, message: T) -> Result<(), Gone> {
+    fn tell<R: Wait>(&mut self, rt: &R, message: Message<T, M>) -> Result<(), Gone> {
         match self.give(rt, message) {
             Ok(()) => Ok(()),
             Err(_) => Err(Gone),

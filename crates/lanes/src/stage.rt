@@ -8,6 +8,7 @@ use crate::filling::{Filling, MOST_ITEMS};
 use crate::gate::Gate;
 use crate::message::Message;
 use crate::numbered::Staged;
+use crate::outlet::Outlet;
 use ruled_lanes::{Giver, Taker};
 use std::alloc::Global;
 use std::sync::Wait;
@@ -49,7 +50,7 @@ pub fn run_stage<A: Staged, M: Drop, R: Wait, G: Gate>(
         match taker.take(rt) {
             Ok(Message::Item(item)) => {
                 let next = bench.work_on(item);
-                match giver.give(rt, Message::Item(next)) {
+                match giver.tell(rt, Message::Item(next)) {
                     Ok(()) => {}
                     Err(_) => return None,
                 }
@@ -58,14 +59,14 @@ pub fn run_stage<A: Staged, M: Drop, R: Wait, G: Gate>(
                 Ok(()) => {}
                 Err(_) => return None,
             },
-            Ok(Message::End(file, mark, known)) => match giver.give(
+            Ok(Message::End(file, mark, known)) => match giver.tell(
                 rt,
                 Message::End(file, mark, known),
             ) {
                 Ok(()) => {}
                 Err(_) => return None,
             },
-            Ok(Message::Stop) => match giver.give(rt, Message::Stop) {
+            Ok(Message::Stop) => match giver.tell(rt, Message::Stop) {
                 Ok(()) => return Some((taker, giver)),
                 Err(_) => return None,
             },
