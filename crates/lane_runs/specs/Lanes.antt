@@ -1,5 +1,5 @@
 -- The values that the threads of a lane return.
-use Rattle.std.specs.Prelude.{◌≡◌, ◌≤◌, ◌++◌, ◌∷◌, ℕ, List, [], true, Result, IfOk, IfErr, OnOk}
+use Rattle.std.specs.Prelude.{◌≡◌, ◌++◌, ◌∷◌, ℕ, List, [], true, Result, IfOk, IfErr, OnOk}
 use Rattle.common.specs.declared.choice.Choice.{Choice}
 use Rattle.ruled_lanes.specs.declared.link_ends.Giver.{Giver}
 use Rattle.ruled_lanes.specs.declared.link_ends.Taker.{Taker}
@@ -22,9 +22,9 @@ use Rattle.lanes.specs.Files.{HasDrawn, TellsDrawn}
 use Rattle.lane_runs.specs.declared.fault.LaneFault.{LaneFault}
 
 module _ {A : Type 0} where
-  -- both ends of a link that has room for at most this many messages, and to which nothing was given
+  -- both ends of a link that has room for this many messages, and to which nothing was given
   pub record IsNewLink (capacity : ℕ) (giver : Giver A) (taker : Taker A) : Type 0 where
-    pub room : capacity_of giver ≤ capacity
+    pub room : capacity_of giver ≡ capacity
     pub ends : AreEnds giver taker
     pub none_given : given giver ≡ []
     pub none_taken : taken taker ≡ []

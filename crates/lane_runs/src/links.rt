@@ -10,7 +10,7 @@ ghost use Rattle.lanes.specs.Files.{TellsDrawn};
 ghost use Rattle.lane_runs.specs.Lanes.{IsNewLink};
 
 use crate::lane_kind::LaneKind;
-use lanes::{MOST_ITEMS, Message};
+use lanes::Message;
 use ruled_lanes::{Giver, Taker, link};
 use std::alloc::{AllocError, Global};
 use std::sync::Wait;
@@ -32,25 +32,7 @@ pub struct Links<L: LaneKind> {
     ),
 }
 
-/// The maximum number of records of a message. Four such messages have no more records than `capacity`.
-pub fn records_in_message(capacity: u32) -> u32
-    requires { 1 ≤ capacity }
-    ensures some { 1 ≤ result }
-    ensures few { result ≤ capacity }
-{
-    (capacity / 4).clamp(1, MOST_ITEMS as u32)
-}
-
-/// The number of messages for which a link has room: as many as have no more records than `capacity`.
-pub fn messages_in_link(capacity: u32) -> u32
-    requires { 1 ≤ capacity }
-    ensures some { 1 ≤ result }
-    ensures few { result ≤ capacity }
-{
-    capacity / records_in_message(capacity)
-}
-
-/// New links, each with room for at most `capacity` messages.
+/// New links, each with room for `capacity` messages.
 pub fn new_links<L: LaneKind>(alloc: Global, capacity: u32) -> Result<Links<L>, AllocError>
     requires least { 1 ≤ capacity }
     requires most { capacity ≤ MAX_CAPACITY }
@@ -58,7 +40,6 @@ pub fn new_links<L: LaneKind>(alloc: Global, capacity: u32) -> Result<Links<L>, 
     ensures embedded { IfOk result (λ links. IsNewLink capacity links.embedded.0 links.embedded.1) }
     ensures shaped { IfOk result (λ links. IsNewLink capacity links.shaped.0 links.shaped.1) }
 {
-    let capacity = messages_in_link(capacity);
     let Ok(framed) = link(alloc, capacity) else {
         return Err(AllocError);
     };

@@ -4,7 +4,6 @@ ghost use Rattle.ruled_lanes.specs.declared.limits.TheConstants.{LANES, MAX_CAPA
 ghost use Rattle.ruled_lanes.specs.FanEnds.{gathered, capacity_of_fan};
 ghost use Rattle.lane_runs.specs.Running.{AreNumbered, IsIdle};
 
-use crate::links::messages_in_link;
 use lanes::{Message, Numbered};
 use ruled_lanes::{Gatherer, LaneGiver, fan_in};
 use std::alloc::{AllocError, Global};
@@ -17,7 +16,7 @@ pub struct Fan<E: Numbered, M: Drop + Send> {
     pub gatherer: Gatherer<Message<E, M>>,
 }
 
-/// A new fan with room for at most `capacity` messages, of which the first `lanes` lanes run.
+/// A new fan with room for `capacity` messages, of which the first `lanes` lanes run.
 ///
 /// The givers are in the order of their lanes.
 pub fn new_fan<E: Numbered, M: Drop + Send>(
@@ -28,14 +27,14 @@ pub fn new_fan<E: Numbered, M: Drop + Send>(
     requires least { 1 ≤ capacity }
     requires most { capacity ≤ MAX_CAPACITY }
     requires few { lanes ≤ LANES }
-    ensures room { IfOk result (λ fan. capacity_of_fan fan.gatherer ≤ capacity) }
+    ensures room { IfOk result (λ fan. capacity_of_fan fan.gatherer ≡ capacity) }
     ensures count { IfOk result (λ fan. vec_len fan.givers ≡ lanes) }
     ensures lanes { IfOk result (λ fan. vec_len fan.givers + vec_len fan.idle ≡ LANES) }
     ensures givers { IfOk result (λ fan. AreNumbered (IsIdle fan.gatherer) 0 fan.givers.items) }
     ensures idle { IfOk result (λ fan. AreNumbered (IsIdle fan.gatherer) (vec_len fan.givers) fan.idle.items) }
     ensures none_gathered { IfOk result (λ fan. gathered fan.gatherer ≡ []) }
 {
-    let Ok((mut givers, gatherer)) = fan_in(alloc, messages_in_link(capacity)) else {
+    let Ok((mut givers, gatherer)) = fan_in(alloc, capacity) else {
         return Err(AllocError);
     };
     let Ok(idle) = givers.split_off(lanes as usize) else {

@@ -7,7 +7,6 @@ ghost use Rattle.lane_runs.specs.Accepting.{AcceptsAll};
 
 use crate::lane_kind::LaneKind;
 use crate::record_giver::RecordGiver;
-use crate::links::records_in_message;
 use crate::shared::Shared;
 use lanes::{Filling, Gate, Gone, MOST_ITEMS, Message, Numbered, Opener, read_file};
 use ruled_lanes::{Giver, Seat};
@@ -50,9 +49,9 @@ impl<R: Wait, O: Opener, G: Gate, L: LaneKind> Shared<'_, R, O, G, L> {
             kind: self.kind,
             lane,
             giver,
-            filling: Filling::new(self.run.alloc, MOST_ITEMS),
+            filling: Filling::new(self.run.alloc),
             bytes: 0,
-            most: records_in_message(self.run.capacity) as usize,
+            most: MOST_ITEMS.min(self.run.capacity as usize),
         };
         for _ in self.run.rt.forever() {
             let Some(file) = self.tickets.draw(&mut seat) else {
@@ -77,11 +76,11 @@ impl<R: Wait, O: Opener, G: Gate, L: LaneKind> Shared<'_, R, O, G, L> {
         gives: &mut RecordGiver<'_, R, G, L>,
     ) -> Result<(), Gone>
         requires room { 0 < length buffer.old }
-        requires none { gives.old.filling ≡ [] }
+        requires none { gives.old.filling.items.items ≡ [] }
         requires accepts { AcceptsAll L.accepts L.ends (O.meaning self.now.run.now.opener.now) }
         ensures told { OnOk result (TellsFile self.now.run.now.choice (O.meaning self.now.run.now.opener.now file) file
             (notes L.Framed.about (given gives.old.giver)) (notes L.Framed.about (given gives.new.giver))) }
-        ensures none { OnOk result (gives.new.filling ≡ []) }
+        ensures none { OnOk result (gives.new.filling.items.items ≡ []) }
         ensures same { GivesToSame gives.old.giver gives.new.giver }
     {
         let run = self.run;

@@ -36,7 +36,7 @@ pub struct RecordGiver<'s, R, G, L: LaneKind> {
 impl<R: Wait, G: Gate, L: LaneKind> Keep for RecordGiver<'_, R, G, L> {
     type Refusal = Gone;
 
-    ghost kept = { λ g. notes L.Framed.about (given g.giver) ++ notes_of_items L.Framed.about g.filling };
+    ghost kept = { λ g. notes L.Framed.about (given g.giver) ++ notes_of_items L.Framed.about g.filling.items.items };
 
     ghost stays = { λ a b. GivesToSame a.giver b.giver };
 
@@ -57,7 +57,7 @@ impl<R: Wait, G: Gate, L: LaneKind> Keep for RecordGiver<'_, R, G, L> {
             Ok(()) => {}
             Err(gone) => return Err(gone),
         }
-        if self.filling.len() < self.most && self.bytes < MOST_BYTES {
+        if self.filling.items.len() < self.most && self.bytes < MOST_BYTES {
             return Ok(());
         }
         match self.give_all() {
@@ -84,8 +84,8 @@ impl<R: Wait, G: Gate, L: LaneKind> RecordGiver<'_, R, G, L> {
     /// Gives the records that are not given yet.
     pub fn give_all(&mut self) -> Result<(), Gone>
         ensures told { OnOk result (notes L.Framed.about (given self.new.giver)
-            ≡ notes L.Framed.about (given self.old.giver) ++ notes_of_items L.Framed.about self.old.filling) }
-        ensures none { OnOk result (self.new.filling ≡ []) }
+            ≡ notes L.Framed.about (given self.old.giver) ++ notes_of_items L.Framed.about self.old.filling.items.items) }
+        ensures none { OnOk result (self.new.filling.items.items ≡ []) }
         ensures same { GivesToSame self.old.giver self.new.giver }
     {
         self.bytes = 0;

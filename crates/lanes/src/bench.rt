@@ -38,9 +38,9 @@ impl<A: Staged, R: Wait, G: Gate> Bench<'_, A, R, G> {
         batch: Batch<A>,
         to: &mut O,
     ) -> Result<(), Gone>
-        requires { self.old.filling ≡ [] }
+        requires { self.old.filling.items.items ≡ [] }
         ensures told { OnOk result (O.told to.new ≡ O.told to.old ++ notes_of_items A.about batch.items.items) }
-        ensures none { OnOk result (self.new.filling ≡ []) }
+        ensures none { OnOk result (self.new.filling.items.items ≡ []) }
         ensures going { GoOn (O.told to.old) → GoOn (O.told to.new) }
         ensures stays { O.stays to.old to.new }
     {

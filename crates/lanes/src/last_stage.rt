@@ -7,7 +7,7 @@ ghost use Rattle.lanes.specs.Notes.{notes, GoOn};
 ghost use Rattle.lanes.specs.Stages.{IsHandedOn};
 
 use crate::bench::Bench;
-use crate::filling::{Filling, MOST_ITEMS};
+use crate::filling::Filling;
 use crate::gate::Gate;
 use crate::message::Message;
 use crate::numbered::Staged;
@@ -43,7 +43,7 @@ pub fn run_last_stage<A: Staged, M: Drop, R: Wait, G: Gate>(
         gate,
         lane: giver.lane(),
         scratch,
-        filling: Filling::new(alloc, MOST_ITEMS),
+        filling: Filling::new(alloc),
     };
     for _ in rt.forever() {
         match taker.take(rt) {

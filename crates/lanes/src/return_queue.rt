@@ -3,7 +3,15 @@ ghost use Rattle.std.specs.Prelude.{◌<◌};
 
 use crossbeam_queue::ArrayQueue;
 use std::alloc::{AllocError, Global};
+use std::sync::atomic::AtomicU64;
 use std::sync::{Arc, Wait};
+use std::time::Duration;
+
+/// The number of naps while an item is awaited.
+const NAPS: u32 = 5;
+
+/// The length of the first nap, in microseconds. Each is twice as long as the one before, so the five take 30 to 480.
+const NAP: u64 = 30;
 
 /// One end of a queue on which buffers return from one thread to another, or of none. The items in the queue have no
 /// influence on results: they are only buffers to be reused.
@@ -68,5 +76,17 @@ impl<T: Drop + Send> ReturnQueue<T> {
             Some(queue) => queue.pop(rt),
             None => None,
         }
+    }
+
+    /// The item that returns first. If there is none, its thread naps a few times, for about a millisecond in all.
+    pub fn await_item<R: Wait>(&self, rt: &R) -> Option<T> {
+        for tried in 0..NAPS {
+            if let Some(item) = self.receive(rt) {
+                return Some(item);
+            }
+            let micros = NAP << tried;
+            AtomicU64::new(0).park_timeout(rt, 0, Duration::from_micros(micros));
+        }
+        self.receive(rt)
     }
 }

@@ -4,7 +4,7 @@ ghost use Rattle.ruled_lanes.specs.LinkEnds.{given, taken};
 ghost use Rattle.lanes.specs.Stages.{HandedOnAll};
 
 use crate::bench::Bench;
-use crate::filling::{Filling, MOST_ITEMS};
+use crate::filling::Filling;
 use crate::gate::Gate;
 use crate::message::Message;
 use crate::numbered::Staged;
@@ -44,7 +44,7 @@ pub fn run_stage<A: Staged, M: Drop, R: Wait, G: Gate>(
         gate,
         lane,
         scratch,
-        filling: Filling::new(alloc, MOST_ITEMS),
+        filling: Filling::new(alloc),
     };
     for _ in rt.forever() {
         match taker.take(rt) {

@@ -9,7 +9,7 @@ invariant-loop g l = record {
   from_same : TakesFromSame l.fn.taker l.taker;
   to_same : GivesToSameLane l.initial.giver l.giver;
   same : notes g.A.Next.Numbered.about (given_at l.giver) ≡ notes g.A.Numbered.about (taken l.taker);
-  none : l.bench.filling ≡ [];
+  none : l.bench.filling.items.items ≡ [];
   going : GoOn (notes g.A.Next.Numbered.about (given_at l.giver));
   on : GoOn (notes g.A.Numbered.about (taken l.taker));
 }

@@ -8,6 +8,6 @@ invariant-loop g l = record {
   from_same : TakesFromSame l.fn.taker l.taker;
   to_same : GivesToSame l.fn.giver l.giver;
   same : notes g.A.Next.Numbered.about (given l.giver) ≡ notes g.A.Numbered.about (taken l.taker);
-  none : l.bench.filling ≡ [];
+  none : l.bench.filling.items.items ≡ [];
   on : GoOn (notes g.A.Numbered.about (taken l.taker));
 }
