@@ -88,10 +88,9 @@ impl<R: Wait, O: Opener, G: Gate, L: LaneKind> Shared<'_, R, O, G, L> {
             Ok(end) => end,
             Err(gone) => return Err(gone),
         };
-        match gives.give_all() {
-            Ok(()) => {}
-            Err(gone) => return Err(gone),
-        }
+        let Ok(()) = gives.give_all() else {
+            return Err(Gone);
+        };
         let mark = end.mark;
         let known = self.kind.end(file, end);
         let Ok(()) = gives.giver.give(run.rt, Message::End(file, mark, known)) else {

@@ -37,11 +37,12 @@ pub fn run_last_stage<A: Staged, M: Drop, R: Wait, G: Gate>(
     ensures same_link { IfSome result (λ took. TakesFromSame taker took) }
     ensures handed_on { IfSome result (λ took. IsHandedOn A.about A.Next.about (taken took) (given_at giver.new ++ Stop ∷ [])) }
 {
+    let lane = giver.lane();
     let mut bench = Bench::<A, R, G> {
         rt,
         alloc,
         gate,
-        lane: giver.lane(),
+        lane,
         scratch,
         filling: Filling::new(alloc),
     };

@@ -21,4 +21,6 @@ mod records;
 #[cfg(test)]
 mod reported;
 #[cfg(test)]
+mod slow;
+#[cfg(test)]
 mod waiting;
