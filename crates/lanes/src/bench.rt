@@ -25,7 +25,7 @@ impl<A: Staged, R: Wait, G: Gate> Bench<'_, A, R, G> {
     /// Passes the gate, exchanges lists with other stages, and does the work on one record.
     pub(crate) fn work_on(&mut self, item: A) -> A::Next
         ensures told { A.Next.about result ≡ A.about item }
-        ensures same { self.new.filling ≡ self.old.filling }
+        ensures same { self.new.filling.items.items ≡ self.old.filling.items.items }
     {
         self.gate.pass(self.lane, A::STAGE, item.ordinal());
         A::exchange(self.rt, &mut self.scratch);

@@ -39,7 +39,11 @@ impl<T: Numbered, M: Drop> Outlet<T, M> for Giver<Message<T, M>> {
 
     ghost stays = { λ x y. GivesToSame x y };
 
-    fn tell<R: Wait>(&mut self, rt: &R, message: Message<T, M>) -> Result<(), Gone> {
+    fn tell<R: Wait>(&mut self, rt: &R, message: Message<T, M>) -> Result<(), Gone>
+        ensures more { OnOk result (notes T.about (given self.new) ≡ notes T.about (given self.old) ++ notes_of T.about message) }
+        ensures refused { OnErr result (notes T.about (given self.new) ≡ notes T.about (given self.old)) }
+        ensures stays { GivesToSame self.old self.new }
+    {
         match self.give(rt, message) {
             Ok(()) => Ok(()),
             Err(_) => Err(Gone),
@@ -56,7 +60,11 @@ impl<T: Numbered, M: Drop> Outlet<T, M> for LaneGiver<Message<T, M>> {
 
     ghost stays = { λ x y. GivesToSameLane x y };
 
-    fn tell<R: Wait>(&mut self, rt: &R, message: Message<T, M>) -> Result<(), Gone> {
+    fn tell<R: Wait>(&mut self, rt: &R, message: Message<T, M>) -> Result<(), Gone>
+        ensures more { OnOk result (notes T.about (given_at self.new) ≡ notes T.about (given_at self.old) ++ notes_of T.about message) }
+        ensures refused { OnErr result (notes T.about (given_at self.new) ≡ notes T.about (given_at self.old)) }
+        ensures stays { GivesToSameLane self.old self.new }
+    {
         match self.give(rt, message) {
             Ok(()) => Ok(()),
             Err(_) => Err(Gone),

@@ -80,13 +80,16 @@ impl<T: Drop + Send> ReturnQueue<T> {
 
     /// The item that returns first. If there is none, its thread naps a few times, for about a millisecond in all.
     pub fn await_item<R: Wait>(&self, rt: &R) -> Option<T> {
+        let Some(queue) = &self.queue else {
+            return None;
+        };
         for tried in 0..NAPS {
-            if let Some(item) = self.receive(rt) {
+            if let Some(item) = queue.pop(rt) {
                 return Some(item);
             }
             let micros = NAP << tried;
             AtomicU64::new(0).park_timeout(rt, 0, Duration::from_micros(micros));
         }
-        self.receive(rt)
+        queue.pop(rt)
     }
 }
