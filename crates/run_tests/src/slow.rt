@@ -65,7 +65,8 @@ impl Tap for SlowTap<'_> {
 
     fn read(&mut self, buf: &mut [u8]) -> Result<usize, TapFault> {
         let whole = self.gave.saturating_sub(HEADER.len()) / EDGE.len();
-        self.drawn.wait_for(u32::try_from(whole).unwrap_or(u32::MAX));
+        self.drawn
+            .wait_for(u32::try_from(whole).unwrap_or(u32::MAX));
         let count = self.tap.read(buf)?;
         self.gave = self.gave.saturating_add(count);
         Ok(count)
