@@ -44,10 +44,10 @@ impl<T: Numbered, M: Drop> Outlet<T, M> for Giver<Message<T, M>> {
         ensures refused { OnErr result (notes T.about (given self.new) ≡ notes T.about (given self.old)) }
         ensures stays { GivesToSame self.old self.new }
     {
-        match self.give(rt, message) {
-            Ok(()) => Ok(()),
-            Err(_) => Err(Gone),
-        }
+        let Ok(()) = self.give(rt, message) else {
+            return Err(Gone);
+        };
+        Ok(())
     }
 
     ghost stays_itself = { λ x. refl };
@@ -65,10 +65,10 @@ impl<T: Numbered, M: Drop> Outlet<T, M> for LaneGiver<Message<T, M>> {
         ensures refused { OnErr result (notes T.about (given_at self.new) ≡ notes T.about (given_at self.old)) }
         ensures stays { GivesToSameLane self.old self.new }
     {
-        match self.give(rt, message) {
-            Ok(()) => Ok(()),
-            Err(_) => Err(Gone),
-        }
+        let Ok(()) = self.give(rt, message) else {
+            return Err(Gone);
+        };
+        Ok(())
     }
 
     ghost stays_itself = { λ x. (refl, refl) };
