@@ -27,10 +27,7 @@ impl<T: Drop + Send> ReturnQueue<T> {
     }
 
     /// Both ends of a queue with room for this many items.
-    pub fn new(
-        alloc: Global,
-        room: usize,
-    ) -> Result<(ReturnQueue<T>, ReturnQueue<T>), AllocError>
+    pub fn new(alloc: Global, room: usize) -> Result<(ReturnQueue<T>, ReturnQueue<T>), AllocError>
         requires { 0 < room }
     {
         let queue = Arc::new(alloc, ArrayQueue::new(alloc, room)?)?;
