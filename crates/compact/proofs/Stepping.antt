@@ -1,5 +1,5 @@
 -- Coordinates that are raised along steps, and what the steps are.
-use Rattle.std.proofs.Common.{◌≡◌, ◌≢◌, ℕ, ◌+◌, ◌*◌, ◌%◌, ◌<◌, ◌≤◌, ◌⊎◌, ◌∙◌, List, length, slice_index, set, replicate, All, arith, subst, sym, ap, refl, inl, inr, get_or-set_same, get_or-set_other}
+use Rattle.std.proofs.Common.{◌≡◌, ◌≢◌, ℕ, ◌+◌, ◌*◌, ◌%◌, ◌<◌, ◌≤◌, ◌∙◌, List, length, slice_index, set, replicate, All, arith, subst, sym, ap, refl, inl, inr, get_or-set_same, get_or-set_other}
 use Rattle.std.proofs.lemmas.Bool.{cases_eq}
 use Rattle.std.proofs.lemmas.List.{length-set}
 use Rattle.std.proofs.lemmas.List.Elements.{All-replicate}
@@ -7,7 +7,7 @@ use Rattle.dissect.specs.DartMaps.{DartMap, IsSound}
 use Rattle.compact.specs.declared.axis.Axis.{Axis}
 use Rattle.compact.specs.declared.axis.Axis.TheVariants.{X, Y}
 use Rattle.compact.specs.Monotone.{tail, growth, across, IsAcross, IsAlong}
-use Rattle.compact.specs.Neighbours.{neighbour, AreNeighbours, HasNeighbours, Grow, StayEqual, AreVertices, AreEqualIn, AreSegments, IsOnSegment, AreUnder, StayUnder}
+use Rattle.compact.specs.Neighbours.{neighbour, AreNeighbours, HasNeighbours, Grow, StayEqual, AreUnder}
 use Rattle.compact.proofs.OneWay.{one_leaves}
 
 -- a coordinate raised to one that is not above y stays under y
@@ -22,82 +22,6 @@ raised_under xs new n to need y to_in made enough under v v_in =
           let here : slice_index new v ≡ slice_index xs v = ap (λ (zs : List ℕ). slice_index zs v) made ∙ get_or-set_other xs to v need 0 (λ e. other (sym e)) in
           omega (arith, here, under v v_in)
     ]
-
--- the same for another name of the length
-pub under_at : (next : ℕ → ℕ) (n m : ℕ) (segments old new : List ℕ) → m ≡ n → StayUnder next m segments old new → StayUnder next n segments old new
-under_at next n m segments old new same stay = subst (λ (k : ℕ). StayUnder next k segments old new) same stay
-
--- a list with a vertex for each vertex has one still where a vertex is written
-pub vertices_set : (n : ℕ) (segments new : List ℕ) (v first : ℕ) → v < n → first < n → new ≡ set segments v first → AreVertices n segments → AreVertices n new
-vertices_set n segments new v first v_in first_in made are = (
-  ap length made ∙ length-set segments v first ∙ are.0,
-  λ u u_in. elim (cases_eq v u) [
-    | inl same ↦
-        let here : slice_index new u ≡ first = ap (λ (zs : List ℕ). slice_index zs u) made ∙ subst (λ (k : ℕ). slice_index (set segments v first) k ≡ first) same (get_or-set_same segments v first 0 (omega (arith, v_in, are.0))) in
-        omega (arith, here, first_in)
-    | inr other ↦
-        let here : slice_index new u ≡ slice_index segments u = ap (λ (zs : List ℕ). slice_index zs u) made ∙ get_or-set_other segments v u first 0 (λ e. other (sym e)) in
-        omega (arith, here, are.1 u u_in)
-  ],
-)
-
--- and one coordinate in each segment stays one where a vertex gets a first one with its coordinate
-pub equal_set : (n : ℕ) (segments new : List ℕ) (v first : ℕ) (y : ℕ → ℕ) → v < length segments → y first ≡ y v → new ≡ set segments v first → AreEqualIn segments n y → AreEqualIn new n y
-equal_set n segments new v first y v_in same_coordinate made equal u u_in =
-    elim (cases_eq v u) [
-      | inl same ↦
-          let here : slice_index new u ≡ first = ap (λ (zs : List ℕ). slice_index zs u) made ∙ subst (λ (k : ℕ). slice_index (set segments v first) k ≡ first) same (get_or-set_same segments v first 0 v_in) in
-          ap y here ∙ same_coordinate ∙ ap y same
-      | inr other ↦
-          let here : slice_index new u ≡ slice_index segments u = ap (λ (zs : List ℕ). slice_index zs u) made ∙ get_or-set_other segments v u first 0 (λ e. other (sym e)) in
-          ap y here ∙ equal u u_in
-    ]
-
--- a vertex of a segment may be written where all coordinates that stay the same along the arcs are there as at its first one
-pub segments_set : (next : ℕ → ℕ) (n : ℕ) (segments new : List ℕ) (v first : ℕ) → v < n → first < n → ((y : ℕ → ℕ) → StayEqual next n y → y first ≡ y v) →
-    new ≡ set segments v first → AreSegments next n segments → AreSegments next n new
-segments_set next n segments new v first v_in first_in connected made are = record {
-  inside = vertices_set n segments new v first v_in first_in made are.inside;
-  equal = λ y equal. equal_set n segments new v first y (omega (arith, v_in, are.inside.0)) (connected y equal) made (are.equal y equal);
-}
-
--- segments stay segments under other names of the steps and of the number of vertices
-pub segments_at : (around other : List ℕ) (d e n m : ℕ) (segments : List ℕ) → around ≡ other → d ≡ e → n ≡ m → AreSegments (neighbour around d) n segments → AreSegments (neighbour other e) m segments
-segments_at around other d e n m segments same way size are =
-    subst (λ (k : ℕ). AreSegments (neighbour other e) k segments) size (subst (λ (k : ℕ). AreSegments (neighbour other k) n segments) way (subst (λ (list : List ℕ). AreSegments (neighbour list d) n segments) same are))
-
--- and a vertex stays on its segment
-pub on_segment_at : (around other : List ℕ) (d e n m first vertex : ℕ) → around ≡ other → d ≡ e → n ≡ m → IsOnSegment (neighbour around d) n first vertex → IsOnSegment (neighbour other e) m first vertex
-on_segment_at around other d e n m first vertex same way size is =
-    subst (λ (k : ℕ). IsOnSegment (neighbour other e) k first vertex) size (subst (λ (k : ℕ). IsOnSegment (neighbour other k) n first vertex) way (subst (λ (list : List ℕ). IsOnSegment (neighbour list d) n first vertex) same is))
-
--- a first vertex is on its own segment
-pub on_own_segment : (next : ℕ → ℕ) (n : ℕ) (segment_firsts : List ℕ) (first vertex : ℕ) → 0 < n → AreVertices n segment_firsts → first ≡ slice_index segment_firsts 0 → vertex ≡ slice_index segment_firsts 0 → IsOnSegment next n first vertex
-on_own_segment next n segment_firsts first vertex some are first_is vertex_is = record {
-  first_in = omega (arith, first_is, are.1 0 some);
-  vertex_in = omega (arith, vertex_is, are.1 0 some);
-  connected = λ y equal. ap y (first_is ∙ sym vertex_is);
-}
-
--- a coordinate is raised to one more than that of a segment which has a step to its segment
-pub raised_segment : (ahead : ℕ → ℕ) (n : ℕ) (segments xs new : List ℕ) (v need : ℕ) → v < n → ahead v < n → length xs ≡ n → AreVertices n segments →
-    need ≤ slice_index xs (slice_index segments v) + 1 ⊎ need ≤ slice_index xs (slice_index segments (ahead v)) →
-    new ≡ set xs (slice_index segments (ahead v)) need → StayUnder ahead n segments xs new
-raised_segment ahead n segments xs new v need v_in to_in size are enough made y grow equal under =
-    let from = slice_index segments v in
-    let to = slice_index segments (ahead v) in
-    let to_segment : to < n = are.1 (ahead v) to_in in
-    let small : need ≤ y to = elim enough [
-      | inl more ↦ omega (arith, more, under from (are.1 v v_in), equal v v_in, equal (ahead v) to_in, grow v v_in to_in)
-      | inr kept ↦ omega (arith, kept, under to to_segment)
-    ] in
-    raised_under xs new n to need y (omega (arith, to_segment, size)) made small under
-
--- each vertex gets the coordinate of its segment
-pub spread_one : (n : ℕ) (segments xs new : List ℕ) (v x : ℕ) → v < n → length xs ≡ n → AreVertices n segments → x ≡ slice_index xs (slice_index segments v) → new ≡ set xs v x →
-    (y : ℕ → ℕ) → AreEqualIn segments n y → AreUnder n xs y → AreUnder n new y
-spread_one n segments xs new v x v_in size are is made y equal under =
-    raised_under xs new n v x y (omega (arith, v_in, size)) made (omega (arith, is, under (slice_index segments v) (are.1 v v_in), equal v v_in)) under
 
 -- each dart writes its step
 pub step_written : (w : DartMap) (a : ℕ) (around new : List ℕ) (n place to : ℕ) → a < w.darts → w.direction a < 4 → place ≡ 4 * tail w a + w.direction a →

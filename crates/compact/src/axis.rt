@@ -3,16 +3,14 @@
 ghost use Rattle.std.specs.Prelude.{◌≡◌, ◌≢◌, ◌+◌, ◌*◌, length, slice_index, Some, None, IsTrue, IfOk, IfErr, OnOk, ℕ, ◌<◌, ◌≤◌};
 ghost use Rattle.ortho_rep.specs.declared.points.TheConstants.{MAX_COORDINATE};
 ghost use Rattle.compact.specs.Monotone.{IsAlong, AreAlong, AreLeastOnAxis, IsAxisFault, IsCompactFault, growth, across};
-ghost use Rattle.compact.specs.Neighbours.{neighbour, AreNeighbours, HasNeighbours, AreSegments, AreUnder};
+ghost use Rattle.compact.specs.Neighbours.{neighbour, AreNeighbours, HasNeighbours, AreUnder};
 ghost use Rattle.dissect.specs.DartMaps.{IsSound};
 ghost use Rattle.geometry.specs.Directions.{quarters};
 ghost use Rattle.dissect.specs.Boxes.{dart_map};
 
 use crate::constraint_graph::{Constraint, relax_in_rounds};
 use crate::fault::CompactFault;
-use crate::longest_paths::{
-    AxisSegments, Neighbours, SegmentsByAxis, find_segments, raise_to_longest_paths,
-};
+use crate::longest_paths::{Neighbours, raise_to_longest_paths};
 use common::filled;
 use dissect::Boxes;
 use geometry::Direction;
@@ -107,6 +105,8 @@ fn neighbours_along(around: &[u32], axis: Axis) -> Neighbours<'_>
     ensures around { result.around.now ≡ around.now }
     ensures ahead { (result.ahead < 4) × (result.ahead ≡ growth axis) }
     ensures left { (result.left < 4) × (result.left ≡ across axis) }
+    ensures right { result.right < 4 }
+    ensures back { result.back < 4 }
 {
     match axis {
         Axis::X => Neighbours::east(around),
@@ -116,25 +116,26 @@ fn neighbours_along(around: &[u32], axis: Axis) -> Neighbours<'_>
 
 /// Coordinates that are nowhere above any that grow along the darts of an axis: the lengths of longest
 /// paths, found segment by segment, in the buffer of a list. `around` has the neighbours of each
-/// vertex. Linear in the darts.
+/// vertex. Linear in the vertices.
 fn low_along(
     boxes: &Boxes,
     around: &[u32],
     axis: Axis,
     coordinates: Vec<u16>,
-    axis_segments: &mut AxisSegments,
+    segments: &mut Vec<u32>,
 ) -> Result<Vec<u16>, AllocError>
     requires neighbours { AreNeighbours (dart_map boxes.now) around.now boxes.now.vertices }
     requires around { length around.now ≡ 4 * boxes.now.vertices }
-    requires segments { AreSegments (neighbour around.now (across axis)) boxes.now.vertices axis_segments.old.segments.items }
     ensures sound { IfOk result (λ _. IsSound (dart_map boxes.now)) }
     ensures count { IfOk result (λ coordinates. length coordinates.items ≡ boxes.now.vertices) }
     ensures under { IfOk result (λ coordinates. (y : ℕ → ℕ) → IsAlong (dart_map boxes.now) (growth axis) y → AreUnder boxes.now.vertices coordinates.items y) }
 {
     let mut coordinates = filled(coordinates, boxes.vertices() as usize, 0)?;
+    segments.resize(coordinates.len(), 0)?;
     raise_to_longest_paths(
-        axis_segments,
+        segments.as_mut_slice(),
         neighbours_along(around, axis),
+        u32::from(boxes.old_vertices()),
         &mut coordinates,
     );
     Ok(coordinates)
@@ -172,7 +173,7 @@ pub fn least_coordinates(
     around: &[u32],
     x: Vec<u16>,
     y: Vec<u16>,
-    by_axis: &mut SegmentsByAxis,
+    segments: &mut Vec<u32>,
     constraints: &mut Vec<Constraint>,
 ) -> Result<(Vec<u16>, Vec<u16>), CompactFault>
     requires neighbours { AreNeighbours (dart_map boxes.now) around.now boxes.now.vertices }
@@ -183,13 +184,10 @@ pub fn least_coordinates(
     ensures y { IfOk result (λ found. AreLeastOnAxis boxes.now 1 found.1.items) }
     ensures fault { IfErr result (IsCompactFault boxes.now) }
 {
-    let Ok(()) = find_segments(around, boxes.vertices(), by_axis) else {
+    let Ok(x) = low_along(boxes, around, Axis::X, x, segments) else {
         return Err(CompactFault::Memory);
     };
-    let Ok(x) = low_along(boxes, around, Axis::X, x, &mut by_axis.x) else {
-        return Err(CompactFault::Memory);
-    };
-    let Ok(y) = low_along(boxes, around, Axis::Y, y, &mut by_axis.y) else {
+    let Ok(y) = low_along(boxes, around, Axis::Y, y, segments) else {
         return Err(CompactFault::Memory);
     };
     if are_along(boxes, around, &x, &y) {

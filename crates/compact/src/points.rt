@@ -108,9 +108,9 @@ pub fn compact_in(
     let Ok(around) = neighbours_of(boxes, around) else {
         return Err(CompactFault::Memory);
     };
-    let by_axis = &mut scratch.by_axis;
+    let segments = &mut scratch.segments;
     let constraints = &mut scratch.constraints;
-    let (x, y) = match least_coordinates(boxes, &around, x, y, by_axis, constraints) {
+    let (x, y) = match least_coordinates(boxes, &around, x, y, segments, constraints) {
         Ok(found) => found,
         Err(fault) => return Err(fault),
     };

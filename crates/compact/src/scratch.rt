@@ -3,7 +3,6 @@
 ghost use Rattle.std.specs.Prelude.{◌≡◌, []};
 
 use crate::constraint_graph::Constraint;
-use crate::longest_paths::SegmentsByAxis;
 use ortho_rep::{Point, Points};
 use std::alloc::Global;
 
@@ -16,7 +15,7 @@ pub struct Scratch {
     pub(crate) around: Vec<u32>,
     pub(crate) x: Vec<u16>,
     pub(crate) y: Vec<u16>,
-    pub(crate) by_axis: SegmentsByAxis,
+    pub(crate) segments: Vec<u32>,
     pub(crate) constraints: Vec<Constraint>,
     pub(crate) points: Vec<Point>,
     pub(crate) corners: Vec<Point>,
@@ -32,7 +31,7 @@ impl Scratch {
             around: Vec::new(alloc),
             x: Vec::new(alloc),
             y: Vec::new(alloc),
-            by_axis: SegmentsByAxis::empty(alloc),
+            segments: Vec::new(alloc),
             constraints: Vec::new(alloc),
             points: Vec::new(alloc),
             corners: Vec::new(alloc),

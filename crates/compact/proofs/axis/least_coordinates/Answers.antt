@@ -10,5 +10,5 @@ returns-in-Err-relaxed_along-clause-fault c = y_fault c.args.boxes.now c.in-Err-
 pub returns-then-are_along-clause-x : goal.returns-then-are_along-clause-x
 returns-then-are_along-clause-x c =
     let told = c.are_along.ensures in
-    least_of c.args.boxes.now 0 c.in-Ok-low_along.x.items c.deref.result.now c.deref.ensures.value
-    (told.x_along c.if-are_along.true) c.in-Ok-low_along.ensures.under told.x_small c.in-Ok-low_along.ensures.count
+    least_of c.args.boxes.now 0 c.in-Ok.x.items c.deref.result.now c.deref.ensures.value
+    (told.x_along c.if-are_along.true) c.in-Ok.ensures.under told.x_small c.in-Ok.ensures.count

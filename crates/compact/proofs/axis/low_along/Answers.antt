@@ -2,7 +2,7 @@ use Rattle.std.proofs.Common.{◌∙◌, ◌≡◌, ℕ, List, length, arith, su
 use Rattle.std.proofs.lemmas.List.{take_at}
 use Rattle.dissect.specs.Boxes.{dart_map}
 use Rattle.compact.specs.Monotone.{IsAlong, growth}
-use Rattle.compact.specs.Neighbours.{neighbour, AreUnder, StayUnderAll}
+use Rattle.compact.specs.Neighbours.{neighbour, AreUnder, StayUnder}
 use Rattle.compact.proofs.Stepping.{grow_ahead, equal_across, growth_few, across_far, zeros_under}
 use Rattle.compact.proofs.axis.low_along.Goals as goal
 
@@ -20,9 +20,9 @@ returns-clause-under c = λ y along.
     let far = across_far c.args.axis in
     let size : length c.deref_mut.result.now ≡ n = omega (arith, c.deref_mut.ensures.len, c.in_ok-coordinates.ensures.len, c.vertices.ensures.value) in
     let blank = c.deref_mut.ensures.value ∙ c.in_ok-coordinates.ensures.items in
-    let raised : StayUnderAll n (neighbour around neighbours.ahead) (neighbour around neighbours.left) c.deref_mut.result.now c.raise_to_longest_paths.new.coordinates =
-    subst (λ (list : List ℕ). StayUnderAll n (neighbour list neighbours.ahead) (neighbour list neighbours.left) c.deref_mut.result.now c.raise_to_longest_paths.new.coordinates) told.around
-    (subst (λ (m : ℕ). StayUnderAll m (neighbour neighbours.around.now neighbours.ahead) (neighbour neighbours.around.now neighbours.left) c.deref_mut.result.now c.raise_to_longest_paths.new.coordinates) size c.raise_to_longest_paths.ensures.under) in
+    let raised : StayUnder n (neighbour around neighbours.ahead) (neighbour around neighbours.left) c.deref_mut.result.now c.raise_to_longest_paths.new.coordinates =
+    subst (λ (list : List ℕ). StayUnder n (neighbour list neighbours.ahead) (neighbour list neighbours.left) c.deref_mut.result.now c.raise_to_longest_paths.new.coordinates) told.around
+    (subst (λ (m : ℕ). StayUnder m (neighbour neighbours.around.now neighbours.ahead) (neighbour neighbours.around.now neighbours.left) c.deref_mut.result.now c.raise_to_longest_paths.new.coordinates) size c.raise_to_longest_paths.ensures.under) in
     let here : IsAlong w neighbours.ahead y = subst (λ (d : ℕ). IsAlong w d y) (sym told.ahead.1) along in
     subst (λ (xs : List ℕ). AreUnder n xs y)
     (sym (take_at c.raise_to_longest_paths.new.coordinates _ c.in_ok-coordinates.coordinates.len (omega (arith, c.raise_to_longest_paths.ensures.count, c.deref_mut.ensures.len))))
