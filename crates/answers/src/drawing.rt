@@ -1,11 +1,15 @@
 //! How a shape is drawn.
 
-ghost use Rattle.std.specs.Prelude.{◌≡◌, ◌≤◌, ◌*◌, length, IfOk, IfSome};
+ghost use Rattle.std.specs.Prelude.{◌≡◌, ◌≤◌, ◌*◌, ℕ, List, length, IfOk, IfSome};
 ghost use Rattle.faces.specs.Planes.{darts, vertices};
 ghost use Rattle.ortho_rep.specs.Representation.{IsLeast, IsShape};
 ghost use Rattle.compact.specs.Monotone.{AreDirectionsOf};
 ghost use Rattle.drawing_check.specs.Draws.{Draws};
 ghost use Rattle.drawing_check.specs.Regions.{HasRegions};
+ghost use Rattle.common.specs.declared.choice.Choice.{Choice};
+ghost use Rattle.entries.specs.declared.found.FoundKind.TheVariants.{Quick};
+ghost use Rattle.entries.specs.Found.{answer_in};
+ghost use Rattle.entries.specs.Answers.{Answers};
 ghost use Rattle.entries.specs.Drawn.{HasPoints, IsDrawingOf, IsDrawn};
 ghost use Rattle.entries.specs.Lengths.{AreBelow, IsNear, IsNoLonger, IsQuick, edge_length};
 
@@ -17,9 +21,9 @@ use crate::spent::ReturnQueue;
 use common::DrawingKind;
 use compact::{BoxesScratch, CompactFault, compact_in, dissect_along};
 use drawing_check::{CheckFault, Drawing, check_in};
-use entries::{Answer, Cause};
+use entries::{Answer, Cause, Found, FoundKind, QuickLayout};
 use faces::Plane;
-use ortho_rep::{Points, Shape};
+use ortho_rep::{Points, Prices, Shape};
 use region_laws::outside_is_outer;
 use std::alloc::{AllocError, Global};
 use std::mem;
@@ -73,15 +77,37 @@ impl DrawScratch {
             if let Ok(drawing) = drawing {
                 self.points.take_back(drawing.into_points());
             }
-            let directions = mem::replace(&mut self.directions, Vec::new(alloc));
-            if let Some(shell) = &mut self.shell {
-                shell.refill(SpentShapedPlane {
+            self.refill(alloc, plane, shape, prices);
+        }
+    }
+
+    /// Takes back the lists of what was found and is no longer read, as [`DrawScratch::take_back`].
+    pub fn take_back_found(&mut self, alloc: Global, found: Found) {
+        match found.kind {
+            FoundKind::Answered(answer) => self.take_back(alloc, answer),
+            FoundKind::Quick(laid) => {
+                let QuickLayout {
                     plane,
                     shape,
                     prices,
-                    directions,
-                });
+                    points,
+                } = laid;
+                self.points.take_back(points);
+                self.refill(alloc, plane, shape, prices);
             }
+        }
+    }
+
+    /// Puts the lists of a plane, its shape and prices, and the directions in the holder of its shaped plane.
+    fn refill(&mut self, alloc: Global, plane: Plane, shape: Shape, prices: Prices) {
+        let directions = mem::replace(&mut self.directions, Vec::new(alloc));
+        if let Some(shell) = &mut self.shell {
+            shell.refill(SpentShapedPlane {
+                plane,
+                shape,
+                prices,
+                directions,
+            });
         }
     }
 
@@ -180,6 +206,29 @@ pub(crate) fn least_points(
         }
         Err(CompactFault::Wide) => unreachable!(),
         Err(CompactFault::Memory) => Err(AllocError),
+    }
+}
+
+/// The answer with a quick layout whose points are checked once more: only a check makes a drawing.
+pub(crate) fn checked(alloc: Global, scratch: &mut DrawScratch, laid: QuickLayout) -> Answer
+    requires { (choice : Choice) × (bytes : List ℕ) × Answers choice bytes (answer_in (Quick laid)) }
+    ensures { (choice : Choice) (bytes : List ℕ) → Answers choice bytes (answer_in (Quick laid)) → Answers choice bytes result }
+{
+    let QuickLayout {
+        plane,
+        shape,
+        prices,
+        points,
+    } = laid;
+    match check_in(alloc, &mut scratch.check, &plane, &shape, points) {
+        Ok(drawing) => Answer::Laid {
+            plane,
+            shape,
+            prices,
+            drawing: Ok(drawing),
+        },
+        // There is no other fault.
+        Err(_) => Answer::NoMemory,
     }
 }
 

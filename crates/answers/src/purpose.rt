@@ -5,9 +5,9 @@ ghost use Rattle.entries.specs.Answers.{Answers};
 ghost use Rattle.answers.specs.Tasks.{about_in};
 
 use crate::carried::Carried;
-use crate::drawing::DrawScratch;
+use crate::drawing::{DrawScratch, checked};
 use crate::task::Task;
-use entries::{Answer, Entry};
+use entries::{Entry, Found, FoundKind};
 use lanes::Numbered;
 use planar_code::Record;
 use std::alloc::Global;
@@ -23,17 +23,17 @@ pub trait Purpose: Drop + Send {
     /// What is known of each record from the start.
     ghost knows: { About → Type 0 };
 
-    /// What the lane gives for a record with this answer. The scratch may take back lists that it does not keep.
+    /// What the lane gives for a record for which this was found. The scratch may take back lists that it does not keep.
     fn finish(
         self,
         alloc: Global,
         scratch: &mut DrawScratch,
         task: Task,
         rec: Self::Carried,
-        answer: Answer,
+        found: Found,
     ) -> Self::Entry
         requires known { ∥ knows (about_in task (Self.Carried.bytes rec)) ∥₁ }
-        requires answers { ∥ Answers task.choice (Self.Carried.bytes rec) answer ∥₁ }
+        requires answers { ∥ Answers task.choice (Self.Carried.bytes rec) found ∥₁ }
         ensures { Self.Entry.about result ≡ about_in task (Self.Carried.bytes rec) };
 }
 
@@ -50,12 +50,16 @@ impl Purpose for Keeping {
 
     fn finish(
         self,
-        _alloc: Global,
-        _scratch: &mut DrawScratch,
+        alloc: Global,
+        scratch: &mut DrawScratch,
         task: Task,
         rec: Record,
-        answer: Answer,
+        found: Found,
     ) -> Entry {
+        let answer = match found.kind {
+            FoundKind::Answered(answer) => answer,
+            FoundKind::Quick(laid) => checked(alloc, scratch, laid),
+        };
         Entry {
             file: task.file,
             ordinal: task.ordinal,

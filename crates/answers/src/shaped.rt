@@ -3,7 +3,7 @@
 use crate::drawing::DrawScratch;
 use crate::item::Item;
 use crate::purpose::{Keeping, Purpose};
-use crate::stages::answer_with;
+use crate::stages::found_with;
 use crate::state::ShapeFound;
 use lanes::{Stage, Staged};
 use std::alloc::Global;
@@ -30,7 +30,7 @@ impl<P: Purpose> Staged for Item<P, <P as Purpose>::Carried, ShapeFound> {
     fn work(self, alloc: Global, scratch: &mut DrawScratch) -> P::Entry {
         let task = self.task;
         let shaped_plane = scratch.unpack(self.state);
-        let answer = answer_with(alloc, scratch, shaped_plane, task.drawing_kind);
-        self.purpose.finish(alloc, scratch, task, self.rec, answer)
+        let found = found_with(alloc, scratch, shaped_plane, task.drawing_kind);
+        self.purpose.finish(alloc, scratch, task, self.rec, found)
     }
 }

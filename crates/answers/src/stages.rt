@@ -2,20 +2,20 @@
 
 ghost use Rattle.std.specs.Prelude.{◌≡◌, ℕ, List};
 ghost use Rattle.entries.specs.Lengths.{IfDrawn, IsNear, IsNoLonger, IsQuick};
-ghost use Rattle.answers.specs.Steps.{IsRefused, IsEmbedded, IsShaped};
+ghost use Rattle.answers.specs.Steps.{IsRefused, IsEmbedded, IsPlaneOf, IsShaped};
 ghost use Rattle.common.specs.declared.choice.Choice.{Choice};
 ghost use Rattle.embedding.specs.Rules.{KeepsBefore};
 ghost use Rattle.planar_code.specs.Stream.{lists_of};
 ghost use Rattle.entries.specs.Answers.{Answers};
 ghost use Rattle.drawing_laws.specs.Drawings.{IsDrawnIfLaid};
 
-use crate::drawing::{DrawScratch, draw};
+use crate::drawing::{DrawScratch, draw, least_points};
 use crate::fault::ShapeFault;
 use crate::shaped_plane::ShapedPlane;
 use crate::shaping::{ShapeScratch, with_least_shape};
 use common::{Choice, DrawingKind};
 use embedding::{Graph, ReadFault, Rule, broken_rule};
-use entries::{Answer, Entry};
+use entries::{Answer, Entry, Found, FoundKind, QuickLayout};
 use faces::{Plane, TraceFault};
 use planar_code::Record;
 use std::alloc::{AllocError, Global};
@@ -105,6 +105,50 @@ pub(crate) fn answer_with(
         },
         Err(AllocError) => Answer::NoMemory,
     }
+}
+
+/// What is found for a record with this shaped plane, which is drawn so, or without one. Quick points are not checked.
+pub(crate) fn found_with(
+    alloc: Global,
+    scratch: &mut DrawScratch,
+    shaped_plane: Result<ShapedPlane, ShapeFault>,
+    drawing_kind: DrawingKind,
+) -> Found
+    ensures { (choice : Choice) (bytes : List ℕ) → IsShaped choice bytes shaped_plane → Answers choice bytes result }
+{
+    match (shaped_plane, drawing_kind) {
+        (Ok(shaped_plane), DrawingKind::Quick) => quick_with(alloc, scratch, shaped_plane),
+        (shaped_plane, drawing_kind) => {
+            let answer = answer_with(alloc, scratch, shaped_plane, drawing_kind);
+            Found {
+                kind: FoundKind::Answered(answer),
+            }
+        }
+    }
+}
+
+/// The layout with the quick drawing of this shaped plane. Its points are not checked.
+fn quick_with(alloc: Global, scratch: &mut DrawScratch, shaped_plane: ShapedPlane) -> Found
+    ensures { (choice : Choice) (bytes : List ℕ) → IsPlaneOf choice bytes shaped_plane.plane → Answers choice bytes result }
+{
+    let ShapedPlane {
+        plane,
+        shape,
+        prices,
+        directions,
+    } = shaped_plane;
+    let drawn = least_points(alloc, scratch, &plane, &shape, &directions);
+    scratch.keep_directions(directions);
+    let kind = match drawn {
+        Ok(points) => FoundKind::Quick(QuickLayout {
+            plane,
+            shape,
+            prices,
+            points,
+        }),
+        Err(AllocError) => FoundKind::Answered(Answer::NoMemory),
+    };
+    Found { kind }
 }
 
 /// The entry of a record: all stages, one after another, on the caller's thread, with the quick drawing.

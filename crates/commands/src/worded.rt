@@ -6,10 +6,10 @@ ghost use Rattle.answers.specs.Tasks.{about_in};
 ghost use Rattle.printing.specs.Spelt.{IsSpelt};
 
 use answers::{DrawScratch, Purpose, Task};
-use entries::Answer;
+use entries::{Found, FoundKind};
 use lanes::Numbered;
 use planar_code::Record;
-use printing::{Meant, Printed, answered_line};
+use printing::{LaidGraph, Meant, Outcome, Printed, answered_line, laid_out_line};
 use reports::Form;
 use std::alloc::Global;
 use std::marker::PhantomData;
@@ -51,15 +51,28 @@ impl<J: Meant + Send + Sync> Purpose for Worded<J> {
         scratch: &mut DrawScratch,
         task: Task,
         rec: Snapshot<Record>,
-        answer: Answer,
+        found: Found,
     ) -> Printed<J>
         requires known { ∥ IsPlacedAt (J.meaning task.file) task.ordinal rec.value × IsSpelt rec.value ∥₁ }
-        requires answers { ∥ Answers task.choice rec.value answer ∥₁ }
+        requires answers { ∥ Answers task.choice rec.value found ∥₁ }
         ensures about { ⟦<Printed<J> as Numbered>⟧.about result ≡ about_in task rec.value }
-        ensures answer { result.answer.value ≡ answer }
+        ensures answer { result.answer.value ≡ found }
         ensures form { result.form ≡ self.form }
     {
-        let line = answered_line(alloc, self.form, task.file, task.ordinal, &answer);
+        let line = match &found.kind {
+            FoundKind::Answered(answer) => {
+                answered_line(alloc, self.form, task.file, task.ordinal, answer)
+            }
+            FoundKind::Quick(laid) => {
+                let laid = LaidGraph {
+                    plane: &laid.plane,
+                    shape: &laid.shape,
+                    prices: &laid.prices,
+                    drawing: Outcome::Drawn(&laid.points),
+                };
+                laid_out_line(alloc, self.form, task.file, task.ordinal, laid)
+            }
+        };
         let printed = Printed {
             file: task.file,
             ordinal: task.ordinal,
@@ -67,10 +80,10 @@ impl<J: Meant + Send + Sync> Purpose for Worded<J> {
             form: self.form,
             line,
             rec,
-            answer: Snapshot::of(&answer),
+            answer: Snapshot::of(&found),
             meant: PhantomData,
         };
-        scratch.take_back(alloc, answer);
+        scratch.take_back_found(alloc, found);
         printed
     }
 }

@@ -5,3 +5,4 @@ pub mod Answers
 pub mod Abouts
 pub mod Books
 pub mod AllBooks
+pub mod Found

@@ -8,6 +8,7 @@ mod book;
 mod books;
 mod cause;
 mod entry;
+mod found;
 mod limits;
 
 pub use answer::Answer;
@@ -15,4 +16,5 @@ pub use book::{Batch, Book};
 pub use books::books_of;
 pub use cause::Cause;
 pub use entry::Entry;
+pub use found::{Found, FoundKind, QuickLayout};
 pub use limits::MAX_FILES;

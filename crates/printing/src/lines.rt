@@ -2,12 +2,16 @@
 ghost use Rattle.std.specs.Prelude.{◌≡◌, ◌+◌, ◌^◌, ◌≤◌, IfOk, OnErr};
 ghost use Rattle.entries.specs.declared.answer.Answer.{Answer};
 ghost use Rattle.entries.specs.declared.entry.Entry.{Entry};
+ghost use Rattle.ortho_rep.specs.Representation.{HasDarts};
+ghost use Rattle.ortho_rep.specs.Prices.{HasPrices};
+ghost use Rattle.entries.specs.declared.answer.Answer.TheVariants.{Laid};
+ghost use Rattle.reports.specs.Outcomes.{drawing_in};
 ghost use Rattle.reports.specs.Answered.{IsAnswer};
 ghost use Rattle.printing.specs.FormLines.{line_in, preamble_in, end_in};
 
 use crate::line::Line;
 use entries::{Answer, Entry};
-use reports::{Form, ReportLine};
+use reports::{Form, LaidGraph, ReportLine};
 use std::alloc::{AllocError, Global};
 use streams::{Mark, mark_word};
 
@@ -41,6 +45,33 @@ pub(crate) fn answer_line(
         Form::Report => Line::copied(alloc, ReportLine::of_graph(graph, answer).as_slice()),
         Form::Json => {
             let text = reports::answer_line(alloc, number_of(file)?, graph, answer)?;
+            Ok(Line::of(text))
+        }
+    }
+}
+
+/// The output line of a graph that is laid out, at this place of this file, in this format. A short line of a report is
+/// not allocated.
+pub(crate) fn laid_line(
+    alloc: Global,
+    form: Form,
+    file: u32,
+    ordinal: u32,
+    laid: LaidGraph<'_>,
+) -> Result<Line, AllocError>
+    requires darts { HasDarts laid.plane.now laid.shape.now }
+    requires prices { HasPrices laid.plane.now laid.prices.now }
+    ensures { IfOk result (λ line. (entry : Entry) → entry.file ≡ file → entry.ordinal ≡ ordinal
+        → entry.answer ≡ Laid laid.entry.plane.now laid.entry.shape.now laid.entry.prices.now (drawing_in laid.entry.drawing) → line ≡ line_in form entry) }
+{
+    let graph = u64::from(ordinal) + 1;
+    match form {
+        Form::Report => {
+            let line = ReportLine::of_laid(graph, laid.plane, laid.shape, laid.drawing);
+            Line::copied(alloc, line.as_slice())
+        }
+        Form::Json => {
+            let text = reports::laid_line(alloc, number_of(file)?, graph, laid)?;
             Ok(Line::of(text))
         }
     }

@@ -4,19 +4,23 @@ ghost use Rattle.std.proofs.Props.{props};
 ghost use Rattle.entries.specs.Answers.{Answers};
 ghost use Rattle.entries.specs.declared.entry.Entry.{Entry};
 ghost use Rattle.lanes.specs.Opening.{IsPlacedAt};
+ghost use Rattle.ortho_rep.specs.Representation.{HasDarts};
+ghost use Rattle.ortho_rep.specs.Prices.{HasPrices};
+ghost use Rattle.entries.specs.declared.answer.Answer.TheVariants.{Laid};
+ghost use Rattle.reports.specs.Outcomes.{drawing_in};
 ghost use Rattle.reports.specs.Answered.{IsAnswer};
 ghost use Rattle.printing.specs.Answered.{entry_of};
 ghost use Rattle.printing.specs.FormLines.{IsLineOf};
 ghost use Rattle.printing.specs.Spelt.{IsSpelt};
 
 use crate::line::Line;
-use crate::lines::answer_line;
+use crate::lines::{answer_line, laid_line};
 use crate::meant::Meant;
 use common::Choice;
-use entries::Answer;
+use entries::{Answer, Found};
 use lanes::Numbered;
 use planar_code::Record;
-use reports::Form;
+use reports::{Form, LaidGraph};
 use std::alloc::{AllocError, Global};
 use std::marker::PhantomData;
 use std::snapshot::Snapshot;
@@ -39,7 +43,7 @@ pub struct Printed<J: Meant> {
     /// The record. It exists only in proofs.
     pub rec: Snapshot<Record>,
     /// The answer to the record. It exists only in proofs.
-    pub answer: Snapshot<Answer>,
+    pub answer: Snapshot<Found>,
     pub meant: PhantomData<J>,
     pub ghost answers: { ∥ Answers choice rec.value answer.value ∥₁ },
     pub ghost rec_is: { IsSpelt rec.value } by { Prim.hlevel props },
@@ -81,5 +85,27 @@ pub fn answered_line(
             Ok(line) => Some(line),
             Err(AllocError) => None,
         },
+    }
+}
+
+/// The output line of a graph that is laid out; `None` if memory ran out for the line.
+///
+/// The record has this place in this file, and the line is in this format.
+pub fn laid_out_line(
+    alloc: Global,
+    form: Form,
+    file: u32,
+    ordinal: u32,
+    laid: LaidGraph<'_>,
+) -> Option<Line>
+    requires darts { HasDarts laid.plane.now laid.shape.now }
+    requires prices { HasPrices laid.plane.now laid.prices.now }
+    ensures { (entry : Entry) → entry.file ≡ file → entry.ordinal ≡ ordinal
+        → entry.answer ≡ Laid laid.entry.plane.now laid.entry.shape.now laid.entry.prices.now (drawing_in laid.entry.drawing)
+        → IsLineOf form entry result }
+{
+    match laid_line(alloc, form, file, ordinal, laid) {
+        Ok(line) => Some(line),
+        Err(AllocError) => None,
     }
 }

@@ -6,3 +6,4 @@ pub mod Json
 pub mod Writing
 pub mod Forms
 pub mod FlawlessBooks
+pub mod Outcomes

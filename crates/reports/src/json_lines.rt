@@ -6,13 +6,14 @@ ghost use Rattle.ortho_rep.specs.Prices.{HasPrices};
 ghost use Rattle.entries.specs.declared.answer.Answer.TheVariants.{NoMemory, Refused};
 ghost use Rattle.reports.specs.LineData.{answer_data, end_data, laid_data, line_of};
 ghost use Rattle.reports.specs.Adding.{tokens_of};
+ghost use Rattle.reports.specs.Outcomes.{drawing_in};
 ghost use Rattle.reports.specs.Answered.{IsAnswer};
 
 use crate::json_objects::{put_drawing, put_end, put_place, put_prices, put_shape, put_sizes};
 use crate::json_put;
-use drawing_check::Drawing;
+use crate::outcome::Outcome;
 use embedding::Rule;
-use entries::{Answer, Cause, Entry};
+use entries::{Answer, Entry};
 use faces::Plane;
 use json::Writer;
 use ortho_rep::{Prices, Shape};
@@ -75,7 +76,7 @@ pub fn answer_line(
                 plane,
                 shape,
                 prices,
-                drawing,
+                drawing: Outcome::of(drawing),
             },
         ),
         Answer::Refused(rule) => refused_line(alloc, file, graph, *rule),
@@ -122,7 +123,7 @@ pub struct LaidGraph<'a> {
     pub shape: &'a Shape,
     pub prices: &'a Prices,
     /// A drawing, or the cause why there is none.
-    pub drawing: &'a Result<Drawing, Cause>,
+    pub drawing: Outcome<'a>,
 }
 
 /// The JSON line of a graph that breaks no rule, with a newline (byte 0A) at its end.
@@ -141,7 +142,7 @@ pub fn laid_line(
     requires darts { HasDarts laid.plane.now laid.shape.now }
     requires prices { HasPrices laid.plane.now laid.prices.now }
     ensures { IfOk result (λ line.
-        line.items ≡ line_of (laid_data file graph laid.entry.plane.now laid.entry.shape.now laid.entry.prices.now laid.entry.drawing.now)) }
+        line.items ≡ line_of (laid_data file graph laid.entry.plane.now laid.entry.shape.now laid.entry.prices.now (drawing_in laid.entry.drawing))) }
 {
     let LaidGraph {
         plane,

@@ -8,13 +8,13 @@ ghost use Rattle.ortho_rep.specs.Representation.{HasDarts, bends_of};
 ghost use Rattle.ortho_rep.specs.Prices.{HasPrices};
 ghost use Rattle.reports.specs.LineData.{natural, array_of, turns_data, prices_data, points_data, drawn_data};
 ghost use Rattle.reports.specs.Adding.{member_text};
+ghost use Rattle.reports.specs.Outcomes.{drawing_in};
 
 use crate::json_arrays::{
     put_angles, put_corners, put_face_prices, put_points, put_turns, put_vertex_prices,
 };
 use crate::json_text::{bytes, natural};
-use drawing_check::Drawing;
-use entries::Cause;
+use crate::outcome::Outcome;
 use faces::Plane;
 use ortho_rep::{Points, Prices, Shape};
 use std::alloc::AllocError;
@@ -24,13 +24,13 @@ pub(crate) fn put_shape(
     out: &mut Vec<u8>,
     plane: &Plane,
     shape: &Shape,
-    drawing: &Result<Drawing, Cause>,
+    drawing: Outcome<'_>,
 ) -> Result<(), AllocError>
     requires { HasDarts plane.now shape.now }
     ensures { OnOk result (out.new.items ≡ out.old.items
         ++ 123 ∷ (member_text (codes "angles") (array_of natural shape.now.angles)
         ++ 44 ∷ (member_text (codes "bends") (natural (bends_of (length shape.now.strings) (turns_at shape.now)))
-        ++ 44 ∷ (member_text (codes "drawn") (drawn_data drawing.now)
+        ++ 44 ∷ (member_text (codes "drawn") (drawn_data (drawing_in drawing))
         ++ 44 ∷ member_text (codes "f") (natural plane.now.faces))))) }
 {
     bytes(out, b"{\"angles\":")?;
@@ -49,12 +49,12 @@ fn natural_at(out: &mut Vec<u8>, key: &[u8], number: u64) -> Result<(), AllocErr
 }
 
 /// Appends whether there is a drawing, or the word of the cause.
-fn put_drawn(out: &mut Vec<u8>, drawing: &Result<Drawing, Cause>) -> Result<(), AllocError>
-    ensures { OnOk result (out.new.items ≡ out.old.items ++ 44 ∷ member_text (codes "drawn") (drawn_data drawing.now)) }
+fn put_drawn(out: &mut Vec<u8>, drawing: Outcome<'_>) -> Result<(), AllocError>
+    ensures { OnOk result (out.new.items ≡ out.old.items ++ 44 ∷ member_text (codes "drawn") (drawn_data (drawing_in drawing))) }
 {
     match drawing {
-        Ok(_) => bytes(out, b",\"drawn\":\"yes\""),
-        Err(cause) => {
+        Outcome::Drawn(_) => bytes(out, b",\"drawn\":\"yes\""),
+        Outcome::Undrawn(cause) => {
             bytes(out, b",\"drawn\":\"")?;
             bytes(out, cause.word().as_bytes())?;
             bytes(out, b"\"")
@@ -84,13 +84,13 @@ pub(crate) fn put_sizes(out: &mut Vec<u8>, plane: &Plane) -> Result<(), AllocErr
 pub(crate) fn put_drawing(
     out: &mut Vec<u8>,
     edges: u16,
-    drawing: &Result<Drawing, Cause>,
+    drawing: Outcome<'_>,
 ) -> Result<(), AllocError>
-    ensures { OnOk result (out.new.items ≡ out.old.items ++ 44 ∷ member_text (codes "points") (points_data edges drawing.now)) }
+    ensures { OnOk result (out.new.items ≡ out.old.items ++ 44 ∷ member_text (codes "points") (points_data edges (drawing_in drawing))) }
 {
     match drawing {
-        Ok(drawing) => put_drawn_points(out, edges, drawing.points()),
-        Err(_) => bytes(out, b",\"points\":null"),
+        Outcome::Drawn(points) => put_drawn_points(out, edges, points),
+        Outcome::Undrawn(_) => bytes(out, b",\"points\":null"),
     }
 }
 

@@ -1,11 +1,14 @@
 //! The content of the lines of a report.
 ghost use Rattle.std.specs.Prelude.{◌≡◌, ◌+◌, ◌≤◌, ◌++◌, length};
 ghost use Rattle.reports.specs.Report.{file_line, end_line, graph_line, answer_text, sizes_text, drawn_text, cause_text};
+ghost use Rattle.ortho_rep.specs.Prices.{PricesModel};
+ghost use Rattle.entries.specs.declared.answer.Answer.TheVariants.{Laid};
+ghost use Rattle.reports.specs.Outcomes.{drawing_in};
 ghost use Rattle.reports.specs.declared.line.TheConstants.{LONGEST};
 ghost use Rattle.reports.specs.declared.words.TheConstants.{ANSWER, SIZES, DRAWN};
 
 use crate::line::ReportLine;
-use drawing_check::Drawing;
+use crate::outcome::Outcome;
 use entries::{Answer, Cause};
 use faces::Plane;
 use ortho_rep::Shape;
@@ -44,6 +47,20 @@ impl ReportLine {
         line
     }
 
+    /// The line of the graph with this number, which is laid out.
+    pub fn of_laid(number: u64, plane: &Plane, shape: &Shape, drawing: Outcome<'_>) -> ReportLine
+        ensures { (prices : PricesModel) → result ≡ graph_line number (Laid plane.now shape.now prices (drawing_in drawing)) }
+    {
+        let mut line = ReportLine::new();
+        line.push(b"graph ");
+        line.push_number(number);
+        line.push(b" ok");
+        line.push_sizes(plane, shape);
+        line.push_drawn(drawing);
+        line.push(b"\n");
+        line
+    }
+
     /// The last line of a file in a report: its mark, and the number of entries.
     pub fn of_end(mark: Mark, count: u64) -> ReportLine
         ensures { result ≡ end_line mark count }
@@ -72,7 +89,7 @@ impl ReportLine {
             } => {
                 self.push(b" ok");
                 self.push_sizes(plane, shape);
-                self.push_drawn(drawing);
+                self.push_drawn(Outcome::of(drawing));
             }
             Answer::Refused(rule) => {
                 self.push(b" refused ");
@@ -99,14 +116,14 @@ impl ReportLine {
     }
 
     /// Appends whether there is a drawing.
-    fn push_drawn(&mut self, drawing: &Result<Drawing, Cause>)
+    fn push_drawn(&mut self, drawing: Outcome<'_>)
         requires { length self.old + DRAWN ≤ LONGEST }
-        ensures text { self.new ≡ self.old ++ drawn_text drawing.now }
+        ensures text { self.new ≡ self.old ++ drawn_text (drawing_in drawing) }
         ensures short { length self.new ≤ length self.old + DRAWN }
     {
         match drawing {
-            Ok(_) => self.push(b" drawn=yes"),
-            Err(cause) => self.push_cause(*cause),
+            Outcome::Drawn(_) => self.push(b" drawn=yes"),
+            Outcome::Undrawn(cause) => self.push_cause(*cause),
         }
     }
 

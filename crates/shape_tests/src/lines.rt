@@ -7,7 +7,7 @@ use drawing_check::{Drawing, check};
 use entries::Cause;
 use faces::Plane;
 use ortho_rep::{Point, Points, Shape, certify, is_shape};
-use reports::{LaidGraph, end_line, laid_line};
+use reports::{LaidGraph, Outcome, end_line, laid_line};
 use std::alloc::{AllocError, Global};
 use std::process::Abort;
 
@@ -68,7 +68,7 @@ fn triangle_line(
         plane,
         shape,
         prices: &prices,
-        drawing,
+        drawing: Outcome::of(drawing),
     };
     laid_line(alloc, 3, 7, laid).ok()
 }
