@@ -74,15 +74,6 @@ all_along w k constraints x along keeps = record {
   across = along.across x keeps;
 }
 
--- before the first dart there are no constraints
-pub none_along : (w : DartMap) (k : ℕ) → AreAlong w k 0 []
-none_along w k = record {
-  inside = All-nil (λ g. (g.from < w.vertices) × (g.to < w.vertices) × (g.least ≤ 1));
-  forward = λ x keeps a below. absurd (omega (arith, below));
-  across = λ x keeps a below. absurd (omega (arith, below));
-  no_more = λ x keeps. All-nil (λ g. x g.from + g.least ≤ x g.to);
-}
-
 -- a constraint was found: the dart runs forward or across
 pub constraint_found : (direction k least : ℕ) (found : Option ℕ) → (direction ≡ k → found ≡ Some 1) → (direction ≡ k + 2 → found ≡ None) →
     (direction ≢ k → direction ≢ k + 2 → found ≡ Some 0) → found ≡ Some least →

@@ -116,7 +116,7 @@ fn neighbours_along(around: &[u32], axis: Axis) -> Neighbours<'_>
 
 /// Coordinates that are nowhere above any that grow along the darts of an axis: the lengths of longest
 /// paths, found segment by segment, in the buffer of a list. `around` has the neighbours of each
-/// vertex. Linear in the vertices.
+/// vertex. Linear in the vertices, if all faces are boxes.
 fn low_along(
     boxes: &Boxes,
     around: &[u32],

@@ -65,7 +65,8 @@ impl<'a> Neighbours<'a> {
 /// A stack of the first vertices of segments that are still to come. The first vertex of a segment has no neighbour to
 /// its right.
 ///
-/// Time alone depends on what it holds: whatever that is, coordinates are raised along arcs alone.
+/// Time and the coordinates depend on what it holds. Whatever that is, no coordinate goes above any that grow along the
+/// arcs.
 #[derive(Drop)]
 struct SegmentStack<'a> {
     firsts: &'a mut [u32],
@@ -187,7 +188,7 @@ fn place_segment(
 /// Raises coordinates, all of them 0 at first, to the lengths of longest paths, segment by segment in a topological order.
 ///
 /// Segments wait in `stack`, which has a place for each vertex. The first one of all is looked for from the vertex
-/// `begin` on. Linear in the vertices.
+/// `begin` on. Linear in the vertices, if all faces are boxes.
 pub fn raise_to_longest_paths(
     stack: &mut [u32],
     neighbours: Neighbours<'_>,

@@ -115,7 +115,7 @@ pub fn check_in(
     }
 }
 
-/// The first condition that fails, or want of memory. The directions of darts are in a short list if that is enough.
+/// The first condition that fails, or that memory ran out. The directions of darts are in a short list if that is enough.
 fn find_fault(
     alloc: Global,
     scratch: &mut Scratch,

@@ -17,7 +17,7 @@ seen_at frontier level = slice_index_or frontier level none_seen
 abbrev pub IsMet : ℕ → List LastSeen → Type 0
 IsMet count frontier = (level : ℕ) → (seen_at frontier level).segment ≤ count
 
--- both segments of the pair are among the first so many
+-- both segments of the pair are below a count
 pub record IsPair (count : ℕ) (sight : Sight) : Type 0 where
   pub before : sight.before < count
   pub behind : sight.behind < count

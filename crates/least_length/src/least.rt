@@ -100,8 +100,8 @@ pub fn find_shorter(
     Ok(measure(wires, coordinates.as_slice()) < measure_own(segments, wires))
 }
 
-/// Computes coordinates and weights in balance; false if there are too many segments or pairs, or if a wire has an end
-/// that is no segment or a level above all segments.
+/// Computes coordinates and weights in balance; false if there are too many segments or pairs, if a wire has an end that
+/// is no segment or a level above all segments, or if the search fails.
 fn balance(scratch: &mut Scratch, segments: &[Segment], wires: &[Wire]) -> Result<bool, AllocError>
     requires { length wires.now ≤ MAX_WIRES }
     ensures { IfOk result (λ found. found ≡ true → ((i : ℕ) → i < length wires.now → HasEnds segments.now (wire_at wires.now i))) }

@@ -136,7 +136,8 @@ impl Pulling {
         Ok(())
     }
 
-    /// Sends units that pull a segment up to others, until no more pull it up than down; returns whether that succeeds.
+    /// Sends units that pull a segment up to others, until no more pull it up than down, or `MAX_PULLS` have gone;
+    /// returns false if one cannot be sent.
     fn relieve(&mut self, root: u16) -> Result<bool, AllocError>
         requires ready { IsReady self.old }
         requires root { root < vec_len self.old.coordinates }
@@ -154,8 +155,8 @@ impl Pulling {
         Ok(true)
     }
 
-    /// Sends units that pull a segment up along pairs to one that is pulled down; returns whether there is one. If no
-    /// pair leads on, all segments reached move up together until one does.
+    /// Sends units that pull a segment up along pairs to one that is pulled down; returns false if there is none, or a
+    /// weight has no room. If no pair leads on, all segments reached move up together until one does.
     fn send(&mut self, root: u16) -> Result<bool, AllocError>
         requires ready { IsReady self.old }
         requires root { root < vec_len self.old.coordinates }

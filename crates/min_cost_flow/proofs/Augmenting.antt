@@ -144,9 +144,6 @@ still_costs r r' k units j z s h =
       | inr ne ↦ s.costs j ne ∙ h ∙ ap (λ (t : ℕ). cond (eqb t 0) (z +ℤ SATURATED) z) (sym (s.others j ne))
     ]
 
-pub still_unit_cost : (r r' : Residual) (k units j : ℕ) → IsSetTo r r' k units → HasUnitCost r j → HasUnitCost r' j
-still_unit_cost r r' k units j s (z, low, high, costed) = (z, low, high, still_costs r r' k units j z s costed)
-
 -- ---- what a push keeps
 
 moved_fits : (a b a' b' m k : ℕ) → a + b ≡ k → a' + m ≡ a → b' ≡ b + m → a' + b' ≡ k
@@ -173,23 +170,6 @@ pushed_fits net first reverse forward capacity capacity' arcs i j b k amount l f
           λ c. s.others (number_of reverse forward j c) (λ h. ne (l.alone j i c b inside' inside (h ∙ sym e)).0) (λ h. ne (l.alone j i c (opposite b) inside' inside (h ∙ back)).0) in
           omega (arith, same false, same true, f.fits j inside')
     ]
-
--- less fits along residual arc k, and as much more along its reverse
-pub pushed_along : (r r' r'' : Residual) (k amount less more : ℕ) → k ≢ reverse_at r.capacities.items k → IsSetTo r r' k less → IsSetTo r' r'' (reverse_at r.capacities.items k) more → less + amount ≡ capacity_at r.capacities.items k → more ≡ capacity_at r'.capacities.items (reverse_at r.capacities.items k) + amount → IsPushedAlong r r'' k amount
-pushed_along r r' r'' k amount less more ne one two le me =
-    let back = reverse_at r.capacities.items k in
-    record {
-      first = two.first ∙ one.first;
-      forward = two.forward ∙ one.forward;
-      arc_size = two.arc_size ∙ one.arc_size;
-      capacities_size = two.capacities_size ∙ one.capacities_size;
-      ends = λ j. two.end j ∙ one.end j;
-      reverse = λ j. two.reverse j ∙ one.reverse j;
-      costs = λ j z h. still_costs r' r'' back more j z two (still_costs r r' k less j z one h);
-      less = ap (λ (t : ℕ). t + amount) (two.others k ne ∙ one.here) ∙ le;
-      more = two.here ∙ me ∙ ap (λ (t : ℕ). t + amount) (one.others back (λ h. ne (sym h)));
-      others = λ j x y. two.others j y ∙ one.others j x;
-    }
 
 pub was_pushed : (r r' : Residual) (k amount : ℕ) → IsPushedAlong r r' k amount → IsPushed (reverse_at r.capacities.items) (capacity_at r.capacities.items) (capacity_at r'.capacities.items) k amount
 was_pushed r r' k amount s = record { less = s.less; more = s.more; others = s.others }
@@ -604,6 +584,3 @@ lesser_short a k z h x = omega (arith, ints)
 
 pub few_remaining : (z : ℤ) (k : ℕ) → pos k ≤ℤ z → z ≤ℤ pos 2048 → k ≤ 2048
 few_remaining z k h m = omega (arith, ints)
-
-pub root_apart : (e : ℕ → ℤ) (u v : ℕ) → pos 0 <ℤ e u → e v <ℤ pos 0 → u ≢ v
-root_apart e u v a b h = not_want (e u) (e v) (ap e h) a b

@@ -151,9 +151,6 @@ under_down (negsuc n) h = omega (arith, ints)
 apart : (z : ℤ) → pos 0 <ℤ z → z <ℤ pos 0 → ⊥
 apart z a b = omega (arith, ints)
 
-still_over : (z y : ℤ) → y ≡ z -ℤ pos 1 → pos 0 <ℤ y → pos 0 <ℤ z
-still_over z y e h = omega (arith, ints)
-
 -- one unit from u, where something is left over, to v, where something is wanting
 record IsUnit (net : NetworkModel) (e d f : ℕ → ℤ) (u v : ℕ) : Type 0 where
   root : u < node_count net

@@ -26,9 +26,6 @@ nothing : (f : Bool) (x : ℕ) → x ≡ 0 → cond f x 0 ≡ 0
 nothing true x h = h
 nothing false x h = refl
 
-clash : (z : ℤ) → pos 0 <ℤ z → z ≤ℤ pos 0 → ⊥
-clash z a b = omega (arith, ints)
-
 -- where nothing is left over, and something is wanting, there is no flow
 pub no_flow_wanting : (net : NetworkModel) (x : ℕ → ℕ) (e : ℕ → ℤ) (u : ℕ) → HasEnds net → HasExcess net x e → ((v : ℕ) → v < node_count net → e v ≤ℤ pos 0) → u < node_count net → e u <ℤ pos 0 → HasNoFlow net
 no_flow_wanting net x e u ends lv none ub w =

@@ -420,13 +420,6 @@ moved_more p p₀ p' q order j bound put done i b =
       | inr ne ↦ put.others (order i) ne ∙ done i (below_other order i j b ne)
     ]
 
-pub cleared_more : (p p' : ℕ → ℤ) (order : ℕ → ℕ) (j : ℕ) → IsPut p p' (order j) far → ((i : ℕ) → i < j → p (order i) ≡ far) → ((i : ℕ) → i < j + 1 → p' (order i) ≡ far)
-cleared_more p p' order j put done i b =
-    elim (cases_eq (order i) (order j)) [
-      | inl t ↦ subst (λ (v : ℕ). p' v ≡ far) (sym t) put.here
-      | inr ne ↦ put.others (order i) ne ∙ done i (below_other order i j b ne)
-    ]
-
 pub cleared_stays : (p p' : ℕ → ℤ) (u v : ℕ) → IsPut p p' u far → p v ≡ far → p' v ≡ far
 cleared_stays p p' u v put h =
     elim (cases_eq v u) [

@@ -12,10 +12,6 @@ pub concatenated_more : (chunks : List (Vec ℕ Global)) (chunk : Vec ℕ Global
 concatenated_more chunks chunk =
     flat_map-append (λ (p : Vec ℕ Global). p.items) chunks (chunk ∷ []) ∙ ap (λ l. concatenated chunks ++ l) (append-nil chunk.items)
 
--- no text goes on its way
-pub goes_none : (now : Option (List ℕ)) (waits : List ℕ) → GoesOn now waits now waits []
-goes_none now waits start text way = subst (λ l. IsInTransit start now waits l) (sym (append-nil text)) way
-
 -- one text and then another
 pub goes_both : (old mid new : Option (List ℕ)) (waited between waits first next : List ℕ)
     → GoesOn old waited mid between first → GoesOn mid between new waits next → GoesOn old waited new waits (first ++ next)

@@ -20,9 +20,6 @@ use Rattle.printing.proofs.Moving.{marked_next, ended_more}
 abbrev pub Longer : List ℕ → List ℕ → Type 0
 Longer whole text = (more : List ℕ) × (whole ≡ text ++ more)
 
-longer_both : (a b c : List ℕ) → Longer a b → Longer b c → Longer a c
-longer_both a b c p q = (q.0 ++ p.0, p.1 ∙ ap (λ l. l ++ p.0) q.1 ∙ append_assoc c q.0 p.0)
-
 pub appends_longer : (start now : Option (List ℕ)) (whole text : List ℕ) → Longer whole text → AppendsPrefix start now text → AppendsPrefix start now whole
 appends_longer start now whole text longer added =
     (added.0, added.1 ++ longer.0, longer.1 ∙ ap (λ l. l ++ longer.0) added.2 ∙ append_assoc added.0 added.1 longer.0, added.3)
@@ -79,11 +76,6 @@ pub partial_flushed : (form : Form) (start now new : Option (List ℕ)) (buffer 
 partial_flushed form start now new buffer current waiting came put was =
     partial_way form start now new buffer current waiting came
     (λ text way. (way.sent ++ put.0, put.1, way.split ∙ ap (λ l. way.sent ++ l) put.2 ∙ sym (append_assoc way.sent put.0 put.1), added_both start now new way.sent put.0 way.added put.3)) was
-
-pub partial_left : (form : Form) (start now : Option (List ℕ)) (buffer : List ℕ) (current : ℕ) (waiting : List Waiting) (came : ℕ → Came)
-    → AreRemaining form start now buffer current waiting came → IsPartialText form start now (length waiting) came
-partial_left form start now buffer current waiting came was =
-    partial_at form start now came current (length waiting) was.within was.marked (way_front start now buffer _ was.text)
 
 -- where a line of the current file was to go on its way
 pub partial_line : (form : Form) (start old new : Option (List ℕ)) (buffer : List ℕ) (current : ℕ) (waiting : List Waiting) (came next : ℕ → Came) (entry : Entry) (line : List ℕ)

@@ -11,18 +11,6 @@ pub some_waiting : (xs : List Waiting) (k : ℕ) → k < length xs → Waiting
 some_waiting [] k below = absurd (let none : ⊥ = omega (arith, below) in none)
 some_waiting (x ∷ xs) k below = x
 
--- one of them was set
-pub changes_set : (xs : List Waiting) (file : ℕ) (change : Waiting → Waiting → Type 0) (w w' : Waiting) → file < length xs → w ≡ get_or xs file w → change w w'
-    → ChangesAt file change xs (set xs file w')
-changes_set xs file change w w' below is changed = record {
-  count = length-set xs file w';
-  here = λ other.
-      let old : w ≡ get_or xs file other = is ∙ get_or_default xs file w other below in
-      subst (λ v. change v (get_or (set xs file w') file other)) old
-      (subst (change w) (sym (get_or-set_same xs file w' other below)) changed);
-  others = λ k other apart. get_or-set_other xs file k w' other apart;
-}
-
 -- one change and then another
 pub changes_both : (xs ys zs : List Waiting) (file : ℕ) (first next both : Waiting → Waiting → Type 0) → ((u v w : Waiting) → first u v → next v w → both u w)
     → ChangesAt file first xs ys → ChangesAt file next ys zs → ChangesAt file both xs zs

@@ -43,10 +43,6 @@ module _ {A : Type 0} (text : ℕ → A → List ℕ) where
   pub texts-all : (xs : List A) (i : ℕ) → length xs ≤ i → numbered_texts text 1 (take i xs) ≡ numbered_texts text 1 xs
   texts-all xs i past = ap (numbered_texts text 1) (take_all i xs past)
 
--- nothing was written
-pub stays_none : (old : Option (List ℕ)) (waited : List ℕ) (failed : Bool) (a : Unit {0}) → failed ≡ false → StaysInTransit old waited old waited failed [] (Ok a)
-stays_none old waited failed a whole = (whole, λ start text way. subst (IsInTransit start old waited) (sym (append-nil text)) way)
-
 -- one text was written whole, and then another
 pub stays_both : (old mid new : Option (List ℕ)) (waited between waits : List ℕ) (was failed : Bool) (more next whole : List ℕ) (a : Unit {0}) (r : Result (Unit {0}) WriteFault)
     → StaysInTransit old waited mid between was more (Ok a) → StaysInTransit mid between new waits failed next r → more ++ next ≡ whole

@@ -6,7 +6,7 @@ use std::thread;
 /// How often each turn of a wait yields: on a shared machine a thread may be away for a million yields.
 const YIELDS: u32 = 16;
 
-/// Waits until a counter is at least so much, and notes where a million turns were too few.
+/// Waits until a counter is at least `least`; sets `ran_out` if a million turns were too few.
 pub fn wait_for_count(counter: &AtomicU32, least: u32, ran_out: &AtomicBool) {
     for _ in 0..1_000_000 {
         if counter.load(Ordering::SeqCst) >= least {
