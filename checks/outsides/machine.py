@@ -39,7 +39,7 @@ MEMORY, THREAD = "planarbend: out of memory\n", "planarbend: cannot start a thre
 LOST = "planarbend: internal error: a worker thread disconnected\n"
 WRITE = "planarbend: cannot write output: {}\n"  # with the reason, as the system has it
 FULL = WRITE.format("No space left on device")
-TWICE = ("error: standard input, the file '-', can be read only once, and is named twice\n\n"
+TWICE = ("error: '-' (standard input) may be given only once\n\n"
          "Usage: planarbend <COMMAND>\n\nFor more information, try '--help'.\n")
 
 Event = tuple[int, str]  # the number of a file, and a line of its report; of JSON Lines that of the same report

@@ -292,7 +292,7 @@ fn take_check<'a>(alloc: Global, program: Command<'a>) -> Result<Command<'a>, Al
 fn describe_program<'a>(alloc: Global) -> Result<Command<'a>, AllocError> {
     Command::new(alloc, "planarbend")
         .bin_name("planarbend")?
-        .about("Draws embedded planar graphs in planar_code with the fewest bends")
+        .about("Draw embedded planar graphs in planar_code with the fewest bends")
         .after_help(HELP)
         .no_binary_name(true)
         .subcommand_required(true)
@@ -303,15 +303,13 @@ fn describe_program<'a>(alloc: Global) -> Result<Command<'a>, AllocError> {
 fn version_option<'a>(alloc: Global) -> Arg<'a> {
     Arg::new(alloc, "version")
         .long("version")
-        .help("Prints the version, and the toolchain that the program is proved with")
+        .help("Print the version, and the toolchain that proved the program")
         .action(ArgAction::SetTrue)
 }
 
 fn describe_layout<'a>(alloc: Global) -> Result<Command<'a>, AllocError> {
     let layout = Command::new(alloc, "layout")
-        .about(
-            "Prints for each graph of planar_code files its fewest bends and whether it is drawn",
-        )
+        .about("Lay out the graphs of planar_code files, and print a line for each")
         .after_help(LAYOUT_HELP);
     take_texts(alloc, take_drawings(alloc, take_lanes(alloc, layout)?)?)
 }
@@ -401,7 +399,7 @@ fn describe_frames<'a>(alloc: Global) -> Result<Command<'a>, AllocError> {
         .required(true)
         .action(ArgAction::Set);
     Command::new(alloc, "frames")
-        .about("Prints a line for each record of a planar_code file, and how the file ends")
+        .about("Print a line for each record of a planar_code file, and how the file ends")
         .after_help(FRAMES_HELP)
         .arg(file)
 }
@@ -409,7 +407,7 @@ fn describe_frames<'a>(alloc: Global) -> Result<Command<'a>, AllocError> {
 fn describe_check<'a>(alloc: Global) -> Result<Command<'a>, AllocError> {
     let check = Command::new(alloc, "check")
         .about(
-            "Checks drawings of the graphs of a planar_code file, and prints their bends and the fewest",
+            "Check drawings of the graphs of a planar_code file, and print their bends and the fewest possible",
         )
         .after_help(CHECK_HELP);
     take_checked_files(alloc, take_check_options(alloc, check)?)
@@ -464,7 +462,7 @@ const GREATEST_WAITING: u32 = 65_536;
 const DRAWING_ALONE: &str = "--drawing needs --json: the report has no drawings";
 
 /// The error message for standard input named twice.
-const INPUT_TWICE: &str = "standard input, the file '-', can be read only once, and is named twice";
+const INPUT_TWICE: &str = "'-' (standard input) may be given only once";
 
 /// The values of `--outer`.
 const OUTER: &[&str] = &["first", "best"];
@@ -486,7 +484,7 @@ prints
   end complete graphs=2
 and from a generator
   geng -c -D4 8 | planarg -p | planarbend layout -
-With --json there is a line for each graph and each file's end, and each is a JSON object.
+With --json, each line is a JSON object: one for each graph, and one for each file's end.
 Exit status: 0 if every file was complete and every graph answered, otherwise 3.";
 
 const FRAMES_HELP: &str = "Example:

@@ -191,8 +191,7 @@ fn reads_either_file_from_standard_input(rt: HostRuntime) {
     check_on(&rt, &[GOOD], &LINES_FROM_INPUT);
 }
 
-const TWICE: &str =
-    "error: standard input, the file '-', can be read only once, and is named twice\n";
+const TWICE: &str = "error: '-' (standard input) may be given only once\n";
 
 /// Command lines that are refused, and a part of the message for each.
 const REFUSED: [(&str, &str); 14] = [

@@ -108,8 +108,7 @@ fn reads_standard_input_beside_files(rt: HostRuntime) {
     }
 }
 
-const TWICE: &str =
-    "error: standard input, the file '-', can be read only once, and is named twice\n";
+const TWICE: &str = "error: '-' (standard input) may be given only once\n";
 
 const READ_TWICE: [(&str, &str); 5] = [
     ("layout - -", TWICE),
