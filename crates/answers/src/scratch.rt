@@ -6,8 +6,8 @@ use crate::drawing::DrawScratch;
 use crate::fault::ShapeFault;
 use crate::holder::{Holder, Shell};
 use crate::shaping::{Passages, ShapeScratch};
-use crate::spent::ReturnQueue;
 use faces::Plane;
+use lanes::ReturnQueue;
 use std::alloc::{AllocError, Global};
 use std::sync::Wait;
 
@@ -76,7 +76,7 @@ impl StageScratch {
     ///
     /// `AllocError` if there is no memory for the channels by which holders return.
     pub fn new(alloc: Global, capacity: u32) -> Result<StageScratch, AllocError> {
-        let room = capacity as usize + 3;
+        let room = capacity as usize + 35;
         let (planes, spent_planes) = ReturnQueue::new(alloc, room)?;
         let (shaped_planes, spent_shaped_planes) = ReturnQueue::new(alloc, room)?;
         let mut embed = EmbedScratch::empty(alloc);

@@ -6,9 +6,12 @@ ghost use Rattle.lanes.specs.declared.message.Message.TheVariants.{Stop};
 ghost use Rattle.lanes.specs.Notes.{notes, GoOn};
 ghost use Rattle.lanes.specs.Stages.{IsHandedOn};
 
+use crate::bench::Bench;
+use crate::filling::Filling;
 use crate::gate::Gate;
 use crate::message::Message;
-use crate::numbered::{Numbered, Staged};
+use crate::numbered::Staged;
+use crate::outlet::Outlet;
 use ruled_lanes::{LaneGiver, Taker};
 use std::alloc::Global;
 use std::sync::Wait;
@@ -23,7 +26,7 @@ pub fn run_last_stage<A: Staged, M: Drop, R: Wait, G: Gate>(
     rt: &R,
     alloc: Global,
     gate: &G,
-    mut scratch: A::Scratch,
+    scratch: A::Scratch,
     mut taker: Taker<Message<A, M>>,
     giver: &mut LaneGiver<Message<A::Next, M>>,
 ) -> Option<Taker<Message<A, M>>>
@@ -35,17 +38,28 @@ pub fn run_last_stage<A: Staged, M: Drop, R: Wait, G: Gate>(
     ensures handed_on { IfSome result (λ took. IsHandedOn A.about A.Next.about (taken took) (given_at giver.new ++ Stop ∷ [])) }
 {
     let lane = giver.lane();
+    let mut bench = Bench::<A, R, G> {
+        rt,
+        alloc,
+        gate,
+        lane,
+        scratch,
+        filling: Filling::new(alloc),
+    };
     for _ in rt.forever() {
         match taker.take(rt) {
             Ok(Message::Item(item)) => {
-                gate.pass(lane, A::STAGE, item.ordinal());
-                A::exchange(rt, &mut scratch);
-                match giver.give(rt, Message::Item(item.work(alloc, &mut scratch))) {
+                let next = bench.work_on(item);
+                match giver.tell(rt, Message::Item(next)) {
                     Ok(()) => {}
                     Err(_) => return None,
                 }
             }
-            Ok(Message::End(file, mark, known)) => match giver.give(
+            Ok(Message::Items(batch)) => match bench.pass_on(batch, giver) {
+                Ok(()) => {}
+                Err(_) => return None,
+            },
+            Ok(Message::End(file, mark, known)) => match giver.tell(
                 rt,
                 Message::End(file, mark, known),
             ) {

@@ -3,9 +3,12 @@ ghost use Rattle.std.specs.Prelude.{◌≡◌, [], IfSome};
 ghost use Rattle.ruled_lanes.specs.LinkEnds.{given, taken};
 ghost use Rattle.lanes.specs.Stages.{HandedOnAll};
 
+use crate::bench::Bench;
+use crate::filling::Filling;
 use crate::gate::Gate;
 use crate::message::Message;
-use crate::numbered::{Numbered, Staged};
+use crate::numbered::Staged;
+use crate::outlet::Outlet;
 use ruled_lanes::{Giver, Taker};
 use std::alloc::Global;
 use std::sync::Wait;
@@ -34,25 +37,36 @@ pub fn run_stage<A: Staged, M: Drop, R: Wait, G: Gate>(
     requires none_given { given giver ≡ [] }
     ensures { IfSome result (λ ends. HandedOnAll A.about A.Next.about taker giver ends.0 ends.1) }
 {
-    let StageWork { lane, mut scratch } = work;
+    let StageWork { lane, scratch } = work;
+    let mut bench = Bench::<A, R, G> {
+        rt,
+        alloc,
+        gate,
+        lane,
+        scratch,
+        filling: Filling::new(alloc),
+    };
     for _ in rt.forever() {
         match taker.take(rt) {
             Ok(Message::Item(item)) => {
-                gate.pass(lane, A::STAGE, item.ordinal());
-                A::exchange(rt, &mut scratch);
-                match giver.give(rt, Message::Item(item.work(alloc, &mut scratch))) {
+                let next = bench.work_on(item);
+                match giver.tell(rt, Message::Item(next)) {
                     Ok(()) => {}
                     Err(_) => return None,
                 }
             }
-            Ok(Message::End(file, mark, known)) => match giver.give(
+            Ok(Message::Items(batch)) => match bench.pass_on(batch, &mut giver) {
+                Ok(()) => {}
+                Err(_) => return None,
+            },
+            Ok(Message::End(file, mark, known)) => match giver.tell(
                 rt,
                 Message::End(file, mark, known),
             ) {
                 Ok(()) => {}
                 Err(_) => return None,
             },
-            Ok(Message::Stop) => match giver.give(rt, Message::Stop) {
+            Ok(Message::Stop) => match giver.tell(rt, Message::Stop) {
                 Ok(()) => return Some((taker, giver)),
                 Err(_) => return None,
             },
