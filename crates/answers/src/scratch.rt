@@ -7,7 +7,7 @@ use crate::fault::ShapeFault;
 use crate::holder::{Holder, Shell};
 use crate::shaping::{Passages, ShapeScratch};
 use faces::Plane;
-use lanes::ReturnQueue;
+use lanes::{MOST_IN_LISTS, ReturnQueue};
 use std::alloc::{AllocError, Global};
 use std::sync::Wait;
 
@@ -70,13 +70,13 @@ pub struct StageScratch {
 impl StageScratch {
     /// The scratch of a lane whose links have room for `capacity` messages.
     ///
-    /// A holder is in transit in one link, in use in a stage, or on its return.
+    /// A holder is in transit in one link, alone or in a list, in use in a stage, or on its return.
     ///
     /// # Errors
     ///
     /// `AllocError` if there is no memory for the channels by which holders return.
     pub fn new(alloc: Global, capacity: u32) -> Result<StageScratch, AllocError> {
-        let room = capacity as usize + 35;
+        let room = capacity as usize + MOST_IN_LISTS + 3;
         let (planes, spent_planes) = ReturnQueue::new(alloc, room)?;
         let (shaped_planes, spent_shaped_planes) = ReturnQueue::new(alloc, room)?;
         let mut embed = EmbedScratch::empty(alloc);

@@ -17,6 +17,9 @@ pub const MOST_ITEMS: usize = 16;
 /// The number of lists that a stage fills in turn.
 const LISTS: usize = 4;
 
+/// The maximum number of items of a stage that are in lists, in messages of several or in those being filled.
+pub const MOST_IN_LISTS: usize = LISTS * MOST_ITEMS;
+
 /// The items that the next message of a stage takes along, and the lists of earlier messages that have returned.
 ///
 /// A stage fills a few lists in turn, so that the records that wait in messages of several are no more than those in a
@@ -133,8 +136,11 @@ impl<T: Numbered> Filling<T> {
             return Some(list);
         }
         if self.made < LISTS {
+            let Ok(list) = Vec::with_capacity(self.alloc, MOST_ITEMS) else {
+                return None;
+            };
             self.made += 1;
-            return Vec::with_capacity(self.alloc, MOST_ITEMS).ok();
+            return Some(list);
         }
         self.home.await_item(rt)
     }

@@ -18,10 +18,10 @@ use std::sync::Wait;
 
 /// Runs the last stage of a lane until the stop; returns the receiving end, or `None` if another end was gone.
 ///
-/// For each message of the stage before, in order, it gives one at its lane: a record with the work of this stage done,
-/// or an end unchanged. It does not give the stop: that is left to the caller. Before it works on a record it passes
-/// the gate and exchanges lists with other stages; all records use one scratch. `None` if the other end of its link or
-/// the gatherer was gone.
+/// It gives the records and the ends of the stage before at its lane, in order: records with the work of this stage
+/// done, and ends unchanged. The records of a message are given once the work is done on all of them. It does not give
+/// the stop: that is left to the caller. Before it works on a record it passes the gate and exchanges lists with other
+/// stages; all records use one scratch. `None` if the other end of its link or the gatherer was gone.
 pub fn run_last_stage<A: Staged, M: Drop, R: Wait, G: Gate>(
     rt: &R,
     alloc: Global,

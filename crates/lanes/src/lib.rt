@@ -1,6 +1,6 @@
-//! The stages of a lane, which is a pipeline. The first reads files and gives a message for each record and one for
-//! each mark; each later stage takes the messages of the one before it and gives one for each. The calling thread
-//! gathers the messages of the last stages and passes them to a consumer.
+//! The stages of a lane, which is a pipeline. The first reads files and gives messages of their records and one for
+//! each mark; each later stage takes the messages of the one before it, works on their records and gives them on. The
+//! calling thread gathers the messages of the last stages and passes them to a consumer.
 #![tactic(auto)]
 
 mod batch;
@@ -28,7 +28,7 @@ mod stage;
 pub use batch::Batch;
 pub use consumer::Consumer;
 pub use drafts::{Draft, Drafts};
-pub use filling::{Filling, MOST_ITEMS};
+pub use filling::{Filling, MOST_IN_LISTS, MOST_ITEMS};
 pub use gate::{Gate, OpenGate, Stage};
 pub use gathering::{GatherFault, gather};
 pub use keep::Keep;

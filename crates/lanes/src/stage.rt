@@ -22,9 +22,9 @@ pub struct StageWork<A: Staged> {
 
 /// Runs a middle stage of a lane until the stop; returns both its ends, or `None` if another end was gone.
 ///
-/// For each message of the stage before, in order, it gives one: a record with the work of this stage done, an end or
-/// the stop unchanged. Before it works on a record it passes the gate and exchanges lists with other stages. `None` if
-/// the other end of a link was gone.
+/// It gives what the stage before gives, in order: records with the work of this stage done, and the ends and the stop
+/// unchanged. The records of a message are given once the work is done on all of them. Before it works on a record it
+/// passes the gate and exchanges lists with other stages. `None` if the other end of a link was gone.
 pub fn run_stage<A: Staged, M: Drop, R: Wait, G: Gate>(
     rt: &R,
     alloc: Global,

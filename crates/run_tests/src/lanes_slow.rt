@@ -4,42 +4,27 @@ ghost use Rattle.std.specs.Prelude.{◌≡◌, ◌≤◌};
 ghost use Rattle.ruled_lanes.specs.declared.limits.TheConstants.{MAX_CAPACITY};
 ghost use Rattle.lanes.specs.Opening.{Silent};
 
-use crate::held::YIELDS;
-use crate::reported::{QUICK, same};
-use crate::waiting::{EDGE, HEADER, tell_file};
+use crate::printing_pauses::tell_file;
+use crate::reported::QUICK;
 use collector::{Choice, Gate, IoSink, MemTap, OpenFault, Opener, Stage, Tap, TapFault};
 use commands::write_batch;
 use std::alloc::{AllocError, Global};
 use std::process::Abort;
 use std::sync::Wait;
 use std::sync::atomic::{AtomicBool, AtomicU32, Ordering};
-use std::thread;
 use std::thread::Threads;
 use streams::MAX_CAPACITY;
+use test_tools::records::{EDGE, HEADER};
+use test_tools::{same, wait_for_count};
 
 /// The number of records of the file.
 const RECORDS: u32 = 200;
 
-/// Counts the records that are drawn.
+/// Counts the records that are drawn, and notes whether a read waited for one too long.
 #[derive(Drop)]
 struct Drawn {
     count: AtomicU32,
     ran_out: AtomicBool,
-}
-
-impl Drawn {
-    /// Waits until so many records are drawn, and notes where a million turns were too few.
-    fn wait_for(&self, records: u32) {
-        for _ in 0..1_000_000 {
-            if self.count.load(Ordering::SeqCst) >= records {
-                return;
-            }
-            for _ in 0..YIELDS {
-                thread::yield_now();
-            }
-        }
-        self.ran_out.store(true, Ordering::SeqCst);
-    }
 }
 
 impl Gate for Drawn {
@@ -50,7 +35,7 @@ impl Gate for Drawn {
     }
 }
 
-/// A file of edges. Before each read it waits until the records are drawn that it gave whole.
+/// A file of edges. Before each read it waits until all records that it gave whole are being drawn.
 #[derive(Drop)]
 struct SlowTap<'d> {
     drawn: &'d Drawn,
@@ -65,8 +50,8 @@ impl Tap for SlowTap<'_> {
 
     fn read(&mut self, buf: &mut [u8]) -> Result<usize, TapFault> {
         let whole = self.gave.saturating_sub(HEADER.len()) / EDGE.len();
-        self.drawn
-            .wait_for(u32::try_from(whole).unwrap_or(u32::MAX));
+        let least = u32::try_from(whole).unwrap_or(u32::MAX);
+        wait_for_count(&self.drawn.count, least, &self.drawn.ran_out);
         let count = self.tap.read(buf)?;
         self.gave = self.gave.saturating_add(count);
         Ok(count)
@@ -106,7 +91,7 @@ impl<'d> Opener for Slow<'d> {
     }
 }
 
-/// A run over the file, of which a read gives so many bytes, writes its report, and no read waits too long.
+/// A run over the file, each read of which gives at most so many bytes, writes its report, and no read waits too long.
 fn check<R: AllocGlobal + Threads + Wait + Sync + Abort>(rt: &R, most: usize, capacity: u32)
     requires { (1 ≤ capacity) × (capacity ≤ MAX_CAPACITY) }
 {
@@ -133,11 +118,11 @@ fn check<R: AllocGlobal + Threads + Wait + Sync + Abort>(rt: &R, most: usize, ca
         &drawn,
         &mut sink,
     );
-    same(rt, ended, Ok(0));
-    same(rt, drawn.ran_out.load(Ordering::SeqCst), false);
+    same!(rt, ended, Ok(0));
+    same!(rt, drawn.ran_out.load(Ordering::SeqCst), false);
     let mut report = String::new(alloc);
     tell_file(&mut report, 1, RECORDS).expect(rt, "memory");
-    same(rt, sink.into_writer().as_slice(), report.as_bytes());
+    same!(rt, sink.into_writer().as_slice(), report.as_bytes());
 }
 
 /// No record is kept back while its source is awaited, whether a read completes none, one, some or more than a message
