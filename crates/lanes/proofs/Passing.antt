@@ -1,11 +1,11 @@
 -- More messages of a stage.
-use Rattle.std.proofs.Common.{◌≡◌, ℕ, List, [], ◌∷◌, ◌++◌, map, refl, sym, ap, subst, ◌∙◌, append_assoc, append-nil}
+use Rattle.std.proofs.Common.{◌≡◌, ℕ, List, [], ◌∷◌, ◌++◌, refl, sym, ap, subst, ◌∙◌, append_assoc, append-nil}
 use Rattle.std.proofs.lemmas.List.{map-append}
 use Rattle.streams.specs.declared.frames.Mark.{Mark}
 use Rattle.lanes.specs.declared.message.Message.{Message}
 use Rattle.lanes.specs.declared.message.Message.TheVariants as message
 use Rattle.lanes.specs.declared.batch.Batch.{Batch}
-use Rattle.lanes.specs.Notes.{About, Note, Item, End, Stop, notes_of_items, notes_of, notes, GoOn, IsStopped}
+use Rattle.lanes.specs.Notes.{About, Note, Item, End, Stop, notes_of_items, notes_of, notes, GoOn}
 
 -- notes without a stop
 pub going_both : (xs ys : List Note) → GoOn xs → GoOn ys → GoOn (xs ++ ys)
@@ -51,11 +51,6 @@ module _ {A M : Type 0} where
       → after ≡ before ++ m ∷ [] → m ≡ message.End file mark known → GoOn (notes about after)
   goes_end about before after m file mark known on more is = goes_on about before after m on more (subst (λ x. GoOn (notes_of about x)) (sym is) tt)
 
-  pub stops : (about : A → About) (before after : List (Message A M)) (m : Message A M) → GoOn (notes about before)
-      → after ≡ before ++ m ∷ [] → m ≡ message.Stop → IsStopped (notes about after)
-  stops about before after m on more is =
-      (notes about before, notes-after about before after m more ∙ ap (λ x. notes about before ++ notes_of about x) is, on)
-
 module _ {A B M : Type 0} where
   -- a message was taken, and what it tells was given
   pub passed_on : (about : A → About) (next_about : B → About) (took took' : List (Message A M)) (gave gave' : List (Message B M)) (x : Message A M) (ns : List Note)
@@ -63,13 +58,6 @@ module _ {A B M : Type 0} where
       → notes next_about gave' ≡ notes about took'
   passed_on about next_about took took' gave gave' x ns same more_taken more_given told =
       more_given ∙ ap (λ l. l ++ ns) same ∙ ap (λ l. notes about took ++ l) told ∙ sym (notes-after about took took' x more_taken)
-
-  -- one message was taken and one given that tells the same
-  pub passed_one : (about : A → About) (next_about : B → About) (took took' : List (Message A M)) (gave gave' : List (Message B M)) (x : Message A M) (y : Message B M)
-      → notes next_about gave ≡ notes about took → took' ≡ took ++ x ∷ [] → gave' ≡ gave ++ y ∷ [] → notes_of next_about y ≡ notes_of about x
-      → notes next_about gave' ≡ notes about took'
-  passed_one about next_about took took' gave gave' x y same more_taken more_given told =
-      passed_on about next_about took took' gave gave' x (notes_of next_about y) same more_taken (notes-after next_about gave gave' y more_given) told
 
 module _ {A B : Type 0} where
   -- the work was done on one record more, which waits or was given
@@ -85,25 +73,6 @@ module _ {A B : Type 0} where
       ∙ ap (λ a. start ++ (notes_of_items about done ++ Item a ∷ [])) same
       ∙ ap (λ l. start ++ l) (sym (items-more about done item))
 
-module _ {A : Type 0} where
-  -- one item more waits
-  pub waits_more : (about : A → About) (gave : List Note) (before after : List A) (item : A) → after ≡ before ++ item ∷ []
-      → gave ++ notes_of_items about after ≡ gave ++ notes_of_items about before ++ Item (about item) ∷ []
-  waits_more about gave before after item more =
-      ap (λ l. gave ++ notes_of_items about l) more ∙ ap (λ l. gave ++ l) (items-more about before item)
-      ∙ sym (append_assoc gave (notes_of_items about before) (Item (about item) ∷ []))
-
-  -- all that waited was given, and then one item more
-  pub gives_more : (about : A → About) (gave gave' gave'' : List Note) (waited left : List A) (item other : A) → gave' ≡ gave ++ notes_of_items about waited → left ≡ []
-      → gave'' ≡ gave' ++ Item (about other) ∷ [] → other ≡ item
-      → gave'' ++ notes_of_items about left ≡ gave ++ notes_of_items about waited ++ Item (about item) ∷ []
-  gives_more about gave gave' gave'' waited left item other all none more same =
-      ap (λ l. gave'' ++ notes_of_items about l) none ∙ append-nil gave'' ∙ more ∙ ap (λ l. l ++ Item (about other) ∷ []) all
-      ∙ ap (λ x. gave ++ notes_of_items about waited ++ Item (about x) ∷ []) same
-
 -- what is told goes on where what is added does
 pub going_told : (before after more : List Note) → after ≡ before ++ more → GoOn more → GoOn before → GoOn after
 going_told before after more is goes on = subst GoOn (sym is) (going_both before more on goes)
-
-pub going_still : (before after : List Note) → after ≡ before → GoOn before → GoOn after
-going_still before after same on = subst GoOn (sym same) on
