@@ -19,7 +19,6 @@ mod scratch;
 mod shaped;
 mod shaped_plane;
 mod shaping;
-mod spent;
 mod stages;
 mod state;
 mod task;

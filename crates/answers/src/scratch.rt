@@ -6,8 +6,8 @@ use crate::drawing::DrawScratch;
 use crate::fault::ShapeFault;
 use crate::holder::{Holder, Shell};
 use crate::shaping::{Passages, ShapeScratch};
-use crate::spent::ReturnQueue;
 use faces::Plane;
+use lanes::{MOST_IN_LISTS, ReturnQueue};
 use std::alloc::{AllocError, Global};
 use std::sync::Wait;
 
@@ -70,13 +70,13 @@ pub struct StageScratch {
 impl StageScratch {
     /// The scratch of a lane whose links have room for `capacity` messages.
     ///
-    /// A holder is in transit in one link, in use in a stage, or on its return.
+    /// A holder is in transit in one link, alone or in a list, in use in a stage, or on its return.
     ///
     /// # Errors
     ///
     /// `AllocError` if there is no memory for the channels by which holders return.
     pub fn new(alloc: Global, capacity: u32) -> Result<StageScratch, AllocError> {
-        let room = capacity as usize + 3;
+        let room = capacity as usize + MOST_IN_LISTS + 3;
         let (planes, spent_planes) = ReturnQueue::new(alloc, room)?;
         let (shaped_planes, spent_shaped_planes) = ReturnQueue::new(alloc, room)?;
         let mut embed = EmbedScratch::empty(alloc);

@@ -37,6 +37,10 @@ impl Keep for Entries {
         Ok(())
     }
 
+    fn pass_on(&mut self) -> Result<(), AllocError> {
+        Ok(())
+    }
+
     ghost accepts_on = { λ _ _ _ _ _ _ _. tt };
 
     ghost stays_itself = { λ _. tt };

@@ -1,7 +1,7 @@
 -- What was taken of all lanes, in whatever order, tells each file that one lane drew.
 use Rattle.std.proofs.Common.{◌≡◌, ◌≢◌, ℕ, zero, suc, ◌+◌, ◌-◌, ◌==◌, ◌<◌, ◌≤◌, Bool, true, false, cond, List, [], ◌∷◌, ◌++◌, map, filter, length, All, inl, inr, refl, sym, ap, subst, ◌∙◌, arith}
 use Rattle.std.proofs.lemmas.Bool.{cases_eq, cases_lt, eq-eqb, ne_eqb}
-use Rattle.std.proofs.lemmas.List.Elements.{All-nil, All-cons, All-head, All-tail}
+use Rattle.std.proofs.lemmas.List.Elements.{filter-append, All-nil, All-cons, All-head, All-tail}
 use Rattle.common.specs.declared.choice.Choice.{Choice}
 use Rattle.ruled_lanes.specs.declared.limits.TheConstants.{LANES}
 use Rattle.ruled_lanes.specs.declared.fan_ends.LaneGiver.{LaneGiver}
@@ -13,11 +13,12 @@ use Rattle.ruled_lanes.specs.FanEnds.{lane_of, given_at, SettlesFan}
 use Rattle.ruled_lanes.specs.TicketProtocol.{times}
 use Rattle.ruled_lanes.specs.TicketSeats.{all_drawn}
 use Rattle.lanes.specs.declared.message.Message.{Message}
-use Rattle.lanes.specs.Notes.{About, Note, note, notes, is_of, of_file}
+use Rattle.lanes.specs.Notes.{About, Note, notes_of, notes, is_of, of_file}
 use Rattle.lanes.specs.Opening.{Meaning}
 use Rattle.lanes.specs.Files.{HasFile, HasDrawn}
 use Rattle.lanes.specs.Fans.{HasStop, untagged, HaveStopped}
-use Rattle.lanes.proofs.Dealing.{notes-append, stop_last}
+use Rattle.lanes.proofs.Passing.{notes-append}
+use Rattle.lanes.proofs.Dealing.{stop_last}
 use Rattle.lane_runs.specs.Running.{AreNumbered, IsIdle, HaveRun}
 use Rattle.lane_runs.proofs.Telling.{file_as, nothing_drawn}
 use Rattle.lane_runs.proofs.Seats.{drawn_at, drawn_past, one_drew}
@@ -26,10 +27,9 @@ no_parts : {X : Type 0} (xs ys : List X) → xs ++ ys ≡ [] → xs ≡ []
 no_parts [] ys e = refl
 no_parts (x ∷ xs) ys e = absurd (cc)
 
--- a choice of a longer or a shorter list that is empty
-chosen_none : (b : Bool) (n : Note) (ns : List Note) → cond b (n ∷ ns) ns ≡ [] → (b ≡ false) × (ns ≡ [])
-chosen_none true n ns e = absurd (omega (arith, ap length e))
-chosen_none false n ns e = (refl, e)
+no_rest : {X : Type 0} (xs ys : List X) → xs ++ ys ≡ [] → ys ≡ []
+no_rest [] ys e = e
+no_rest (x ∷ xs) ys e = absurd (cc)
 
 module _ {T : Type 0} where
   -- the items of a lane, where one more stands first
@@ -47,17 +47,18 @@ module _ {E M : Type 0} (about : E → About) where
       → of_file file (notes about (untagged items)) ≡ of_file file (notes about (of_lane one items))
   one_lane file one [] none = refl
   one_lane file one (x ∷ items) none =
-      let n : Note = note about x.1 in
+      let ns : List Note = notes_of about x.1 in
       let told : List (Message E M) → List Note = λ ms. of_file file (notes about ms) in
+      let parts : (ms : List (Message E M)) → told (x.1 ∷ ms) ≡ of_file file ns ++ told ms = λ ms. filter-append (is_of file) ns (notes about ms) in
       let others : (lane : ℕ) → lane ≢ one → x.0 ≢ lane → told (of_lane lane items) ≡ [] = λ lane apart away. ap told (sym (lane_other lane x items away)) ∙ none lane apart in
       elim (cases_eq x.0 one) [
-        | inl here ↦ ap (λ l. cond (is_of file n) (n ∷ l) l) (one_lane file one items (λ lane apart. others lane apart (λ e. apart (sym e ∙ here))))
-            ∙ ap told (sym (lane_mine one x items here))
-        | inr away ↦ (let silent = chosen_none (is_of file n) n (told (of_lane x.0 items)) (ap told (sym (lane_mine x.0 x items refl)) ∙ none x.0 away) in
-            ap (λ b. cond b (n ∷ told (untagged items)) (told (untagged items))) silent.0
+        | inl here ↦ parts (untagged items) ∙ ap (λ l. of_file file ns ++ l) (one_lane file one items (λ lane apart. others lane apart (λ e. apart (sym e ∙ here))))
+            ∙ sym (parts (of_lane one items)) ∙ ap told (sym (lane_mine one x items here))
+        | inr away ↦ (let silent : of_file file ns ++ told (of_lane x.0 items) ≡ [] = sym (parts (of_lane x.0 items)) ∙ ap told (sym (lane_mine x.0 x items refl)) ∙ none x.0 away in
+            parts (untagged items) ∙ ap (λ l. l ++ told (untagged items)) (no_parts (of_file file ns) (told (of_lane x.0 items)) silent)
             ∙ one_lane file one items (λ lane apart.
             elim (cases_eq x.0 lane) [
-              | inl same ↦ subst (λ k. told (of_lane k items) ≡ []) same silent.1
+              | inl same ↦ subst (λ k. told (of_lane k items) ≡ []) same (no_rest (of_file file ns) (told (of_lane x.0 items)) silent)
               | inr other ↦ others lane apart other
             ])
             ∙ ap told (sym (lane_other one x items away)))

@@ -8,6 +8,8 @@ use Rattle.common.specs.declared.choice.Choice.{Choice}
 use Rattle.lanes.specs.Notes.{About, Note, is_of, of_file, file_notes, numbered, GoOn, IsStopped, Item, End, Stop}
 use Rattle.lanes.specs.Opening.{Meaning}
 use Rattle.ruled_lanes.specs.TicketProtocol.{times}
+use Rattle.lanes.proofs.Passing.{going_both}
+use Rattle.lanes.specs.Keeping.{KeepsFile}
 use Rattle.lanes.specs.Files.{HasFile, HasDrawn}
 use Rattle.lane_runs.specs.Lanes.{HasTold, TellsFile}
 
@@ -29,12 +31,6 @@ of_other choice other file ordinal (bytes ∷ records) mark apart =
     ap (λ b. cond b (first ∷ of_file other rest) (of_file other rest)) (ne_eqb file other apart) ∙ of_other choice other file (ordinal + 1) records mark apart
 
 -- notes that go on
-going_both : (xs ys : List Note) → GoOn xs → GoOn ys → GoOn (xs ++ ys)
-going_both [] ys on ons = ons
-going_both (Item _ ∷ xs) ys on ons = going_both xs ys on ons
-going_both (End _ _ ∷ xs) ys on ons = going_both xs ys on ons
-going_both (Stop ∷ xs) ys on ons = absurd on
-
 going_file : (xs : List About) (file : ℕ) (mark : Mark) → GoOn (map Item xs ++ End file mark ∷ [])
 going_file [] file mark = tt
 going_file (x ∷ xs) file mark = going_file xs file mark
@@ -113,3 +109,13 @@ told_all choice meaning drawn drawn' ns after told drew more =
         others = λ k none. same k ∙ told.told.others k (sym (ap (times k) drew) ∙ none);
       },
     )
+
+-- what is kept of a file, from notes that are the same
+pub keeps_as : (choice : Choice) (meaning : Meaning) (file : ℕ) (before before' after after' : List Note) (count : ℕ) (mark : Mark) → before' ≡ before → after ≡ after'
+    → KeepsFile choice meaning file before' after' count mark → KeepsFile choice meaning file before after count mark
+keeps_as choice meaning file before before' after after' count mark was is keeps = record {
+  records = keeps.records;
+  counted = keeps.counted;
+  kept = is ∙ keeps.kept ∙ ap (λ l. l ++ map Item (numbered choice file 0 keeps.records)) was;
+  found = keeps.found;
+}

@@ -1,14 +1,14 @@
 //! The first stage of a lane.
-ghost use Rattle.std.specs.Prelude.{◌<◌, IfSome, OnOk, length, vec_len};
+ghost use Rattle.std.specs.Prelude.{◌≡◌, ◌<◌, [], IfSome, OnOk, length, vec_len};
 ghost use Rattle.ruled_lanes.specs.LinkEnds.{given, GivesToSame};
 ghost use Rattle.lanes.specs.Notes.{notes};
 ghost use Rattle.lane_runs.specs.Lanes.{ReadsSeat, StartsToRead, TellsFile};
 ghost use Rattle.lane_runs.specs.Accepting.{AcceptsAll};
 
 use crate::lane_kind::LaneKind;
-use crate::record_giver::{Gone, RecordGiver};
+use crate::record_giver::RecordGiver;
 use crate::shared::Shared;
-use lanes::{Gate, Message, Numbered, Opener, read_file};
+use lanes::{Filling, Gate, Gone, MOST_ITEMS, Message, Numbered, Opener, read_file};
 use ruled_lanes::{Giver, Seat};
 use std::sync::Wait;
 
@@ -49,6 +49,9 @@ impl<R: Wait, O: Opener, G: Gate, L: LaneKind> Shared<'_, R, O, G, L> {
             kind: self.kind,
             lane,
             giver,
+            filling: Filling::new(self.run.alloc),
+            bytes: 0,
+            most: MOST_ITEMS.min(self.run.capacity as usize),
         };
         for _ in self.run.rt.forever() {
             let Some(file) = self.tickets.draw(&mut seat) else {
@@ -73,15 +76,20 @@ impl<R: Wait, O: Opener, G: Gate, L: LaneKind> Shared<'_, R, O, G, L> {
         gives: &mut RecordGiver<'_, R, G, L>,
     ) -> Result<(), Gone>
         requires room { 0 < length buffer.old }
+        requires none { gives.old.filling.items.items ≡ [] }
         requires accepts { AcceptsAll L.accepts L.ends (O.meaning self.now.run.now.opener.now) }
         ensures told { OnOk result (TellsFile self.now.run.now.choice (O.meaning self.now.run.now.opener.now file) file
             (notes L.Framed.about (given gives.old.giver)) (notes L.Framed.about (given gives.new.giver))) }
+        ensures none { OnOk result (gives.new.filling.items.items ≡ []) }
         ensures same { GivesToSame gives.old.giver gives.new.giver }
     {
         let run = self.run;
         let end = match read_file(run.opener, run.alloc, file, run.choice, buffer, gives) {
             Ok(end) => end,
             Err(gone) => return Err(gone),
+        };
+        let Ok(()) = gives.give_all() else {
+            return Err(Gone);
         };
         let mark = end.mark;
         let known = self.kind.end(file, end);

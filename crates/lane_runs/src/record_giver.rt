@@ -1,21 +1,23 @@
 //! The messages by which the first stage of a lane gives its records.
+ghost use Rattle.std.specs.Prelude.{◌≡◌, ◌++◌, [], OnOk};
 ghost use Rattle.std.proofs.Common.{refl, ◌∙◌};
 ghost use Rattle.ruled_lanes.specs.LinkEnds.{given, GivesToSame};
-ghost use Rattle.lanes.specs.Notes.{notes};
+ghost use Rattle.lanes.specs.Notes.{notes, notes_of_items};
 
 use crate::lane_kind::LaneKind;
 use common::Choice;
-use lanes::{Gate, Keep, Message, Stage};
+use lanes::{Filling, Gate, Gone, Keep, Message, Stage};
 use planar_code::Record;
 use ruled_lanes::Giver;
 use std::alloc::Global;
 use std::sync::Wait;
 
-/// The error that the other end of a link was gone.
-#[derive(Clone, Copy, Debug)]
-pub struct Gone;
+/// The number of bytes of records from which on a message takes no more.
+const MOST_BYTES: usize = 4096;
 
-/// A `Keep` that passes the gate and gives a message for each record.
+/// A `Keep` that passes the gate for each record, and gives messages of several.
+///
+/// No record waits for the next read of its file.
 #[derive(Drop)]
 pub struct RecordGiver<'s, R, G, L: LaneKind> {
     pub rt: &'s R,
@@ -23,12 +25,18 @@ pub struct RecordGiver<'s, R, G, L: LaneKind> {
     pub kind: &'s L,
     pub lane: u32,
     pub giver: Giver<Message<L::Framed, L::End>>,
+    /// The records of the next message.
+    pub filling: Filling<L::Framed>,
+    /// The number of their bytes.
+    pub bytes: usize,
+    /// The maximum number of records in a message.
+    pub most: usize,
 }
 
 impl<R: Wait, G: Gate, L: LaneKind> Keep for RecordGiver<'_, R, G, L> {
     type Refusal = Gone;
 
-    ghost kept = { λ g. notes L.Framed.about (given g.giver) };
+    ghost kept = { λ g. notes L.Framed.about (given g.giver) ++ notes_of_items L.Framed.about g.filling.items.items };
 
     ghost stays = { λ a b. GivesToSame a.giver b.giver };
 
@@ -43,10 +51,25 @@ impl<R: Wait, G: Gate, L: LaneKind> Keep for RecordGiver<'_, R, G, L> {
         choice: Choice,
     ) -> Result<(), Gone> {
         self.gate.pass(self.lane, Stage::Read, ordinal);
-        let item = Message::Item(self.kind.framed(file, ordinal, rec, choice));
-        match self.giver.give(self.rt, item) {
+        self.bytes = self.bytes.saturating_add(rec.bytes().len());
+        let item = self.kind.framed(file, ordinal, rec, choice);
+        match self.filling.add(self.rt, &mut self.giver, item) {
+            Ok(()) => {}
+            Err(gone) => return Err(gone),
+        }
+        if self.filling.items.len() < self.most && self.bytes < MOST_BYTES {
+            return Ok(());
+        }
+        match self.give_all() {
             Ok(()) => Ok(()),
-            Err(_) => Err(Gone),
+            Err(gone) => Err(gone),
+        }
+    }
+
+    fn pass_on(&mut self) -> Result<(), Gone> {
+        match self.give_all() {
+            Ok(()) => Ok(()),
+            Err(gone) => Err(gone),
         }
     }
 
@@ -55,4 +78,20 @@ impl<R: Wait, G: Gate, L: LaneKind> Keep for RecordGiver<'_, R, G, L> {
     ghost stays_itself = { λ x. refl };
 
     ghost stays_on = { λ x y z p q. q ∙ p };
+}
+
+impl<R: Wait, G: Gate, L: LaneKind> RecordGiver<'_, R, G, L> {
+    /// Gives the records that are not given yet.
+    pub fn give_all(&mut self) -> Result<(), Gone>
+        ensures told { OnOk result (notes L.Framed.about (given self.new.giver)
+            ≡ notes L.Framed.about (given self.old.giver) ++ notes_of_items L.Framed.about self.old.filling.items.items) }
+        ensures none { OnOk result (self.new.filling.items.items ≡ []) }
+        ensures same { GivesToSame self.old.giver self.new.giver }
+    {
+        self.bytes = 0;
+        match self.filling.give(self.rt, &mut self.giver) {
+            Ok(()) => Ok(()),
+            Err(gone) => Err(gone),
+        }
+    }
 }

@@ -1,7 +1,6 @@
 -- Records that a file's reader may be handed.
-use Rattle.std.proofs.Common.{◌≡◌, ℕ, ◌+◌, List, ◌∷◌, ◌++◌, Option, None, Some, Ok, length, sym, ap, ◌∙◌, subst}
+use Rattle.std.proofs.Common.{◌≡◌, ℕ, ◌+◌, List, ◌∷◌, ◌++◌, Option, Ok, length, sym, ap, ◌∙◌, subst}
 use Rattle.std.specs.Prelude.{Bool}
-use Rattle.planar_code.specs.Split.{IsSplit}
 use Rattle.streams.specs.Placing.{IsPlaced, EachAt}
 use Rattle.streams.proofs.Placed.{each_at}
 use Rattle.lanes.specs.Opening.{Meaning, Silent, Unopened, Opened, Opens, IsPlacedAt}

@@ -5,12 +5,13 @@ use Rattle.streams.specs.declared.frames.Mark.{Mark}
 use Rattle.common.specs.declared.choice.Choice.{Choice}
 use Rattle.lanes.specs.declared.message.Message.{Message}
 use Rattle.lanes.specs.declared.drafts.Draft.{Draft}
-use Rattle.lanes.specs.Notes.{About, Note, note, notes, numbered, GoOn, IsStopped, Item, End, Stop}
+use Rattle.lanes.specs.Notes.{About, Note, notes, numbered, GoOn, IsStopped, Item, End, Stop}
 use Rattle.lanes.specs.Opening.{Meaning}
 use Rattle.lanes.specs.Stages.{IsHandedOn}
 use Rattle.lanes.specs.Drafts.{abouts, mark_after, IsDraft, AreDrafts}
 use Rattle.lanes.specs.Files.{HasFile, HasDrawn, TellsDrawn, IsWholeDraft, AreReady}
 use Rattle.lanes.specs.Fans.{HasStop}
+use Rattle.lanes.proofs.Passing.{notes-append}
 
 -- a message's kind as a number
 abbrev kind : Note → ℕ
@@ -52,10 +53,6 @@ pub stopped_has : (ns : List Note) → IsStopped ns → HasStop ns
 stopped_has ns (front, is, on) = (front, [], is)
 
 module _ {A M : Type 0} where
-  pub notes-append : (about : A → About) (xs ys : List (Message A M)) → notes about (xs ++ ys) ≡ notes about xs ++ notes about ys
-  notes-append about [] ys = refl
-  notes-append about (x ∷ xs) ys = ap (λ l. note about x ∷ l) (notes-append about xs ys)
-
   -- over a link
   pub link_passed : (about : A → About) (taken given : List (Message A M)) → Settles taken given → IsStopped (notes about taken) → IsStopped (notes about given)
       → notes about taken ≡ notes about given

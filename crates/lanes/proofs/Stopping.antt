@@ -1,5 +1,5 @@
 -- One message more of a fan.
-use Rattle.std.proofs.Common.{◌≡◌, ◌⊎◌, ℕ, zero, suc, ◌<◌, Bool, true, false, cond, List, [], ◌∷◌, ◌++◌, map, length, replicate, inl, inr, refl, sym, ap, subst, ◌∙◌, arith, append_assoc}
+use Rattle.std.proofs.Common.{◌≡◌, ◌⊎◌, ℕ, zero, suc, ◌<◌, Bool, true, false, cond, List, [], ◌∷◌, ◌++◌, map, length, replicate, inl, inr, refl, sym, ap, subst, ◌∙◌, arith, append-nil, append_assoc}
 use Rattle.std.specs.Prelude.{slice_index_or}
 use Rattle.std.specs.List.{AllWithin}
 use Rattle.std.proofs.lemmas.Bool.{eq-eqb, false≢true}
@@ -9,9 +9,9 @@ use Rattle.ruled_lanes.specs.FanProtocol.{of_lane}
 use Rattle.ruled_lanes.proofs.Fans.{of_lane-append}
 use Rattle.lanes.specs.declared.message.Message.{Message}
 use Rattle.lanes.specs.declared.message.Message.TheVariants as message
-use Rattle.lanes.specs.Notes.{About, Note, Stop, note, notes}
+use Rattle.lanes.specs.Notes.{About, Note, Stop, notes_of, notes}
 use Rattle.lanes.specs.Fans.{HasStop, untagged, HaveStopped, AreStops}
-use Rattle.lanes.proofs.Dealing.{notes-append}
+use Rattle.lanes.proofs.Passing.{notes-append}
 
 -- a stop stays
 stop_stays : (ns ms : List Note) → HasStop ns → HasStop (ns ++ ms)
@@ -51,7 +51,7 @@ module _ {T M : Type 0} where
         [],
         lane_parts about lane before after x more
             ∙ ap (λ l. notes about (of_lane lane before) ++ notes about l) (ap (λ t. map f (cond t (x ∷ []) [])) (eq-eqb x.0 lane (sym mine)))
-            ∙ ap (λ m. notes about (of_lane lane before) ++ note about m ∷ []) stop,
+            ∙ ap (λ m. notes about (of_lane lane before) ++ notes about (m ∷ [])) stop,
       )
 
   -- what is noted of stops, after one message more
@@ -72,12 +72,12 @@ module _ {T M : Type 0} where
   none_noted about items n = λ lane is. absurd (none_true n lane is)
 
   -- the notes of one message more, whatever its lane
-  pub told_more : (about : T → About) (before after : List (ℕ × Message T M)) (x : ℕ × Message T M) (n : Note)
-      → after ≡ before ++ x ∷ [] → note about x.1 ≡ n → notes about (untagged after) ≡ notes about (untagged before) ++ n ∷ []
-  told_more about before after x n more is =
+  pub told_more : (about : T → About) (before after : List (ℕ × Message T M)) (x : ℕ × Message T M) (ns : List Note)
+      → after ≡ before ++ x ∷ [] → notes_of about x.1 ≡ ns → notes about (untagged after) ≡ notes about (untagged before) ++ ns
+  told_more about before after x ns more is =
       let f : ℕ × Message T M → Message T M = λ y. y.1 in
       ap (λ l. notes about (untagged l)) more ∙ ap (notes about) (map-append f before (x ∷ [])) ∙ notes-append about (untagged before) (x.1 ∷ [])
-      ∙ ap (λ m. notes about (untagged before) ++ m ∷ []) is
+      ∙ ap (λ l. notes about (untagged before) ++ l) (append-nil (notes_of about x.1) ∙ is)
 
   -- where no lane is left, each has stopped
   pub all_stopped : (about : T → About) (items : List (ℕ × Message T M)) (Passes : Bool → Type 0) → (Passes false → ⊥) → (stops : List Bool) (lanes : ℕ) → length stops ≡ lanes

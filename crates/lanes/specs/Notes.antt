@@ -1,5 +1,5 @@
 -- The content of the messages of a lane: which record each is about, which file has ended, and the stop.
-use Rattle.std.specs.Prelude.{◌≡◌, ℕ, ◌+◌, ◌==◌, Bool, false, List, [], ◌∷◌, ◌++◌, map, ⊤}
+use Rattle.std.specs.Prelude.{◌≡◌, ℕ, ◌+◌, ◌==◌, Bool, false, List, [], ◌∷◌, ◌++◌, map, flat_map, ⊤}
 use Rattle.std.specs.List.{filter}
 use Rattle.streams.specs.declared.frames.Mark.{Mark}
 use Rattle.common.specs.declared.choice.Choice.{Choice}
@@ -19,15 +19,21 @@ pub data Note : Type 0 where
   End : ℕ → Mark → Note
   Stop : Note
 
-module _ {A M : Type 0} where
-  -- the content of a message, if `about` says which record an item is about
-  abbrev pub note : (A → About) → Message A M → Note
-  note about (message.Item item) = Item (about item)
-  note about (message.End file mark known) = End file mark
-  note about message.Stop = Stop
+-- the records of these items, in order, if `about` says which record an item is about
+abbrev pub notes_of_items : {A : Type 0} → (A → About) → List A → List Note
+notes_of_items {A} about items = map (λ (item : A). Item (about item)) items
 
+module _ {A M : Type 0} where
+  -- the content of a message: its records in order, or one end, or the stop
+  abbrev pub notes_of : (A → About) → Message A M → List Note
+  notes_of about (message.Item item) = Item (about item) ∷ []
+  notes_of about (message.Items batch) = notes_of_items about batch.items.items
+  notes_of about (message.End file mark known) = End file mark ∷ []
+  notes_of about message.Stop = Stop ∷ []
+
+  -- the content of messages, in order
   abbrev pub notes : (A → About) → List (Message A M) → List Note
-  notes about messages = map (note about) messages
+  notes about messages = flat_map (notes_of about) messages
 
 -- the records of a file under one choice, the first of which has this place there
 abbrev pub numbered : Choice → ℕ → ℕ → List (List ℕ) → List About

@@ -7,7 +7,7 @@ use Rattle.lanes.specs.declared.message.Message.{Message}
 use Rattle.lanes.specs.Notes.{About, notes, IsStopped}
 
 module _ {A B M : Type 0} where
-  -- one message was given for each that was taken, about the same and in order, up to one stop
+  -- what was given is about the same as what was taken, in order, up to one stop
   pub record IsHandedOn (about : A → About) (next_about : B → About) (took : List (Message A M)) (gave : List (Message B M)) : Type 0 where
     pub same : notes next_about gave ≡ notes about took
     pub stopped : IsStopped (notes about took)

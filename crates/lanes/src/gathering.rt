@@ -2,10 +2,11 @@
 ghost use Rattle.std.specs.Prelude.{◌≡◌, ◌⊎◌, ◌≤◌, ◌∷◌, ◌++◌, [], ℕ, List, IfOk, OnOk, IfErr, true, false, vec_len, slice_index_or};
 ghost use Rattle.ruled_lanes.specs.declared.limits.TheConstants.{LANES};
 ghost use Rattle.ruled_lanes.specs.FanEnds.{gathered, TakesFromSameFan};
-ghost use Rattle.lanes.specs.Notes.{Note, notes};
+ghost use Rattle.lanes.specs.Notes.{Note, notes, notes_of_items};
 ghost use Rattle.lanes.specs.Fans.{untagged, HaveStopped};
 ghost use Rattle.lanes.specs.Gathering.{HoldsOnGatherFault};
 
+use crate::batch::Batch;
 use crate::consumer::Consumer;
 use crate::message::Message;
 use crate::numbered::Numbered;
@@ -74,6 +75,28 @@ fn next_message<E: Numbered, M: Drop, C: Consumer<E, M>, R: Wait>(
     }
 }
 
+/// Passes several items to the consumer, in order, until it refuses one. Their list goes back.
+fn take_in<E: Numbered, M: Drop, C: Consumer<E, M>, R: Wait>(
+    rt: &R,
+    batch: Batch<E>,
+    consumer: &mut C,
+) -> Result<(), C::Refusal>
+    requires { (ns : List Note) × C.holds consumer.old ns }
+    ensures taken { OnOk result ((ns : List Note) → C.holds consumer.old ns → C.holds consumer.new (ns ++ notes_of_items E.about batch.items.items)) }
+    ensures gave_up { IfErr result (λ refusal. C.gave_up consumer.new refusal) }
+    ensures stays { C.stays consumer.old consumer.new }
+{
+    let Batch { mut items, home } = batch;
+    for item in items.drain(..) {
+        match consumer.item(item) {
+            Ok(()) => {}
+            Err(refusal) => return Err(refusal),
+        }
+    }
+    home.send(rt, items);
+    Ok(())
+}
+
 /// Passes the messages of a fan to the consumer until its first `lanes` lanes have stopped; returns the gatherer.
 ///
 /// The messages are passed on as they arrive, from whichever lane. If they arrive slowly, what is buffered in the
@@ -104,6 +127,10 @@ pub fn gather<E: Numbered, M: Drop, C: Consumer<E, M>, R: Wait>(
     for _ in rt.forever() {
         match next_message(rt, &mut gatherer, consumer, &mut patience) {
             Ok((_, Message::Item(item))) => match consumer.item(item) {
+                Ok(()) => {}
+                Err(refusal) => return Err(GatherFault::Refused(refusal)),
+            },
+            Ok((_, Message::Items(batch))) => match take_in(rt, batch, consumer) {
                 Ok(()) => {}
                 Err(refusal) => return Err(GatherFault::Refused(refusal)),
             },

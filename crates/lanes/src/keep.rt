@@ -39,6 +39,15 @@ pub trait Keep {
             ++ Item (record { file = file; ordinal = ordinal; bytes = rec; choice = choice }) ∷ []) }
         ensures stays { stays self.old self.new };
 
+    /// Called once all records were kept that one read completed, so that none waits for the next read.
+    ///
+    /// # Errors
+    ///
+    /// A reason of the implementation, as of `keep`.
+    fn pass_on(&mut self) -> Result<(), Self::Refusal>
+        ensures kept { OnOk result (kept self.new ≡ kept self.old) }
+        ensures stays { stays self.old self.new };
+
     // What it may be passed once, it may be passed later.
     ghost accepts_on: { (x y : Self) (file ordinal : ℕ) (bytes : List ℕ)
         → stays x y → accepts x file ordinal bytes → accepts y file ordinal bytes };

@@ -1,10 +1,13 @@
-//! The stages of a lane, which is a pipeline. The first reads files and gives a message for each record and one for
-//! each mark; each later stage takes the messages of the one before it and gives one for each. The calling thread
-//! gathers the messages of the last stages and passes them to a consumer.
+//! The stages of a lane, which is a pipeline. The first reads files and gives messages of their records and one for
+//! each mark; each later stage takes the messages of the one before it, works on their records and gives them on. The
+//! calling thread gathers the messages of the last stages and passes them to a consumer.
 #![tactic(auto)]
 
+mod batch;
+mod bench;
 mod consumer;
 mod drafts;
+mod filling;
 mod gate;
 mod gathering;
 mod keep;
@@ -13,15 +16,19 @@ mod mem_opener;
 mod message;
 mod numbered;
 mod opener;
+mod outlet;
 mod pauses;
 mod pausing_opener;
 mod pausing_tap;
 mod placing;
 mod reading;
+mod return_queue;
 mod stage;
 
+pub use batch::Batch;
 pub use consumer::Consumer;
 pub use drafts::{Draft, Drafts};
+pub use filling::{Filling, MOST_IN_LISTS, MOST_ITEMS};
 pub use gate::{Gate, OpenGate, Stage};
 pub use gathering::{GatherFault, gather};
 pub use keep::Keep;
@@ -30,8 +37,10 @@ pub use mem_opener::MemOpener;
 pub use message::Message;
 pub use numbered::{Numbered, Staged};
 pub use opener::{OpenFault, Opener};
+pub use outlet::{Gone, Outlet};
 pub use pauses::Pauses;
 pub use pausing_opener::PausingOpener;
 pub use pausing_tap::PausingTap;
 pub use reading::read_file;
+pub use return_queue::ReturnQueue;
 pub use stage::{StageWork, run_stage};

@@ -1,5 +1,6 @@
 //! The messages between the stages of a lane, and from the last one to the fan.
 
+use crate::batch::Batch;
 use streams::Mark;
 
 /// A message from one stage of a lane to the next, or from the last stage to the calling thread.
@@ -7,6 +8,8 @@ use streams::Mark;
 pub enum Message<T: Drop, M: Drop> {
     /// What is known so far of one record.
     Item(T),
+    /// What is known so far of several records, in order.
+    Items(Batch<T>),
     /// A file has ended with this mark, after all records read of it were given; the last field is what else is known
     /// of that end.
     End(u32, Mark, M),

@@ -43,7 +43,10 @@ impl<K: Keep> Receiver for Places<'_, K> {
             }
             ordinal += 1;
         }
-        Ok(())
+        match self.keep.pass_on() {
+            Ok(()) => Ok(()),
+            Err(refusal) => Err(refusal),
+        }
     }
 
     ghost received_none = { λ x. (same_itself x.choice x.file, keeps_none x.choice x.file (K.kept x.keep.now)) };

@@ -3,9 +3,12 @@ ghost use Rattle.std.specs.Prelude.{◌≡◌, [], IfSome};
 ghost use Rattle.ruled_lanes.specs.LinkEnds.{given, taken};
 ghost use Rattle.lanes.specs.Stages.{HandedOnAll};
 
+use crate::bench::Bench;
+use crate::filling::Filling;
 use crate::gate::Gate;
 use crate::message::Message;
-use crate::numbered::{Numbered, Staged};
+use crate::numbered::Staged;
+use crate::outlet::Outlet;
 use ruled_lanes::{Giver, Taker};
 use std::alloc::Global;
 use std::sync::Wait;
@@ -19,9 +22,9 @@ pub struct StageWork<A: Staged> {
 
 /// Runs a middle stage of a lane until the stop; returns both its ends, or `None` if another end was gone.
 ///
-/// For each message of the stage before, in order, it gives one: a record with the work of this stage done, an end or
-/// the stop unchanged. Before it works on a record it passes the gate and exchanges lists with other stages. `None` if
-/// the other end of a link was gone.
+/// It gives what the stage before gives, in order: records with the work of this stage done, and the ends and the stop
+/// unchanged. The records of a message are given once the work is done on all of them. Before it works on a record it
+/// passes the gate and exchanges lists with other stages. `None` if the other end of a link was gone.
 pub fn run_stage<A: Staged, M: Drop, R: Wait, G: Gate>(
     rt: &R,
     alloc: Global,
@@ -34,25 +37,36 @@ pub fn run_stage<A: Staged, M: Drop, R: Wait, G: Gate>(
     requires none_given { given giver ≡ [] }
     ensures { IfSome result (λ ends. HandedOnAll A.about A.Next.about taker giver ends.0 ends.1) }
 {
-    let StageWork { lane, mut scratch } = work;
+    let StageWork { lane, scratch } = work;
+    let mut bench = Bench::<A, R, G> {
+        rt,
+        alloc,
+        gate,
+        lane,
+        scratch,
+        filling: Filling::new(alloc),
+    };
     for _ in rt.forever() {
         match taker.take(rt) {
             Ok(Message::Item(item)) => {
-                gate.pass(lane, A::STAGE, item.ordinal());
-                A::exchange(rt, &mut scratch);
-                match giver.give(rt, Message::Item(item.work(alloc, &mut scratch))) {
+                let next = bench.work_on(item);
+                match giver.tell(rt, Message::Item(next)) {
                     Ok(()) => {}
                     Err(_) => return None,
                 }
             }
-            Ok(Message::End(file, mark, known)) => match giver.give(
+            Ok(Message::Items(batch)) => match bench.pass_on(batch, &mut giver) {
+                Ok(()) => {}
+                Err(_) => return None,
+            },
+            Ok(Message::End(file, mark, known)) => match giver.tell(
                 rt,
                 Message::End(file, mark, known),
             ) {
                 Ok(()) => {}
                 Err(_) => return None,
             },
-            Ok(Message::Stop) => match giver.give(rt, Message::Stop) {
+            Ok(Message::Stop) => match giver.tell(rt, Message::Stop) {
                 Ok(()) => return Some((taker, giver)),
                 Err(_) => return None,
             },

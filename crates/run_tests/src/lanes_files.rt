@@ -64,6 +64,10 @@ impl Keep for Shelf {
         })?;
         Ok(())
     }
+
+    fn pass_on(&mut self) -> Result<(), AllocError> {
+        Ok(())
+    }
 }
 
 /// Opens sources of these bytes that fail at a read, counted from 0, or finds no memory. It counts the reads.

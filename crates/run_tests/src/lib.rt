@@ -17,6 +17,8 @@ mod lanes_held;
 #[cfg(test)]
 mod lanes_lost;
 #[cfg(test)]
+mod lanes_slow;
+#[cfg(test)]
 mod printing_ahead;
 #[cfg(test)]
 mod printing_pauses;

@@ -1,6 +1,6 @@
 use mathlib.Core.Bool.{beq}
-use Rattle.std.proofs.Common.{◌≡◌, false, true≢false, ap, arith, sym, subst, ◌∙◌}
-use Rattle.lanes.specs.Notes.{note, Item, End, Stop}
+use Rattle.std.proofs.Common.{◌≡◌, ◌∷◌, [], false, true≢false, ap, arith, sym, subst, ◌∙◌}
+use Rattle.lanes.specs.Notes.{notes_of, notes_of_items, Item, End, Stop}
 use Rattle.lanes.specs.Fans.{AreStops}
 use Rattle.lanes.proofs.Stopping.{stops_more, stop_noted, all_stopped, told_more}
 use Rattle.lanes.proofs.gathering.gather.Goals as goal
@@ -13,9 +13,22 @@ loop-preserved-in-Ok-item g c =
       fan = c.next_message.ensures.fan ∙ c.loop.invariant.fan;
       stops = stops_more about _ _ _ _ c.in-Ok-default-Item.ensures.ok c.loop.invariant.stops;
       told = subst (g.C.Consumer.holds c.item.new.self)
-          (sym (told_more about _ _ _ (Item (about c.in-Ok-default-Item.item)) c.in-Ok-default-Item.ensures.ok (ap (note about) c.in-Ok-default-Item.field-0-1-is)))
+          (sym (told_more about _ _ _ (Item (about c.in-Ok-default-Item.item) ∷ []) c.in-Ok-default-Item.ensures.ok (ap (notes_of about) c.in-Ok-default-Item.field-0-1-is)))
           (c.in-Ok-item.ensures.taken _ (c.in-Ok-default-Item.ensures.kept _ c.loop.invariant.told));
       stays = g.met.C.Consumer.stays_on _ _ _ (g.met.C.Consumer.stays_on _ _ _ c.loop.invariant.stays c.next_message.ensures.stays) c.item.ensures.stays;
+    }
+
+pub loop-preserved-in-Ok-take_in : goal.loop-preserved-in-Ok-take_in
+loop-preserved-in-Ok-take_in g c =
+    let about = g.E.Numbered.about in
+    record {
+      lanes = c.loop.invariant.lanes;
+      fan = c.next_message.ensures.fan ∙ c.loop.invariant.fan;
+      stops = stops_more about _ _ _ _ c.in-Ok-default-Items.ensures.ok c.loop.invariant.stops;
+      told = subst (g.C.Consumer.holds c.take_in.new.consumer)
+          (sym (told_more about _ _ _ (notes_of_items about c.in-Ok-default-Items.batch.items.items) c.in-Ok-default-Items.ensures.ok (ap (notes_of about) c.in-Ok-default-Items.field-0-1-is)))
+          (c.in-Ok-take_in.ensures.taken _ (c.in-Ok-default-Items.ensures.kept _ c.loop.invariant.told));
+      stays = g.met.C.Consumer.stays_on _ _ _ (g.met.C.Consumer.stays_on _ _ _ c.loop.invariant.stays c.next_message.ensures.stays) c.take_in.ensures.stays;
     }
 
 pub loop-preserved-in-Ok-end : goal.loop-preserved-in-Ok-end
@@ -26,7 +39,7 @@ loop-preserved-in-Ok-end g c =
       fan = c.next_message.ensures.fan ∙ c.loop.invariant.fan;
       stops = stops_more about _ _ _ _ c.in-Ok-default-End.ensures.ok c.loop.invariant.stops;
       told = subst (g.C.Consumer.holds c.end.new.self)
-          (sym (told_more about _ _ _ (End c.in-Ok-default-End.file c.in-Ok-default-End.mark) c.in-Ok-default-End.ensures.ok (ap (note about) c.in-Ok-default-End.field-0-1-is)))
+          (sym (told_more about _ _ _ (End c.in-Ok-default-End.file c.in-Ok-default-End.mark ∷ []) c.in-Ok-default-End.ensures.ok (ap (notes_of about) c.in-Ok-default-End.field-0-1-is)))
           (c.in-Ok-end.ensures.taken _ (c.in-Ok-default-End.ensures.kept _ c.loop.invariant.told));
       stays = g.met.C.Consumer.stays_on _ _ _ (g.met.C.Consumer.stays_on _ _ _ c.loop.invariant.stays c.next_message.ensures.stays) c.end.ensures.stays;
     }
@@ -42,7 +55,7 @@ pub returns-then-not-contains-clause-told : goal.returns-then-not-contains-claus
 returns-then-not-contains-clause-told g c =
     let about = g.E.Numbered.about in
     subst (g.C.Consumer.holds c.next_message.new.consumer)
-    (sym (told_more about _ _ _ Stop c.in-Ok-default-Stop.ensures.ok (ap (note about) c.in-Ok-default-Stop.field-0-1-is)))
+    (sym (told_more about _ _ _ (Stop ∷ []) c.in-Ok-default-Stop.ensures.ok (ap (notes_of about) c.in-Ok-default-Stop.field-0-1-is)))
     (g.met.C.Consumer.holds_on _ _ (c.in-Ok-default-Stop.ensures.kept _ c.loop.invariant.told))
 
 pub loop-preserved : goal.loop-preserved
@@ -53,7 +66,7 @@ loop-preserved g c =
       fan = c.next_message.ensures.fan ∙ c.loop.invariant.fan;
       stops = stop_noted about _ _ _ _ _ c.in-Ok-default-Stop.ensures.ok c.in-Ok-default-Stop.field-0-1-is c.set_stopped.ensures.noted c.loop.invariant.stops;
       told = subst (g.C.Consumer.holds c.next_message.new.consumer)
-          (sym (told_more about _ _ _ Stop c.in-Ok-default-Stop.ensures.ok (ap (note about) c.in-Ok-default-Stop.field-0-1-is)))
+          (sym (told_more about _ _ _ (Stop ∷ []) c.in-Ok-default-Stop.ensures.ok (ap (notes_of about) c.in-Ok-default-Stop.field-0-1-is)))
           (g.met.C.Consumer.holds_on _ _ (c.in-Ok-default-Stop.ensures.kept _ c.loop.invariant.told));
       stays = g.met.C.Consumer.stays_on _ _ _ c.loop.invariant.stays c.next_message.ensures.stays;
     }

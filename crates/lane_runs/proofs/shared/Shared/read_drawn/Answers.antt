@@ -1,6 +1,10 @@
+use Rattle.std.proofs.Common.{◌++◌, ap, ◌∙◌, append-nil}
+use Rattle.ruled_lanes.specs.LinkEnds.{given}
+use Rattle.lanes.specs.Notes.{notes, notes_of_items}
 use Rattle.lanes.specs.declared.message.Message.TheVariants.{End}
 use Rattle.lane_runs.specs.Accepting.{AcceptsAll}
 use Rattle.lanes.proofs.Passing.{notes-after}
+use Rattle.lane_runs.proofs.Telling.{keeps_as}
 use Rattle.lane_runs.proofs.shared.Shared.read_drawn.Goals as goal
 
 pub read_file-requires-clause-accepted : goal.read_file-requires-clause-accepted
@@ -14,10 +18,13 @@ end-known-requires g c =
     c.requires.accepts.marks c.args.file _ _ (record { records = keeps.records; counted = keeps.counted; found = keeps.found })
 
 pub returns-clause-told : goal.returns-clause-told
-returns-clause-told g c = record {
-  count = c.in-Ok.end.count;
-  mark = c.in-Ok.end.mark;
-  kept = _;
-  keeps = c.in-Ok.ensures.kept;
-  ended = notes-after g.L.Framed.Numbered.about _ _ (End c.args.file c.in-Ok.end.mark c.end-known.result) c.in-Ok-give.ensures.ok;
-}
+returns-clause-told g c =
+    let about = g.L.Framed.Numbered.about in
+    let told = notes about (given c.args.gives.now.giver) in
+    record {
+      count = c.in-Ok.end.count;
+      mark = c.in-Ok.end.mark;
+      kept = _;
+      keeps = keeps_as _ _ _ _ _ _ _ _ _ (ap (λ l. told ++ notes_of_items about l) c.requires.none ∙ append-nil told) c.in-Ok-give_all.ensures.told c.in-Ok.ensures.kept;
+      ended = notes-after about _ _ (End c.args.file c.in-Ok.end.mark c.end-known.result) c.in-Ok-give.ensures.ok;
+    }

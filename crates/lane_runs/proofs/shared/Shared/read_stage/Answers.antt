@@ -10,6 +10,7 @@ loop-init g c = record {
   room = c.requires.0.room_for;
   seat = c.requires.0.seat_of;
   to_same = refl;
+  none = c.new.ensures;
   told = told_none _ _ _ _ c.requires.0.unused.0 (ap (notes g.L.Framed.Numbered.about) c.requires.0.none_given);
 }
 
@@ -32,6 +33,7 @@ loop-preserved g c = record {
   room = c.loop.invariant.room;
   seat = c.draw.ensures.seat;
   to_same = c.read_drawn.ensures.same ∙ c.loop.invariant.to_same;
+  none = c.in-Ok-read_drawn.ensures.none;
   told = told_more c.args.self.now.run.now.choice (g.O.Opener.meaning c.args.self.now.run.now.opener.now) c.in-Some-draw.file _ _ _ _ c.loop.invariant.told
       c.in-Some-draw.ensures.some c.in-Ok-read_drawn.ensures.told;
 }

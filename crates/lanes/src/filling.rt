@@ -1,0 +1,147 @@
+//! The items that the next message of a stage takes along.
+ghost use Rattle.std.specs.Prelude.{◌≡◌, ◌∷◌, ◌++◌, [], OnOk, IfSome, IfNone};
+ghost use Rattle.lanes.specs.Notes.{Item, notes_of, notes_of_items, GoOn};
+
+use crate::batch::Batch;
+use crate::message::Message;
+use crate::numbered::Numbered;
+use crate::outlet::{Gone, Outlet};
+use crate::return_queue::ReturnQueue;
+use std::alloc::Global;
+use std::mem;
+use std::sync::Wait;
+
+/// The maximum number of items in a message.
+pub const MOST_ITEMS: usize = 16;
+
+/// The number of lists that a stage fills in turn.
+const LISTS: usize = 4;
+
+/// The maximum number of items of a stage that are in lists, in messages of several or in those being filled.
+pub const MOST_IN_LISTS: usize = LISTS * MOST_ITEMS;
+
+/// The items that the next message of a stage takes along, and the lists of earlier messages that have returned.
+///
+/// A stage fills a few lists in turn, so that the records that wait in messages of several are no more than those in a
+/// full link of messages of one.
+#[derive(Drop)]
+pub struct Filling<T: Drop> {
+    alloc: Global,
+    pub items: Vec<T>,
+    /// The number of lists that are made so far, up to `LISTS`.
+    made: usize,
+    home: ReturnQueue<Vec<T>>,
+}
+
+impl<T: Numbered> Filling<T> {
+    /// No items. Without memory no list returns.
+    pub fn new(alloc: Global) -> Filling<T>
+        ensures { result.items.items ≡ [] }
+    {
+        let home = match ReturnQueue::alone(alloc, LISTS) {
+            Ok(home) => home,
+            Err(_) => ReturnQueue::none(),
+        };
+        Filling {
+            alloc,
+            items: Vec::new(alloc),
+            made: 0,
+            home,
+        }
+    }
+
+    /// Adds an item. Where there is no room for that, all of them are given at once.
+    pub fn add<M: Drop, R: Wait, O: Outlet<T, M>>(
+        &mut self,
+        rt: &R,
+        to: &mut O,
+        item: T,
+    ) -> Result<(), Gone>
+        ensures told { OnOk result (O.told to.new ++ notes_of_items T.about self.new.items.items
+            ≡ O.told to.old ++ notes_of_items T.about self.old.items.items ++ Item (T.about item) ∷ []) }
+        ensures going { GoOn (O.told to.old) → GoOn (O.told to.new) }
+        ensures stays { O.stays to.old to.new }
+    {
+        self.make_room(rt);
+        if self.items.len() < self.items.capacity() {
+            self.items.push_reserved(item);
+            return Ok(());
+        }
+        match self.give(rt, to) {
+            Ok(()) => {}
+            Err(gone) => return Err(gone),
+        }
+        match to.tell(rt, Message::Item(item)) {
+            Ok(()) => Ok(()),
+            Err(gone) => Err(gone),
+        }
+    }
+
+    /// Gives the items in one message, where there are any.
+    pub fn give<M: Drop, R: Wait, O: Outlet<T, M>>(
+        &mut self,
+        rt: &R,
+        to: &mut O,
+    ) -> Result<(), Gone>
+        ensures told { OnOk result (O.told to.new ≡ O.told to.old ++ notes_of_items T.about self.old.items.items) }
+        ensures none { OnOk result (self.new.items.items ≡ []) }
+        ensures going { GoOn (O.told to.old) → GoOn (O.told to.new) }
+        ensures stays { O.stays to.old to.new }
+    {
+        let message = match self.next_message() {
+            Some(message) => message,
+            None => return Ok(()),
+        };
+        match to.tell(rt, message) {
+            Ok(()) => Ok(()),
+            Err(gone) => Err(gone),
+        }
+    }
+
+    /// The items in one message, where there are any: one item alone without a list.
+    fn next_message<M: Drop>(&mut self) -> Option<Message<T, M>>
+        ensures told { IfSome result (λ message. notes_of T.about message ≡ notes_of_items T.about self.old.items.items) }
+        ensures nothing { IfNone result (self.old.items.items ≡ []) }
+        ensures none { self.new.items.items ≡ [] }
+    {
+        if self.items.len() <= 1 {
+            return match self.items.pop() {
+                Some(item) => Some(Message::Item(item)),
+                None => None,
+            };
+        }
+        let items = mem::replace(&mut self.items, Vec::new(self.alloc));
+        let home = self.home.again();
+        Some(Message::Items(Batch { items, home }))
+    }
+
+    /// Takes a list if there is none at hand and one is free.
+    fn make_room<R: Wait>(&mut self, rt: &R)
+        ensures { self.new.items.items ≡ self.old.items.items }
+    {
+        if !self.items.is_empty() || self.items.capacity() > 0 {
+            return;
+        }
+        if let Some(mut list) = self.free_list(rt) {
+            list.clear();
+            self.items = list;
+        }
+    }
+
+    /// A list that has returned, or a new one; none if all are in transit or memory ran out.
+    fn free_list<R: Wait>(&mut self, rt: &R) -> Option<Vec<T>>
+        ensures { self.new.items.items ≡ self.old.items.items }
+    {
+        if let Some(list) = self.home.receive(rt) {
+            return Some(list);
+        }
+        if self.made < LISTS {
+            let Ok(list) = Vec::with_capacity(self.alloc, MOST_ITEMS) else {
+                return None;
+            };
+            self.made += 1;
+            return Some(list);
+        }
+        self.home.await_item(rt)
+    }
+}
