@@ -1,7 +1,9 @@
 //! The segments of a drawing, listed edge by edge.
 
-ghost use Rattle.std.specs.Prelude.{◌≡◌, ◌*◌, length};
+ghost use Rattle.std.specs.Prelude.{◌≡◌, ◌*◌, ◌<◌, ◌≤◌, length, true, IfOk, OnOk};
 ghost use Rattle.faces.specs.Planes.{darts, vertices};
+ghost use Rattle.visibility.specs.Axes.{AreFew};
+ghost use Rattle.visibility.specs.Crossing.{AreCrossed};
 
 use crate::ends::find_ends;
 use crate::scratch::Lists;
@@ -22,29 +24,42 @@ pub(crate) struct Bent {
     to: Point,
 }
 
-/// Lists the segments of a drawing along both axes, with their ends.
+/// The maximum number of vertices and corners.
+const MAX_PLACES: usize = 65_535;
+
+/// Lists the segments of a drawing along both axes, with their ends; false if there are too many vertices and corners,
+/// or if one of them is on no segment.
 pub(crate) fn list_segments(
     lists: &mut Lists,
     plane: &Plane,
     points: &Points,
-) -> Result<(), AllocError>
+) -> Result<bool, AllocError>
     requires vertices { length points.now.vertices ≡ vertices plane.now }
     requires corners { 2 * length points.now.corners ≡ darts plane.now }
+    ensures { IfOk result (λ listed. listed ≡ true → AreCrossed lists.new.x lists.new.y) }
 {
     lists.x.begin(points.vertex_count())?;
     lists.y.begin(points.vertex_count())?;
     list_edges(plane, points, &mut lists.x, &mut lists.y, &mut lists.bent)?;
-    for (place, point) in points.vertices().iter().enumerate() {
-        let vertex = place.wrapping_add(1).min(255) as u8;
-        lists.x.add_straight(vertex, point.x)?;
-        lists.y.add_straight(vertex, point.y)?;
+    for place in 0..plane.graph().vertices() {
+        let point = points.vertex(place + 1);
+        if !lists.x.add_straight(place + 1, point.x)? || !lists.y.add_straight(place + 1, point.y)? {
+            return Ok(false);
+        }
     }
     for bent in lists.bent.as_slice() {
-        let corners = corners_of(points, bent.edge);
-        list_corners(corners, *bent, &mut lists.x, &mut lists.y)?;
+        if usize::from(bent.edge) >= points.edge_count() {
+            return Ok(false);
+        }
+        let corners = points.corners(bent.edge);
+        if !list_corners(corners, *bent, &mut lists.x, &mut lists.y)? {
+            return Ok(false);
+        }
     }
-    find_ends(&mut lists.x, &mut lists.y)?;
-    find_ends(&mut lists.y, &mut lists.x)
+    if !find_ends(&mut lists.x, &mut lists.y)? {
+        return Ok(false);
+    }
+    Ok(find_ends(&mut lists.y, &mut lists.x)?)
 }
 
 /// Joins the ends of all edges that have no corner, and lists those that have some.
@@ -57,6 +72,8 @@ fn list_edges(
 ) -> Result<(), AllocError>
     requires vertices { length points.now.vertices ≡ vertices plane.now }
     requires corners { 2 * length points.now.corners ≡ darts plane.now }
+    ensures x { x.new.segments ≡ x.old.segments }
+    ensures y { y.new.segments ≡ y.old.segments }
 {
     let graph = plane.graph();
     let edges = points.edge_count();
@@ -82,77 +99,96 @@ fn list_edges(
             } else {
                 y.edges.connect(tail, from.x, head, to.x);
             }
-            edge = edge.wrapping_add(1);
+            edge += 1;
         }
     }
     Ok(())
 }
 
-/// Adds the corners of an edge to the segments on which they lie, which end there. Between two corners lies a
-/// segment of its own.
+/// Adds the corners of an edge to the segments on which they lie, which end there; false if there are too many. Between
+/// two corners lies a segment of its own.
 fn list_corners(
     corners: &[Point],
     bent: Bent,
     x: &mut Segments,
     y: &mut Segments,
-) -> Result<(), AllocError> {
+) -> Result<bool, AllocError>
+    requires x { AreFew x.old.segments.items }
+    requires y { AreFew y.old.segments.items }
+    ensures x { AreFew x.new.segments.items }
+    ensures y { AreFew y.new.segments.items }
+{
     let mut from = bent.from;
-    let mut vertical = corners.first().is_some_and(|corner| corner.x == from.x);
-    let mut segment = if vertical {
+    let Some(first) = corners.first() else {
+        return Ok(false);
+    };
+    let mut vertical = first.x == from.x;
+    let tail = if vertical {
         x.of_vertex(bent.tail)
     } else {
         y.of_vertex(bent.tail)
     };
-    let mut place = 0;
-    for (index, corner) in corners.iter().enumerate() {
-        place = x.of.len().min(usize::from(u16::MAX)) as u16;
+    let Some(mut segment) = tail else {
+        return Ok(false);
+    };
+    let mut place: u16 = 0;
+    for index in 0..corners.len() {
+        let corner = corners[index];
+        if x.of.len() >= MAX_PLACES {
+            return Ok(false);
+        }
+        place = x.of.len() as u16;
         let end = if index + 1 == corners.len() {
             Some(bent.head)
         } else {
             None
         };
-        segment = if vertical {
-            x.extend(segment, place, from.y < corner.y);
-            turn(x, segment, y, corner.y, end)?
+        let next = if vertical {
+            if !x.extend(segment, place, from.y < corner.y) {
+                return Ok(false);
+            }
+            turn(x, segment, y, corner.y, place, end)?
         } else {
-            y.extend(segment, place, from.x < corner.x);
-            turn(y, segment, x, corner.x, end)?
+            if !y.extend(segment, place, from.x < corner.x) {
+                return Ok(false);
+            }
+            turn(y, segment, x, corner.x, place, end)?
         };
+        let Some(next) = next else {
+            return Ok(false);
+        };
+        segment = next;
         vertical = !vertical;
-        from = *corner;
+        from = corner;
     }
     if vertical {
-        x.extend(segment, place, bent.to.y < from.y);
+        Ok(x.extend(segment, place, bent.to.y < from.y))
     } else {
-        y.extend(segment, place, bent.to.x < from.x);
+        Ok(y.extend(segment, place, bent.to.x < from.x))
     }
-    Ok(())
 }
 
-/// Adds a corner at which an edge leaves a segment for one that crosses it, and gives that one back: that of
-/// the vertex at its end, or a new one with this coordinate.
+/// Adds a corner at which an edge leaves a segment for one that crosses it, and returns that one: that of the vertex at
+/// its end, or a new one with this coordinate; `None` if there is no room.
 fn turn(
     from_segments: &mut Segments,
     segment: u16,
     to_segments: &mut Segments,
     coordinate: u32,
+    place: u16,
     end: Option<u8>,
-) -> Result<u16, AllocError> {
-    let place = from_segments.of.len().min(usize::from(u16::MAX)) as u16;
+) -> Result<Option<u16>, AllocError>
+    requires { AreFew to_segments.old.segments.items }
+    ensures from { from_segments.new.segments ≡ from_segments.old.segments }
+    ensures to { AreFew to_segments.new.segments.items }
+{
     let next = match end {
         Some(vertex) => to_segments.of_vertex(vertex),
-        None => to_segments.add_at(coordinate, place)?,
+        None => to_segments.add(coordinate, place, place, 0)?,
     };
-    from_segments.of.push(segment)?;
-    to_segments.of.push(next)?;
-    Ok(next)
-}
-
-/// The corners of an edge, and none where there is no such edge.
-fn corners_of(points: &Points, edge: u16) -> &[Point] {
-    if usize::from(edge) < points.edge_count() {
-        points.corners(edge)
-    } else {
-        &[]
+    if let Some(next) = next {
+        from_segments.of.push(segment)?;
+        to_segments.of.push(next)?;
     }
+    Ok(next)
 }

@@ -1,0 +1,9 @@
+use Rattle.std.proofs.Common.{◌≡◌, ◌≤◌}
+use Rattle.visibility.proofs.listing.list_edges.Given as goal
+
+abbrev pub invariant-loop-dart : goal.invariant-loop-dart
+invariant-loop-dart l = record {
+  x : l.x.segments ≡ l.initial.x.segments;
+  y : l.y.segments ≡ l.initial.y.segments;
+  edge : l.edge ≤ l.edges;
+}
