@@ -21,14 +21,18 @@ abbrev pub AreBelow : ℕ → List Segment → Type 0
 AreBelow room segments = (r : ℕ) → r < length segments → (segment_at segments r).coordinate < room
 
 -- lists by coordinate: each has a place for each coordinate, and names segments that are there, counted from 1
-pub record AreListed (segments : List Segment) (firsts : List ℕ) : Type 0 where
+pub record AreListed (segments : List Segment) (lists : List ℕ) : Type 0 where
   pub few : length segments ≤ MAX_SEGMENTS
-  pub room : length firsts ≤ MAX_COORDINATE + 1
-  pub coordinates : AreBelow (length firsts) segments
-  pub firsts : (c : ℕ) → slice_index firsts c ≤ length segments
+  pub room : length lists ≤ MAX_COORDINATE + 1
+  pub coordinates : AreBelow (length lists) segments
+  pub firsts : (c : ℕ) → slice_index lists c ≤ length segments
   pub nexts : (r : ℕ) → (segment_at segments r).next ≤ length segments
 
 -- each segment begins and ends on one of so many segments of the other axis
 pub record HaveEnds (segments : List Segment) (others : ℕ) : Type 0 where
   pub begins : (r : ℕ) → r < length segments → (segment_at segments r).begins_on < others
   pub ends : (r : ℕ) → r < length segments → (segment_at segments r).ends_on < others
+
+-- all that is said of their ends stays true
+abbrev pub KeepEnds : List Segment → List Segment → Type 0
+KeepEnds old new = (others : ℕ) → HaveEnds old others → HaveEnds new others

@@ -1,9 +1,9 @@
 //! Where segments begin and end.
 
 ghost use Rattle.std.specs.Prelude.{◌≡◌, ◌<◌, ℕ, List, length, vec_len, true, IfOk, IfSome};
-ghost use Rattle.visibility.specs.Axes.{AreFew, AreListed, HaveEnds};
+ghost use Rattle.visibility.specs.Axes.{AreFew, AreListed, HaveEnds, KeepEnds};
 
-use crate::segments::{Segment, Segments, list};
+use crate::segments::{Segment, Segments, segment_of};
 use std::alloc::AllocError;
 
 /// Finds for each segment the segments of the other axis that cross it where it begins and where it ends, counts it at
@@ -15,36 +15,48 @@ pub(crate) fn find_ends(along: &mut Segments, other: &mut Segments) -> Result<bo
     ensures count { vec_len along.new.segments ≡ vec_len along.old.segments }
     ensures other_few { AreFew other.old.segments.items → AreFew other.new.segments.items }
     ensures other_listed { AreListed other.old.segments.items other.old.firsts.items → AreListed other.new.segments.items other.new.firsts.items }
-    ensures other_ends { (others : ℕ) → HaveEnds other.old.segments.items others → HaveEnds other.new.segments.items others }
+    ensures other_ends { KeepEnds other.old.segments.items other.new.segments.items }
     ensures other_count { vec_len other.new.segments ≡ vec_len other.old.segments }
 {
-    along.begin_lists()?;
-    let firsts = along.firsts.as_mut_slice();
-    let count = other.segments.len();
-    for place in 0..along.segments.len() {
-        let segment = &mut along.segments[place];
-        let Some((first, last)) = ends_of(segment, other.of.as_slice(), count) else {
-            return Ok(false);
+    let segments = along.segments.as_mut_slice();
+    if !set_ends(segments, other.segments.as_mut_slice(), other.of.as_slice()) {
+        return Ok(false);
+    }
+    along.list_anew()?;
+    Ok(true)
+}
+
+/// Sets for each segment the segments of the other axis where it begins and ends, and counts it at these; false if a
+/// place is on no segment.
+fn set_ends(segments: &mut [Segment], others: &mut [Segment], of: &[u16]) -> bool
+    requires few { AreFew segments.old }
+    ensures few { AreFew segments.new }
+    ensures ends { result ≡ true → HaveEnds segments.new (length others.new) }
+    ensures other_few { AreFew others.old → AreFew others.new }
+    ensures other_listed { (firsts : List ℕ) → AreListed others.old firsts → AreListed others.new firsts }
+    ensures other_ends { KeepEnds others.old others.new }
+{
+    let count = others.len();
+    for place in 0..segments.len() {
+        let segment = &mut segments[place];
+        let Some((first, last)) = ends_of(segment, of, count) else {
+            return false;
         };
         segment.begins_on = first;
         segment.ends_on = last;
-        list(firsts, segment, place as u16);
-        if !count_ends(other.segments.as_mut_slice(), first, last) {
-            return Ok(false);
+        if !count_ends(others, first, last) {
+            return false;
         }
     }
-    Ok(true)
+    true
 }
 
 /// The segments on which the places lie where this one begins and ends; `None` if one of them is on none of this many.
 fn ends_of(segment: &Segment, of: &[u16], count: usize) -> Option<(u16, u16)>
     ensures { IfSome result (λ ends. (ends.0 < count) × (ends.1 < count)) }
 {
-    let first = *of.get(usize::from(segment.begins_on))?;
-    let last = *of.get(usize::from(segment.ends_on))?;
-    if usize::from(first) >= count || usize::from(last) >= count {
-        return None;
-    }
+    let first = segment_of(of, usize::from(segment.begins_on), count)?;
+    let last = segment_of(of, usize::from(segment.ends_on), count)?;
     Some((first, last))
 }
 
@@ -54,7 +66,7 @@ fn count_ends(segments: &mut [Segment], first: u16, last: u16) -> bool
     requires last { last < length segments.old }
     ensures few { AreFew segments.old → AreFew segments.new }
     ensures listed { (firsts : List ℕ) → AreListed segments.old firsts → AreListed segments.new firsts }
-    ensures ends { (others : ℕ) → HaveEnds segments.old others → HaveEnds segments.new others }
+    ensures ends { KeepEnds segments.old segments.new }
 {
     let begun = segments[usize::from(first)].begun.checked_add(1);
     let ended = segments[usize::from(last)].ended.checked_add(1);

@@ -2,7 +2,7 @@
 
 ghost use Rattle.std.specs.Prelude.{◌≡◌, ◌<◌, ◌≤◌, ◌+◌, ◌^◌, ℕ, [], length, vec_len, slice_index, slice_set, IfOk, IfSome, OnOk, true};
 ghost use Rattle.visibility.specs.declared.segments.TheConstants.{MAX_COORDINATE, MAX_SEGMENTS};
-ghost use Rattle.visibility.specs.Axes.{segment_at, AreBelow, AreFew, AreListed, HaveEnds};
+ghost use Rattle.visibility.specs.Axes.{segment_at, AreBelow, AreFew, AreListed, HaveEnds, KeepEnds};
 
 use crate::straight::StraightEdges;
 use std::alloc::{AllocError, Global};
@@ -271,7 +271,7 @@ impl Segments {
     }
 
     /// Makes a list for each coordinate up to the greatest, all empty.
-    pub(crate) fn begin_lists(&mut self) -> Result<(), AllocError>
+    fn begin_lists(&mut self) -> Result<(), AllocError>
         requires { AreFew self.old.segments.items }
         ensures same { self.new.segments ≡ self.old.segments }
         ensures of { self.new.of ≡ self.old.of }
@@ -287,13 +287,10 @@ impl Segments {
         requires few { AreFew self.old.segments.items }
         ensures listed { OnOk result (AreListed self.new.segments.items self.new.firsts.items) }
         ensures count { vec_len self.new.segments ≡ vec_len self.old.segments }
-        ensures ends { (others : ℕ) → HaveEnds self.old.segments.items others → HaveEnds self.new.segments.items others }
+        ensures ends { KeepEnds self.old.segments.items self.new.segments.items }
     {
         self.begin_lists()?;
-        let firsts = self.firsts.as_mut_slice();
-        for place in 0..self.segments.len() {
-            list(firsts, &mut self.segments[place], place as u16);
-        }
+        list_all(self.segments.as_mut_slice(), self.firsts.as_mut_slice());
         Ok(())
     }
 
@@ -302,39 +299,38 @@ impl Segments {
         requires listed { AreListed self.old.segments.items self.old.firsts.items }
         ensures listed { IfOk result (λ apart. apart ≡ true → AreListed self.new.segments.items self.new.firsts.items) }
         ensures count { vec_len self.new.segments ≡ vec_len self.old.segments }
-        ensures ends { (others : ℕ) → HaveEnds self.old.segments.items others → HaveEnds self.new.segments.items others }
+        ensures ends { KeepEnds self.old.segments.items self.new.segments.items }
     {
-        let segments = self.segments.as_mut_slice();
-        let mut free = segments.len() as u16;
-        for coordinate in (0..self.firsts.len()).rev() {
-            let mut named = self.firsts[coordinate];
-            for _ in 0..segments.len() {
-                if named == 0 {
-                    break;
-                }
-                if free == 0 {
-                    return Ok(false);
-                }
-                free -= 1;
-                let segment = &mut segments[usize::from(named) - 1];
-                segment.coordinate = free;
-                named = segment.next;
-            }
+        if !spread(self.segments.as_mut_slice(), self.firsts.as_slice()) {
+            return Ok(false);
         }
         self.list_anew()?;
         Ok(true)
     }
 
-    /// The segment on which a vertex lies, if there is such a vertex.
-    pub(crate) fn of_vertex(&self, vertex: u8) -> Option<u16> {
-        self.of.get(usize::from(vertex).checked_sub(1)?).copied()
+    /// The segment on which the vertex at this place lies, if it lies on one.
+    pub(crate) fn segment_at(&self, place: u8) -> Option<u16> {
+        segment_of(self.of.as_slice(), usize::from(place), self.segments.len())
     }
 
-    /// The coordinate of the vertex or corner at this place, if there is such a place and it is on a segment.
+    /// The coordinate of the vertex or corner at this place, if it lies on a segment.
     pub(crate) fn coordinate_at(&self, place: usize) -> Option<u32> {
-        let segment = self.of.get(place)?;
-        let found = self.segments.get(usize::from(*segment))?;
-        Some(u32::from(found.coordinate))
+        let segment = segment_of(self.of.as_slice(), place, self.segments.len())?;
+        Some(u32::from(self.segments[usize::from(segment)].coordinate))
+    }
+}
+
+/// The segment on which the vertex or corner at this place lies, if there is such a place, and the segment is one of
+/// this many.
+pub(crate) fn segment_of(of: &[u16], place: usize, count: usize) -> Option<u16>
+    ensures { IfSome result (λ segment. segment < count) }
+{
+    // No invariant says that each place is on a segment.
+    let segment = *of.get(place)?;
+    if usize::from(segment) < count {
+        Some(segment)
+    } else {
+        None
     }
 }
 
@@ -370,4 +366,40 @@ pub(crate) fn list(firsts: &mut [u16], segment: &mut Segment, place: u16)
     let first = &mut firsts[usize::from(segment.coordinate)];
     segment.next = *first;
     *first = place + 1;
+}
+
+/// Puts each segment before the others with its coordinate.
+fn list_all(segments: &mut [Segment], firsts: &mut [u16])
+    requires { AreListed segments.old firsts.old }
+    ensures listed { AreListed segments.new firsts.new }
+    ensures ends { KeepEnds segments.old segments.new }
+{
+    for place in 0..segments.len() {
+        list(firsts, &mut segments[place], place as u16);
+    }
+}
+
+/// Gives each segment a coordinate of its own, in the order of those that they have; false if one is listed twice.
+fn spread(segments: &mut [Segment], firsts: &[u16]) -> bool
+    requires { AreListed segments.old firsts.now }
+    ensures few { AreFew segments.new }
+    ensures ends { KeepEnds segments.old segments.new }
+{
+    let mut free = segments.len() as u16;
+    for coordinate in (0..firsts.len()).rev() {
+        let mut named = firsts[coordinate];
+        for _ in 0..segments.len() {
+            if named == 0 {
+                break;
+            }
+            if free == 0 {
+                return false;
+            }
+            free -= 1;
+            let segment = &mut segments[usize::from(named) - 1];
+            segment.coordinate = free;
+            named = segment.next;
+        }
+    }
+    true
 }

@@ -2,7 +2,7 @@
 
 ghost use Rattle.std.specs.Prelude.{◌≡◌, ◌<◌, ◌≤◌, ℕ, [], length, vec_len, slice_index, true, IfOk, OnOk};
 ghost use Rattle.visibility.specs.declared.segments.TheConstants.{MAX_COORDINATE};
-ghost use Rattle.visibility.specs.Axes.{AreFew, AreListed, HaveEnds};
+ghost use Rattle.visibility.specs.Axes.{AreFew, AreListed, HaveEnds, KeepEnds};
 ghost use Rattle.visibility.specs.Crossing.{AreCrossed};
 
 use crate::segments::{MAX_COORDINATE, Segment, Segments};
@@ -132,7 +132,7 @@ fn assign(segments: &mut [Segment], places: &[u16], coordinates: &[u16])
     requires low { (r : ℕ) → slice_index coordinates.now r ≤ MAX_COORDINATE }
     requires few { AreFew segments.old }
     ensures few { AreFew segments.new }
-    ensures ends { (others : ℕ) → HaveEnds segments.old others → HaveEnds segments.new others }
+    ensures ends { KeepEnds segments.old segments.new }
 {
     for segment in 0..segments.len() {
         segments[segment].coordinate = coordinates[usize::from(places[segment])];
