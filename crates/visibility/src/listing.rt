@@ -1,7 +1,9 @@
 //! The segments of a drawing, listed edge by edge.
 
-ghost use Rattle.std.specs.Prelude.{◌≡◌, ◌*◌, length};
+ghost use Rattle.std.specs.Prelude.{◌≡◌, ◌*◌, ◌<◌, ◌≤◌, All, length, true, IfOk, OnOk};
 ghost use Rattle.faces.specs.Planes.{darts, vertices};
+ghost use Rattle.visibility.specs.Axes.{AreFew};
+ghost use Rattle.visibility.specs.Crossing.{AreCrossed};
 
 use crate::ends::find_ends;
 use crate::scratch::Lists;
@@ -10,7 +12,7 @@ use faces::Plane;
 use ortho_rep::{Point, Points};
 use std::alloc::AllocError;
 
-/// An edge that has corners, by its number and its ends.
+/// An edge that has corners, by its number and the places of its ends.
 #[derive(Clone, Copy, Debug)]
 pub(crate) struct Bent {
     edge: u16,
@@ -20,31 +22,40 @@ pub(crate) struct Bent {
     from: Point,
     /// The point of its head.
     to: Point,
+    /// Whether it leaves its tail along the segment that has one x.
+    vertical: bool,
 }
 
-/// Lists the segments of a drawing along both axes, with their ends.
+/// The maximum number of vertices and corners.
+const MAX_PLACES: usize = 65_535;
+
+/// Lists the segments of a drawing along both axes, with their ends; false if there are too many vertices and corners,
+/// or if one of them is on no segment.
 pub(crate) fn list_segments(
     lists: &mut Lists,
     plane: &Plane,
     points: &Points,
-) -> Result<(), AllocError>
+) -> Result<bool, AllocError>
     requires vertices { length points.now.vertices ≡ vertices plane.now }
     requires corners { 2 * length points.now.corners ≡ darts plane.now }
+    ensures { IfOk result (λ listed. listed ≡ true → AreCrossed lists.new.x lists.new.y) }
 {
-    lists.x.begin(points.vertex_count())?;
-    lists.y.begin(points.vertex_count())?;
-    list_edges(plane, points, &mut lists.x, &mut lists.y, &mut lists.bent)?;
-    for (place, point) in points.vertices().iter().enumerate() {
-        let vertex = place.wrapping_add(1).min(255) as u8;
-        lists.x.add_straight(vertex, point.x)?;
-        lists.y.add_straight(vertex, point.y)?;
+    let x = &mut lists.x;
+    let y = &mut lists.y;
+    let bent = &mut lists.bent;
+    x.begin(points.vertex_count())?;
+    y.begin(points.vertex_count())?;
+    list_edges(plane, points, x, y, bent)?;
+    if !list_straight(plane.graph().vertices(), points, x, y)? {
+        return Ok(false);
     }
-    for bent in lists.bent.as_slice() {
-        let corners = corners_of(points, bent.edge);
-        list_corners(corners, *bent, &mut lists.x, &mut lists.y)?;
+    if !list_bent(bent.as_slice(), points, x, y)? {
+        return Ok(false);
     }
-    find_ends(&mut lists.x, &mut lists.y)?;
-    find_ends(&mut lists.y, &mut lists.x)
+    if !find_ends(x, y)? {
+        return Ok(false);
+    }
+    Ok(find_ends(y, x)?)
 }
 
 /// Joins the ends of all edges that have no corner, and lists those that have some.
@@ -57,6 +68,9 @@ fn list_edges(
 ) -> Result<(), AllocError>
     requires vertices { length points.now.vertices ≡ vertices plane.now }
     requires corners { 2 * length points.now.corners ≡ darts plane.now }
+    ensures x { x.new.segments ≡ x.old.segments }
+    ensures y { y.new.segments ≡ y.old.segments }
+    ensures bent { OnOk result (All (λ b. b.edge < length points.now.corners) bent.new.items) }
 {
     let graph = plane.graph();
     let edges = points.edge_count();
@@ -69,90 +83,147 @@ fn list_edges(
             let head = graph.head(dart);
             let from = points.vertex(tail);
             let to = points.vertex(head);
-            if !points.corners(edge).is_empty() {
+            if let Some(first) = points.corners(edge).first() {
+                let vertical = first.x == from.x;
                 bent.push(Bent {
                     edge,
-                    tail,
-                    head,
+                    tail: tail - 1,
+                    head: head - 1,
                     from,
                     to,
+                    vertical,
                 })?;
             } else if from.x == to.x {
                 x.edges.connect(tail, from.y, head, to.y);
             } else {
                 y.edges.connect(tail, from.x, head, to.x);
             }
-            edge = edge.wrapping_add(1);
+            edge += 1;
         }
     }
     Ok(())
 }
 
-/// Adds the corners of an edge to the segments on which they lie, which end there. Between two corners lies a
-/// segment of its own.
+/// Lists the segments of this many vertices and the straight edges between them; false if there is no room.
+fn list_straight(
+    count: u8,
+    points: &Points,
+    x: &mut Segments,
+    y: &mut Segments,
+) -> Result<bool, AllocError>
+    requires count { count ≤ length points.now.vertices }
+    requires x { AreFew x.old.segments.items }
+    requires y { AreFew y.old.segments.items }
+    ensures x { AreFew x.new.segments.items }
+    ensures y { AreFew y.new.segments.items }
+{
+    for place in 0..count {
+        let point = points.vertex(place + 1);
+        if !x.add_straight(place + 1, point.x)? || !y.add_straight(place + 1, point.y)? {
+            return Ok(false);
+        }
+    }
+    Ok(true)
+}
+
+/// Adds the corners of all edges to segments; false if there are too many.
+fn list_bent(
+    bent: &[Bent],
+    points: &Points,
+    x: &mut Segments,
+    y: &mut Segments,
+) -> Result<bool, AllocError>
+    requires edges { All (λ b. b.edge < length points.now.corners) bent.now }
+    requires x { AreFew x.old.segments.items }
+    requires y { AreFew y.old.segments.items }
+    ensures x { AreFew x.new.segments.items }
+    ensures y { AreFew y.new.segments.items }
+{
+    for edge in bent {
+        if !list_corners(points.corners(edge.edge), *edge, x, y)? {
+            return Ok(false);
+        }
+    }
+    Ok(true)
+}
+
+/// Adds the corners of an edge to the segments on which they lie, which end there; false if there are too many. Between
+/// two corners lies a segment of its own.
 fn list_corners(
     corners: &[Point],
     bent: Bent,
     x: &mut Segments,
     y: &mut Segments,
-) -> Result<(), AllocError> {
-    let mut from = bent.from;
-    let mut vertical = corners.first().is_some_and(|corner| corner.x == from.x);
-    let mut segment = if vertical {
-        x.of_vertex(bent.tail)
+) -> Result<bool, AllocError>
+    requires x { AreFew x.old.segments.items }
+    requires y { AreFew y.old.segments.items }
+    ensures x { AreFew x.new.segments.items }
+    ensures y { AreFew y.new.segments.items }
+{
+    let tail = if bent.vertical {
+        x.segment_at(bent.tail)
     } else {
-        y.of_vertex(bent.tail)
+        y.segment_at(bent.tail)
     };
+    let Some(mut segment) = tail else {
+        return Ok(false);
+    };
+    let mut vertical = bent.vertical;
+    let mut from = bent.from;
     let mut place = 0;
-    for (index, corner) in corners.iter().enumerate() {
-        place = x.of.len().min(usize::from(u16::MAX)) as u16;
-        let end = if index + 1 == corners.len() {
-            Some(bent.head)
+    for index in 0..corners.len() {
+        let corner = corners[index];
+        if x.of.len() >= MAX_PLACES {
+            return Ok(false);
+        }
+        place = x.of.len() as u16;
+        let end = (index + 1 == corners.len()).then_some(bent.head);
+        let next = if vertical {
+            turn(x, segment, y, (from.y, corner.y), place, end)?
         } else {
-            None
+            turn(y, segment, x, (from.x, corner.x), place, end)?
         };
-        segment = if vertical {
-            x.extend(segment, place, from.y < corner.y);
-            turn(x, segment, y, corner.y, end)?
-        } else {
-            y.extend(segment, place, from.x < corner.x);
-            turn(y, segment, x, corner.x, end)?
+        let Some(next) = next else {
+            return Ok(false);
         };
+        segment = next;
         vertical = !vertical;
-        from = *corner;
+        from = corner;
     }
     if vertical {
-        x.extend(segment, place, bent.to.y < from.y);
+        Ok(x.extend(segment, place, bent.to.y < from.y))
     } else {
-        y.extend(segment, place, bent.to.x < from.x);
+        Ok(y.extend(segment, place, bent.to.x < from.x))
     }
-    Ok(())
 }
 
-/// Adds a corner at which an edge leaves a segment for one that crosses it, and gives that one back: that of
-/// the vertex at its end, or a new one with this coordinate.
+/// Adds the corner to which an edge runs along a segment, between these coordinates, and at which it leaves for a segment
+/// that crosses it. Returns that one: the one of the vertex at the end of the edge, or a new one; `None` if there is no
+/// room.
 fn turn(
     from_segments: &mut Segments,
     segment: u16,
     to_segments: &mut Segments,
-    coordinate: u32,
+    run: (u32, u32),
+    place: u16,
     end: Option<u8>,
-) -> Result<u16, AllocError> {
-    let place = from_segments.of.len().min(usize::from(u16::MAX)) as u16;
-    let next = match end {
-        Some(vertex) => to_segments.of_vertex(vertex),
-        None => to_segments.add_at(coordinate, place)?,
-    };
-    from_segments.of.push(segment)?;
-    to_segments.of.push(next)?;
-    Ok(next)
-}
-
-/// The corners of an edge, and none where there is no such edge.
-fn corners_of(points: &Points, edge: u16) -> &[Point] {
-    if usize::from(edge) < points.edge_count() {
-        points.corners(edge)
-    } else {
-        &[]
+) -> Result<Option<u16>, AllocError>
+    requires from { AreFew from_segments.old.segments.items }
+    requires to { AreFew to_segments.old.segments.items }
+    ensures from { AreFew from_segments.new.segments.items }
+    ensures to { AreFew to_segments.new.segments.items }
+{
+    let (from, to) = run;
+    if !from_segments.extend(segment, place, from < to) {
+        return Ok(None);
     }
+    let next = match end {
+        Some(vertex) => to_segments.segment_at(vertex),
+        None => to_segments.add(to, place, place, 0)?,
+    };
+    if let Some(next) = next {
+        from_segments.of.push(segment)?;
+        to_segments.of.push(next)?;
+    }
+    Ok(next)
 }

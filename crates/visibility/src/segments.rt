@@ -1,14 +1,18 @@
 //! Segments: largest sets of vertices and corners that edges join along one axis (Lengauer 1990).
 
-ghost use Rattle.std.specs.Prelude.{◌≡◌, []};
+ghost use Rattle.std.specs.Prelude.{◌≡◌, ◌<◌, ◌≤◌, ◌+◌, ◌^◌, ℕ, [], length, vec_len, slice_index, slice_set, IfOk, IfSome, OnOk, true};
+ghost use Rattle.visibility.specs.declared.segments.TheConstants.{MAX_COORDINATE, MAX_SEGMENTS};
+ghost use Rattle.visibility.specs.Axes.{segment_at, AreBelow, AreFew, AreListed, HaveEnds, KeepEnds};
 
 use crate::straight::StraightEdges;
-use ortho_rep::MAX_COORDINATE;
 use std::alloc::{AllocError, Global};
 use std::mem;
 
-/// Stands for no segment.
-pub(crate) const NO_SEGMENT: u16 = 65_535;
+/// The maximum number of segments along one axis, so that one more than the index of one fits a `u16`.
+pub(crate) const MAX_SEGMENTS: usize = 65_534;
+
+/// The maximum coordinate of a segment.
+pub(crate) const MAX_COORDINATE: u16 = 65_534;
 
 /// A segment. All that lies on it has one coordinate along the axis that it crosses.
 #[derive(Clone, Copy, Debug)]
@@ -20,52 +24,53 @@ pub(crate) struct Segment {
     pub(crate) begins_on: u16,
     /// Where it ends, likewise.
     pub(crate) ends_on: u16,
-    /// By how much shorter the segments of the other axis become in all, where it moves up by one: how many
-    /// more of them begin on it than end on it.
-    pub(crate) pull: i16,
-    /// The next one of the segments with its coordinate, or `NO_SEGMENT`.
+    /// The number of segments of the other axis that begin on it.
+    pub(crate) begun: u16,
+    /// The number of segments of the other axis that end on it.
+    pub(crate) ended: u16,
+    /// The next one of the segments with its coordinate, by its index plus 1; 0 if none.
     pub(crate) next: u16,
-    /// How many parts of edges join its vertices and corners, one after another.
+    /// The number of parts of edges that join its vertices and corners, one after another.
     parts: u16,
 }
 
 impl Segment {
-    /// By how much shorter the segments of the other axis become in all, where it moves to this coordinate.
-    pub(crate) fn gain_at(&self, coordinate: u16) -> i64 {
-        let steps = i64::from(coordinate) - i64::from(self.coordinate);
-        steps.wrapping_mul(i64::from(self.pull))
+    /// Whether it is as short as can be, if it reaches from one of these segments of the other axis to another one: no
+    /// part of an edge is longer than 1, or steps of 1 lead from the one to the other (`leads`).
+    fn is_shortest(&self, other: &[Segment], along: &Segments) -> bool
+        requires begins { self.now.begins_on < vec_len along.now.segments }
+        requires ends { self.now.ends_on < vec_len along.now.segments }
+        requires listed { AreListed along.now.segments.items along.now.firsts.items }
+        requires met { HaveEnds along.now.segments.items (length other.now) }
+    {
+        let from = along.segments[usize::from(self.begins_on)];
+        let to = along.segments[usize::from(self.ends_on)];
+        from.coordinate.abs_diff(to.coordinate) <= self.parts || along.leads(other, from, to)
     }
 
-    /// Whether it is as short as can be, where it reaches from one of these segments of the other axis to
-    /// another one: no part of an edge is longer than 1, or steps of 1 lead from the one to the other
-    /// (`leads`).
-    fn is_shortest(&self, other: &[Segment], along: &Segments) -> bool {
-        let segments = along.segments.as_slice();
-        let length = coordinate_of(segments, self.ends_on).saturating_sub(coordinate_of(
-            segments,
-            self.begins_on,
-        ));
-        if length <= self.parts {
-            return true;
-        }
-        match (
-            segments.get(usize::from(self.begins_on)),
-            segments.get(usize::from(self.ends_on)),
-        ) {
-            (Some(from), Some(to)) => along.leads(other, from, to),
-            (_, _) => false,
-        }
-    }
-
-    /// A bit for each level that it crosses, and none where there is a level from 64 on. `other` are the
-    /// segments of the other axis.
-    fn levels(&self, other: &[Segment]) -> u64 {
-        let low = u32::from(coordinate_of(other, self.begins_on));
-        let high = u32::from(coordinate_of(other, self.ends_on));
-        if high > 63 || low > high {
+    /// A bit for each level that it crosses, and none if there is a level from 64 on. `other` are the segments of the
+    /// other axis.
+    fn levels(&self, other: &[Segment]) -> u64
+        requires begins { self.now.begins_on < length other.now }
+        requires ends { self.now.ends_on < length other.now }
+    {
+        let (low, high) = self.span(other);
+        if high > 63 {
             return 0;
         }
-        u64::MAX.wrapping_shr(63 - (high - low)).wrapping_shl(low)
+        (u64::MAX >> (63 - (high - low))) << low
+    }
+
+    /// The lowest and the highest level that it crosses.
+    pub(crate) fn span(&self, other: &[Segment]) -> (u16, u16)
+        requires begins { self.now.begins_on < length other.now }
+        requires ends { self.now.ends_on < length other.now }
+        ensures order { result.0 ≤ result.1 }
+        ensures room { (room : ℕ) → AreBelow room other.now → result.1 < room }
+    {
+        let begin = other[usize::from(self.begins_on)].coordinate;
+        let end = other[usize::from(self.ends_on)].coordinate;
+        (begin.min(end), begin.max(end))
     }
 }
 
@@ -73,17 +78,17 @@ impl Segment {
 #[derive(Drop)]
 pub(crate) struct Segments {
     pub(crate) segments: Vec<Segment>,
-    /// On which segment each vertex lies, and behind them each corner, edge after edge.
+    /// The segment on which each vertex lies, and after them each corner, edge after edge.
     pub(crate) of: Vec<u16>,
-    /// For each coordinate up to the greatest the first one of the segments that have it, or `NO_SEGMENT`.
+    /// For each coordinate up to the greatest the first one of the segments that have it, by its index plus 1; 0 if
+    /// none.
     pub(crate) firsts: Vec<u16>,
     /// The edges without corners along these segments.
     pub(crate) edges: StraightEdges,
-    greatest: u16,
 }
 
 impl Segments {
-    /// No segments. It takes no memory.
+    /// No segments; nothing is allocated.
     pub(crate) fn empty(alloc: Global) -> Segments
         ensures { result.of.items ≡ [] }
     {
@@ -92,175 +97,249 @@ impl Segments {
             of: Vec::new(alloc),
             firsts: Vec::new(alloc),
             edges: StraightEdges::none(),
-            greatest: 0,
         }
     }
 
-    /// Forgets all segments, and has a place for each of so many vertices.
-    pub(crate) fn begin(&mut self, vertices: usize) -> Result<(), AllocError> {
+    /// Forgets all segments, and makes a place for each of this many vertices.
+    pub(crate) fn begin(&mut self, vertices: usize) -> Result<(), AllocError>
+        ensures { OnOk result (AreFew self.new.segments.items) }
+    {
         self.segments.clear();
-        self.of.clear();
-        self.of.resize(vertices, 0)?;
         self.firsts.clear();
         self.edges.clear();
-        self.greatest = 0;
-        Ok(())
+        self.of.clear();
+        self.of.resize(vertices, 0)
     }
 
-    /// Adds a segment with this coordinate that begins and ends at the vertex or corner with this place, and
-    /// gives back its own place among all. A place above 65,535 is kept as 65,535.
-    pub(crate) fn add_at(&mut self, coordinate: u32, place: u16) -> Result<u16, AllocError> {
-        self.add(coordinate, place, place, 0)
-    }
-
-    /// Adds a segment with this coordinate that reaches from one vertex or corner to another, by their places,
-    /// over so many parts of edges.
-    fn add(
+    /// Adds a segment with this coordinate that reaches from one vertex or corner to another, by their places, over this
+    /// many parts of edges; returns its index, or `None` if there is no room.
+    pub(crate) fn add(
         &mut self,
         coordinate: u32,
         begins_on: u16,
         ends_on: u16,
         parts: u16,
-    ) -> Result<u16, AllocError> {
-        let place = self.segments.len().min(usize::from(u16::MAX)) as u16;
-        let coordinate = coordinate.min(MAX_COORDINATE) as u16;
-        self.greatest = self.greatest.max(coordinate);
+    ) -> Result<Option<u16>, AllocError>
+        requires few { AreFew self.old.segments.items }
+        ensures few { AreFew self.new.segments.items }
+        ensures of { self.new.of ≡ self.old.of }
+        ensures count { vec_len self.old.segments ≤ vec_len self.new.segments }
+        ensures added { IfOk result (λ found. IfSome found (λ segment. segment < vec_len self.new.segments)) }
+    {
+        let place = self.segments.len();
+        if place >= MAX_SEGMENTS || coordinate > u32::from(MAX_COORDINATE) {
+            return Ok(None);
+        }
         self.segments.push(Segment {
-            coordinate,
+            coordinate: coordinate as u16,
             begins_on,
             ends_on,
-            pull: 0,
-            next: NO_SEGMENT,
+            begun: 0,
+            ended: 0,
+            next: 0,
             parts,
         })?;
-        Ok(place)
+        Ok(Some(place as u16))
     }
 
-    /// Adds the segment with this coordinate that begins at a vertex, with all to which straight edges lead
-    /// from there; none where such an edge leads to the vertex.
-    pub(crate) fn add_straight(&mut self, vertex: u8, coordinate: u32) -> Result<(), AllocError> {
+    /// Adds the segment with this coordinate that begins at a vertex, with all to which straight edges lead from there;
+    /// none if such an edge leads to the vertex. Returns whether there is room, and an edge leads to no other vertex.
+    pub(crate) fn add_straight(&mut self, vertex: u8, coordinate: u32) -> Result<bool, AllocError>
+        requires vertex { 0 < vertex }
+        requires few { AreFew self.old.segments.items }
+        ensures few { AreFew self.new.segments.items }
+    {
         if self.edges.is_led_to(vertex) {
-            return Ok(());
+            return Ok(true);
         }
-        let segment = self.segments.len().min(usize::from(u16::MAX)) as u16;
-        let first = u16::from(vertex).wrapping_sub(1);
-        let mut last = first;
-        let mut ahead = vertex;
-        let mut vertices: u16 = 0;
-        for _ in 0..255 {
+        let first = u16::from(vertex) - 1;
+        let Some(segment) = self.add(coordinate, first, first, 0)? else {
+            return Ok(false);
+        };
+        let mut last = vertex;
+        let mut parts = 0;
+        for steps in 0..255 {
+            let Some(of) = self.of.get_mut(usize::from(last) - 1) else {
+                return Ok(false);
+            };
+            *of = segment;
+            let ahead = self.edges.ahead(last);
             if ahead == 0 {
                 break;
             }
-            last = u16::from(ahead).wrapping_sub(1);
-            if let Some(of) = self.of.get_mut(usize::from(last)) {
-                *of = segment;
-            }
-            vertices = vertices.wrapping_add(1);
-            ahead = self.edges.ahead(ahead);
+            parts = steps + 1;
+            last = ahead;
         }
-        self.add(coordinate, first, last, vertices.wrapping_sub(1))?;
-        Ok(())
+        let added = &mut self.segments[usize::from(segment)];
+        added.ends_on = u16::from(last) - 1;
+        added.parts = parts;
+        Ok(true)
     }
 
-    /// Lets a segment begin or end at the vertex or corner with this place, to which one part more leads.
-    pub(crate) fn extend(&mut self, segment: u16, place: u16, is_end: bool) {
-        if let Some(segment) = self.segments.get_mut(usize::from(segment)) {
-            segment.parts = segment.parts.wrapping_add(1);
-            if is_end {
-                segment.ends_on = place;
-            } else {
-                segment.begins_on = place;
-            }
+    /// Makes a segment begin or end at the vertex or corner with this place, to which one part more leads; false if
+    /// there is no such segment, or if it has 65,535 parts.
+    pub(crate) fn extend(&mut self, segment: u16, place: u16, is_end: bool) -> bool
+        requires { AreFew self.old.segments.items }
+        ensures few { AreFew self.new.segments.items }
+        ensures of { self.new.of ≡ self.old.of }
+    {
+        let Some(segment) = self.segments.get_mut(usize::from(segment)) else {
+            return false;
+        };
+        let Some(parts) = segment.parts.checked_add(1) else {
+            return false;
+        };
+        segment.parts = parts;
+        if is_end {
+            segment.ends_on = place;
+        } else {
+            segment.begins_on = place;
         }
+        true
     }
 
     /// Whether each segment is as short as can be with these segments of the other axis.
-    pub(crate) fn are_shortest(&self, along: &Segments) -> bool {
+    pub(crate) fn are_shortest(&self, along: &Segments) -> bool
+        requires ends { HaveEnds self.now.segments.items (vec_len along.now.segments) }
+        requires listed { AreListed along.now.segments.items along.now.firsts.items }
+        requires met { HaveEnds along.now.segments.items (vec_len self.now.segments) }
+    {
         let segments = self.segments.as_slice();
-        segments
-            .iter()
-            .all(|segment| segment.is_shortest(segments, along))
+        for segment in segments {
+            if !segment.is_shortest(segments, along) {
+                return false;
+            }
+        }
+        true
     }
 
-    /// Whether steps lead from one segment to another, each of 1 and to a segment on a level of the segment
-    /// before: with no coordinates with which the segments on each level keep their order are these two nearer to
-    /// each other. No steps are seen where there are 64 levels or more. `other` are the segments of the
-    /// other axis.
-    fn leads(&self, other: &[Segment], from: &Segment, to: &Segment) -> bool {
+    /// The length of all segments with these segments of the other axis.
+    pub(crate) fn length(&self, along: &Segments) -> u64
+        requires few { vec_len self.now.segments ≤ MAX_SEGMENTS }
+        requires ends { HaveEnds self.now.segments.items (vec_len along.now.segments) }
+        ensures { result < 2 ^ 32 }
+    {
+        let mut length: u64 = 0;
+        for segment in self.segments.as_slice() {
+            let from = along.segments[usize::from(segment.begins_on)].coordinate;
+            let to = along.segments[usize::from(segment.ends_on)].coordinate;
+            length += u64::from(from.abs_diff(to));
+        }
+        length
+    }
+
+    /// Whether steps lead from one segment to another, each of 1 and to a segment on a level of the segment before: with
+    /// no coordinates with which the segments on each level keep their order are these two nearer to each other. No steps
+    /// are seen if there are 64 levels or more. `other` are the segments of the other axis.
+    fn leads(&self, other: &[Segment], from: Segment, to: Segment) -> bool
+        requires from_begins { from.begins_on < length other.now }
+        requires from_ends { from.ends_on < length other.now }
+        requires to_begins { to.begins_on < length other.now }
+        requires to_ends { to.ends_on < length other.now }
+        requires to_listed { to.coordinate < vec_len self.now.firsts }
+        requires listed { AreListed self.now.segments.items self.now.firsts.items }
+        requires met { HaveEnds self.now.segments.items (length other.now) }
+    {
         let mut levels = from.levels(other);
-        for coordinate in from.coordinate.saturating_add(1)..to.coordinate {
+        for coordinate in usize::from(from.coordinate) + 1..usize::from(to.coordinate) {
             levels = self.levels_behind(other, coordinate, levels);
         }
         levels & to.levels(other) != 0
     }
 
     /// The levels of all segments with this coordinate that cross one of these levels.
-    fn levels_behind(&self, other: &[Segment], coordinate: u16, levels: u64) -> u64 {
+    fn levels_behind(&self, other: &[Segment], coordinate: usize, levels: u64) -> u64
+        requires coordinate { coordinate < vec_len self.now.firsts }
+        requires listed { AreListed self.now.segments.items self.now.firsts.items }
+        requires met { HaveEnds self.now.segments.items (length other.now) }
+    {
         let segments = self.segments.as_slice();
         let mut behind = 0;
-        let mut place = self
-            .firsts
-            .get(usize::from(coordinate))
-            .copied()
-            .unwrap_or(NO_SEGMENT);
+        let mut named = self.firsts[coordinate];
         for _ in 0..segments.len() {
-            let Some(segment) = segments.get(usize::from(place)) else {
+            if named == 0 {
                 break;
-            };
+            }
+            let segment = segments[usize::from(named) - 1];
             let own = segment.levels(other);
             if own & levels != 0 {
                 behind |= own;
             }
-            place = segment.next;
+            named = segment.next;
         }
         behind
     }
 
-    /// Has a list for each coordinate up to the greatest, and nothing in them.
-    pub(crate) fn resize_lists(&mut self) -> Result<(), AllocError> {
-        self.firsts
-            .resize(usize::from(self.greatest) + 1, NO_SEGMENT)?;
-        Ok(())
+    /// Makes a list for each coordinate up to the greatest, all empty.
+    fn begin_lists(&mut self) -> Result<(), AllocError>
+        requires { AreFew self.old.segments.items }
+        ensures same { self.new.segments ≡ self.old.segments }
+        ensures of { self.new.of ≡ self.old.of }
+        ensures listed { OnOk result (AreListed self.new.segments.items self.new.firsts.items) }
+    {
+        let greatest = greatest_of(self.segments.as_slice());
+        self.firsts.clear();
+        self.firsts.resize(usize::from(greatest) + 1, 0)
     }
 
     /// Lists all segments anew, by the coordinates that they have now.
-    pub(crate) fn list_anew(&mut self) -> Result<(), AllocError> {
-        self.greatest = greatest_of(self.segments.as_slice());
-        self.firsts.clear();
-        self.resize_lists()?;
-        let firsts = self.firsts.as_mut_slice();
-        for (place, segment) in self.segments.iter_mut().enumerate() {
-            list(firsts, segment, place.min(usize::from(u16::MAX)) as u16);
-        }
+    pub(crate) fn list_anew(&mut self) -> Result<(), AllocError>
+        requires few { AreFew self.old.segments.items }
+        ensures listed { OnOk result (AreListed self.new.segments.items self.new.firsts.items) }
+        ensures count { vec_len self.new.segments ≡ vec_len self.old.segments }
+        ensures ends { KeepEnds self.old.segments.items self.new.segments.items }
+    {
+        self.begin_lists()?;
+        list_all(self.segments.as_mut_slice(), self.firsts.as_mut_slice());
         Ok(())
     }
 
-    /// The segment on which a vertex lies, and 0 where there is no such vertex.
-    pub(crate) fn of_vertex(&self, vertex: u8) -> u16 {
-        self.segment_of(usize::from(vertex).wrapping_sub(1))
+    /// Gives each segment a coordinate of its own, in the order of those that they have; false if one is listed twice.
+    pub(crate) fn set_apart(&mut self) -> Result<bool, AllocError>
+        requires listed { AreListed self.old.segments.items self.old.firsts.items }
+        ensures listed { IfOk result (λ apart. apart ≡ true → AreListed self.new.segments.items self.new.firsts.items) }
+        ensures count { vec_len self.new.segments ≡ vec_len self.old.segments }
+        ensures ends { KeepEnds self.old.segments.items self.new.segments.items }
+    {
+        if !spread(self.segments.as_mut_slice(), self.firsts.as_slice()) {
+            return Ok(false);
+        }
+        self.list_anew()?;
+        Ok(true)
     }
 
-    /// The segment on which the vertex or corner at this place lies, and 0 where there is none.
-    pub(crate) fn segment_of(&self, place: usize) -> u16 {
-        self.of.get(place).copied().unwrap_or(0)
+    /// The segment on which the vertex at this place lies, if it lies on one.
+    pub(crate) fn segment_at(&self, place: u8) -> Option<u16> {
+        segment_of(self.of.as_slice(), usize::from(place), self.segments.len())
     }
 
-    /// The coordinate of the vertex or corner at this place, and 0 where there is none.
-    pub(crate) fn coordinate_at(&self, place: usize) -> u32 {
-        u32::from(coordinate_of(self.segments.as_slice(), self.segment_of(place)))
+    /// The coordinate of the vertex or corner at this place, if it lies on a segment.
+    pub(crate) fn coordinate_at(&self, place: usize) -> Option<u32> {
+        let segment = segment_of(self.of.as_slice(), place, self.segments.len())?;
+        Some(u32::from(self.segments[usize::from(segment)].coordinate))
     }
 }
 
-/// The coordinate of a segment, and 0 where there is no such segment.
-pub(crate) fn coordinate_of(segments: &[Segment], place: u16) -> u16 {
-    match segments.get(usize::from(place)) {
-        Some(segment) => segment.coordinate,
-        None => 0,
+/// The segment on which the vertex or corner at this place lies, if there is such a place, and the segment is one of
+/// this many.
+pub(crate) fn segment_of(of: &[u16], place: usize, count: usize) -> Option<u16>
+    ensures { IfSome result (λ segment. segment < count) }
+{
+    // No invariant says that each place is on a segment.
+    let segment = *of.get(place)?;
+    if usize::from(segment) < count {
+        Some(segment)
+    } else {
+        None
     }
 }
 
-/// The greatest coordinate of a segment, and 0 where there are no segments.
-fn greatest_of(segments: &[Segment]) -> u16 {
+/// The greatest coordinate of a segment; 0 if there are no segments.
+fn greatest_of(segments: &[Segment]) -> u16
+    requires { (r : ℕ) → (segment_at segments.now r).coordinate ≤ MAX_COORDINATE }
+    ensures greatest { (r : ℕ) → (segment_at segments.now r).coordinate ≤ result }
+    ensures room { result ≤ MAX_COORDINATE }
+{
     let mut greatest = 0;
     for segment in segments {
         greatest = segment.coordinate.max(greatest);
@@ -268,18 +347,59 @@ fn greatest_of(segments: &[Segment]) -> u16 {
     greatest
 }
 
-/// The first segment with this coordinate, or `NO_SEGMENT`. It and those behind it are in no list then.
-pub(crate) fn take_first(firsts: &mut [u16], coordinate: usize) -> u16 {
-    match firsts.get_mut(coordinate) {
-        Some(first) => mem::replace(first, NO_SEGMENT),
-        None => NO_SEGMENT,
-    }
+/// Takes the list of a coordinate: returns the first segment with it, by its index plus 1, or 0 if there is none.
+pub(crate) fn take_first(firsts: &mut [u16], coordinate: usize) -> u16
+    requires { coordinate < length firsts.old }
+    ensures first { result ≡ slice_index firsts.old coordinate }
+    ensures rest { firsts.new ≡ slice_set firsts.old coordinate 0 }
+{
+    mem::replace(&mut firsts[coordinate], 0)
 }
 
 /// Puts a segment before the others with its coordinate.
-pub(crate) fn list(firsts: &mut [u16], segment: &mut Segment, place: u16) {
-    if let Some(first) = firsts.get_mut(usize::from(segment.coordinate)) {
-        segment.next = *first;
-        *first = place;
+pub(crate) fn list(firsts: &mut [u16], segment: &mut Segment, place: u16)
+    requires coordinate { segment.old.coordinate < length firsts.old }
+    requires place { place + 1 < 2 ^ 16 }
+    ensures next { segment.new ≡ record segment.old { next = slice_index firsts.old segment.old.coordinate } }
+    ensures first { firsts.new ≡ slice_set firsts.old segment.old.coordinate (place + 1) }
+{
+    let first = &mut firsts[usize::from(segment.coordinate)];
+    segment.next = *first;
+    *first = place + 1;
+}
+
+/// Puts each segment before the others with its coordinate.
+fn list_all(segments: &mut [Segment], firsts: &mut [u16])
+    requires { AreListed segments.old firsts.old }
+    ensures listed { AreListed segments.new firsts.new }
+    ensures ends { KeepEnds segments.old segments.new }
+{
+    for place in 0..segments.len() {
+        list(firsts, &mut segments[place], place as u16);
     }
+}
+
+/// Gives each segment a coordinate of its own, in the order of those that they have; false if one is listed twice.
+fn spread(segments: &mut [Segment], firsts: &[u16]) -> bool
+    requires { AreListed segments.old firsts.now }
+    ensures few { AreFew segments.new }
+    ensures ends { KeepEnds segments.old segments.new }
+{
+    let mut free = segments.len() as u16;
+    for coordinate in (0..firsts.len()).rev() {
+        let mut named = firsts[coordinate];
+        for _ in 0..segments.len() {
+            if named == 0 {
+                break;
+            }
+            if free == 0 {
+                return false;
+            }
+            free -= 1;
+            let segment = &mut segments[usize::from(named) - 1];
+            segment.coordinate = free;
+            named = segment.next;
+        }
+    }
+    true
 }

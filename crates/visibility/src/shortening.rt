@@ -1,13 +1,15 @@
 //! Coordinates of segments with which the edges across them are shortest in all (Lengauer 1990; `least_length`).
 
-ghost use Rattle.std.specs.Prelude.{◌≡◌, []};
+ghost use Rattle.std.specs.Prelude.{◌≡◌, ◌<◌, ◌≤◌, ℕ, [], length, vec_len, slice_index, true, IfOk, OnOk};
+ghost use Rattle.visibility.specs.declared.segments.TheConstants.{MAX_COORDINATE};
+ghost use Rattle.visibility.specs.Axes.{AreFew, AreListed, HaveEnds, KeepEnds};
+ghost use Rattle.visibility.specs.Crossing.{AreCrossed};
 
-use crate::segments::{Segment, Segments, coordinate_of};
-use crate::sweep::Sweep;
+use crate::segments::{MAX_COORDINATE, Segment, Segments};
 use least_length::{Wire, find_shorter};
 use std::alloc::{AllocError, Global};
 
-/// What shortening works in.
+/// The buffers of a shortening.
 #[derive(Drop)]
 pub(crate) struct Shortening {
     /// The segments in the order of their coordinates.
@@ -21,7 +23,7 @@ pub(crate) struct Shortening {
 }
 
 impl Shortening {
-    /// No memory yet.
+    /// Empty buffers; nothing is allocated.
     pub(crate) fn empty(alloc: Global) -> Shortening
         ensures { result.wires.items ≡ [] }
     {
@@ -35,93 +37,116 @@ impl Shortening {
     }
 
     /// Gives segments coordinates with which those of the other axis, `other`, are shortest in all, while the
-    /// segments on each level keep their order; whether they are shorter then. Else no coordinate changes.
+    /// segments on each level keep their order; returns whether they are shorter then. If not, no coordinate changes.
     pub(crate) fn shorten(
         &mut self,
         along: &mut Segments,
         other: &Segments,
-        sweep: &mut Sweep,
-    ) -> Result<bool, AllocError> {
-        if other.are_shortest(along) {
+    ) -> Result<bool, AllocError>
+        requires { AreCrossed along.old other.now }
+        ensures { OnOk result (AreCrossed along.new other.now) }
+    {
+        if other.are_shortest(along) || !self.list_segments(along, other.segments.as_slice())? {
             return Ok(false);
         }
-        self.list_segments(along, other.segments.as_slice())?;
         self.list_wires(other.segments.as_slice())?;
         let segments = self.segments.as_slice();
         let wires = self.wires.as_slice();
         if !find_shorter(&mut self.search, segments, wires, &mut self.coordinates)? {
             return Ok(false);
         }
-        let gain = self.gain(along.segments.as_slice());
-        if gain <= 0 {
+        if !are_low(self.coordinates.as_slice()) {
             return Ok(false);
         }
-        sweep.gain = sweep.gain.wrapping_add(gain);
-        self.assign(along)?;
+        assign(
+            along.segments.as_mut_slice(),
+            self.places.as_slice(),
+            self.coordinates.as_slice(),
+        );
+        along.list_anew()?;
         Ok(true)
     }
 
-    /// Lists the segments in the order of their coordinates, with the levels that they cross.
-    fn list_segments(&mut self, along: &Segments, other: &[Segment]) -> Result<(), AllocError> {
+    /// Lists the segments in the order of their coordinates, with the levels that they cross; false if one is listed
+    /// twice.
+    fn list_segments(&mut self, along: &Segments, other: &[Segment]) -> Result<bool, AllocError>
+        requires listed { AreListed along.now.segments.items along.now.firsts.items }
+        requires ends { HaveEnds along.now.segments.items (length other.now) }
+        ensures segments { IfOk result (λ listed. listed ≡ true → vec_len self.new.segments ≡ vec_len along.now.segments) }
+        ensures count { OnOk result (vec_len self.new.places ≡ vec_len along.now.segments) }
+        ensures places { OnOk result ((r : ℕ) → r < vec_len along.now.segments → slice_index self.new.places.items r < vec_len along.now.segments) }
+    {
         self.segments.clear();
         self.places.clear();
         self.places.resize(along.segments.len(), 0)?;
-        let places = self.places.as_mut_slice();
         let segments = along.segments.as_slice();
         for first in along.firsts.as_slice() {
             let mut named = *first;
             for _ in 0..segments.len() {
-                let Some(segment) = segments.get(usize::from(named)) else {
+                if named == 0 {
                     break;
-                };
-                if let Some(place) = places.get_mut(usize::from(named)) {
-                    *place = self.segments.len().min(usize::from(u16::MAX)) as u16;
                 }
+                let place = self.segments.len();
+                if place >= segments.len() {
+                    return Ok(false);
+                }
+                let segment = segments[usize::from(named) - 1];
+                let (low, high) = segment.span(other);
+                let coordinate = segment.coordinate;
+                self.places[usize::from(named) - 1] = place as u16;
                 self.segments.push(least_length::Segment {
-                    coordinate: segment.coordinate,
-                    low: coordinate_of(other, segment.begins_on),
-                    high: coordinate_of(other, segment.ends_on),
+                    coordinate,
+                    low,
+                    high,
                 })?;
                 named = segment.next;
             }
         }
-        Ok(())
+        Ok(self.segments.len() == segments.len())
     }
 
     /// Lists the segments of the other axis as wires from the segment where each begins to that where it ends.
-    fn list_wires(&mut self, other: &[Segment]) -> Result<(), AllocError> {
+    fn list_wires(&mut self, other: &[Segment]) -> Result<(), AllocError>
+        requires { HaveEnds other.now (vec_len self.old.places) }
+        ensures places { self.new.places ≡ self.old.places }
+        ensures segments { self.new.segments ≡ self.old.segments }
+    {
         self.wires.clear();
         for segment in other {
             if segment.begins_on != segment.ends_on {
-                let from = entry_of(self.places.as_slice(), segment.begins_on);
-                let to = entry_of(self.places.as_slice(), segment.ends_on);
-                let level = segment.coordinate;
-                self.wires.push(Wire { from, to, level })?;
+                self.wires.push(Wire {
+                    from: self.places[usize::from(segment.begins_on)],
+                    to: self.places[usize::from(segment.ends_on)],
+                    level: segment.coordinate,
+                })?;
             }
         }
         Ok(())
     }
+}
 
-    /// By how much shorter the segments of the other axis are with the coordinates found.
-    fn gain(&self, segments: &[Segment]) -> i64 {
-        let mut gain: i64 = 0;
-        for (segment, place) in segments.iter().zip(self.places.as_slice()) {
-            let coordinate = entry_of(self.coordinates.as_slice(), *place);
-            gain = gain.wrapping_add(segment.gain_at(coordinate));
-        }
-        gain
-    }
-
-    /// Gives segments the coordinates found, and lists them by these.
-    fn assign(&self, along: &mut Segments) -> Result<(), AllocError> {
-        for (segment, place) in along.segments.iter_mut().zip(self.places.as_slice()) {
-            segment.coordinate = entry_of(self.coordinates.as_slice(), *place);
-        }
-        along.list_anew()
+/// Gives segments the coordinates found.
+fn assign(segments: &mut [Segment], places: &[u16], coordinates: &[u16])
+    requires count { length places.now ≡ length segments.old }
+    requires places { (r : ℕ) → r < length places.now → slice_index places.now r < length coordinates.now }
+    requires low { (r : ℕ) → slice_index coordinates.now r ≤ MAX_COORDINATE }
+    requires few { AreFew segments.old }
+    ensures few { AreFew segments.new }
+    ensures ends { KeepEnds segments.old segments.new }
+{
+    for segment in 0..segments.len() {
+        segments[segment].coordinate = coordinates[usize::from(places[segment])];
     }
 }
 
-/// The entry at this place.
-fn entry_of(list: &[u16], place: u16) -> u16 {
-    list.get(usize::from(place)).copied().unwrap_or(0)
+/// Whether no coordinate is above those that segments can have.
+fn are_low(coordinates: &[u16]) -> bool
+    ensures { result ≡ true → (r : ℕ) → slice_index coordinates.now r ≤ MAX_COORDINATE }
+{
+    for coordinate in coordinates {
+        if *coordinate > MAX_COORDINATE {
+            return false;
+        }
+    }
+    true
 }

@@ -1,0 +1,12 @@
+use Rattle.std.proofs.Common.{◌≡◌, ◌≤◌, ◌<◌, length}
+use Rattle.std.specs.Prelude.{All}
+use Rattle.visibility.specs.declared.listing.Bent.{Bent}
+use Rattle.visibility.proofs.listing.list_edges.Given as goal
+
+abbrev pub invariant-loop-dart : goal.invariant-loop-dart
+invariant-loop-dart l = record {
+  x : l.x.segments ≡ l.initial.x.segments;
+  y : l.y.segments ≡ l.initial.y.segments;
+  edge : l.edge ≤ l.edges;
+  bent : All (λ (b : Bent). b.edge < length l.points.corners) l.bent.items;
+}

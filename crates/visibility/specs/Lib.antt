@@ -1,0 +1,2 @@
+pub mod Axes
+pub mod Crossing
