@@ -50,7 +50,8 @@ class Run(NamedTuple):
 
 def parser_of(text: str | None) -> argparse.ArgumentParser:
     """A parser of the command line with this help."""
-    return argparse.ArgumentParser(description=text, formatter_class=argparse.RawDescriptionHelpFormatter)
+    return argparse.ArgumentParser(description=text, formatter_class=argparse.RawDescriptionHelpFormatter,
+                                   epilog="The built program is PLANARBEND, or else that of ./planarbend --build.")
 
 
 def add_write(parser: argparse.ArgumentParser) -> None:
