@@ -13,13 +13,15 @@ import os
 import re
 import shutil
 import subprocess
+from pathlib import Path
 
 import programs
 from programs import ROOT
 
 PAGES = ["README.md", "CONTRIBUTING.md", "docs/*.md", "bench/*.md"]
 COUNTED = [*PAGES, "CHANGELOG.md", "examples/README.md"]
-MOST = {"README.md": 900, "CONTRIBUTING.md": 900, "CHANGELOG.md": 600, "docs/CHECK.md": 500, "docs/CLUSTER.md": 750, "": 13_000}  # words; of all pages
+MOST = {"README.md": 900, "CONTRIBUTING.md": 900, "CHANGELOG.md": 600, "docs/CHECK.md": 500, "docs/CLUSTER.md": 750,
+        "": 13_000}  # words; of all pages
 WRITTEN = {"bench/RESULTS.md", "docs/COUNTS.md"}  # by scripts, and so not counted
 NO_TREE = {"bench/RESULTS.md"}  # quotes what ran
 NUMBER = re.compile(r"([\d,]*\d) (crates|proofs|edits|attacks|tests)\b")
@@ -33,8 +35,7 @@ WORD = re.compile(r"-{0,2}[A-Za-z_][\w\-]*(?:\.[a-z]\w*)*|\d[\d,.]*")
 
 
 def text_of(path):
-    with open(os.path.join(ROOT, path), encoding="utf-8", errors="replace") as text:
-        return text.read()
+    return programs.read(os.path.join(ROOT, path)).decode(errors="replace")
 
 
 def pages(patterns):
@@ -73,24 +74,20 @@ class Tree:
 
     @staticmethod
     def split(text):
-        return {part for word in WORD.findall(text) for part in (word, *word.split("."), *word.split("-"), word.lstrip("-"))}
+        return {part for word in WORD.findall(text)
+                for part in (word, *word.split("."), *word.split("-"), word.lstrip("-"))}
 
     def words_of_crate(self, crate):
         """The words of a crate's code and definitions, without comments."""
-        text = []
-        for file in self.files:
-            if file.startswith(f"crates/{crate}/src/"):
-                text += [line.split("//")[0] for line in text_of(file).splitlines()]
-            elif file.startswith(f"crates/{crate}/specs/"):
-                text += [line.split("--")[0] for line in text_of(file).splitlines()]
+        text = [line.partition(comment)[0] for part, comment in (("src", "//"), ("specs", "--")) for file in self.files
+                if file.startswith(f"crates/{crate}/{part}/") for line in text_of(file).splitlines()]
         return self.split("\n".join(text)) | {crate}
 
     def counts(self):
-        tests = {crate: sum(text_of(file).count("#[test]") for file in self.files if file.startswith(f"crates/{crate}/src/"))
-                 for crate in self.crates}
+        tests = [sum(text_of(file).count("#[test]") for file in self.files if file.startswith(f"crates/{crate}/src/"))
+                 for crate in self.crates]
         edits = [file.split("/") for file in self.files if file.endswith(".edit")]
-        return {"crates": len(self.crates), "tests": sum(tests.values()),
-                "proofs": len(self.crates) + sum(count > 0 for count in tests.values()),
+        return {"crates": len(tests), "tests": sum(tests), "proofs": len(tests) + sum(map(bool, tests)),
                 "edits": sum(parts[0] == "crates" and parts[2] == "must-fail" for parts in edits),
                 "attacks": sum(parts[:2] == ["checks", "edits"] for parts in edits)}
 
@@ -153,8 +150,8 @@ def clauses_by_call(tree):
 
 
 def lost_clauses(tree, text):
-    """The clauses in the tables of docs/PROVED.md that no call beside them has. A cell without a call repeats the one above;
-    in a table of two columns the call is in the heading."""
+    """The clauses in the tables of docs/PROVED.md that no call beside them has. A cell without a call repeats the one
+    above; in a table of two columns the call is in the heading."""
     clauses, lost = clauses_by_call(tree), []
     for table in re.findall(r"(?:^\|.*\n)+", text, flags=re.M):
         rows = [line[1:-1].split("|") for line in table.splitlines()]
@@ -198,9 +195,11 @@ def faults_of_man():
     text = text_of(MAN)
     lines = list(difflib.unified_diff(text.splitlines(), man_page(text).splitlines(), MAN, "--help", lineterm=""))
     if shutil.which("man"):
-        ran = subprocess.run(["man", "--warnings", "-E", "UTF-8", "-l", "-Tutf8", "-Z", os.path.join(ROOT, MAN)], stdout=subprocess.DEVNULL,
-                             stderr=subprocess.PIPE, text=True, env={"LC_ALL": "C.UTF-8", "MANROFFSEQ": "", "MANWIDTH": "80", "PATH": "/usr/bin:/bin"})
-        lines += [f"man: {line}" for line in ran.stderr.splitlines()] or [f"man: status {ran.returncode}"] * bool(ran.returncode)
+        words = ["man", "--warnings", "-E", "UTF-8", "-l", "-Tutf8", "-Z", os.path.join(ROOT, MAN)]
+        environment = {"LC_ALL": "C.UTF-8", "MANROFFSEQ": "", "MANWIDTH": "80", "PATH": "/usr/bin:/bin"}
+        ran = subprocess.run(words, capture_output=True, text=True, env=environment)
+        status = [f"status {ran.returncode}"] if ran.returncode else []
+        lines += [f"man: {line}" for line in ran.stderr.splitlines() or status]
     return lines
 
 
@@ -216,6 +215,4 @@ def faults(crates):
 
 if __name__ == "__main__":
     programs.parser_of(__doc__).parse_args()
-    page = man_page(text_of(MAN))
-    with open(os.path.join(ROOT, MAN), "w", encoding="utf-8") as out:
-        out.write(page)
+    Path(ROOT, MAN).write_text(man_page(text_of(MAN)), encoding="utf-8")

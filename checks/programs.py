@@ -12,8 +12,10 @@ import re
 import shutil
 import subprocess
 import sys
+import tempfile
 import time
-from collections.abc import Callable, Iterable, Sequence
+from collections.abc import Callable, Collection, Iterable, Sequence
+from pathlib import Path
 from typing import Any, NamedTuple
 
 sys.dont_write_bytecode = True
@@ -31,6 +33,10 @@ FAST = ["-O3", "-march=native", "-std=c++17"]  # for other programs; ours is bui
 
 RESULTS = os.path.join(ROOT, "bench/RESULTS.md")
 
+# Records of an edge, a triangle, a vertex alone, and an octahedron.
+EDGE, TRIANGLE, LONE = b"\2\2\0\1\0", b"\3\2\3\0\3\1\0\1\2\0", b"\1\0"
+OCTAHEDRON = bytes([6, 2, 3, 4, 5, 0, 6, 3, 1, 5, 0, 2, 6, 4, 1, 0, 1, 3, 6, 5, 0, 2, 1, 4, 6, 0, 2, 5, 4, 3, 0])
+
 PIECE = 1 << 20  # bytes of output read at a time, at most
 
 
@@ -44,12 +50,24 @@ class Run(NamedTuple):
 
 def parser_of(text: str | None) -> argparse.ArgumentParser:
     """A parser of the command line with this help."""
-    return argparse.ArgumentParser(description=text, formatter_class=argparse.RawDescriptionHelpFormatter)
+    return argparse.ArgumentParser(description=text, formatter_class=argparse.RawDescriptionHelpFormatter,
+                                   epilog="The built program is PLANARBEND, or else that of ./planarbend --build.")
 
 
 def add_write(parser: argparse.ArgumentParser) -> None:
     """Adds the option that stores the tables."""
     parser.add_argument("--write", action="store_true", help="replace this script's tables in bench/RESULTS.md")
+
+
+def add_names(parser: argparse.ArgumentParser, what: str, known: Collection[str], default: str = "") -> None:
+    """Adds arguments, each one of the known names. They are given as `names`: without any, all or the default."""
+    def name(word: str) -> str:
+        if word not in known:
+            raise argparse.ArgumentTypeError(f"no such {what.lower()}: {word}")
+        return word
+
+    parser.add_argument("names", metavar=what, nargs="*", type=name, default=[default] if default else list(known),
+                        help=f"{', '.join(known)} ({default or 'all'})")
 
 
 class Cases:
@@ -79,11 +97,12 @@ class Cases:
 
 class Section:
     """A section of bench/RESULTS.md: the command that writes it, a title, when and where it ran, and tables. Each line
-    is printed as soon as it is added."""
+    is printed as soon as it is added. Faults are bounds that a figure exceeds."""
 
     def __init__(self, command: str, title: str) -> None:
         self.head = f"## `{command}`"
         self.lines: list[str] = []
+        self.faults: list[str] = []
         self.add(f"{self.head}: {title}", "", where(), "")
 
     def add(self, *lines: str) -> None:
@@ -100,19 +119,27 @@ class Section:
 
     def keep(self, wanted: bool) -> None:
         """If requested, replaces the section of the same command, or appends this one."""
-        if not wanted:
-            return
-        with open(RESULTS, encoding="utf-8") as page:
-            parts = re.split(r"^(?=## )", page.read(), flags=re.M)
-        mine = "\n".join(self.lines).rstrip() + "\n\n"
-        places = [at for at, part in enumerate(parts) if part.startswith(self.head + ":")]
-        if places:
-            parts[places[0]] = mine
-        else:
-            parts[-1] = parts[-1].rstrip() + "\n\n"
-            parts.append(mine)
-        with open(RESULTS, "w", encoding="utf-8") as page:
-            page.write("".join(parts).rstrip() + "\n")
+        if wanted:
+            page, mine = read(RESULTS).decode().rstrip() + "\n", "\n".join(self.lines).rstrip() + "\n"
+            old = re.search(rf"^{re.escape(self.head)}:.*?\n(?=\n## |\Z)", page, re.M | re.S)
+            page = page[:old.start()] + mine + page[old.end():] if old else f"{page}\n{mine}"
+            Path(RESULTS).write_text(page, encoding="utf-8")
+
+
+Part = Callable[[argparse.Namespace, str], Section]  # of a script: from its options and a folder
+
+
+def measure(told: argparse.Namespace, parts: dict[str, Part]) -> int:
+    """Runs the parts that are named, each in a folder of its own, keeps what they print if requested, and tells their
+    faults. Returns the exit status of the script."""
+    faults = []
+    for name in told.names:
+        with tempfile.TemporaryDirectory() as folder:
+            section = parts[name](told, folder)
+        section.keep(told.write)
+        faults += section.faults
+    print(*faults, sep="\n", end="\n" * bool(faults))
+    return 1 if faults else 0
 
 
 def where() -> str:
@@ -137,28 +164,36 @@ def busy_cores() -> float:
 
 def commit() -> str:
     """The commit of the checkout that holds the program, or of this one."""
-    place = os.path.dirname(os.path.abspath(os.environ.get("PLANARBEND") or ROOT + "/bench"))
-    return commit_of(place) or commit_of(ROOT) or "unknown"
-
-
-def commit_of(folder: str) -> str:
-    """The commit of the checkout that holds this folder; empty if there is none."""
-    return subprocess.run(["git", "-C", folder, "log", "-1", "--format=%h"], capture_output=True, text=True).stdout.strip()
+    for folder in (os.path.dirname(os.path.abspath(os.environ.get("PLANARBEND") or RESULTS)), ROOT):
+        ran = subprocess.run(["git", "-C", folder, "log", "-1", "--format=%h"], capture_output=True, text=True)
+        if ran.stdout:
+            return ran.stdout.strip()
+    return "unknown"
 
 
 def planarbend() -> str:
     """The built program: PLANARBEND, or that of ./planarbend --build."""
-    return built(os.environ.get("PLANARBEND") or os.path.join(ROOT, "crates/planarbend/out/planarbend"), "./planarbend --build")
+    return built(os.environ.get("PLANARBEND") or f"{ROOT}/crates/planarbend/out/planarbend", "./planarbend --build")
 
 
 def measures() -> str:
     """The built program of crates/measures, which times the layers of the library."""
-    return built(os.path.join(ROOT, "crates/measures/out/measures"), "(cd crates/measures && rt run -- planes)")
+    return of_crate("measures", "run -- planes")
 
 
 def corpus() -> str:
     """The built program of crates/corpus, which tries the layers of the library."""
-    return built(os.path.join(ROOT, "crates/corpus/out/corpus"), "(cd crates/corpus && rt run -- again)")
+    return of_crate("corpus", "run -- again")
+
+
+def tests_of(crate: str) -> str:
+    """The built tests of a crate."""
+    return of_crate(crate, "test", "_tests")
+
+
+def of_crate(crate: str, command: str, ending: str = "") -> str:
+    """What `rt` with this command builds in a crate."""
+    return built(f"{ROOT}/crates/{crate}/out/{crate}{ending}", f"(cd crates/{crate} && rt {command})")
 
 
 def built(program: str, command: str) -> str:
@@ -204,8 +239,12 @@ def toolchain(name: str = "rt") -> Any:
 
 def read(path: str) -> bytes:
     """The bytes of a file."""
-    with open(path, "rb") as data:
-        return data.read()
+    return Path(path).read_bytes()
+
+
+def name_of(path: str) -> str:
+    """The name of a file of planar_code, without its ending."""
+    return os.path.basename(path).removesuffix(".pc")
 
 
 def records_of(path: str) -> list[bytes]:
@@ -216,47 +255,30 @@ def records_of(path: str) -> list[bytes]:
 
 def write(path: str, graphs: Iterable[bytes]) -> str:
     """This file of planar_code, with these records."""
-    with open(path, "wb") as out:
-        out.write(HEADER)
-        out.writelines(graphs)
+    Path(path).write_bytes(HEADER + b"".join(graphs))
     return path
 
 
 def libraries(root: str = ROOT) -> dict[str, list[str]]:
     """Each crate of a checkout with the libraries it uses, lowest first."""
-    uses = {}
-    with open(os.path.join(root, "crates.txt"), encoding="utf-8") as lines:
-        for line in lines:
-            name, colon, rest = line.partition(":")
-            if colon and not line.startswith("#"):
-                uses[name.split()[0]] = rest.split()
-    return uses
-
-
-def closure(names: Iterable[str], uses: dict[str, list[str]]) -> list[str]:
-    """These crates and all crates of the repository below them, lowest first."""
-    found: set[str] = set()
-    waiting = list(names)
-    while waiting:
-        name = waiting.pop()
-        if name in uses and name not in found:
-            found.add(name)
-            waiting += uses[name]
-    return [name for name in uses if name in found]
+    text = read(os.path.join(root, "crates.txt")).decode()
+    return {name: rest.split() for name, rest in re.findall(r"^(\w+)[^:#\n]*:([^#\n]*)", text, re.M)}
 
 
 def copy_crates(folder: str, top: str, root: str = ROOT) -> str:
     """Copies the sources and definitions of a crate and of all below it, and returns the copy of the crate."""
-    uses = libraries(root)
-    crates = closure([top], uses)
+    uses, found = libraries(root), [top]
+    for crate in found:  # which grows
+        found += [used for used in uses[crate] if used in uses and used not in found]
+    crates = [crate for crate in uses if crate in found]
     for crate in crates:
         for part in ("src", "specs"):
             source = os.path.join(root, "crates", crate, part)
             if os.path.isdir(source):
                 shutil.copytree(source, os.path.join(folder, "crates", crate, part))
     shutil.copy(os.path.join(root, "HANDLES"), folder)
-    with open(os.path.join(folder, "crates.txt"), "w", encoding="utf-8") as out:
-        out.writelines(f"{crate}: {' '.join(uses[crate])}\n" for crate in crates)
+    lines = [f"{crate}: {' '.join(uses[crate])}\n" for crate in crates]
+    Path(folder, "crates.txt").write_text("".join(lines), encoding="utf-8")
     return os.path.join(folder, "crates", top)
 
 
@@ -273,8 +295,7 @@ def plant(edit: str, crate: str) -> None:
                 whole = read(path).decode()
                 if whole.count(old) != 1:
                     sys.exit(f"{edit}: its text does not occur once in {path}")
-                with open(path, "w", encoding="utf-8") as source:
-                    source.write(whole.replace(old, text))
+                Path(path).write_text(whole.replace(old, text), encoding="utf-8")
 
 
 def run(words: Sequence[str], stderr: int | None = None) -> Run:
@@ -324,7 +345,8 @@ def repeated(folder: str, path: str, times: int) -> str:
 
 def files(folder: str, count: int) -> list[str]:
     """Files of this many random graphs of each kind, and the one of small graphs."""
-    return [generated(folder, kind, vertices, count, seed) for kind, vertices, seed in KINDS] + [shutil.copy(SMALL, folder)]
+    random = [generated(folder, kind, vertices, count, seed) for kind, vertices, seed in KINDS]
+    return [*random, shutil.copy(SMALL, folder)]
 
 
 def enumerated(folder: str, orders: Iterable[int], is_needed: bool = False) -> list[str]:

@@ -10,8 +10,8 @@
               needed to connect it
   generate.py KIND                        fixed graphs
     copies    twelve copies of a tree and of a path, in turn (crates/corpus/data/copies.pc). The tree has ten vertices,
-              none of degree 2; the path has forty. Both can be drawn without a bend and with edges of length 1, the
-              path without a turn, so they are 9 and 39 long. The quick drawings of both are longer.
+              none of degree 2; the path has forty. Both can be drawn without bends and with edges of length 1, the path
+              without a turn, so they are 9 and 39 long, and longer in quick drawings.
     prism     the medial graph of a prism over a cycle of 85 vertices (crates/corpus/data/prism85.pc): its vertices are
               the 255 edges of the prism, and two are joined if one follows the other round a face. They are numbered
               by a breadth-first search from the first.
@@ -40,8 +40,8 @@ from planarbend.planar_code import HEADER, record_of
 from planarbend.reports import End, File, Graph
 
 MOST_DEGREE = 4
-COPIES, PATH = 12, 40
 TREE = [[2, 3, 4], [1, 5, 6], [1, 7, 8], [1, 9, 10], [2], [2], [3], [3], [4], [4]]
+PATH = [[2], *([at - 1, at + 1] for at in range(2, 40)), [39]]
 SIDES = 85
 
 Rotation = dict[int, list[int]]  # the neighbours of each vertex, clockwise, from 0
@@ -68,7 +68,7 @@ def triangulation(corners: int, rng: random.Random) -> Rotation:
 
 def darts_after(rotation: Rotation) -> dict[Dart, Dart]:
     """The dart after each one round its tail."""
-    return {(v, w): (v, around[(at + 1) % len(around)]) for v, around in rotation.items() for at, w in enumerate(around)}
+    return {(v, w): (v, after) for v, around in rotation.items() for w, after in zip(around, around[1:] + around[:1])}
 
 
 def dual(rotation: Rotation) -> Rotation:
@@ -172,35 +172,28 @@ def random_graphs(kind: str, vertices: int, count: int, seed: int) -> Iterator[L
             made += 1
 
 
-def path_lists(vertices: int) -> Lists:
-    return [[other for other in (vertex - 1, vertex + 1) if 1 <= other <= vertices] for vertex in range(1, vertices + 1)]
-
-
 def medial_of_prism() -> Lists:
-    """The last of the growing graphs, from 0."""
+    """The last of the growing graphs."""
     rotation = {i: [(i + 1) % SIDES, SIDES + i, (i - 1) % SIDES] for i in range(SIDES)}
     rotation |= {SIDES + i: [SIDES + (i + 1) % SIDES, SIDES + (i - 1) % SIDES, i] for i in range(SIDES)}
     return by_breadth([around[-1:] + around[:-1] for around in medial(rotation).values()])
 
 
 def by_breadth(lists: Lists) -> Lists:
-    """The same graph, its vertices numbered by a breadth-first search."""
-    order, seen = [0], {0}
-    for vertex in order:
-        found = [other for other in lists[vertex] if other not in seen]
-        order += found
-        seen.update(found)
-    place = {vertex: number for number, vertex in enumerate(order)}
+    """The same graph, its vertices numbered by a breadth-first search, and from 1."""
+    order = [0]
+    for vertex in order:  # which grows
+        order += [other for other in lists[vertex] if other not in order]
+    place = {vertex: number for number, vertex in enumerate(order, 1)}
     return [[place[other] for other in lists[vertex]] for vertex in order]
 
 
 def growing(lists: Lists) -> Iterator[Lists]:
     """The graphs of the first edges, of one, two and so on up to all."""
-    for last in range(1, len(lists)):
-        for most in sorted(other for other in lists[last] if other < last):
-            yield [[other for other in around if max(vertex, other) < last
-                    or max(vertex, other) == last and min(vertex, other) <= most]
-                   for vertex, around in enumerate(lists[:last + 1])]
+    for last in range(2, len(lists) + 1):
+        for most in sorted(other for other in lists[last - 1] if other < last):
+            yield [[other for other in around if (max(vertex, other), min(vertex, other)) <= (last, most)]
+                   for vertex, around in enumerate(lists[:last], 1)]
 
 
 def circle(count: int, radius: float, turn: float) -> list[tuple[float, float]]:
@@ -224,7 +217,8 @@ def star(leaves: int) -> Placed:
 
 def grid(a: int, b: int) -> Placed:
     edges = [(x * b + y, x * b + y + 1) for x in range(a) for y in range(b - 1)]
-    return [(x, y) for x in range(a) for y in range(b)], edges + [(x * b + y, x * b + y + b) for x in range(a - 1) for y in range(b)]
+    edges += [(x * b + y, x * b + y + b) for x in range(a - 1) for y in range(b)]
+    return [(x, y) for x in range(a) for y in range(b)], edges
 
 
 def prism(k: int) -> Placed:
@@ -239,13 +233,13 @@ def antiprism(k: int) -> Placed:
 def families() -> list[tuple[Placed, int]]:
     """Each graph with its fewest bends."""
     found = [(grid(n, 1), 0) for n in range(2, 41)]
-    found += [(cycle(3), 1)] + [(cycle(n), 0) for n in range(4, 41)]
+    found += [(cycle(n), 1 if n == 3 else 0) for n in range(3, 41)]
     found += [(star(leaves), 0) for leaves in range(2, 5)]
     found += [(grid(a, b), 0) for a in range(2, 7) for b in range(2, 7)]
     found += [(prism(k), 4) for k in range(3, 13)]
-    found += [(antiprism(3), 12)] + [(antiprism(k), 2 * k + 4) for k in range(4, 13)]
-    k4: Placed = ([(0, 0)] + circle(3, 1, 0), ring(1, 3) + [(0, 1), (0, 2), (0, 3)])
-    return found + [(k4, 4), (cycle(255), 0)]
+    found += [(antiprism(k), 12 if k == 3 else 2 * k + 4) for k in range(3, 13)]
+    places, spokes = star(3)
+    return found + [((places, ring(1, 3) + spokes), 4), (cycle(255), 0)]
 
 
 def drawn(graph: Placed) -> Lists:
@@ -269,15 +263,9 @@ def report() -> Iterator[object]:
     yield End("complete", len(graphs))
 
 
-def one_more(graphs: Iterator[Lists]) -> Iterator[Lists]:
-    """The same, counted from 1."""
-    return ([[other + 1 for other in around] for around in lists] for lists in graphs)
-
-
 FIXED: dict[str, Callable[[], Iterator[Lists]]] = {
-    "copies": lambda: iter([TREE, path_lists(PATH)] * COPIES),
-    "prism": lambda: one_more(iter([medial_of_prism()])),
-    "growing": lambda: one_more(growing(medial_of_prism())),
+    "copies": lambda: iter([TREE, PATH] * 12),
+    "prism": lambda: iter([medial_of_prism()]), "growing": lambda: growing(medial_of_prism()),
     "families": lambda: (drawn(graph) for graph, _ in families())}
 
 

@@ -24,9 +24,11 @@ import signal
 import subprocess
 import sys
 import time
+from pathlib import Path
 
 sys.dont_write_bytecode = True
-from common import BUILD_MINUTES, CRATE, ROOT, START, end_on_signals, free_memory, look_at_machine, say, stop, write_error
+from common import (
+    BUILD_MINUTES, CRATE, ROOT, START, end_on_signals, free_memory, look_at_machine, say, stop, write_error)
 
 PROGRAM = os.path.join(CRATE, "out", "planarbend")
 SUMS = PROGRAM + ".sources"
@@ -48,8 +50,7 @@ class Crates:
     it."""
 
     def __init__(self, *targets):
-        with open(CRATE_LIST, encoding="utf-8") as file:
-            text = file.read()
+        text = Path(CRATE_LIST).read_text(encoding="utf-8")
         listed = {name: used.split() for name, used in re.findall(r"^(\w+)[^:#\n]*:([^#\n]*)", text, re.M)}
         self.uses, waiting = {}, list(targets or ["planarbend"])
         while waiting:
@@ -70,11 +71,9 @@ class Crates:
 
     def sum_of_texts(self, name):
         """A checksum of the sources of a crate and of what it uses."""
-        with open(os.path.join(KIT, "WHAT"), "rb") as file:
-            found = hashlib.sha256(file.read() + repr((self.uses[name], self.of_kit[name])).encode())
+        found = hashlib.sha256(Path(KIT, "WHAT").read_bytes() + repr((self.uses[name], self.of_kit[name])).encode())
         for path in sources_of(name):
-            with open(path, "rb") as file:
-                found.update(repr((os.path.relpath(path, ROOT), file.read())).encode())
+            found.update(repr((os.path.relpath(path, ROOT), Path(path).read_bytes())).encode())
         return found.hexdigest()
 
     def stamp(self, name):
@@ -82,15 +81,14 @@ class Crates:
         return "".join(f"{crate} {self.sums_of_crates[crate]}\n" for crate in sorted({name} | self.below(name)))
 
     def is_built(self, name):
-        with contextlib.suppress(FileNotFoundError), open(stamp_of(name), encoding="utf-8") as file:
-            return file.read() == self.stamp(name)
+        with contextlib.suppress(FileNotFoundError):
+            return Path(stamp_of(name)).read_text(encoding="utf-8") == self.stamp(name)
         return False
 
     def keep(self, name):
         """Marks a library as built from the current sources, if they are still those with which this build began."""
         if self.sum_of_texts(name) == self.sums_of_crates[name]:
-            with open(stamp_of(name), "w", encoding="utf-8") as file:
-                file.write(self.stamp(name))
+            Path(stamp_of(name)).write_text(self.stamp(name), encoding="utf-8")
 
     def sums(self):
         """The record next to the program: first its checksum, then its sources."""
@@ -101,25 +99,23 @@ class Crates:
 
     def is_program_built(self):
         """Whether the existing program was built from the current sources."""
-        with contextlib.suppress(OSError), open(SUMS, encoding="utf-8") as file:
-            return os.access(PROGRAM, os.X_OK) and file.read() == self.sums()
+        with contextlib.suppress(OSError):
+            return os.access(PROGRAM, os.X_OK) and Path(SUMS).read_text(encoding="utf-8") == self.sums()
         return False
 
     def keep_program(self):
         """Writes the record next to the program, if no source has changed while its crate was proved."""
         is_same = self.sum_of_texts("planarbend") == self.sums_of_crates["planarbend"]
         if is_same and all(map(self.is_built, self.libraries)):
-            with open(SUMS, "w", encoding="utf-8") as file:
-                file.write(self.sums())
+            Path(SUMS).write_text(self.sums(), encoding="utf-8")
 
     def command(self, name, jobs):
         """The command that proves a crate and builds it, in the crate's folder, without the output file."""
         root = "main" if name == "planarbend" else "lib"
-        words = [os.path.join(KIT, "bin", "rattle"), "build", "--crate-name", name, f"src/{root}.rt", "--links", f"{name}="]
-        for used in self.of_kit[name]:
-            words += ["--extern", f"{used}={KIT}/rlibs/{used}.rlib"]
-        for used in self.uses[name]:
-            words += ["--extern", f"{used}={library_of(used)}"]
+        words = [f"{KIT}/bin/rattle", "build", "--crate-name", name, f"src/{root}.rt", "--links", f"{name}="]
+        places = {used: f"{KIT}/rlibs/{used}.rlib" for used in self.of_kit[name]}
+        for used, place in (places | {used: library_of(used) for used in self.uses[name]}).items():
+            words += ["--extern", f"{used}={place}"]
         for folder in [f"{KIT}/rlibs", *[os.path.dirname(library_of(used)) for used in self.below(name)]]:
             words += ["-L", f"dependency={folder}"]
         words += ["--antt-project", f"{KIT}/rattle/logic/antt-project.json", "--logic-built", f"{KIT}/logic_built"]
@@ -141,8 +137,7 @@ def sources_of(name):
 
 
 def sum_of_file(path):
-    with open(path, "rb") as file:
-        return hashlib.sha256(file.read()).hexdigest()
+    return hashlib.sha256(Path(path).read_bytes()).hexdigest()
 
 
 def library_of(name):
@@ -159,8 +154,7 @@ def stamp_of(name):
 def seconds_of(crates):
     """The approximate processor seconds for the proof of each crate, from a file of such figures, and the crates that
     do not gain from several jobs."""
-    with open(SECONDS, encoding="utf-8") as file:
-        lines = re.findall(r"^(\w+) (\d+)( alone)?$", file.read(), re.M)
+    lines = re.findall(r"^(\w+) (\d+)( alone)?$", Path(SECONDS).read_text(encoding="utf-8"), re.M)
     known = {name: int(seconds) for name, seconds, _ in lines}
     return {name: known.get(name, OTHER_SECONDS) for name in crates}, {name for name, _, is_alone in lines if is_alone}
 
@@ -241,9 +235,8 @@ def kept_out(names):
 
 def start(words, name, held):
     """Starts a command in the folder of a crate, in its own process group."""
-    streams = {"stdin": subprocess.DEVNULL, "stdout": subprocess.PIPE, "stderr": subprocess.STDOUT}
-    return subprocess.Popen(
-        words, cwd=folder_of(name), pass_fds=held, start_new_session=True, text=True, errors="replace", **streams)
+    return subprocess.Popen(words, cwd=folder_of(name), pass_fds=held, start_new_session=True, stdin=subprocess.DEVNULL,
+                            stdout=subprocess.PIPE, stderr=subprocess.STDOUT, text=True, errors="replace")
 
 
 def end(process):
@@ -365,8 +358,8 @@ def processors():
 def build(crates):
     begun, both = time.time(), Crates("planarbend", LIBRARY)
     work = Work(both, processors())
-    say(f"proving and building, about {BUILD_MINUTES} minutes on 4 free cores from nothing; when it is stopped, the next"
-        " --build goes on")
+    say(f"proving and building, about {BUILD_MINUTES} minutes on 4 free cores from nothing; when it is stopped, the"
+        " next --build goes on")
     with kept_out(both.uses) as held:
         prove(both, work, held)
         work.tell("the program itself is proved and compiled now")
@@ -382,8 +375,7 @@ def build(crates):
 
 def make_library():
     """Makes the libraries for C of what is proved."""
-    status = subprocess.run([sys.executable, os.path.join(ROOT, "c/make.py")]).returncode
-    if status:
+    if status := subprocess.run([sys.executable, os.path.join(ROOT, "c/make.py")]).returncode:
         sys.exit(status)
 
 

@@ -1,7 +1,7 @@
 #!/usr/bin/env python3
-"""Copies what --build has made below a folder: the program and planarbend-draw to bin, the library to lib, its header to
-include, the man page to share/man/man1, and the Python package to the folder below it where this version of Python looks for
-packages. Files of an earlier version are replaced; each file is complete at any time.
+"""Copies what --build has made below a folder: the program and planarbend-draw to bin, the library to lib, its header
+to include, the man page to share/man/man1, and the Python package to the folder below it where this version of Python
+looks for packages. Files of an earlier version are replaced; each file is complete at any time.
 
 `planarbend --install PREFIX` runs it. The exit status is 0 if everything is copied; otherwise it is 1, and a message
 says why.

@@ -12,6 +12,7 @@ import stat
 import subprocess
 import sys
 import tempfile
+from pathlib import Path
 
 sys.dont_write_bytecode = True
 from common import BUILD_MINUTES, CRATE, end, end_on_signals, look_at_machine, say, stop, write_error
@@ -49,7 +50,8 @@ class Trial:
         self.folder = folder
         self.words = list(words)
         self.files = places_of_files(words)
-        self.way_out = f"{called} --build proves and builds the program, in about {BUILD_MINUTES} minutes on 4 free cores"
+        self.way_out = (f"{called} --build proves and builds the program, in about {BUILD_MINUTES} minutes on"
+                        " 4 free cores")
         self.room = INPUT
         self.data = []
         self.names = {}
@@ -73,7 +75,7 @@ class Trial:
     def take_input(self):
         """Copies the caller's files and standard input. A file that cannot be read is missing in the trial too, and
         standard input that cannot be read is replaced by a missing file: the answer to both is the same."""
-        open(self.path("stdin"), "wb").close()
+        Path(self.path("stdin")).touch()
         for place in self.files:
             word = self.words[place]
             if word == "-" and self.copy(0, self.path("stdin")):
@@ -95,8 +97,7 @@ class Trial:
         self.room -= len(content)
         if self.room < 0:
             self.refuse_input()
-        with open(copied, "wb") as file:
-            file.write(content)
+        Path(copied).write_bytes(content)
         return True
 
     def run(self):
@@ -121,8 +122,8 @@ class Trial:
             written = written.replace(name, word)
         write_error(written)
         try:
-            with open(self.path("stdout"), "rb") as file, open(1, "wb", closefd=False) as out:
-                out.write(file.read())
+            with open(1, "wb", closefd=False) as out:
+                out.write(Path(self.path("stdout")).read_bytes())
         except OSError:
             stop("write failed")
         return int(ended[1])
