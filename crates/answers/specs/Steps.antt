@@ -5,6 +5,9 @@ use Rattle.embedding.specs.Rules.{FirstBroken, KeepsBefore}
 use Rattle.common.specs.declared.choice.Choice.{Choice}
 use Rattle.faces.specs.Planes.{PlaneModel, IsPlane, HasGreatestOuter}
 use Rattle.ortho_rep.specs.Best.{IsChosen}
+use Rattle.ortho_rep.specs.Points.{PointsModel}
+use Rattle.entries.specs.declared.answer.Answer.{Answer}
+use Rattle.entries.specs.declared.answer.Answer.TheVariants.{Laid, Refused, NoMemory}
 use Rattle.answers.specs.declared.fault.ShapeFault.{ShapeFault}
 use Rattle.answers.specs.declared.fault.ShapeFault.TheVariants.{Rule, Memory}
 use Rattle.answers.specs.declared.shaped_plane.ShapedPlane.{ShapedPlane}
@@ -39,3 +42,16 @@ IsEmbedded bytes (Err fault) = IsRefused bytes fault
 abbrev pub IsShaped : Choice → List ℕ → Result ShapedPlane ShapeFault → Type 0
 IsShaped choice bytes (Ok shaped_plane) = IsPlaneOf choice bytes shaped_plane.plane
 IsShaped choice bytes (Err fault) = IsRefused bytes fault
+
+-- the answer to a record for which this was found
+abbrev pub answer_in : Result (ShapedPlane × PointsModel) ShapeFault → Answer
+answer_in (Ok drawn) = Laid drawn.0.plane drawn.0.shape drawn.0.prices (Ok drawn.1)
+answer_in (Err (Rule rule)) = Refused rule
+answer_in (Err Memory) = NoMemory
+
+-- what may be found for a record with this shaped plane, or without one: points and the same shaped plane, or memory ran
+-- out; without one, the same reason
+abbrev pub IsFoundFor : Result ShapedPlane ShapeFault → Result (ShapedPlane × PointsModel) ShapeFault → Type 0
+IsFoundFor (Ok shaped_plane) (Ok drawn) = drawn.0 ≡ shaped_plane
+IsFoundFor (Ok shaped_plane) (Err fault) = fault ≡ Memory
+IsFoundFor (Err fault) found = found ≡ Err fault

@@ -12,17 +12,16 @@ ghost use Rattle.entries.specs.Lengths.{AreBelow, IsNear, IsNoLonger, IsQuick, e
 use crate::fault::ShapeFault;
 use crate::holder::{Holder, Shell};
 use crate::length::{are_below, is_no_longer};
-use crate::shaped_plane::{ShapedPlane, SpentShapedPlane};
+use crate::shaped_plane::ShapedPlane;
 use common::DrawingKind;
 use compact::{BoxesScratch, CompactFault, compact_in, dissect_along};
 use drawing_check::{CheckFault, Drawing, check_in};
-use entries::{Answer, Cause};
+use entries::Cause;
 use faces::Plane;
 use lanes::ReturnQueue;
 use ortho_rep::{Points, Shape};
 use region_laws::outside_is_outer;
 use std::alloc::{AllocError, Global};
-use std::mem;
 use std::sync::Wait;
 use visibility::compact_by_visibility_in;
 
@@ -33,11 +32,9 @@ pub struct DrawScratch {
     points: compact::Scratch,
     compaction: visibility::Scratch,
     check: drawing_check::Scratch,
-    // the directions of the darts of the shape that was drawn last
-    directions: Vec<u8>,
-    // the holder of its shaped plane
-    shell: Option<Shell<ShapedPlane, SpentShapedPlane>>,
-    pub(crate) back: ReturnQueue<Shell<ShapedPlane, SpentShapedPlane>>,
+    // the holder of the shaped plane that was taken last
+    shell: Option<Shell<ShapedPlane>>,
+    pub(crate) back: ReturnQueue<Shell<ShapedPlane>>,
 }
 
 impl DrawScratch {
@@ -48,40 +45,18 @@ impl DrawScratch {
             points: compact::Scratch::empty(alloc),
             compaction: visibility::Scratch::empty(alloc),
             check: drawing_check::Scratch::empty(alloc),
-            directions: Vec::new(alloc),
             shell: None,
             back: ReturnQueue::none(),
         }
     }
 
-    /// Keeps the directions of the darts of a shape that was drawn.
-    pub(crate) fn keep_directions(&mut self, directions: Vec<u8>) {
-        self.directions = directions;
-    }
-
-    /// Takes back the lists of an answer that is no longer read, to be reused.
+    /// Takes back the lists of a shaped plane and of its points, which are no longer read, to be reused.
     ///
-    /// Those of its drawing stay here; those of its plane and its shape return in the holder of its shaped plane.
-    pub fn take_back(&mut self, alloc: Global, answer: Answer) {
-        if let Answer::Laid {
-            plane,
-            shape,
-            prices,
-            drawing,
-        } = answer
-        {
-            if let Ok(drawing) = drawing {
-                self.points.take_back(drawing.into_points());
-            }
-            let directions = mem::replace(&mut self.directions, Vec::new(alloc));
-            if let Some(shell) = &mut self.shell {
-                shell.refill(SpentShapedPlane {
-                    plane,
-                    shape,
-                    prices,
-                    directions,
-                });
-            }
+    /// Those of the points stay here; those of the shaped plane return in its holder.
+    pub fn take_back(&mut self, shaped_plane: ShapedPlane, points: Points) {
+        self.points.take_back(points);
+        if let Some(shell) = &mut self.shell {
+            shell.refill(shaped_plane);
         }
     }
 
@@ -95,7 +70,7 @@ impl DrawScratch {
     /// The shaped plane out of its holder, which goes back.
     pub(crate) fn unpack(
         &mut self,
-        shaped_plane: Result<Holder<ShapedPlane, SpentShapedPlane>, ShapeFault>,
+        shaped_plane: Result<Holder<ShapedPlane>, ShapeFault>,
     ) -> Result<ShapedPlane, ShapeFault>
         ensures { result ≡ shaped_plane }
     {
@@ -180,6 +155,60 @@ pub(crate) fn least_points(
         }
         Err(CompactFault::Wide) => unreachable!(),
         Err(CompactFault::Memory) => Err(AllocError),
+    }
+}
+
+/// A drawing of a shaped plane. Each least shape has one.
+pub(crate) fn drawing_of(
+    alloc: Global,
+    scratch: &mut DrawScratch,
+    shaped_plane: &ShapedPlane,
+    drawing_kind: DrawingKind,
+) -> Result<Drawing, AllocError>
+    ensures drawn { IfOk result (IsDrawingOf shaped_plane.now.plane shaped_plane.now.shape) }
+    ensures quick { drawing_kind ≡ DrawingKind.Quick
+        → IfOk result (IsQuick shaped_plane.now.plane shaped_plane.now.shape) }
+    ensures no_longer { IfOk result (IsNoLonger shaped_plane.now.plane shaped_plane.now.shape) }
+    ensures near { IfOk result (IsNear shaped_plane.now.plane shaped_plane.now.shape) }
+{
+    // Only the proof needs this: `graph` says that the plane is one.
+    let _graph = shaped_plane.plane.graph();
+    match draw(
+        alloc,
+        scratch,
+        &shaped_plane.plane,
+        &shaped_plane.shape,
+        &shaped_plane.directions,
+        drawing_kind,
+    )? {
+        Ok(drawing) => Ok(drawing),
+        Err(_) => unreachable!(),
+    }
+}
+
+/// Points that draw a shaped plane. Those of a quick drawing are not checked.
+pub(crate) fn points_of(
+    alloc: Global,
+    scratch: &mut DrawScratch,
+    shaped_plane: &ShapedPlane,
+    drawing_kind: DrawingKind,
+) -> Result<Points, AllocError>
+    ensures drawn { IfOk result (IsDrawingOf shaped_plane.now.plane shaped_plane.now.shape) }
+    ensures no_longer { IfOk result (IsNoLonger shaped_plane.now.plane shaped_plane.now.shape) }
+    ensures near { IfOk result (IsNear shaped_plane.now.plane shaped_plane.now.shape) }
+{
+    match drawing_kind {
+        DrawingKind::Quick => least_points(
+            alloc,
+            scratch,
+            &shaped_plane.plane,
+            &shaped_plane.shape,
+            &shaped_plane.directions,
+        ),
+        DrawingKind::Short => {
+            let drawing = drawing_of(alloc, scratch, shaped_plane, drawing_kind)?;
+            Ok(drawing.into_points())
+        }
     }
 }
 

@@ -9,29 +9,29 @@ use std::mem;
 
 /// What a holder holds.
 #[derive(Drop)]
-enum Slot<T: Drop, S: Drop> {
+enum Slot<T: Drop> {
     /// Nothing.
     Empty,
     /// What goes on to the next stage.
     Full(T),
     /// What is done with and goes back.
-    Spent(S),
+    Spent(T),
 }
 
 /// An empty holder. Lists that are no longer needed may return to an earlier stage in it.
 #[derive(Drop)]
-pub struct Shell<T: Drop, S: Drop> {
-    slot: Box<Slot<T, S>>,
+pub struct Shell<T: Drop> {
+    slot: Box<Slot<T>>,
 }
 
 /// A value with the shell in which its lists return once it is no longer needed. In contracts it is the value.
 #[derive(Drop)]
-pub struct Holder<T: Drop, S: Drop> {
-    slot: Box<Slot<T, S>>,
+pub struct Holder<T: Drop> {
+    slot: Box<Slot<T>>,
     ghost full: { is_full slot.value ≡ true },
 }
 
-impl<T: Drop, S: Drop> Model for Holder<T, S> {
+impl<T: Drop> Model for Holder<T> {
     ghost use Rattle.answers.specs.Slots.{value_in};
 
     ghost Value = { T };
@@ -39,16 +39,16 @@ impl<T: Drop, S: Drop> Model for Holder<T, S> {
     ghost view = { λ held. value_in held.slot.value held.full };
 }
 
-impl<T: Drop, S: Drop> Shell<T, S> {
+impl<T: Drop> Shell<T> {
     /// A new one.
-    pub(crate) fn new(alloc: Global) -> Result<Shell<T, S>, AllocError> {
+    pub(crate) fn new(alloc: Global) -> Result<Shell<T>, AllocError> {
         Ok(Shell {
             slot: Box::new(alloc, Slot::Empty)?,
         })
     }
 
     /// The value in this holder.
-    pub(crate) fn fill(self, value: T) -> Holder<T, S>
+    pub(crate) fn fill(self, value: T) -> Holder<T>
         ensures { result ≡ value }
     {
         let Shell { mut slot } = self;
@@ -57,12 +57,12 @@ impl<T: Drop, S: Drop> Shell<T, S> {
     }
 
     /// Puts what is done with in the holder.
-    pub(crate) fn refill(&mut self, spent: S) {
+    pub(crate) fn refill(&mut self, spent: T) {
         *self.slot = Slot::Spent(spent);
     }
 
     /// Takes the spent value out of the holder, if there is one.
-    pub(crate) fn unload(&mut self) -> Option<S> {
+    pub(crate) fn unload(&mut self) -> Option<T> {
         match mem::replace(&mut *self.slot, Slot::Empty) {
             Slot::Spent(spent) => Some(spent),
             Slot::Empty | Slot::Full(_) => None,
@@ -70,9 +70,9 @@ impl<T: Drop, S: Drop> Shell<T, S> {
     }
 }
 
-impl<T: Drop, S: Drop> Holder<T, S> {
+impl<T: Drop> Holder<T> {
     /// The value, and the holder without it.
-    pub(crate) fn take(self) -> (T, Shell<T, S>)
+    pub(crate) fn take(self) -> (T, Shell<T>)
         ensures { result.0 ≡ self }
     {
         let Holder { mut slot } = self;

@@ -9,7 +9,7 @@ ghost use Rattle.answers.specs.Kept.{IsKeptPlane, IsKeptFault, AreDrawnStraight}
 ghost use Rattle.entries.specs.Lengths.{IsNear, IsNoLonger, IsQuick};
 ghost use Rattle.answers.specs.Steps.{IsShaped};
 
-use crate::drawing::{DrawScratch, draw, least_points};
+use crate::drawing::{DrawScratch, draw, drawing_of, least_points};
 use crate::fault::ShapeFault;
 use crate::kept_plane::{DrawFault, KeptFault, KeptPlane};
 use crate::shaped_plane::ShapedPlane;
@@ -83,19 +83,7 @@ impl RecordScratch {
         ensures no_longer { IfOk result (IsNoLonger shaped_plane.now.plane shaped_plane.now.shape) }
         ensures near { IfOk result (IsNear shaped_plane.now.plane shaped_plane.now.shape) }
     {
-        // Only the proof needs this: `graph` says that the plane is one.
-        let _graph = shaped_plane.plane.graph();
-        match draw(
-            alloc,
-            &mut self.drawings,
-            &shaped_plane.plane,
-            &shaped_plane.shape,
-            &shaped_plane.directions,
-            drawing_kind,
-        )? {
-            Ok(drawing) => Ok(drawing),
-            Err(_) => unreachable!(),
-        }
+        drawing_of(alloc, &mut self.drawings, shaped_plane, drawing_kind)
     }
 
     /// The points of a quick drawing, as `draw` makes them, but not checked: it is proved that they draw the shape.

@@ -1,13 +1,16 @@
 //! What lanes are for.
 ghost use Rattle.std.specs.Prelude.{◌≡◌, ⊤};
 ghost use Rattle.lanes.specs.Notes.{About};
-ghost use Rattle.entries.specs.Answers.{Answers};
+ghost use Rattle.answers.specs.Steps.{IsShaped};
 ghost use Rattle.answers.specs.Tasks.{about_in};
 
 use crate::carried::Carried;
 use crate::drawing::DrawScratch;
+use crate::fault::ShapeFault;
+use crate::shaped_plane::ShapedPlane;
+use crate::stages::answer_with;
 use crate::task::Task;
-use entries::{Answer, Entry};
+use entries::Entry;
 use lanes::Numbered;
 use planar_code::Record;
 use std::alloc::Global;
@@ -17,23 +20,24 @@ pub trait Purpose: Drop + Send {
     /// What is carried of a record once its graph is read.
     type Carried: Carried;
 
-    /// What the lane gives for an answered record.
+    /// What the lane gives for a record.
     type Entry: Numbered;
 
     /// What is known of each record from the start.
     ghost knows: { About → Type 0 };
 
-    /// What the lane gives for a record with this answer. The scratch may take back lists that it does not keep.
+    /// What the lane gives for a record with this shaped plane, or without one. The scratch may take back lists that it
+    /// does not keep.
     fn finish(
         self,
         alloc: Global,
         scratch: &mut DrawScratch,
         task: Task,
         rec: Self::Carried,
-        answer: Answer,
+        shaped_plane: Result<ShapedPlane, ShapeFault>,
     ) -> Self::Entry
         requires known { ∥ knows (about_in task (Self.Carried.bytes rec)) ∥₁ }
-        requires answers { ∥ Answers task.choice (Self.Carried.bytes rec) answer ∥₁ }
+        requires shaped { ∥ IsShaped task.choice (Self.Carried.bytes rec) shaped_plane ∥₁ }
         ensures { Self.Entry.about result ≡ about_in task (Self.Carried.bytes rec) };
 }
 
@@ -50,18 +54,18 @@ impl Purpose for Keeping {
 
     fn finish(
         self,
-        _alloc: Global,
-        _scratch: &mut DrawScratch,
+        alloc: Global,
+        scratch: &mut DrawScratch,
         task: Task,
         rec: Record,
-        answer: Answer,
+        shaped_plane: Result<ShapedPlane, ShapeFault>,
     ) -> Entry {
         Entry {
             file: task.file,
             ordinal: task.ordinal,
             rec,
             choice: task.choice,
-            answer,
+            answer: answer_with(alloc, scratch, shaped_plane, task.drawing_kind),
         }
     }
 }

@@ -16,8 +16,8 @@ use std::sync::Wait;
 pub struct EmbedScratch {
     pub(crate) planes: faces::Scratch,
     // the holder of the next plane
-    shell: Option<Shell<Plane, Plane>>,
-    spent: ReturnQueue<Shell<Plane, Plane>>,
+    shell: Option<Shell<Plane>>,
+    spent: ReturnQueue<Shell<Plane>>,
 }
 
 impl EmbedScratch {
@@ -45,7 +45,7 @@ impl EmbedScratch {
         &mut self,
         alloc: Global,
         plane: Result<Plane, ShapeFault>,
-    ) -> Result<Holder<Plane, Plane>, ShapeFault>
+    ) -> Result<Holder<Plane>, ShapeFault>
         ensures { (bytes : List ℕ) → IsEmbedded bytes plane → IsEmbedded bytes result }
     {
         let plane = plane?;

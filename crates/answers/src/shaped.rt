@@ -3,7 +3,6 @@
 use crate::drawing::DrawScratch;
 use crate::item::Item;
 use crate::purpose::{Keeping, Purpose};
-use crate::stages::answer_with;
 use crate::state::ShapeFound;
 use lanes::{Stage, Staged};
 use std::alloc::Global;
@@ -30,7 +29,7 @@ impl<P: Purpose> Staged for Item<P, <P as Purpose>::Carried, ShapeFound> {
     fn work(self, alloc: Global, scratch: &mut DrawScratch) -> P::Entry {
         let task = self.task;
         let shaped_plane = scratch.unpack(self.state);
-        let answer = answer_with(alloc, scratch, shaped_plane, task.drawing_kind);
-        self.purpose.finish(alloc, scratch, task, self.rec, answer)
+        self.purpose
+            .finish(alloc, scratch, task, self.rec, shaped_plane)
     }
 }

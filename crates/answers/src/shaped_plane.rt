@@ -22,12 +22,3 @@ pub struct ShapedPlane {
     pub ghost proof: { IsProof plane shape prices } by { Prim.hlevel props },
     pub ghost directed: { AreDirectionsOf plane shape directions.items } by { Prim.hlevel props },
 }
-
-/// A shaped plane that is no longer needed, whose lists are reused.
-#[derive(Drop)]
-pub struct SpentShapedPlane {
-    pub plane: Plane,
-    pub shape: Shape,
-    pub prices: Prices,
-    pub directions: Vec<u8>,
-}

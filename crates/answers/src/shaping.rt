@@ -12,7 +12,7 @@ ghost use Rattle.common.specs.declared.choice.Choice.{Choice};
 use crate::fault::ShapeFault;
 use crate::holder::{Holder, Shell};
 use crate::kept_plane::KeptPlane;
-use crate::shaped_plane::{ShapedPlane, SpentShapedPlane};
+use crate::shaped_plane::ShapedPlane;
 use common::{Choice, DrawingKind};
 use compact::{DirectionSearch, directions_in};
 use conditions::{Conditions, KeepFault, shape_keeping_in};
@@ -34,8 +34,8 @@ pub struct ShapeScratch {
     directions: Vec<u8>,
     // a plane that is done with, the holder of the plane that was taken last, and the holder of the next shaped plane
     plane: Option<Plane>,
-    plane_shell: Option<Shell<Plane, Plane>>,
-    shell: Option<Shell<ShapedPlane, SpentShapedPlane>>,
+    plane_shell: Option<Shell<Plane>>,
+    shell: Option<Shell<ShapedPlane>>,
     pub(crate) return_queues: Passages,
 }
 
@@ -43,8 +43,8 @@ pub struct ShapeScratch {
 /// planes come from the next one.
 #[derive(Drop)]
 pub(crate) struct Passages {
-    pub(crate) planes: ReturnQueue<Shell<Plane, Plane>>,
-    pub(crate) shaped_planes: ReturnQueue<Shell<ShapedPlane, SpentShapedPlane>>,
+    pub(crate) planes: ReturnQueue<Shell<Plane>>,
+    pub(crate) shaped_planes: ReturnQueue<Shell<ShapedPlane>>,
 }
 
 impl ShapeScratch {
@@ -69,7 +69,7 @@ impl ShapeScratch {
     pub(crate) fn restock<R: Wait>(&mut self, rt: &R) {
         if let Some(mut shell) = self.return_queues.shaped_planes.receive(rt) {
             if let Some(spent) = shell.unload() {
-                let SpentShapedPlane {
+                let ShapedPlane {
                     plane,
                     shape,
                     prices,
@@ -97,7 +97,7 @@ impl ShapeScratch {
     /// The plane out of its holder, which is kept to be returned.
     pub(crate) fn unpack(
         &mut self,
-        plane: Result<Holder<Plane, Plane>, ShapeFault>,
+        plane: Result<Holder<Plane>, ShapeFault>,
     ) -> Result<Plane, ShapeFault>
         ensures { result ≡ plane }
     {
@@ -111,7 +111,7 @@ impl ShapeScratch {
         &mut self,
         alloc: Global,
         shaped_plane: Result<ShapedPlane, ShapeFault>,
-    ) -> Result<Holder<ShapedPlane, SpentShapedPlane>, ShapeFault>
+    ) -> Result<Holder<ShapedPlane>, ShapeFault>
         ensures { (choice : Choice) (bytes : List ℕ) → IsShaped choice bytes shaped_plane → IsShaped choice bytes result }
     {
         let shaped_plane = shaped_plane?;

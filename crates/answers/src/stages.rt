@@ -2,17 +2,18 @@
 
 ghost use Rattle.std.specs.Prelude.{◌≡◌, ℕ, List};
 ghost use Rattle.entries.specs.Lengths.{IfDrawn, IsNear, IsNoLonger, IsQuick};
-ghost use Rattle.answers.specs.Steps.{IsRefused, IsEmbedded, IsShaped};
+ghost use Rattle.answers.specs.Steps.{IsRefused, IsEmbedded, IsShaped, IsFoundFor, answer_in};
 ghost use Rattle.common.specs.declared.choice.Choice.{Choice};
 ghost use Rattle.embedding.specs.Rules.{KeepsBefore};
 ghost use Rattle.planar_code.specs.Stream.{lists_of};
 ghost use Rattle.entries.specs.Answers.{Answers};
 ghost use Rattle.drawing_laws.specs.Drawings.{IsDrawnIfLaid};
 
-use crate::drawing::{DrawScratch, draw};
+use crate::drawing::{DrawScratch, draw, points_of};
 use crate::fault::ShapeFault;
 use crate::shaped_plane::ShapedPlane;
 use crate::shaping::{ShapeScratch, with_least_shape};
+use crate::state::PointsFound;
 use common::{Choice, DrawingKind};
 use embedding::{Graph, ReadFault, Rule, broken_rule};
 use entries::{Answer, Entry};
@@ -95,7 +96,6 @@ pub(crate) fn answer_with(
         Err(ShapeFault::Memory) => return Answer::NoMemory,
     };
     let drawn = draw(alloc, scratch, &plane, &shape, &directions, drawing_kind);
-    scratch.keep_directions(directions);
     match drawn {
         Ok(drawing) => Answer::Laid {
             plane,
@@ -104,6 +104,25 @@ pub(crate) fn answer_with(
             drawing,
         },
         Err(AllocError) => Answer::NoMemory,
+    }
+}
+
+/// The shaped plane of a record with points that draw it, or why there are none.
+///
+/// The points of a quick drawing are not checked: it is proved that they draw the shape.
+pub fn find_points(
+    alloc: Global,
+    scratch: &mut DrawScratch,
+    shaped_plane: Result<ShapedPlane, ShapeFault>,
+    drawing_kind: DrawingKind,
+) -> PointsFound
+    ensures answers { (choice : Choice) (bytes : List ℕ) → IsShaped choice bytes shaped_plane → Answers choice bytes (answer_in result) }
+    ensures same { IsFoundFor shaped_plane result }
+{
+    let shaped_plane = shaped_plane?;
+    match points_of(alloc, scratch, &shaped_plane, drawing_kind) {
+        Ok(points) => Ok((shaped_plane, points)),
+        Err(AllocError) => Err(ShapeFault::Memory),
     }
 }
 

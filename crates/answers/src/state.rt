@@ -5,8 +5,9 @@ ghost use Rattle.answers.specs.Steps.{IsEmbedded, IsShaped};
 
 use crate::fault::ShapeFault;
 use crate::holder::Holder;
-use crate::shaped_plane::{ShapedPlane, SpentShapedPlane};
+use crate::shaped_plane::ShapedPlane;
 use faces::Plane;
+use ortho_rep::Points;
 
 /// What the stages have made of a record so far.
 pub trait State: Drop + Send {
@@ -20,15 +21,18 @@ impl State for () {
 }
 
 /// The record's plane, or the reason why there is none.
-pub type Traced = Result<Holder<Plane, Plane>, ShapeFault>;
+pub type Traced = Result<Holder<Plane>, ShapeFault>;
 
 impl State for Traced {
     ghost describes = { λ about plane. IsEmbedded about.bytes plane };
 }
 
 /// The record's plane with a least shape, or the reason why there is none.
-pub type ShapeFound = Result<Holder<ShapedPlane, SpentShapedPlane>, ShapeFault>;
+pub type ShapeFound = Result<Holder<ShapedPlane>, ShapeFault>;
 
 impl State for ShapeFound {
     ghost describes = { λ about shaped_plane. IsShaped about.choice about.bytes shaped_plane };
 }
+
+/// The record's plane with a least shape and points that draw it, or the reason why there are none.
+pub type PointsFound = Result<(ShapedPlane, Points), ShapeFault>;

@@ -1,15 +1,14 @@
 //! The kind of answers that become output lines.
 ghost use Rattle.std.specs.Prelude.{◌≡◌};
 ghost use Rattle.lanes.specs.Opening.{IsPlacedAt};
-ghost use Rattle.entries.specs.Answers.{Answers};
+ghost use Rattle.answers.specs.Steps.{IsFoundFor, IsShaped};
 ghost use Rattle.answers.specs.Tasks.{about_in};
 ghost use Rattle.printing.specs.Spelt.{IsSpelt};
 
-use answers::{DrawScratch, Purpose, Task};
-use entries::Answer;
+use answers::{DrawScratch, Purpose, ShapeFault, ShapedPlane, Task, find_points};
 use lanes::Numbered;
 use planar_code::Record;
-use printing::{Meant, Printed, answered_line};
+use printing::{Meant, Printed, found_line};
 use reports::Form;
 use std::alloc::Global;
 use std::marker::PhantomData;
@@ -44,22 +43,23 @@ impl<J: Meant + Send + Sync> Purpose for Worded<J> {
 
     ghost knows = { λ about. IsPlacedAt (J.meaning about.file) about.ordinal about.bytes × IsSpelt about.bytes };
 
-    // The lists of the answer return once its line is made.
+    // The lists of what is found return once its line is made.
     fn finish(
         self,
         alloc: Global,
         scratch: &mut DrawScratch,
         task: Task,
         rec: Snapshot<Record>,
-        answer: Answer,
+        shaped_plane: Result<ShapedPlane, ShapeFault>,
     ) -> Printed<J>
         requires known { ∥ IsPlacedAt (J.meaning task.file) task.ordinal rec.value × IsSpelt rec.value ∥₁ }
-        requires answers { ∥ Answers task.choice rec.value answer ∥₁ }
+        requires shaped { ∥ IsShaped task.choice rec.value shaped_plane ∥₁ }
         ensures about { ⟦<Printed<J> as Numbered>⟧.about result ≡ about_in task rec.value }
-        ensures answer { result.answer.value ≡ answer }
+        ensures found { IsFoundFor shaped_plane result.found.value }
         ensures form { result.form ≡ self.form }
     {
-        let line = answered_line(alloc, self.form, task.file, task.ordinal, &answer);
+        let found = find_points(alloc, scratch, shaped_plane, task.drawing_kind);
+        let line = found_line(alloc, self.form, task.file, task.ordinal, &found);
         let printed = Printed {
             file: task.file,
             ordinal: task.ordinal,
@@ -67,10 +67,12 @@ impl<J: Meant + Send + Sync> Purpose for Worded<J> {
             form: self.form,
             line,
             rec,
-            answer: Snapshot::of(&answer),
+            found: Snapshot::of(&found),
             meant: PhantomData,
         };
-        scratch.take_back(alloc, answer);
+        if let Ok((shaped_plane, points)) = found {
+            scratch.take_back(shaped_plane, points);
+        }
         printed
     }
 }

@@ -21,7 +21,7 @@ pub use line::Line;
 pub use lines::entry_text;
 pub use meant::{KnownEnd, Meant, known_end};
 pub use pace::Pace;
-pub use printed::{Printed, answered_line};
+pub use printed::{Printed, found_line};
 pub use refusal::Refusal;
 pub use reports::{Form, ReportLine, write_json, write_report};
 pub use run_lines::Lines;

@@ -1,13 +1,16 @@
 //! The lines of a run in each format. Files and places in a file are counted from 0 here, and from 1 in the text.
-ghost use Rattle.std.specs.Prelude.{◌≡◌, ◌+◌, ◌^◌, ◌≤◌, IfOk, OnErr};
+ghost use Rattle.std.specs.Prelude.{◌≡◌, ◌+◌, ◌^◌, ◌≤◌, Ok as Drawn, IfOk, OnErr};
 ghost use Rattle.entries.specs.declared.answer.Answer.{Answer};
+ghost use Rattle.entries.specs.declared.answer.Answer.TheVariants.{Laid};
 ghost use Rattle.entries.specs.declared.entry.Entry.{Entry};
 ghost use Rattle.reports.specs.Answered.{IsAnswer};
 ghost use Rattle.printing.specs.FormLines.{line_in, preamble_in, end_in};
 
 use crate::line::Line;
+use answers::ShapedPlane;
 use entries::{Answer, Entry};
-use reports::{Form, ReportLine};
+use ortho_rep::Points;
+use reports::{Form, LaidGraph, ReportLine};
 use std::alloc::{AllocError, Global};
 use streams::{Mark, mark_word};
 
@@ -41,6 +44,39 @@ pub(crate) fn answer_line(
         Form::Report => Line::copied(alloc, ReportLine::of_graph(graph, answer).as_slice()),
         Form::Json => {
             let text = reports::answer_line(alloc, number_of(file)?, graph, answer)?;
+            Ok(Line::of(text))
+        }
+    }
+}
+
+/// The output line of a record with this shaped plane and points that draw it, at this place of this file, in this
+/// format. A short line of a report is not allocated.
+pub(crate) fn drawn_line(
+    alloc: Global,
+    form: Form,
+    file: u32,
+    ordinal: u32,
+    shaped_plane: &ShapedPlane,
+    points: &Points,
+) -> Result<Line, AllocError>
+    ensures { IfOk result (λ line. (entry : Entry) → entry.file ≡ file → entry.ordinal ≡ ordinal
+        → entry.answer ≡ Laid shaped_plane.now.plane shaped_plane.now.shape shaped_plane.now.prices (Drawn points.now)
+        → line ≡ line_in form entry) }
+{
+    let graph = u64::from(ordinal) + 1;
+    match form {
+        Form::Report => {
+            let line = ReportLine::of_drawn(graph, &shaped_plane.plane, &shaped_plane.shape);
+            Line::copied(alloc, line.as_slice())
+        }
+        Form::Json => {
+            let laid = LaidGraph {
+                plane: &shaped_plane.plane,
+                shape: &shaped_plane.shape,
+                prices: &shaped_plane.prices,
+                drawing: Ok(points),
+            };
+            let text = reports::laid_line(alloc, number_of(file)?, graph, laid)?;
             Ok(Line::of(text))
         }
     }

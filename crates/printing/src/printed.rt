@@ -2,6 +2,7 @@
 ghost use Rattle.std.specs.Prelude.{◌≡◌};
 ghost use Rattle.std.proofs.Props.{props};
 ghost use Rattle.entries.specs.Answers.{Answers};
+ghost use Rattle.answers.specs.Steps.{answer_in};
 ghost use Rattle.entries.specs.declared.entry.Entry.{Entry};
 ghost use Rattle.lanes.specs.Opening.{IsPlacedAt};
 ghost use Rattle.reports.specs.Answered.{IsAnswer};
@@ -10,8 +11,9 @@ ghost use Rattle.printing.specs.FormLines.{IsLineOf};
 ghost use Rattle.printing.specs.Spelt.{IsSpelt};
 
 use crate::line::Line;
-use crate::lines::answer_line;
+use crate::lines::{answer_line, drawn_line};
 use crate::meant::Meant;
+use answers::{PointsFound, ShapeFault};
 use common::Choice;
 use entries::Answer;
 use lanes::Numbered;
@@ -38,12 +40,12 @@ pub struct Printed<J: Meant> {
     pub line: Option<Line>,
     /// The record. It exists only in proofs.
     pub rec: Snapshot<Record>,
-    /// The answer to the record. It exists only in proofs.
-    pub answer: Snapshot<Answer>,
+    /// What was found for the record. It exists only in proofs.
+    pub found: Snapshot<PointsFound>,
     pub meant: PhantomData<J>,
-    pub ghost answers: { ∥ Answers choice rec.value answer.value ∥₁ },
+    pub ghost answers: { ∥ Answers choice rec.value (answer_in found.value) ∥₁ },
     pub ghost rec_is: { IsSpelt rec.value } by { Prim.hlevel props },
-    pub ghost line_is: { IsLineOf form (entry_of file ordinal rec.value choice answer.value answers) line } by { Prim.hlevel props },
+    pub ghost line_is: { IsLineOf form (entry_of file ordinal rec.value choice (answer_in found.value) answers) line } by { Prim.hlevel props },
     pub ghost placed: { ∥ IsPlacedAt (J.meaning file) ordinal rec.value ∥₁ } by { Prim.hlevel props },
 }
 
@@ -59,27 +61,31 @@ impl<J: Meant + Send + Sync> Numbered for Printed<J> {
     }
 }
 
-/// The output line of this answer to a record; `None` if memory ran out for the answer or for the line.
+/// The output line of a record for which this was found; `None` if memory ran out, for its points or for the line.
 ///
 /// The record has this place in this file, and the line is in this format.
-pub fn answered_line(
+pub fn found_line(
     alloc: Global,
     form: Form,
     file: u32,
     ordinal: u32,
-    answer: &Answer,
+    found: &PointsFound,
 ) -> Option<Line>
-    requires { IsAnswer answer.now }
-    ensures { (entry : Entry) → entry.file ≡ file → entry.ordinal ≡ ordinal → entry.answer ≡ answer.now
+    requires { IsAnswer (answer_in found.now) }
+    ensures { (entry : Entry) → entry.file ≡ file → entry.ordinal ≡ ordinal → entry.answer ≡ answer_in found.now
         → IsLineOf form entry result }
 {
-    match answer {
-        Answer::NoMemory => None,
-        Answer::Laid { .. } | Answer::Refused(_) => match answer_line(
-            alloc, form, file, ordinal, answer,
-        ) {
-            Ok(line) => Some(line),
-            Err(AllocError) => None,
-        },
+    let line = match found {
+        Ok((shaped_plane, points)) => {
+            drawn_line(alloc, form, file, ordinal, shaped_plane, points)
+        }
+        Err(ShapeFault::Rule(rule)) => {
+            answer_line(alloc, form, file, ordinal, &Answer::Refused(*rule))
+        }
+        Err(ShapeFault::Memory) => return None,
+    };
+    match line {
+        Ok(line) => Some(line),
+        Err(AllocError) => None,
     }
 }

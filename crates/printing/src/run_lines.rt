@@ -126,7 +126,7 @@ impl Lines {
             form,
             line,
             rec: _,
-            answer: _,
+            found: _,
             meant: _,
         } = printed;
         if form != self.form || choice != self.choice || !self.is_next(file, ordinal) {

@@ -1,5 +1,6 @@
 -- JSON lines: the value of each answer and of each mark, with its keys in byte order, and its line.
 use Rattle.std.specs.Prelude.{ℕ, ◌/◌, ℤ, List, [], ◌∷◌, ◌++◌, length, map, codes, Result, Ok, Err}
+use Rattle.std.specs.Borrow.{Bor}
 use Rattle.std.specs.List.{range_with_len}
 use Rattle.serde_json.specs.Data.{Data, null, number, unsigned, string, array, object, Members, no_members, member}
 use Rattle.serde_json.specs.Find.{of_integer}
@@ -63,6 +64,11 @@ point_data point = array_of natural (point.x ∷ point.y ∷ [])
 -- the corners of an edge, along its lesser dart
 abbrev pub corners_data : PointsModel → ℕ → Data
 corners_data points e = array_of point_data (corners_at points e)
+
+-- the points behind a reference, or the cause
+abbrev pub points_in : Result (Bor PointsModel) Cause → Result PointsModel Cause
+points_in (Ok points) = Ok points.now
+points_in (Err cause) = Err cause
 
 -- the points of the edges and vertices of a plane with this many edges, or null if there is no drawing
 abbrev pub points_data : ℕ → Result PointsModel Cause → Data

@@ -4,7 +4,7 @@ ghost use Rattle.serde_json.specs.Data.{Data};
 ghost use Rattle.ortho_rep.specs.Representation.{HasDarts};
 ghost use Rattle.ortho_rep.specs.Prices.{HasPrices};
 ghost use Rattle.entries.specs.declared.answer.Answer.TheVariants.{NoMemory, Refused};
-ghost use Rattle.reports.specs.LineData.{answer_data, end_data, laid_data, line_of};
+ghost use Rattle.reports.specs.LineData.{answer_data, end_data, laid_data, line_of, points_in};
 ghost use Rattle.reports.specs.Adding.{tokens_of};
 ghost use Rattle.reports.specs.Answered.{IsAnswer};
 
@@ -15,7 +15,7 @@ use embedding::Rule;
 use entries::{Answer, Cause, Entry};
 use faces::Plane;
 use json::Writer;
-use ortho_rep::{Prices, Shape};
+use ortho_rep::{Points, Prices, Shape};
 use std::alloc::{AllocError, Global};
 
 /// The initial capacity of a short line, in bytes.
@@ -75,11 +75,21 @@ pub fn answer_line(
                 plane,
                 shape,
                 prices,
-                drawing,
+                drawing: points_of(drawing),
             },
         ),
         Answer::Refused(rule) => refused_line(alloc, file, graph, *rule),
         Answer::NoMemory => lacking_line(alloc, file, graph),
+    }
+}
+
+/// The points of a drawing, or the cause why there is none.
+fn points_of(drawing: &Result<Drawing, Cause>) -> Result<&Points, Cause>
+    ensures { points_in result ≡ drawing.now }
+{
+    match drawing {
+        Ok(drawing) => Ok(drawing.points()),
+        Err(cause) => Err(*cause),
     }
 }
 
@@ -121,8 +131,8 @@ pub struct LaidGraph<'a> {
     /// An orthogonal representation of the plane.
     pub shape: &'a Shape,
     pub prices: &'a Prices,
-    /// A drawing, or the cause why there is none.
-    pub drawing: &'a Result<Drawing, Cause>,
+    /// The points of a drawing, or the cause why there is none.
+    pub drawing: Result<&'a Points, Cause>,
 }
 
 /// The JSON line of a graph that breaks no rule, with a newline (byte 0A) at its end.
@@ -141,7 +151,7 @@ pub fn laid_line(
     requires darts { HasDarts laid.plane.now laid.shape.now }
     requires prices { HasPrices laid.plane.now laid.prices.now }
     ensures { IfOk result (λ line.
-        line.items ≡ line_of (laid_data file graph laid.entry.plane.now laid.entry.shape.now laid.entry.prices.now laid.entry.drawing.now)) }
+        line.items ≡ line_of (laid_data file graph laid.entry.plane.now laid.entry.shape.now laid.entry.prices.now (points_in laid.entry.drawing))) }
 {
     let LaidGraph {
         plane,

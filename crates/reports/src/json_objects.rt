@@ -6,14 +6,13 @@ ghost use Rattle.faces.specs.Planes.{vertices, darts};
 ghost use Rattle.ortho_rep.specs.Shapes.{turns_at};
 ghost use Rattle.ortho_rep.specs.Representation.{HasDarts, bends_of};
 ghost use Rattle.ortho_rep.specs.Prices.{HasPrices};
-ghost use Rattle.reports.specs.LineData.{natural, array_of, turns_data, prices_data, points_data, drawn_data};
+ghost use Rattle.reports.specs.LineData.{natural, array_of, turns_data, prices_data, points_data, drawn_data, points_in};
 ghost use Rattle.reports.specs.Adding.{member_text};
 
 use crate::json_arrays::{
     put_angles, put_corners, put_face_prices, put_points, put_turns, put_vertex_prices,
 };
 use crate::json_text::{bytes, natural};
-use drawing_check::Drawing;
 use entries::Cause;
 use faces::Plane;
 use ortho_rep::{Points, Prices, Shape};
@@ -24,13 +23,13 @@ pub(crate) fn put_shape(
     out: &mut Vec<u8>,
     plane: &Plane,
     shape: &Shape,
-    drawing: &Result<Drawing, Cause>,
+    drawing: Result<&Points, Cause>,
 ) -> Result<(), AllocError>
     requires { HasDarts plane.now shape.now }
     ensures { OnOk result (out.new.items ≡ out.old.items
         ++ 123 ∷ (member_text (codes "angles") (array_of natural shape.now.angles)
         ++ 44 ∷ (member_text (codes "bends") (natural (bends_of (length shape.now.strings) (turns_at shape.now)))
-        ++ 44 ∷ (member_text (codes "drawn") (drawn_data drawing.now)
+        ++ 44 ∷ (member_text (codes "drawn") (drawn_data (points_in drawing.entry))
         ++ 44 ∷ member_text (codes "f") (natural plane.now.faces))))) }
 {
     bytes(out, b"{\"angles\":")?;
@@ -49,8 +48,8 @@ fn natural_at(out: &mut Vec<u8>, key: &[u8], number: u64) -> Result<(), AllocErr
 }
 
 /// Appends whether there is a drawing, or the word of the cause.
-fn put_drawn(out: &mut Vec<u8>, drawing: &Result<Drawing, Cause>) -> Result<(), AllocError>
-    ensures { OnOk result (out.new.items ≡ out.old.items ++ 44 ∷ member_text (codes "drawn") (drawn_data drawing.now)) }
+fn put_drawn(out: &mut Vec<u8>, drawing: Result<&Points, Cause>) -> Result<(), AllocError>
+    ensures { OnOk result (out.new.items ≡ out.old.items ++ 44 ∷ member_text (codes "drawn") (drawn_data (points_in drawing.entry))) }
 {
     match drawing {
         Ok(_) => bytes(out, b",\"drawn\":\"yes\""),
@@ -84,12 +83,12 @@ pub(crate) fn put_sizes(out: &mut Vec<u8>, plane: &Plane) -> Result<(), AllocErr
 pub(crate) fn put_drawing(
     out: &mut Vec<u8>,
     edges: u16,
-    drawing: &Result<Drawing, Cause>,
+    drawing: Result<&Points, Cause>,
 ) -> Result<(), AllocError>
-    ensures { OnOk result (out.new.items ≡ out.old.items ++ 44 ∷ member_text (codes "points") (points_data edges drawing.now)) }
+    ensures { OnOk result (out.new.items ≡ out.old.items ++ 44 ∷ member_text (codes "points") (points_data edges (points_in drawing.entry))) }
 {
     match drawing {
-        Ok(drawing) => put_drawn_points(out, edges, drawing.points()),
+        Ok(points) => put_drawn_points(out, edges, points),
         Err(_) => bytes(out, b",\"points\":null"),
     }
 }

@@ -1,5 +1,8 @@
 //! The content of the lines of a report.
-ghost use Rattle.std.specs.Prelude.{◌≡◌, ◌+◌, ◌≤◌, ◌++◌, length};
+ghost use Rattle.std.specs.Prelude.{◌≡◌, ◌+◌, ◌≤◌, ◌++◌, length, Ok as Drawn};
+ghost use Rattle.ortho_rep.specs.Points.{PointsModel};
+ghost use Rattle.ortho_rep.specs.Prices.{PricesModel};
+ghost use Rattle.entries.specs.declared.answer.Answer.TheVariants.{Laid};
 ghost use Rattle.reports.specs.Report.{file_line, end_line, graph_line, answer_text, sizes_text, drawn_text, cause_text};
 ghost use Rattle.reports.specs.declared.line.TheConstants.{LONGEST};
 ghost use Rattle.reports.specs.declared.words.TheConstants.{ANSWER, SIZES, DRAWN};
@@ -41,6 +44,19 @@ impl ReportLine {
         line.push_number(number);
         line.push_answer(answer);
         line.push(b"\n");
+        line
+    }
+
+    /// The line of the graph with this number, which is drawn.
+    pub fn of_drawn(number: u64, plane: &Plane, shape: &Shape) -> ReportLine
+        ensures { (prices : PricesModel) (points : PointsModel) → result ≡ graph_line number (Laid plane.now shape.now prices (Drawn points)) }
+    {
+        let mut line = ReportLine::new();
+        line.push(b"graph ");
+        line.push_number(number);
+        line.push(b" ok");
+        line.push_sizes(plane, shape);
+        line.push(b" drawn=yes\n");
         line
     }
 

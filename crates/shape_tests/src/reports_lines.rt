@@ -4,7 +4,7 @@
 use drawing_check::{Drawing, check};
 use entries::Cause;
 use faces::Plane;
-use ortho_rep::{Shape, certify, is_shape};
+use ortho_rep::{Points, Shape, certify, is_shape};
 use reports::{LaidGraph, end_line, laid_line};
 use std::alloc::Global;
 use std::process::Abort;
@@ -50,7 +50,7 @@ fn triangle_line(
     alloc: Global,
     plane: &Plane,
     shape: &Shape,
-    drawing: &Result<Drawing, Cause>,
+    drawing: Result<&Points, Cause>,
 ) -> Option<Vec<u8>> {
     let prices = prices_in(alloc, &PRICED).ok()?;
     if !is_shape(plane, shape) || !certify(plane, shape, &prices) {
@@ -73,7 +73,7 @@ fn check_cause<R: AllocGlobal + Abort>(
     cause: Cause,
     word: &str,
 ) {
-    let line = triangle_line(rt.alloc(), plane, shape, &Err(cause)).expect(rt, "a line");
+    let line = triangle_line(rt.alloc(), plane, shape, Err(cause)).expect(rt, "a line");
     let text = [TO_THE_CAUSE, word.as_bytes(), FROM_THE_CAUSE].concat(rt.alloc());
     same!(rt, line, text.expect(rt, "memory"));
 }
@@ -81,7 +81,7 @@ fn check_cause<R: AllocGlobal + Abort>(
 /// The line of the triangle with its drawing.
 fn check_drawn<R: AllocGlobal + Abort>(rt: &R, plane: &Plane, shape: &Shape) {
     let drawing = drawing(rt.alloc(), plane, shape).expect(rt, "a drawing");
-    let line = triangle_line(rt.alloc(), plane, shape, &Ok(drawing)).expect(rt, "a line");
+    let line = triangle_line(rt.alloc(), plane, shape, Ok(drawing.points())).expect(rt, "a line");
     same!(rt, line.as_slice(), DRAWN);
 }
 

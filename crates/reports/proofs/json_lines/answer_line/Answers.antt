@@ -12,4 +12,4 @@ pub laid_line-requires-clause-prices : goal.laid_line-requires-clause-prices
 laid_line-requires-clause-prices c = ∥∥₁_elim c.requires (hlevel props) (λ known. (subst (Answers known.0 known.1) c.in-Laid.is known.2).proof.prices)
 
 pub returns-in-Laid : goal.returns-in-Laid
-returns-in-Laid c = subst (λ answer. IfOk c.laid_line.result (λ line. line.items ≡ line_of (answer_data c.args.file c.args.graph answer))) (sym c.in-Laid.is) c.laid_line.ensures
+returns-in-Laid c = subst (λ answer. IfOk c.laid_line.result (λ line. line.items ≡ line_of (answer_data c.args.file c.args.graph answer))) (sym c.in-Laid.is) (rw c.points_of.ensures at c.laid_line.ensures)

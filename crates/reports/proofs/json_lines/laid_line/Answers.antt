@@ -5,7 +5,7 @@ use Rattle.embedding.specs.Darts.{dart_count}
 use Rattle.faces.specs.Planes.{vertices, darts}
 use Rattle.ortho_rep.specs.Shapes.{turns_at}
 use Rattle.ortho_rep.specs.Representation.{bends_of}
-use Rattle.reports.specs.LineData.{natural, array_of, turns_data, prices_data, points_data, drawn_data}
+use Rattle.reports.specs.LineData.{natural, array_of, turns_data, prices_data, points_data, drawn_data, points_in}
 use Rattle.reports.specs.Adding.{member_text}
 use Rattle.reports.proofs.Steps.{then}
 use Rattle.reports.proofs.json_lines.laid_line.Goals as goal
@@ -23,13 +23,13 @@ returns c =
     let shape = c.args.laid.shape.now in
     let angles = array_of natural shape.angles in
     let bends = natural (bends_of (length shape.strings) (turns_at shape)) in
-    let drawn = drawn_data c.args.laid.drawing.now in
+    let drawn = drawn_data (points_in c.args.laid.drawing) in
     let faces = natural plane.faces in
     let file = natural c.args.file in
     let graph = natural c.args.graph in
     let edges = natural (darts plane / 2) in
     let count = natural (vertices plane) in
-    let points = points_data (darts plane / 2) c.args.laid.drawing.now in
+    let points = points_data (darts plane / 2) (points_in c.args.laid.drawing) in
     let prices = prices_data c.args.laid.prices.now in
     let turns = array_of turns_data shape.strings in
     let shape_text : List ℕ = 123 ∷ (member_text (codes "angles") angles ++ 44 ∷ (member_text (codes "bends") bends ++ 44 ∷ (member_text (codes "drawn") drawn ++ 44 ∷ member_text (codes "f") faces))) in

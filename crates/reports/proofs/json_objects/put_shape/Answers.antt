@@ -4,7 +4,7 @@ use Rattle.json.specs.Print.{escape_byte}
 use Rattle.serde_json.specs.Written.{compact_text}
 use Rattle.ortho_rep.specs.Shapes.{turns_at}
 use Rattle.ortho_rep.specs.Representation.{bends_of}
-use Rattle.reports.specs.LineData.{array_of, drawn_data, natural}
+use Rattle.reports.specs.LineData.{array_of, drawn_data, natural, points_in}
 use Rattle.reports.specs.Adding.{member_text}
 use Rattle.reports.proofs.Steps.{then}
 use Rattle.reports.proofs.json_objects.put_shape.Goals as goal
@@ -16,7 +16,7 @@ returns c =
     let end = c.natural_at-2.new.out.items in
     let angles : List ℕ = compact_text (array_of natural shape.angles) in
     let bends : List ℕ = 44 ∷ member_text (codes "bends") (natural (bends_of (length shape.strings) (turns_at shape))) in
-    let drawn : List ℕ = 44 ∷ member_text (codes "drawn") (drawn_data c.args.drawing.now) in
+    let drawn : List ℕ = 44 ∷ member_text (codes "drawn") (drawn_data (points_in c.args.drawing)) in
     let faces : List ℕ = 44 ∷ member_text (codes "f") (natural c.args.plane.now.faces) in
     let turned : c.natural_at.new.out.items ≡ c.put_angles.new.out.items ++ bends = rw (c.from.ensures, c.bends.ensures) at c.in_ok-natural_at.ensures in
     on_ok_weaker c.natural_at-2.result (λ last.

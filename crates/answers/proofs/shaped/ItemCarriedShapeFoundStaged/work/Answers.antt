@@ -1,9 +1,7 @@
 use Rattle.std.proofs.Common.{sym, subst}
-use Rattle.std.proofs.Math.Logic.{∥∥₁_map}
 use Rattle.answers.specs.Steps.{IsShaped}
 use Rattle.answers.proofs.shaped.ItemCarriedShapeFoundStaged.work.Goals as goal
 
-pub finish-requires-clause-answers : goal.finish-requires-clause-answers
-finish-requires-clause-answers g c =
-    ∥∥₁_map c.args.self.made
-    (λ made. c.answer_with-answer.ensures.answers c.args.self.task.choice _ (subst (IsShaped c.args.self.task.choice (g.P.Carried.Carried.bytes c.args.self.rec)) (sym c.unpack-shaped_plane.ensures) made))
+pub finish-requires-clause-shaped : goal.finish-requires-clause-shaped
+finish-requires-clause-shaped g c =
+    subst (λ made. ∥ IsShaped c.args.self.task.choice (g.P.Carried.Carried.bytes c.args.self.rec) made ∥₁) (sym c.unpack-shaped_plane.ensures) c.args.self.made

@@ -1,4 +1,5 @@
 use Rattle.std.proofs.Common.{◌≡◌, ◌<◌, ◌↔◌, true, ap, refl, rules, subst, sym, length, ℕ, ◌≤◌, ◌∙◌, inl}
+use Rattle.answers.specs.Steps.{answer_in}
 use Rattle.printing.specs.Answered.{entry_of}
 use Rattle.printing.specs.FormLines.{IsLineOf, line_in}
 use Rattle.printing.specs.Came.{IsFlawlessSoFar}
@@ -11,7 +12,7 @@ use Rattle.printing.proofs.run_lines.Lines.line.Goals as goal
 
 pub returns-in-Some-clause-held : goal.returns-in-Some-clause-held
 returns-in-Some-clause-held g c =
-    let entry = entry_of c.args.printed.file c.args.printed.ordinal c.args.printed.rec.value c.args.printed.choice c.args.printed.answer.value c.args.printed.answers in
+    let entry = entry_of c.args.printed.file c.args.printed.ordinal c.args.printed.rec.value c.args.printed.choice (answer_in c.args.printed.found.value) c.args.printed.answers in
     let file = c.args.printed.file in
     let before = c.args.self.now in
     let after = c.add.new.self in
@@ -31,7 +32,7 @@ returns-in-Some-clause-held g c =
 
 pub returns-clause-held : goal.returns-clause-held
 returns-clause-held g c =
-    let entry = lacking (entry_of c.args.printed.file c.args.printed.ordinal c.args.printed.rec.value c.args.printed.choice c.args.printed.answer.value c.args.printed.answers) in
+    let entry = lacking (entry_of c.args.printed.file c.args.printed.ordinal c.args.printed.rec.value c.args.printed.choice (answer_in c.args.printed.found.value) c.args.printed.answers) in
     let file = c.args.printed.file in
     let before = c.args.self.now in
     let after = c.add_lacking.new.self in
@@ -48,7 +49,7 @@ returns-clause-held g c =
 
 pub returns-in-Some-clause-partial : goal.returns-in-Some-clause-partial
 returns-in-Some-clause-partial g c =
-    let entry = entry_of c.args.printed.file c.args.printed.ordinal c.args.printed.rec.value c.args.printed.choice c.args.printed.answer.value c.args.printed.answers in
+    let entry = entry_of c.args.printed.file c.args.printed.ordinal c.args.printed.rec.value c.args.printed.choice (answer_in c.args.printed.found.value) c.args.printed.answers in
     let file = c.args.printed.file in
     let before = c.args.self.now in
     let after = c.add.new.self in
@@ -66,7 +67,7 @@ returns-in-Some-clause-partial g c =
 
 pub returns-clause-partial : goal.returns-clause-partial
 returns-clause-partial g c =
-    let entry = lacking (entry_of c.args.printed.file c.args.printed.ordinal c.args.printed.rec.value c.args.printed.choice c.args.printed.answer.value c.args.printed.answers) in
+    let entry = lacking (entry_of c.args.printed.file c.args.printed.ordinal c.args.printed.rec.value c.args.printed.choice (answer_in c.args.printed.found.value) c.args.printed.answers) in
     let file = c.args.printed.file in
     let before = c.args.self.now in
     let after = c.add_lacking.new.self in

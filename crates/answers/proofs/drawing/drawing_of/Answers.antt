@@ -2,7 +2,7 @@ use Rattle.std.proofs.Common.{IfOk, subst}
 use Rattle.entries.specs.Lengths.{IsQuick}
 use Rattle.entries.specs.Drawn.{IsCause, IsDrawn}
 use Rattle.drawing_laws.proofs.Drawings.{none_shown}
-use Rattle.answers.proofs.kept.RecordScratch.draw.Goals as goal
+use Rattle.answers.proofs.drawing.drawing_of.Goals as goal
 
 pub unreachable-requires : goal.unreachable-requires
 unreachable-requires c =
