@@ -5,8 +5,8 @@ use Rattle.embedding.specs.Rules.{FirstBroken, KeepsBefore}
 use Rattle.common.specs.declared.choice.Choice.{Choice}
 use Rattle.faces.specs.Planes.{PlaneModel, IsPlane, HasGreatestOuter}
 use Rattle.ortho_rep.specs.Best.{IsChosen}
-use Rattle.answers.specs.declared.fault.ShapeFault.{ShapeFault}
-use Rattle.answers.specs.declared.fault.ShapeFault.TheVariants.{Rule, Memory}
+use Rattle.embedding.specs.declared.faults.ReadFault.{ReadFault}
+use Rattle.embedding.specs.declared.faults.ReadFault.TheVariants.{Rule, Memory}
 use Rattle.answers.specs.declared.shaped_plane.ShapedPlane.{ShapedPlane}
 
 -- the plane of a record of these bytes, once its faces are traced
@@ -26,16 +26,16 @@ pub record IsPlaneOf (choice : Choice) (bytes : List ℕ) (plane : PlaneModel) :
 
 -- why such a record has no plane, or no shape: the rule is broken, and none before it; or memory ran out, and no rule is
 -- broken
-abbrev pub IsRefused : List ℕ → ShapeFault → Type 0
+abbrev pub IsRefused : List ℕ → ReadFault → Type 0
 IsRefused bytes (Rule rule) = FirstBroken (lists_of bytes) rule
 IsRefused bytes Memory = KeepsBefore (lists_of bytes) 9
 
 -- the plane of the record, or why there is none
-abbrev pub IsEmbedded : List ℕ → Result PlaneModel ShapeFault → Type 0
+abbrev pub IsEmbedded : List ℕ → Result PlaneModel ReadFault → Type 0
 IsEmbedded bytes (Ok plane) = IsTracedPlane bytes plane
 IsEmbedded bytes (Err fault) = IsRefused bytes fault
 
 -- the record's plane with the chosen outer face and a least shape, or why there is none
-abbrev pub IsShaped : Choice → List ℕ → Result ShapedPlane ShapeFault → Type 0
+abbrev pub IsShaped : Choice → List ℕ → Result ShapedPlane ReadFault → Type 0
 IsShaped choice bytes (Ok shaped_plane) = IsPlaneOf choice bytes shaped_plane.plane
 IsShaped choice bytes (Err fault) = IsRefused bytes fault

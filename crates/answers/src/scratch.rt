@@ -3,10 +3,10 @@ ghost use Rattle.std.specs.Prelude.{ℕ, List};
 ghost use Rattle.answers.specs.Steps.{IsEmbedded};
 
 use crate::drawing::DrawScratch;
-use crate::fault::ShapeFault;
 use crate::holder::{Holder, Shell};
 use crate::shaping::{Passages, ShapeScratch};
 use crate::spent::ReturnQueue;
+use embedding::ReadFault;
 use faces::Plane;
 use std::alloc::{AllocError, Global};
 use std::sync::Wait;
@@ -44,8 +44,8 @@ impl EmbedScratch {
     pub(crate) fn hold(
         &mut self,
         alloc: Global,
-        plane: Result<Plane, ShapeFault>,
-    ) -> Result<Holder<Plane, Plane>, ShapeFault>
+        plane: Result<Plane, ReadFault>,
+    ) -> Result<Holder<Plane, Plane>, ReadFault>
         ensures { (bytes : List ℕ) → IsEmbedded bytes plane → IsEmbedded bytes result }
     {
         let plane = plane?;
@@ -53,7 +53,7 @@ impl EmbedScratch {
             Some(shell) => Ok(shell.fill(plane)),
             None => match Shell::new(alloc) {
                 Ok(shell) => Ok(shell.fill(plane)),
-                Err(AllocError) => Err(ShapeFault::Memory),
+                Err(AllocError) => Err(ReadFault::Memory),
             },
         }
     }

@@ -13,9 +13,11 @@ ghost use Rattle.planarbend_c.specs.Faults.{IsKeepingFault};
 
 use crate::laid::Layout;
 use crate::layout::{Fault, parsed};
-use answers::{DrawFault, KeptFault, KeptPlane, RecordScratch, ShapeFault};
+use answers::{KeptFault, KeptPlane, RecordScratch};
 use common::{Choice, DrawingKind};
+use compact::CompactFault;
 use conditions::{Conditions, KeepFault, Unkept};
+use embedding::ReadFault;
 use ortho_rep::Points;
 use planar_code::Record;
 use std::alloc::Global;
@@ -76,8 +78,8 @@ fn laid_keeping(
     };
     match drawn_keeping(alloc, scratch, &kept, kind) {
         Ok(drawing) => Ok(laid_kept(kept, drawing)),
-        Err(DrawFault::Wide) => Err(KeepingFault::Wide),
-        Err(DrawFault::Memory) => Err(KeepingFault::Record(Fault::Memory)),
+        Err(CompactFault::Wide) => Err(KeepingFault::Wide),
+        Err(CompactFault::Memory) => Err(KeepingFault::Record(Fault::Memory)),
     }
 }
 
@@ -106,8 +108,8 @@ fn fault_of(fault: KeptFault) -> KeepingFault
         → IsKeptFault conditions choice bytes fault → IsKeepingFault conditions choice bytes result }
 {
     match fault {
-        KeptFault::Record(ShapeFault::Rule(rule)) => KeepingFault::Record(Fault::Rule(rule)),
-        KeptFault::Record(ShapeFault::Memory) => KeepingFault::Record(Fault::Memory),
+        KeptFault::Record(ReadFault::Rule(rule)) => KeepingFault::Record(Fault::Rule(rule)),
+        KeptFault::Record(ReadFault::Memory) => KeepingFault::Record(Fault::Memory),
         KeptFault::Conditions(KeepFault::NoShape(why)) => KeepingFault::NoShape(why),
         KeptFault::Conditions(KeepFault::NoEdge) => KeepingFault::NoEdge,
         KeptFault::Conditions(KeepFault::NoOuter) => KeepingFault::NoOuter,
@@ -121,11 +123,11 @@ fn drawn_keeping(
     scratch: &mut RecordScratch,
     kept: &KeptPlane,
     kind: Option<DrawingKind>,
-) -> Result<Option<Points>, DrawFault>
+) -> Result<Option<Points>, CompactFault>
     ensures drawn { IfOk result (IsDrawnIfAsked kept.now.plane kept.now.shape) }
     ensures straight { IfOk result (AreStraightIfAsked kept.now.plane kept.now.shape) }
     ensures asked { IfOk result (λ drawing. is_some drawing ≡ is_some kind) }
-    ensures wide { IfErr result (λ fault. fault ≡ DrawFault.Wide → IsCause kept.now.plane kept.now.shape Wide) }
+    ensures wide { IfErr result (λ fault. fault ≡ CompactFault.Wide → IsCause kept.now.plane kept.now.shape Wide) }
 {
     let Some(kind) = kind else {
         return Ok(None);

@@ -7,9 +7,9 @@ ghost use Rattle.planarbend_c.specs.Found.{IsDrawnIfAsked, IsFound, finding, fin
 ghost use Rattle.planarbend_c.specs.Faults.{IsFault};
 
 use crate::laid::Layout;
-use answers::{RecordScratch, ShapeFault, ShapedPlane};
+use answers::{RecordScratch, ShapedPlane};
 use common::{Choice, DrawingKind};
-use embedding::Rule;
+use embedding::{ReadFault, Rule};
 use ortho_rep::Points;
 use planar_code::{ParseFault, Record};
 use std::alloc::{AllocError, Global};
@@ -105,8 +105,8 @@ fn shaped(
     let _bytes = rec.bytes();
     match scratch.shape(alloc, rec, choice, kind.unwrap_or(DrawingKind::Quick)) {
         Ok(shaped_plane) => Ok(shaped_plane),
-        Err(ShapeFault::Rule(rule)) => Err(Fault::Rule(rule)),
-        Err(ShapeFault::Memory) => Err(Fault::Memory),
+        Err(ReadFault::Rule(rule)) => Err(Fault::Rule(rule)),
+        Err(ReadFault::Memory) => Err(Fault::Memory),
     }
 }
 
