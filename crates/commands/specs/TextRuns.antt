@@ -2,8 +2,8 @@
 use Rattle.std.specs.Prelude.{⊤}
 use Rattle.streams.specs.declared.faults.BatchFault.TheVariants.{TooManyFiles, BadLanes}
 pub use Rattle.printing.specs.Whole.{IsBegun}
-use Rattle.commands.specs.declared.text.TextFault.{TextFault}
-use Rattle.commands.specs.declared.text.TextFault.TheVariants.{Run, Write}
+use Rattle.printing.specs.declared.fault.TextFault.{TextFault}
+use Rattle.printing.specs.declared.fault.TextFault.TheVariants.{Run, Write}
 
 -- there are too many files, or no lanes, or too many
 abbrev pub IsMisuseOfRun : TextFault → Type 0

@@ -6,9 +6,10 @@ ghost use Rattle.entries.specs.declared.limits.TheConstants.{MAX_FILES};
 ghost use Rattle.command_line.specs.Naming.{meanings_in};
 ghost use Rattle.commands.specs.Statuses.{IsTextOfBooks, IsBegunTextOfBooks};
 
-use crate::text::{TextFault, write_watched};
+use crate::text::write_watched;
 use crate::watch::Observer;
 use command_line::{Console, Fault, FileNotes, FileOpener, LayoutRequest, Meter, NamedFiles};
+use printing::TextFault;
 use std::sync::Wait;
 use std::thread::Threads;
 use streams::{BatchFault, MAX_CAPACITY, Sink, WriteFault};

@@ -15,7 +15,7 @@ use common::Choice;
 use entries::MAX_FILES;
 use lane_runs::{LaneKind, Run, RunFault, run_lanes};
 use lanes::{Consumer, Gate, Opener, Pauses, PausingOpener};
-use printing::{Lines, Meant, Pace, Refusal, Texts};
+use printing::{Lines, Meant, Pace, TextFault, Texts};
 use reports::Style;
 use ruled_lanes::LANES;
 use std::alloc::Global;
@@ -23,15 +23,6 @@ use std::marker::Brand;
 use std::sync::Wait;
 use std::thread::Threads;
 use streams::{BatchFault, Sink, WriteFault};
-
-/// The reason why the text of a run was not written completely. What was written is then a prefix of such a text.
-#[derive(Clone, Copy, Debug, PartialEq, Eq)]
-pub enum TextFault {
-    /// The run failed.
-    Run(BatchFault),
-    /// The sink has failed.
-    Write,
-}
 
 /// Answers all records of the first `files` files on `lanes` lanes, and streams the text to `sink`.
 ///
@@ -192,17 +183,15 @@ fn let_go<S: Sink>(texts: Texts<'_, S, Lines>)
 }
 
 /// The returned fault for the fault of a run.
-fn fault_of(fault: RunFault<Refusal>) -> TextFault
-    ensures write { (result ≡ TextFault.Write) ↔ (fault ≡ RunFault.Refused Refusal.Write) }
-    ensures begun { ¬ IsMisuseOfRun result }
+fn fault_of(fault: RunFault<TextFault>) -> TextFault
+    ensures write { (result ≡ TextFault.Write) ↔ (fault ≡ RunFault.Refused TextFault.Write) }
+    ensures begun { IsMisuseOfRun result → fault ≡ RunFault.Refused result }
 {
     match fault {
-        RunFault::Memory | RunFault::Refused(Refusal::Memory) => TextFault::Run(BatchFault::Memory),
-        RunFault::LaneLost | RunFault::Refused(Refusal::Astray) => TextFault::Run(
-            BatchFault::LaneLost,
-        ),
+        RunFault::Memory => TextFault::Run(BatchFault::Memory),
+        RunFault::LaneLost => TextFault::Run(BatchFault::LaneLost),
         RunFault::Thread => TextFault::Run(BatchFault::Thread),
-        RunFault::Refused(Refusal::Write) => TextFault::Write,
+        RunFault::Refused(fault) => fault,
     }
 }
 
