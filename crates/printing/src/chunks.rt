@@ -75,7 +75,11 @@ impl Chunks {
     }
 
     /// Writes the text to the buffer and the sink.
-    pub(crate) fn put<S: Sink>(&self, buffer: &mut TextBuffer, sink: &mut S) -> Result<(), TextFault>
+    pub(crate) fn put<S: Sink>(
+        &self,
+        buffer: &mut TextBuffer,
+        sink: &mut S,
+    ) -> Result<(), TextFault>
         requires { S.failed sink.old ≡ false }
         ensures put { OnOk result (GoesOn (S.taken sink.old) buffer.old (S.taken sink.new) buffer.new self.now) }
         ensures partial { OnErr result (IsPartlyAdded (S.taken sink.old) buffer.old (S.taken sink.new) self.now) }
