@@ -45,25 +45,10 @@ impl fmt::Write for ShortLine {
     }
 }
 
-/// Writes `planarbend: ` and the message of a failed write of output, with its reason, to `err`.
-///
-/// If the reader of the output has closed it, nothing is written. A failure of this write changes nothing.
-pub fn write_output_fault<E: Sink>(reason: Reason, err: &mut E)
-    requires { E.failed err.old ≡ false }
-{
-    if reason.is_broken_pipe() {
-        return;
-    }
-    let mut line = ShortLine::new();
-    let _ = match reason.code {
-        Some(_) => writeln!(line, "planarbend: cannot write output: {reason}"),
-        None => writeln!(line, "planarbend: cannot write output"),
-    };
-    let _ = put_all(err, line.text());
-}
-
 /// Writes `planarbend: ` and the message of the fault to `err`. A failure of this write changes nothing.
-pub fn write_fault<E: Sink>(fault: Fault, err: &mut E)
+///
+/// The reason is the system's for an output that failed. If its reader has closed it, nothing is written.
+pub fn write_fault<E: Sink>(fault: Fault, reason: Reason, err: &mut E)
     requires { E.failed err.old ≡ false }
 {
     let mut line = ShortLine::new();
@@ -73,6 +58,11 @@ pub fn write_fault<E: Sink>(fault: Fault, err: &mut E)
             "planarbend: internal error: a worker thread disconnected"
         ),
         Fault::Run(BatchFault::Thread) => writeln!(line, "planarbend: cannot start a thread"),
+        Fault::Write(WriteFault::Write) if reason.is_broken_pipe() => return,
+        Fault::Write(WriteFault::Write) if reason.code.is_some() => writeln!(
+            line,
+            "planarbend: cannot write output: {reason}"
+        ),
         Fault::Write(WriteFault::Write) => writeln!(line, "planarbend: cannot write output"),
         _ => writeln!(line, "planarbend: {fault}"),
     };

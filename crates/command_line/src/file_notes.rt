@@ -59,7 +59,7 @@ impl FileNote {
     }
 
     /// Notes that the file ended with this mark.
-    pub fn end(&self, mark: Mark) {
+    fn end(&self, mark: Mark) {
         self.misfit.store(Misfit::number_of(mark), Ordering::SeqCst);
     }
 
@@ -120,6 +120,13 @@ impl FileNotes {
     /// The note on the file with this number; `None` past the last.
     pub fn note(&self, file: u32) -> Option<&FileNote> {
         self.notes.get(file as usize)
+    }
+
+    /// Notes that the file with this number ended with this mark.
+    pub fn end(&self, file: u32, mark: Mark) {
+        if let Some(note) = self.note(file) {
+            note.end(mark);
+        }
     }
 
     /// Writes to `err` a line for each file that failed, or that is not planar_code and has a recognised format.

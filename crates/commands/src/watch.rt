@@ -41,8 +41,6 @@ impl<C: Console + Sync> Gate for Observer<'_, C> {
 
 impl<C: Console + Sync> Watch for Observer<'_, C> {
     fn end(&self, file: u32, mark: Mark) {
-        if let Some(note) = self.notes.note(file) {
-            note.end(mark);
-        }
+        self.notes.end(file, mark);
     }
 }
