@@ -9,7 +9,7 @@ use crate::line::Line;
 use entries::{Answer, Entry};
 use reports::{Form, ReportLine};
 use std::alloc::{AllocError, Global};
-use streams::{Mark, mark_word};
+use streams::Mark;
 
 /// The output line of an entry in this format, with a newline (byte 0A) at its end. It takes a few allocations.
 ///
@@ -107,7 +107,7 @@ pub fn end_text(
     let graphs = u64::from(count);
     match form {
         Form::Report => Vec::from_slice(alloc, ReportLine::of_end(mark, graphs).as_slice()),
-        Form::Json => reports::end_line(alloc, number_of(file)?, mark_word(mark), graphs),
+        Form::Json => reports::end_line(alloc, number_of(file)?, mark, graphs),
     }
 }
 

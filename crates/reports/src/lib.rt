@@ -7,7 +7,6 @@ mod json_arrays;
 mod json_batch;
 mod json_lines;
 mod json_objects;
-mod json_put;
 mod json_text;
 mod line;
 mod report;
