@@ -19,7 +19,6 @@ pub use chunks::Chunks;
 pub use drawn_texts::{books_are_drawn, lines_tell_drawings};
 pub use fault::TextFault;
 pub use line::Line;
-pub use lines::entry_text;
 pub use meant::{KnownEnd, Meant, known_end};
 pub use pace::Pace;
 pub use printed::{Printed, answered_line};

@@ -6,22 +6,10 @@ ghost use Rattle.reports.specs.Answered.{IsAnswer};
 ghost use Rattle.printing.specs.FormLines.{line_in, preamble_in, end_in};
 
 use crate::line::Line;
-use entries::{Answer, Entry};
+use entries::Answer;
 use reports::{Form, ReportLine};
 use std::alloc::{AllocError, Global};
 use streams::Mark;
-
-/// The output line of an entry in this format, with a newline (byte 0A) at its end. It takes a few allocations.
-///
-/// # Errors
-///
-/// `AllocError` if there is no memory for the line; in JSON also if the number of the entry's file, counted from 1,
-/// does not fit in 32 bits.
-pub fn entry_text(alloc: Global, form: Form, entry: &Entry) -> Result<Vec<u8>, AllocError>
-    ensures { IfOk result (λ text. text.items ≡ line_in form entry.now) }
-{
-    answer_line(alloc, form, entry.file, entry.ordinal, &entry.answer)?.into_list()
-}
 
 /// The output line of the answer to the record at this place of this file, in this format. A short line of a report is
 /// not allocated.

@@ -19,5 +19,5 @@ pub use json_batch::{push_line, write_json};
 pub use json_lines::{LaidGraph, answer_line, end_line, entry_line, lacking_line, laid_line};
 pub use line::ReportLine;
 pub use report::write_report;
-pub use statuses::{status_of, status_of_batch};
+pub use statuses::status_of;
 pub use style::Style;
