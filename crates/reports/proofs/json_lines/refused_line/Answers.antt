@@ -1,4 +1,4 @@
-use Rattle.std.proofs.Common.{rules, ◌≡◌, ◌∷◌, ◌++◌, [], ℕ, List, ◌∙◌, ap, append_assoc, codes, sym}
+use Rattle.std.proofs.Common.{rules, ◌≡◌, ◌∷◌, ◌++◌, [], ℕ, List, ◌∙◌, ap, append_assoc, codes}
 use Rattle.json.specs.Print.{escape_byte}
 use Rattle.serde_json.specs.Data.{string}
 use Rattle.embedding.specs.Words.{word_of}
