@@ -1,13 +1,12 @@
 //! A run whose output is streamed.
-ghost use Rattle.std.specs.Prelude.{◌≡◌, ◌≤◌, ◌<◌, ◌⊎◌, ◌↔◌, List, [], Err, false, true, IfOk, IfErr, OnOk, OnErr};
-ghost use Rattle.ruled_lanes.specs.declared.limits.TheConstants.{LANES, MAX_CAPACITY};
-ghost use Rattle.entries.specs.declared.limits.TheConstants.{MAX_FILES};
+ghost use Rattle.std.specs.Prelude.{◌≡◌, ◌≤◌, ◌⊎◌, ◌↔◌, List, [], Err, false, true, IfOk, IfErr, OnOk, OnErr};
+ghost use Rattle.ruled_lanes.specs.declared.limits.TheConstants.{MAX_CAPACITY};
 ghost use Rattle.lanes.specs.Notes.{Note};
 ghost use Rattle.lanes.specs.Files.{AreToldWhole};
 ghost use Rattle.lane_runs.specs.Faults.{HoldsOnRunFault};
 ghost use Rattle.lane_runs.specs.Accepting.{AcceptsFiles};
 ghost use Rattle.printing.specs.Whole.{IsAllWritten, IsBegun};
-ghost use Rattle.commands.specs.TextRuns.{IsMisuseOfRun};
+ghost use Rattle.commands.specs.TextRuns.{IsMisuseOfRun, IsStreamed};
 
 use crate::line_lanes::LineLanes;
 use crate::watch::{Unwatched, Watch};
@@ -61,14 +60,7 @@ pub fn write_batch<R: Threads + Wait + Sync, O: Opener, G: Gate, S: Sink>(
     requires least { 1 ≤ capacity }
     requires most { capacity ≤ MAX_CAPACITY }
     requires stands { S.failed sink.old ≡ false }
-    ensures written { IfOk result (IsAllWritten choice (O.meaning opener.now) style.form files (S.taken sink.old) (S.taken sink.new)) }
-    ensures begun { OnErr result ∥ IsBegun choice (O.meaning opener.now) style.form files (S.taken sink.old) (S.taken sink.new) ∥₁ }
-    ensures status { IfOk result (λ status. (status ≡ 0) ⊎ (status ≡ 3)) }
-    ensures too_many { (MAX_FILES < files) ↔ (result ≡ Err (TextFault.Run BatchFault.TooManyFiles)) }
-    ensures bad_lanes { (((lanes ≡ 0) ⊎ (LANES < lanes)) × (files ≤ MAX_FILES))
-        ↔ (result ≡ Err (TextFault.Run BatchFault.BadLanes)) }
-    ensures refused { IfErr result (λ fault. IsMisuseOfRun fault → sink.new ≡ sink.old) }
-    ensures failed { (result ≡ Err TextFault.Write) ↔ (S.failed sink.new ≡ true) }
+    ensures { IsStreamed choice (O.meaning opener.now) style.form files lanes S.taken S.failed sink.old sink.new result }
 {
     write_watched(
         rt,
@@ -102,14 +94,7 @@ pub(crate) fn write_watched<R: Threads + Wait + Sync, O: Opener, G: Gate + Watch
     requires least { 1 ≤ capacity }
     requires most { capacity ≤ MAX_CAPACITY }
     requires stands { S.failed sink.old ≡ false }
-    ensures written { IfOk result (IsAllWritten choice (O.meaning opener.now) style.form files (S.taken sink.old) (S.taken sink.new)) }
-    ensures begun { OnErr result ∥ IsBegun choice (O.meaning opener.now) style.form files (S.taken sink.old) (S.taken sink.new) ∥₁ }
-    ensures status { IfOk result (λ status. (status ≡ 0) ⊎ (status ≡ 3)) }
-    ensures too_many { (MAX_FILES < files) ↔ (result ≡ Err (TextFault.Run BatchFault.TooManyFiles)) }
-    ensures bad_lanes { (((lanes ≡ 0) ⊎ (LANES < lanes)) × (files ≤ MAX_FILES))
-        ↔ (result ≡ Err (TextFault.Run BatchFault.BadLanes)) }
-    ensures refused { IfErr result (λ fault. IsMisuseOfRun fault → sink.new ≡ sink.old) }
-    ensures failed { (result ≡ Err TextFault.Write) ↔ (S.failed sink.new ≡ true) }
+    ensures { IsStreamed choice (O.meaning opener.now) style.form files lanes S.taken S.failed sink.old sink.new result }
 {
     if files > MAX_FILES {
         return Err(TextFault::Run(BatchFault::TooManyFiles));
