@@ -9,7 +9,6 @@ mod process;
 mod program;
 mod text;
 mod version;
-mod watch;
 mod worded;
 
 pub use command_line::{

@@ -9,7 +9,7 @@ ghost use Rattle.printing.specs.Whole.{IsAllWritten, IsBegun};
 ghost use Rattle.commands.specs.TextRuns.{IsMisuseOfRun, IsStreamed};
 
 use crate::line_lanes::LineLanes;
-use crate::watch::{Unwatched, Watch};
+use command_line::FileNotes;
 use common::Choice;
 use entries::MAX_FILES;
 use lane_runs::{LaneKind, Run, RunFault, run_lanes};
@@ -63,22 +63,12 @@ pub fn write_batch<R: Threads + Wait + Sync, O: Opener, G: Gate, S: Sink>(
     ensures { IsStreamed choice (O.meaning opener.now) style.form files lanes S.taken S.failed sink.old sink.new result }
 {
     write_watched(
-        rt,
-        alloc,
-        opener,
-        files,
-        lanes,
-        capacity,
-        waiting,
-        choice,
-        style,
-        &Unwatched { gate },
-        sink,
+        rt, alloc, opener, files, lanes, capacity, waiting, choice, style, gate, None, sink,
     )
 }
 
-/// Streams the text of a run as `write_batch` does; `watch`, which is also the gate, is told how each file ends.
-pub(crate) fn write_watched<R: Threads + Wait + Sync, O: Opener, G: Gate + Watch, S: Sink>(
+/// Streams the text of a run as `write_batch` does, and notes how each file ends.
+pub(crate) fn write_watched<R: Threads + Wait + Sync, O: Opener, G: Gate, S: Sink>(
     rt: &R,
     alloc: Global,
     opener: &O,
@@ -88,7 +78,8 @@ pub(crate) fn write_watched<R: Threads + Wait + Sync, O: Opener, G: Gate + Watch
     waiting: usize,
     choice: Choice,
     style: Style,
-    watch: &G,
+    gate: &G,
+    notes: Option<&FileNotes>,
     sink: &mut S,
 ) -> Result<u8, TextFault>
     requires least { 1 ≤ capacity }
@@ -112,7 +103,7 @@ pub(crate) fn write_watched<R: Threads + Wait + Sync, O: Opener, G: Gate + Watch
         rt,
         alloc,
         opener: &pausing,
-        gate: watch,
+        gate,
         files,
         lanes,
         capacity,
@@ -122,17 +113,17 @@ pub(crate) fn write_watched<R: Threads + Wait + Sync, O: Opener, G: Gate + Watch
         pauses: &pauses,
         most: waiting,
     };
-    write_files::<Brand, _, _, _, _>(&run, style, pace, sink)
+    write_files::<Brand, _, _, _, _>(&run, style, pace, notes, sink)
 }
 
 /// Writes the text of a run in this style and at this pace. The type `J` represents what the files mean.
-fn write_files<
-    J: Meant + Send + Sync,
-    R: Threads + Wait + Sync,
-    O: Opener,
-    G: Gate + Watch,
-    S: Sink,
->(run: &Run<'_, R, O, G>, style: Style, pace: Pace<'_>, sink: &mut S) -> Result<u8, TextFault>
+fn write_files<J: Meant + Send + Sync, R: Threads + Wait + Sync, O: Opener, G: Gate, S: Sink>(
+    run: &Run<'_, R, O, G>,
+    style: Style,
+    pace: Pace<'_>,
+    notes: Option<&FileNotes>,
+    sink: &mut S,
+) -> Result<u8, TextFault>
     requires stands { S.failed sink.old ≡ false }
     requires same_meaning { J.meaning ≡ O.meaning run.now.opener.now }
     ensures written { IfOk result (IsAllWritten run.now.choice (O.meaning run.now.opener.now) style.form run.now.files (S.taken sink.old) (S.taken sink.new)) }
@@ -145,7 +136,7 @@ fn write_files<
         return Err(TextFault::Run(BatchFault::Memory));
     };
     let texts = Texts::new(run.alloc, sink, lines, pace);
-    let lanes = LineLanes::<J, G>::new(style, run.gate);
+    let lanes = LineLanes::<J>::new(style, notes);
     let mut ran = Ok(());
     let texts = run_into(run, &lanes, texts, &mut ran);
     match ran {
