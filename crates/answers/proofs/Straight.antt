@@ -16,7 +16,7 @@ use Rattle.drawing_check.specs.Regions.{HasRegions}
 use Rattle.entries.specs.Drawn.{HasPoints, IsDrawingOf}
 use Rattle.conditions.specs.declared.conditions.Conditions.{Conditions}
 use Rattle.conditions.specs.Chosen.{IsKept}
-use Rattle.answers.specs.declared.kept_plane.DrawFault.{DrawFault}
+use Rattle.compact.specs.declared.fault.CompactFault.{CompactFault}
 use Rattle.answers.specs.Kept.{AreDrawnStraight, AreKeptStraight}
 
 pub drawn_straight : (p : PlaneModel) (shape : ShapeModel) (points : PointsModel) → Draws p shape points → AreDrawnStraight p shape points
@@ -43,13 +43,13 @@ kept_straight conditions choice p shape prices points ends kept drawn d inside l
     drawn d inside lesser (kept.least.keeps d inside marked)
 
 -- so it is in a drawing, if there is one
-pub kept_straight-if : (conditions : Conditions) (choice : Choice) (p : PlaneModel) (shape : ShapeModel) (prices : PricesModel) (drawing : Result PointsModel DrawFault)
+pub kept_straight-if : (conditions : Conditions) (choice : Choice) (p : PlaneModel) (shape : ShapeModel) (prices : PricesModel) (drawing : Result PointsModel CompactFault)
     → HasEnds p → IsKept conditions choice p shape prices → IfOk drawing (AreDrawnStraight p shape) → IfOk drawing (AreKeptStraight conditions p)
 kept_straight-if conditions choice p shape prices (Ok points) ends kept drawn = kept_straight conditions choice p shape prices points ends kept drawn
 kept_straight-if conditions choice p shape prices (Err fault) ends kept drawn = tt
 
 -- three facts of a drawing are one
-pub drawing_of-if : (p : PlaneModel) (shape : ShapeModel) (drawing : Result PointsModel DrawFault)
+pub drawing_of-if : (p : PlaneModel) (shape : ShapeModel) (drawing : Result PointsModel CompactFault)
     → IfOk drawing (HasPoints p) → IfOk drawing (Draws p shape) → IfOk drawing (HasRegions p) → IfOk drawing (IsDrawingOf p shape)
 drawing_of-if p shape (Ok points) whole draws regions = record { whole = whole; draws = draws; regions = regions }
 drawing_of-if p shape (Err fault) whole draws regions = tt

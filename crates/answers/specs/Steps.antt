@@ -8,8 +8,8 @@ use Rattle.ortho_rep.specs.Best.{IsChosen}
 use Rattle.ortho_rep.specs.Points.{PointsModel}
 use Rattle.entries.specs.declared.answer.Answer.{Answer}
 use Rattle.entries.specs.declared.answer.Answer.TheVariants.{Laid, Refused, NoMemory}
-use Rattle.answers.specs.declared.fault.ShapeFault.{ShapeFault}
-use Rattle.answers.specs.declared.fault.ShapeFault.TheVariants.{Rule, Memory}
+use Rattle.embedding.specs.declared.faults.ReadFault.{ReadFault}
+use Rattle.embedding.specs.declared.faults.ReadFault.TheVariants.{Rule, Memory}
 use Rattle.answers.specs.declared.shaped_plane.ShapedPlane.{ShapedPlane}
 
 -- the plane of a record of these bytes, once its faces are traced
@@ -29,29 +29,29 @@ pub record IsPlaneOf (choice : Choice) (bytes : List ℕ) (plane : PlaneModel) :
 
 -- why such a record has no plane, or no shape: the rule is broken, and none before it; or memory ran out, and no rule is
 -- broken
-abbrev pub IsRefused : List ℕ → ShapeFault → Type 0
+abbrev pub IsRefused : List ℕ → ReadFault → Type 0
 IsRefused bytes (Rule rule) = FirstBroken (lists_of bytes) rule
 IsRefused bytes Memory = KeepsBefore (lists_of bytes) 9
 
 -- the plane of the record, or why there is none
-abbrev pub IsEmbedded : List ℕ → Result PlaneModel ShapeFault → Type 0
+abbrev pub IsEmbedded : List ℕ → Result PlaneModel ReadFault → Type 0
 IsEmbedded bytes (Ok plane) = IsTracedPlane bytes plane
 IsEmbedded bytes (Err fault) = IsRefused bytes fault
 
 -- the record's plane with the chosen outer face and a least shape, or why there is none
-abbrev pub IsShaped : Choice → List ℕ → Result ShapedPlane ShapeFault → Type 0
+abbrev pub IsShaped : Choice → List ℕ → Result ShapedPlane ReadFault → Type 0
 IsShaped choice bytes (Ok shaped_plane) = IsPlaneOf choice bytes shaped_plane.plane
 IsShaped choice bytes (Err fault) = IsRefused bytes fault
 
 -- the answer to a record for which this was found
-abbrev pub answer_in : Result (ShapedPlane × PointsModel) ShapeFault → Answer
+abbrev pub answer_in : Result (ShapedPlane × PointsModel) ReadFault → Answer
 answer_in (Ok drawn) = Laid drawn.0.plane drawn.0.shape drawn.0.prices (Ok drawn.1)
 answer_in (Err (Rule rule)) = Refused rule
 answer_in (Err Memory) = NoMemory
 
 -- what may be found for a record with this shaped plane, or without one: points and the same shaped plane, or memory ran
 -- out; without one, the same reason
-abbrev pub IsFoundFor : Result ShapedPlane ShapeFault → Result (ShapedPlane × PointsModel) ShapeFault → Type 0
+abbrev pub IsFoundFor : Result ShapedPlane ReadFault → Result (ShapedPlane × PointsModel) ReadFault → Type 0
 IsFoundFor (Ok shaped_plane) (Ok drawn) = drawn.0 ≡ shaped_plane
 IsFoundFor (Ok shaped_plane) (Err fault) = fault ≡ Memory
 IsFoundFor (Err fault) found = found ≡ Err fault

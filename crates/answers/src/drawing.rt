@@ -9,13 +9,13 @@ ghost use Rattle.drawing_check.specs.Regions.{HasRegions};
 ghost use Rattle.entries.specs.Drawn.{HasPoints, IsDrawingOf, IsDrawn};
 ghost use Rattle.entries.specs.Lengths.{AreBelow, IsNear, IsNoLonger, IsQuick, edge_length};
 
-use crate::fault::ShapeFault;
 use crate::holder::{Holder, Shell};
 use crate::length::{are_below, is_no_longer};
 use crate::shaped_plane::ShapedPlane;
 use common::DrawingKind;
 use compact::{BoxesScratch, CompactFault, compact_in, dissect_along};
 use drawing_check::{CheckFault, Drawing, check_in};
+use embedding::ReadFault;
 use entries::Cause;
 use faces::Plane;
 use lanes::ReturnQueue;
@@ -70,8 +70,8 @@ impl DrawScratch {
     /// The shaped plane out of its holder, which goes back.
     pub(crate) fn unpack(
         &mut self,
-        shaped_plane: Result<Holder<ShapedPlane>, ShapeFault>,
-    ) -> Result<ShapedPlane, ShapeFault>
+        shaped_plane: Result<Holder<ShapedPlane>, ReadFault>,
+    ) -> Result<ShapedPlane, ReadFault>
         ensures { result ≡ shaped_plane }
     {
         let (shaped_plane, shell) = shaped_plane?.take();

@@ -5,8 +5,9 @@ ghost use Rattle.entries.specs.Drawn.{IsDrawingOf};
 ghost use Rattle.answers.specs.Kept.{IsKeptPlane, IsKeptFault, AreKeptStraight};
 
 use crate::kept::RecordScratch;
-use crate::kept_plane::{DrawFault, KeptFault, KeptPlane};
+use crate::kept_plane::{KeptFault, KeptPlane};
 use common::{Choice, DrawingKind};
+use compact::CompactFault;
 use conditions::Conditions;
 use drawing_check::Drawing;
 use planar_code::Record;
@@ -16,7 +17,7 @@ use std::alloc::Global;
 #[derive(Drop)]
 pub struct KeptLayout {
     pub kept: KeptPlane,
-    pub drawing: Result<Drawing, DrawFault>,
+    pub drawing: Result<Drawing, CompactFault>,
 }
 
 /// The layout of a record that keeps conditions: all stages, one after another, on the caller's thread.

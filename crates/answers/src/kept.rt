@@ -10,14 +10,15 @@ ghost use Rattle.entries.specs.Lengths.{IsNear, IsNoLonger, IsQuick};
 ghost use Rattle.answers.specs.Steps.{IsShaped};
 
 use crate::drawing::{DrawScratch, draw, drawing_of, least_points};
-use crate::fault::ShapeFault;
-use crate::kept_plane::{DrawFault, KeptFault, KeptPlane};
+use crate::kept_plane::{KeptFault, KeptPlane};
 use crate::shaped_plane::ShapedPlane;
 use crate::shaping::{ShapeScratch, with_shape_keeping};
 use crate::stages::{embed, shape};
 use common::{Choice, DrawingKind};
+use compact::CompactFault;
 use conditions::Conditions;
 use drawing_check::Drawing;
+use embedding::ReadFault;
 use ortho_rep::Points;
 use planar_code::Record;
 use std::alloc::{AllocError, Global};
@@ -54,7 +55,7 @@ impl RecordScratch {
         rec: &Record,
         choice: Choice,
         drawing_kind: DrawingKind,
-    ) -> Result<ShapedPlane, ShapeFault>
+    ) -> Result<ShapedPlane, ReadFault>
         ensures { IsShaped choice rec.now result }
     {
         let plane = embed(alloc, &mut self.planes, rec);
@@ -154,7 +155,7 @@ impl RecordScratch {
         alloc: Global,
         kept: &KeptPlane,
         drawing_kind: DrawingKind,
-    ) -> Result<Drawing, DrawFault>
+    ) -> Result<Drawing, CompactFault>
         ensures points { IfOk result (HasPoints kept.now.plane) }
         ensures draws { IfOk result (Draws kept.now.plane kept.now.shape) }
         ensures regions { IfOk result (HasRegions kept.now.plane) }
@@ -163,7 +164,7 @@ impl RecordScratch {
             → IfOk result (IsQuick kept.now.plane kept.now.shape) }
         ensures no_longer { IfOk result (IsNoLonger kept.now.plane kept.now.shape) }
         ensures near { IfOk result (IsNear kept.now.plane kept.now.shape) }
-        ensures wide { IfErr result (λ fault. fault ≡ DrawFault.Wide → IsCause kept.now.plane kept.now.shape Wide) }
+        ensures wide { IfErr result (λ fault. fault ≡ CompactFault.Wide → IsCause kept.now.plane kept.now.shape Wide) }
     {
         // Only the proof needs this: `graph` says that the plane is one.
         let _graph = kept.plane.graph();
@@ -178,8 +179,8 @@ impl RecordScratch {
         match drawn {
             Ok(Ok(drawing)) => Ok(drawing),
             // There is no other cause.
-            Ok(Err(_)) => Err(DrawFault::Wide),
-            Err(AllocError) => Err(DrawFault::Memory),
+            Ok(Err(_)) => Err(CompactFault::Wide),
+            Err(AllocError) => Err(CompactFault::Memory),
         }
     }
 }

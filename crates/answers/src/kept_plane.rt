@@ -4,8 +4,8 @@ ghost use Rattle.ortho_rep.specs.Representation.{IsShape};
 ghost use Rattle.compact.specs.Monotone.{AreDirectionsOf};
 ghost use Rattle.std.proofs.Props.{props};
 
-use crate::fault::ShapeFault;
 use conditions::KeepFault;
+use embedding::ReadFault;
 use faces::Plane;
 use ortho_rep::{Prices, Shape};
 
@@ -26,16 +26,7 @@ pub struct KeptPlane {
 #[derive(Debug, Drop)]
 pub enum KeptFault {
     /// It has no plane.
-    Record(ShapeFault),
+    Record(ReadFault),
     /// Its plane has no such shape.
     Conditions(KeepFault),
-}
-
-/// The reason why a shape is not drawn.
-#[derive(Clone, Copy, Debug, PartialEq, Eq)]
-pub enum DrawFault {
-    /// No coordinates in the order of the shape's boxes are in the grid.
-    Wide,
-    /// Memory ran out.
-    Memory,
 }

@@ -6,10 +6,10 @@ ghost use Rattle.answers.specs.Tasks.{about_in};
 
 use crate::carried::Carried;
 use crate::drawing::DrawScratch;
-use crate::fault::ShapeFault;
 use crate::shaped_plane::ShapedPlane;
 use crate::stages::answer_with;
 use crate::task::Task;
+use embedding::ReadFault;
 use entries::Entry;
 use lanes::Numbered;
 use planar_code::Record;
@@ -34,7 +34,7 @@ pub trait Purpose: Drop + Send {
         scratch: &mut DrawScratch,
         task: Task,
         rec: Self::Carried,
-        shaped_plane: Result<ShapedPlane, ShapeFault>,
+        shaped_plane: Result<ShapedPlane, ReadFault>,
     ) -> Self::Entry
         requires known { ∥ knows (about_in task (Self.Carried.bytes rec)) ∥₁ }
         requires shaped { ∥ IsShaped task.choice (Self.Carried.bytes rec) shaped_plane ∥₁ }
@@ -58,7 +58,7 @@ impl Purpose for Keeping {
         scratch: &mut DrawScratch,
         task: Task,
         rec: Record,
-        shaped_plane: Result<ShapedPlane, ShapeFault>,
+        shaped_plane: Result<ShapedPlane, ReadFault>,
     ) -> Entry {
         Entry {
             file: task.file,

@@ -3,9 +3,9 @@ ghost use Rattle.std.specs.Prelude.{ℕ, List};
 ghost use Rattle.answers.specs.Steps.{IsEmbedded};
 
 use crate::drawing::DrawScratch;
-use crate::fault::ShapeFault;
 use crate::holder::{Holder, Shell};
 use crate::shaping::{Passages, ShapeScratch};
+use embedding::ReadFault;
 use faces::Plane;
 use lanes::{MOST_IN_LISTS, ReturnQueue};
 use std::alloc::{AllocError, Global};
@@ -44,8 +44,8 @@ impl EmbedScratch {
     pub(crate) fn hold(
         &mut self,
         alloc: Global,
-        plane: Result<Plane, ShapeFault>,
-    ) -> Result<Holder<Plane>, ShapeFault>
+        plane: Result<Plane, ReadFault>,
+    ) -> Result<Holder<Plane>, ReadFault>
         ensures { (bytes : List ℕ) → IsEmbedded bytes plane → IsEmbedded bytes result }
     {
         let plane = plane?;
@@ -53,7 +53,7 @@ impl EmbedScratch {
             Some(shell) => Ok(shell.fill(plane)),
             None => match Shell::new(alloc) {
                 Ok(shell) => Ok(shell.fill(plane)),
-                Err(AllocError) => Err(ShapeFault::Memory),
+                Err(AllocError) => Err(ReadFault::Memory),
             },
         }
     }

@@ -9,13 +9,13 @@ ghost use Rattle.answers.specs.Kept.{IsKeptPlane};
 ghost use Rattle.answers.specs.Steps.{IsTracedPlane, IsPlaneOf, IsShaped};
 ghost use Rattle.common.specs.declared.choice.Choice.{Choice};
 
-use crate::fault::ShapeFault;
 use crate::holder::{Holder, Shell};
 use crate::kept_plane::KeptPlane;
 use crate::shaped_plane::ShapedPlane;
 use common::{Choice, DrawingKind};
 use compact::{DirectionSearch, directions_in};
 use conditions::{Conditions, KeepFault, shape_keeping_in};
+use embedding::ReadFault;
 use faces::Plane;
 use lanes::ReturnQueue;
 use ortho_rep::{Prices, Shape, best_shape, least_shape_in};
@@ -97,8 +97,8 @@ impl ShapeScratch {
     /// The plane out of its holder, which is kept to be returned.
     pub(crate) fn unpack(
         &mut self,
-        plane: Result<Holder<Plane>, ShapeFault>,
-    ) -> Result<Plane, ShapeFault>
+        plane: Result<Holder<Plane>, ReadFault>,
+    ) -> Result<Plane, ReadFault>
         ensures { result ≡ plane }
     {
         let (plane, shell) = plane?.take();
@@ -110,8 +110,8 @@ impl ShapeScratch {
     pub(crate) fn hold(
         &mut self,
         alloc: Global,
-        shaped_plane: Result<ShapedPlane, ShapeFault>,
-    ) -> Result<Holder<ShapedPlane>, ShapeFault>
+        shaped_plane: Result<ShapedPlane, ReadFault>,
+    ) -> Result<Holder<ShapedPlane>, ReadFault>
         ensures { (choice : Choice) (bytes : List ℕ) → IsShaped choice bytes shaped_plane → IsShaped choice bytes result }
     {
         let shaped_plane = shaped_plane?;
@@ -119,7 +119,7 @@ impl ShapeScratch {
             Some(shell) => Ok(shell.fill(shaped_plane)),
             None => match Shell::new(alloc) {
                 Ok(shell) => Ok(shell.fill(shaped_plane)),
-                Err(AllocError) => Err(ShapeFault::Memory),
+                Err(AllocError) => Err(ReadFault::Memory),
             },
         }
     }

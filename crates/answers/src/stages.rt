@@ -10,7 +10,6 @@ ghost use Rattle.entries.specs.Answers.{Answers};
 ghost use Rattle.drawing_laws.specs.Drawings.{IsDrawnIfLaid};
 
 use crate::drawing::{DrawScratch, draw, points_of};
-use crate::fault::ShapeFault;
 use crate::shaped_plane::ShapedPlane;
 use crate::shaping::{ShapeScratch, with_least_shape};
 use crate::state::PointsFound;
@@ -23,12 +22,12 @@ use std::alloc::{AllocError, Global};
 
 /// Why a record has no plane if there is no memory for its graph: the first rule that it breaks, or else out of memory.
 /// Trying the rules allocates nothing.
-fn fault_without_graph(rec: &Record) -> ShapeFault
+fn fault_without_graph(rec: &Record) -> ReadFault
     ensures { IsRefused rec.now result }
 {
     match broken_rule(rec) {
-        Some(rule) => ShapeFault::Rule(rule),
-        None => ShapeFault::Memory,
+        Some(rule) => ReadFault::Rule(rule),
+        None => ReadFault::Memory,
     }
 }
 
@@ -37,19 +36,19 @@ pub(crate) fn embed(
     alloc: Global,
     scratch: &mut faces::Scratch,
     rec: &Record,
-) -> Result<Plane, ShapeFault>
+) -> Result<Plane, ReadFault>
     ensures { IsEmbedded rec.now result }
 {
     let graph = match Graph::read_in(alloc, &mut scratch.graph, rec) {
         Ok(graph) => graph,
-        Err(ReadFault::Rule(rule)) => return Err(ShapeFault::Rule(rule)),
+        Err(ReadFault::Rule(rule)) => return Err(ReadFault::Rule(rule)),
         Err(ReadFault::Memory) => return Err(fault_without_graph(rec)),
     };
     match Plane::trace_in(alloc, scratch, graph) {
         Ok(plane) => Ok(plane),
         Err(TraceFault::Genus(graph)) => {
             graph.give_back(&mut scratch.graph);
-            Err(ShapeFault::Rule(Rule::Genus))
+            Err(ReadFault::Rule(Rule::Genus))
         }
         Err(TraceFault::Memory(_)) => unreachable!(),
     }
@@ -59,15 +58,15 @@ pub(crate) fn embed(
 pub(crate) fn shape(
     alloc: Global,
     scratch: &mut ShapeScratch,
-    plane: Result<Plane, ShapeFault>,
+    plane: Result<Plane, ReadFault>,
     choice: Choice,
     drawing_kind: DrawingKind,
-) -> Result<ShapedPlane, ShapeFault>
+) -> Result<ShapedPlane, ReadFault>
     ensures { (bytes : List ℕ) → IsEmbedded bytes plane → IsShaped choice bytes result }
 {
     match with_least_shape(alloc, scratch, plane?, choice, drawing_kind) {
         Ok(shaped_plane) => Ok(shaped_plane),
-        Err(AllocError) => Err(ShapeFault::Memory),
+        Err(AllocError) => Err(ReadFault::Memory),
     }
 }
 
@@ -75,7 +74,7 @@ pub(crate) fn shape(
 pub(crate) fn answer_with(
     alloc: Global,
     scratch: &mut DrawScratch,
-    shaped_plane: Result<ShapedPlane, ShapeFault>,
+    shaped_plane: Result<ShapedPlane, ReadFault>,
     drawing_kind: DrawingKind,
 ) -> Answer
     ensures answers { (choice : Choice) (bytes : List ℕ) → IsShaped choice bytes shaped_plane → Answers choice bytes result }
@@ -92,8 +91,8 @@ pub(crate) fn answer_with(
         directions,
     } = match shaped_plane {
         Ok(shaped_plane) => shaped_plane,
-        Err(ShapeFault::Rule(rule)) => return Answer::Refused(rule),
-        Err(ShapeFault::Memory) => return Answer::NoMemory,
+        Err(ReadFault::Rule(rule)) => return Answer::Refused(rule),
+        Err(ReadFault::Memory) => return Answer::NoMemory,
     };
     let drawn = draw(alloc, scratch, &plane, &shape, &directions, drawing_kind);
     match drawn {
@@ -113,7 +112,7 @@ pub(crate) fn answer_with(
 pub fn find_points(
     alloc: Global,
     scratch: &mut DrawScratch,
-    shaped_plane: Result<ShapedPlane, ShapeFault>,
+    shaped_plane: Result<ShapedPlane, ReadFault>,
     drawing_kind: DrawingKind,
 ) -> PointsFound
     ensures answers { (choice : Choice) (bytes : List ℕ) → IsShaped choice bytes shaped_plane → Answers choice bytes (answer_in result) }
@@ -122,7 +121,7 @@ pub fn find_points(
     let shaped_plane = shaped_plane?;
     match points_of(alloc, scratch, &shaped_plane, drawing_kind) {
         Ok(points) => Ok((shaped_plane, points)),
-        Err(AllocError) => Err(ShapeFault::Memory),
+        Err(AllocError) => Err(ReadFault::Memory),
     }
 }
 

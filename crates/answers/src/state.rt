@@ -3,9 +3,9 @@ ghost use Rattle.std.specs.Prelude.{⊤};
 ghost use Rattle.lanes.specs.Notes.{About};
 ghost use Rattle.answers.specs.Steps.{IsEmbedded, IsShaped};
 
-use crate::fault::ShapeFault;
 use crate::holder::Holder;
 use crate::shaped_plane::ShapedPlane;
+use embedding::ReadFault;
 use faces::Plane;
 use ortho_rep::Points;
 
@@ -21,18 +21,18 @@ impl State for () {
 }
 
 /// The record's plane, or the reason why there is none.
-pub type Traced = Result<Holder<Plane>, ShapeFault>;
+pub type Traced = Result<Holder<Plane>, ReadFault>;
 
 impl State for Traced {
     ghost describes = { λ about plane. IsEmbedded about.bytes plane };
 }
 
 /// The record's plane with a least shape, or the reason why there is none.
-pub type ShapeFound = Result<Holder<ShapedPlane>, ShapeFault>;
+pub type ShapeFound = Result<Holder<ShapedPlane>, ReadFault>;
 
 impl State for ShapeFound {
     ghost describes = { λ about shaped_plane. IsShaped about.choice about.bytes shaped_plane };
 }
 
 /// The record's plane with a least shape and points that draw it, or the reason why there are none.
-pub type PointsFound = Result<(ShapedPlane, Points), ShapeFault>;
+pub type PointsFound = Result<(ShapedPlane, Points), ReadFault>;

@@ -1,6 +1,7 @@
 //! The faults that end the program without complete output, and their exit status.
 ghost use Rattle.std.specs.Prelude.{◌≡◌};
 
+use std::alloc::AllocError;
 use streams::{BatchFault, WriteFault};
 use thiserror::Error;
 
@@ -38,6 +39,16 @@ impl Fault {
             | Fault::Run(BatchFault::TooManyFiles | BatchFault::BadLanes) => 2,
             Fault::Memory | Fault::Run(_) | Fault::Write(_) => 1,
         }
+    }
+}
+
+impl From<AllocError> for Fault {
+    ghost use Rattle.command_line.specs.declared.faults.Fault.{Fault};
+
+    ghost from_gives = { λ _ e. e ≡ Fault.Memory };
+
+    fn from(_refused: AllocError) -> Fault {
+        Fault::Memory
     }
 }
 

@@ -2,7 +2,7 @@
 ghost use Rattle.std.specs.Prelude.{◌≡◌, false, OnOk};
 
 use crate::fault_line::ShortLine;
-use crate::hints::{Misfit, hint_of};
+use crate::hints::{ending_of, hint_of, number_of};
 use crate::reason::Reason;
 use std::alloc::{AllocError, Global};
 use std::fmt::Write;
@@ -15,10 +15,10 @@ pub(crate) const FRONT: usize = 96;
 /// The notes on one file, which any thread may write.
 #[derive(Drop)]
 pub struct FileNote {
-    /// The reason why it was not opened or a read of it failed, encoded as by `number_of`, or 0.
+    /// The reason why it was not opened or a read of it failed, encoded as by `code_of`, or 0.
     failure: AtomicU64,
-    /// How it ended, if it is not planar_code, encoded as by `Misfit`, or 0.
-    misfit: AtomicU64,
+    /// How it ended, if it is not planar_code, encoded as by `number_of`, or 0.
+    ending: AtomicU64,
     /// Its first bytes.
     front: Vec<AtomicU8>,
     /// The number of bytes in `front`.
@@ -34,7 +34,7 @@ impl FileNote {
         }
         Ok(FileNote {
             failure: AtomicU64::new(0),
-            misfit: AtomicU64::new(0),
+            ending: AtomicU64::new(0),
             front,
             len: AtomicU64::new(0),
         })
@@ -42,7 +42,7 @@ impl FileNote {
 
     /// Notes that the file was not opened, or that a read of it failed.
     pub(crate) fn fail(&self, reason: Reason) {
-        self.failure.store(number_of(reason), Ordering::SeqCst);
+        self.failure.store(code_of(reason), Ordering::SeqCst);
     }
 
     /// Notes bytes of the file that follow the first `place` bytes.
@@ -59,8 +59,8 @@ impl FileNote {
     }
 
     /// Notes that the file ended with this mark.
-    pub fn end(&self, mark: Mark) {
-        self.misfit.store(Misfit::number_of(mark), Ordering::SeqCst);
+    fn end(&self, mark: Mark) {
+        self.ending.store(number_of(mark), Ordering::SeqCst);
     }
 
     /// The first bytes of the file.
@@ -77,14 +77,14 @@ impl FileNote {
 
     /// A hint at the format of the file, if it is not planar_code and the format is recognised.
     fn hint(&self, alloc: Global) -> Option<&'static str> {
-        let misfit = Misfit::of_number(self.misfit.load(Ordering::SeqCst))?;
+        let ending = ending_of(self.ending.load(Ordering::SeqCst))?;
         let front = self.front(alloc).ok()?;
-        hint_of(misfit, front.as_slice())
+        hint_of(ending, front.as_slice())
     }
 }
 
 /// The number that encodes a reason, from 1.
-fn number_of(reason: Reason) -> u64 {
+fn code_of(reason: Reason) -> u64 {
     match reason.code {
         Some(code) => u64::from(code.unsigned_abs()) + 2,
         None => 1,
@@ -122,6 +122,13 @@ impl FileNotes {
         self.notes.get(file as usize)
     }
 
+    /// Notes that the file with this number ended with this mark.
+    pub fn end(&self, file: u32, mark: Mark) {
+        if let Some(note) = self.note(file) {
+            note.end(mark);
+        }
+    }
+
     /// Writes to `err` a line for each file that failed, or that is not planar_code and has a recognised format.
     ///
     /// The line of a file that was not opened or not read to its end says why, with the system's reason; that of one
@@ -157,10 +164,10 @@ fn write_note<E: Sink>(
     } else if let Some(hint) = note.hint(alloc) {
         let _ = writeln!(line, ": {hint}");
     }
-    if line.text().is_empty() {
+    if line.as_str().is_empty() {
         return Ok(());
     }
     put_all(err, b"planarbend: ")?;
     put_all(err, name.as_bytes())?;
-    put_all(err, line.text())
+    put_all(err, line.as_str().as_bytes())
 }

@@ -3,36 +3,25 @@
 use planar_code::{Ending, HEADER};
 use streams::Mark;
 
-/// The ending of a file that is not planar_code in the one-byte form.
-#[derive(Clone, Copy, Debug, PartialEq, Eq)]
-pub enum Misfit {
-    Header,
-    Large,
-    Oversize,
-    Truncated,
+/// The number that encodes a mark; 0 for one of a file that is planar_code as far as it was read.
+pub(crate) fn number_of(mark: Mark) -> u64 {
+    match mark {
+        Mark::Ended(Ending::Header) => 1,
+        Mark::Ended(Ending::Large) => 2,
+        Mark::Ended(Ending::Oversize) => 3,
+        Mark::Ended(Ending::Truncated) => 4,
+        _ => 0,
+    }
 }
 
-impl Misfit {
-    /// The number that encodes a mark; 0 for one of a file that is planar_code as far as it was read.
-    pub(crate) fn number_of(mark: Mark) -> u64 {
-        match mark {
-            Mark::Ended(Ending::Header) => 1,
-            Mark::Ended(Ending::Large) => 2,
-            Mark::Ended(Ending::Oversize) => 3,
-            Mark::Ended(Ending::Truncated) => 4,
-            _ => 0,
-        }
-    }
-
-    /// The misfit that a number encodes.
-    pub(crate) fn of_number(number: u64) -> Option<Misfit> {
-        match number {
-            1 => Some(Misfit::Header),
-            2 => Some(Misfit::Large),
-            3 => Some(Misfit::Oversize),
-            4 => Some(Misfit::Truncated),
-            _ => None,
-        }
+/// The ending that a number encodes.
+pub(crate) fn ending_of(number: u64) -> Option<Ending> {
+    match number {
+        1 => Some(Ending::Header),
+        2 => Some(Ending::Large),
+        3 => Some(Ending::Oversize),
+        4 => Some(Ending::Truncated),
+        _ => None,
     }
 }
 
@@ -61,10 +50,10 @@ const GRAPH6: &str = "graph6: use planarg -p";
 const SPARSE6: &str = "sparse6: use planarg -p";
 
 /// A hint at the format of a file that ended in this way and begins with these bytes.
-pub(crate) fn hint_of(misfit: Misfit, front: &[u8]) -> Option<&'static str> {
-    match misfit {
-        Misfit::Header => Some(hint_without_header(front)),
-        _ => hint_after_header(misfit, front.get(HEADER.len()..)?),
+pub(crate) fn hint_of(ending: Ending, front: &[u8]) -> Option<&'static str> {
+    match ending {
+        Ending::Header => Some(hint_without_header(front)),
+        _ => hint_after_header(ending, front.get(HEADER.len()..)?),
     }
 }
 
@@ -89,10 +78,10 @@ fn hint_without_header(front: &[u8]) -> &'static str {
 }
 
 /// A hint at the format of the bytes after the header, if they are not records in the one-byte form.
-fn hint_after_header(misfit: Misfit, body: &[u8]) -> Option<&'static str> {
+fn hint_after_header(ending: Ending, body: &[u8]) -> Option<&'static str> {
     if begins_with_line_end(body) {
         Some("a line end follows the header: remove it")
-    } else if misfit == Misfit::Large {
+    } else if ending == Ending::Large {
         Some(TWO_BYTES)
     } else if is_text(body) {
         Some("text follows the header")

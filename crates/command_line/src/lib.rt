@@ -18,7 +18,7 @@ mod source;
 mod standard_input;
 mod terminal;
 
-pub use fault_line::{write_fault, write_output_fault};
+pub use fault_line::write_fault;
 pub use faults::Fault;
 pub use file_notes::{FileNote, FileNotes};
 pub use file_opener::FileOpener;

@@ -151,7 +151,7 @@ impl<'c, C: Console> Meter<'c, C> {
         let _ = write!(line, " graphs, ");
         let _ = write_grouped(&mut line, rate);
         let _ = write!(line, "/s{back}{end}");
-        self.console.show(line.text());
+        self.console.show(line.as_str().as_bytes());
     }
 }
 

@@ -36,11 +36,10 @@ impl Display for Reason {
         };
         let mut line = ShortLine::new();
         let _ = write!(line, "{}", Error::from_raw_os_error(code));
-        let text = str::from_utf8(line.text()).unwrap_or("unknown error");
         // The system's text, without the number that std appends.
-        match text.split_once(" (os error ") {
+        match line.as_str().split_once(" (os error ") {
             Some((front, _)) => f.write_str(front),
-            None => f.write_str(text),
+            None => f.write_str(line.as_str()),
         }
     }
 }

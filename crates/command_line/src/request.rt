@@ -268,25 +268,10 @@ fn drawing_of(words: &[String]) -> DrawingKind
 
 /// The definition of the command line for clap, with the texts of its help.
 fn describe<'a>(alloc: Global) -> Result<Command<'a>, AllocError> {
-    take_check(
-        alloc,
-        take_frames(alloc, take_layout(alloc, describe_program(alloc)?)?)?,
-    )
-}
-
-/// Adds the command `layout` to the program.
-fn take_layout<'a>(alloc: Global, program: Command<'a>) -> Result<Command<'a>, AllocError> {
-    program.subcommand(describe_layout(alloc)?)
-}
-
-/// Adds the command `frames` to the program.
-fn take_frames<'a>(alloc: Global, program: Command<'a>) -> Result<Command<'a>, AllocError> {
-    program.subcommand(describe_frames(alloc)?)
-}
-
-/// Adds the command `check` to the program.
-fn take_check<'a>(alloc: Global, program: Command<'a>) -> Result<Command<'a>, AllocError> {
-    program.subcommand(describe_check(alloc)?)
+    describe_program(alloc)?
+        .subcommand(describe_layout(alloc)?)?
+        .subcommand(describe_frames(alloc)?)?
+        .subcommand(describe_check(alloc)?)
 }
 
 fn describe_program<'a>(alloc: Global) -> Result<Command<'a>, AllocError> {
@@ -308,26 +293,14 @@ fn version_option<'a>(alloc: Global) -> Arg<'a> {
 }
 
 fn describe_layout<'a>(alloc: Global) -> Result<Command<'a>, AllocError> {
-    let layout = Command::new(alloc, "layout")
+    Command::new(alloc, "layout")
         .about("Lay out the graphs of planar_code files, and print a line for each")
-        .after_help(LAYOUT_HELP);
-    take_texts(alloc, take_drawings(alloc, take_lanes(alloc, layout)?)?)
-}
-
-/// Adds the options of lanes to the command.
-fn take_lanes<'a>(alloc: Global, layout: Command<'a>) -> Result<Command<'a>, AllocError> {
-    layout.arg(lanes_option(alloc))?.arg(waiting_option(alloc))
-}
-
-/// Adds the options of drawings to the command.
-fn take_drawings<'a>(alloc: Global, layout: Command<'a>) -> Result<Command<'a>, AllocError> {
-    layout.arg(outer_option(alloc))?.arg(drawing_option(alloc))
-}
-
-/// Adds the options of the output, and the files, to the command.
-fn take_texts<'a>(alloc: Global, layout: Command<'a>) -> Result<Command<'a>, AllocError> {
-    layout
-        .arg(json_option(alloc))?
+        .after_help(LAYOUT_HELP)
+        .arg(lanes_option(alloc))?
+        .arg(waiting_option(alloc))?
+        .arg(outer_option(alloc))?
+        .arg(drawing_option(alloc))?
+        .arg(json_option(alloc).help("Write JSON Lines, with shapes, dual prices and coordinates"))?
         .arg(progress_option(alloc))?
         .arg(layout_files(alloc))
 }
@@ -370,7 +343,6 @@ fn drawing_option<'a>(alloc: Global) -> Arg<'a> {
 fn json_option<'a>(alloc: Global) -> Arg<'a> {
     Arg::new(alloc, "json")
         .long("json")
-        .help("Write JSON Lines, with shapes, dual prices and coordinates")
         .action(ArgAction::SetTrue)
 }
 
@@ -392,42 +364,24 @@ fn layout_files<'a>(alloc: Global) -> Arg<'a> {
 }
 
 fn describe_frames<'a>(alloc: Global) -> Result<Command<'a>, AllocError> {
-    let file = Arg::new(alloc, "FILE")
-        .help(
-            "A planar_code file: the 15 bytes >>planar_code<< and then records; - is standard input",
-        )
-        .required(true)
-        .action(ArgAction::Set);
     Command::new(alloc, "frames")
         .about("Print a line for each record of a planar_code file, and how the file ends")
         .after_help(FRAMES_HELP)
-        .arg(file)
+        .arg(file_of(alloc, "FILE").help(GRAPHS))
 }
 
 fn describe_check<'a>(alloc: Global) -> Result<Command<'a>, AllocError> {
-    let check = Command::new(alloc, "check")
+    Command::new(alloc, "check")
         .about(
             "Check drawings of the graphs of a planar_code file, and print their bends and the fewest possible",
         )
-        .after_help(CHECK_HELP);
-    take_checked_files(alloc, take_check_options(alloc, check)?)
-}
-
-/// Adds the options of `check`.
-fn take_check_options<'a>(alloc: Global, check: Command<'a>) -> Result<Command<'a>, AllocError> {
-    check.arg(verdicts_option(alloc))?.arg(faces_option(alloc))
-}
-
-/// Adds the two files of `check`.
-fn take_checked_files<'a>(alloc: Global, check: Command<'a>) -> Result<Command<'a>, AllocError> {
-    check.arg(graphs_file(alloc))?.arg(lines_file(alloc))
-}
-
-fn verdicts_option<'a>(alloc: Global) -> Arg<'a> {
-    Arg::new(alloc, "json")
-        .long("json")
-        .help("Write JSON Lines")
-        .action(ArgAction::SetTrue)
+        .after_help(CHECK_HELP)
+        .arg(json_option(alloc).help("Write JSON Lines"))?
+        .arg(faces_option(alloc))?
+        .arg(file_of(alloc, "GRAPHS").help(GRAPHS))?
+        .arg(file_of(alloc, "LINES").help(
+            "JSON Lines with the points of a drawing for each graph, as layout --json writes; - is standard input",
+        ))
 }
 
 fn faces_option<'a>(alloc: Global) -> Arg<'a> {
@@ -437,26 +391,17 @@ fn faces_option<'a>(alloc: Global) -> Arg<'a> {
         .action(ArgAction::SetTrue)
 }
 
-fn graphs_file<'a>(alloc: Global) -> Arg<'a> {
-    Arg::new(alloc, "GRAPHS")
-        .help(
-            "A planar_code file: the 15 bytes >>planar_code<< and then records; - is standard input",
-        )
-        .required(true)
-        .action(ArgAction::Set)
-}
-
-fn lines_file<'a>(alloc: Global) -> Arg<'a> {
-    Arg::new(alloc, "LINES")
-        .help(
-            "JSON Lines with the points of a drawing for each graph, as layout --json writes; - is standard input",
-        )
-        .required(true)
-        .action(ArgAction::Set)
+/// The argument with this name, which is one file.
+fn file_of<'a>(alloc: Global, name: &'a str) -> Arg<'a> {
+    Arg::new(alloc, name).required(true).action(ArgAction::Set)
 }
 
 /// The maximum limit on buffered text, in megabytes.
 const GREATEST_WAITING: u32 = 65_536;
+
+/// The help for a file of graphs.
+const GRAPHS: &str =
+    "A planar_code file: the 15 bytes >>planar_code<< and then records; - is standard input";
 
 /// The error message for a kind of drawing with the report.
 const DRAWING_ALONE: &str = "--drawing needs --json: the report has no drawings";

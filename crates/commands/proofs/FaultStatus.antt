@@ -1,8 +1,10 @@
 -- The status of what was refused or failed.
-use Rattle.std.proofs.Common.{◌≡◌, ◌⊎◌, ℕ, arith, inl, inr, refl}
+use Rattle.std.proofs.Common.{◌≡◌, ◌⊎◌, ℕ, Bool, arith, inl, inr, refl}
 use Rattle.streams.specs.declared.faults.BatchFault.{BatchFault}
 use Rattle.streams.specs.declared.faults.BatchFault.TheVariants.{TooManyFiles, BadLanes, Memory, LaneLost, Thread}
-use Rattle.commands.specs.declared.text.TextFault.{TextFault}
+use Rattle.printing.specs.declared.fault.TextFault.{TextFault}
+use Rattle.printing.specs.declared.fault.TextFault.TheVariants as text
+use Rattle.printing.specs.Written.{GivesUp}
 use Rattle.commands.specs.TextRuns.{IsMisuseOfRun}
 use Rattle.command_line.specs.declared.faults.Fault.{Fault}
 use Rattle.command_line.specs.Refusals.{IsMisuse}
@@ -33,3 +35,12 @@ misuse_of_run BadLanes is = is
 misuse_of_run Memory is = absurd is
 misuse_of_run LaneLost is = absurd is
 misuse_of_run Thread is = absurd is
+
+-- a text gives up for nothing that was asked of the run
+pub of_text : (failed : Bool) (fault : TextFault) → GivesUp failed fault → IsMisuseOfRun fault → ⊥
+of_text failed text.Write gives misuse = misuse
+of_text failed (text.Run TooManyFiles) gives misuse = gives.1
+of_text failed (text.Run BadLanes) gives misuse = gives.1
+of_text failed (text.Run Memory) gives misuse = misuse
+of_text failed (text.Run LaneLost) gives misuse = misuse
+of_text failed (text.Run Thread) gives misuse = misuse

@@ -1,9 +1,15 @@
--- The streaming runs that are refused at once, beside `IsBegun` of `printing`.
-use Rattle.std.specs.Prelude.{⊤}
+-- What a streaming run writes, beside `IsBegun` of `printing`.
+use Rattle.std.specs.Prelude.{◌≡◌, ◌<◌, ◌≤◌, ◌⊎◌, ◌↔◌, ℕ, Bool, true, List, Option, Result, Err, IfOk, IfErr, OnErr, ⊤}
+use Rattle.common.specs.declared.choice.Choice.{Choice}
+use Rattle.ruled_lanes.specs.declared.limits.TheConstants.{LANES}
 use Rattle.streams.specs.declared.faults.BatchFault.TheVariants.{TooManyFiles, BadLanes}
+use Rattle.lanes.specs.Opening.{Meaning}
+use Rattle.entries.specs.declared.limits.TheConstants.{MAX_FILES}
+use Rattle.reports.specs.declared.form.Form.{Form}
 pub use Rattle.printing.specs.Whole.{IsBegun}
-use Rattle.commands.specs.declared.text.TextFault.{TextFault}
-use Rattle.commands.specs.declared.text.TextFault.TheVariants.{Run, Write}
+use Rattle.printing.specs.Whole.{IsAllWritten}
+use Rattle.printing.specs.declared.fault.TextFault.{TextFault}
+use Rattle.printing.specs.declared.fault.TextFault.TheVariants.{Run, Write}
 
 -- there are too many files, or no lanes, or too many
 abbrev pub IsMisuseOfRun : TextFault → Type 0
@@ -11,3 +17,17 @@ IsMisuseOfRun (Run TooManyFiles) = ⊤
 IsMisuseOfRun (Run BadLanes) = ⊤
 IsMisuseOfRun (Run _) = ⊥
 IsMisuseOfRun Write = ⊥
+
+-- What a run over this many files, which mean this, leaves on this many lanes in a sink, which was `old` and is `new`,
+-- of which these bytes are taken and which may have failed.
+pub record IsStreamed {S : Type 0} (choice : Choice) (meaning : ℕ → Meaning) (form : Form) (files lanes : ℕ) (taken : S → Option (List ℕ)) (fails : S → Bool) (old new : S) (result : Result ℕ TextFault) : Type 0 where
+  -- the whole text was added, with its status
+  pub written : IfOk result (IsAllWritten choice meaning form files (taken old) (taken new))
+  pub status : IfOk result (λ status. (status ≡ 0) ⊎ (status ≡ 3))
+  -- after a fault a prefix of such a text was added
+  pub begun : OnErr result ∥ IsBegun choice meaning form files (taken old) (taken new) ∥₁
+  pub too_many : (MAX_FILES < files) ↔ (result ≡ Err (Run TooManyFiles))
+  pub bad_lanes : (((lanes ≡ 0) ⊎ (LANES < lanes)) × (files ≤ MAX_FILES)) ↔ (result ≡ Err (Run BadLanes))
+  -- if the run is refused, nothing was written
+  pub refused : IfErr result (λ fault. IsMisuseOfRun fault → new ≡ old)
+  pub failed : (result ≡ Err Write) ↔ (fails new ≡ true)

@@ -6,6 +6,7 @@ ghost use Rattle.commands.specs.Statuses.{IsTextOfChecked, IsBegunTextOfChecked,
 use checking::{Asked, check_files};
 use command_line::{CheckRequest, Fault, FileNotes, NamedFiles, open_source};
 use reports::Form;
+use std::alloc::AllocError;
 use std::sync::Wait;
 use streams::Sink;
 
@@ -32,9 +33,7 @@ pub fn check<R: AllocGlobal + Wait, N: NamedFiles, S: Sink, E: Sink>(
         ⊎ IsBegunTextOfChecked (N.meaning files.now) asked.entry (S.taken out.old) (S.taken out.new)) }
     ensures intact { OnErr result (E.failed err.new ≡ false) }
 {
-    let Ok(notes) = FileNotes::new(rt.alloc(), 2) else {
-        return Err(Fault::Memory);
-    };
+    let notes = FileNotes::new(rt.alloc(), 2)?;
     let graphs = open_source(files, rt.alloc(), asked.graphs, notes.note(0))?;
     let lines = open_source(files, rt.alloc(), asked.lines, notes.note(1))?;
     let how = Asked {
@@ -42,9 +41,7 @@ pub fn check<R: AllocGlobal + Wait, N: NamedFiles, S: Sink, E: Sink>(
         faces: asked.faces,
     };
     let checked = check_files(rt, graphs, lines, how, out)?;
-    if let Some(note) = notes.note(0) {
-        note.end(checked.mark);
-    }
+    notes.end(0, checked.mark);
     notes.write(rt.alloc(), &[asked.graphs, asked.lines], err);
     Ok(checked.status)
 }

@@ -6,9 +6,9 @@ ghost use Rattle.entries.specs.declared.limits.TheConstants.{MAX_FILES};
 ghost use Rattle.command_line.specs.Naming.{meanings_in};
 ghost use Rattle.commands.specs.Statuses.{IsTextOfBooks, IsBegunTextOfBooks};
 
-use crate::text::{TextFault, write_watched};
-use crate::watch::Observer;
+use crate::text::write_watched;
 use command_line::{Console, Fault, FileNotes, FileOpener, LayoutRequest, Meter, NamedFiles};
+use printing::TextFault;
 use std::sync::Wait;
 use std::thread::Threads;
 use streams::{BatchFault, MAX_CAPACITY, Sink, WriteFault};
@@ -78,7 +78,8 @@ pub fn layout<
         (asked.waiting as usize).saturating_mul(MEGABYTE),
         asked.choice,
         asked.style,
-        &Observer { meter, notes },
+        meter,
+        Some(notes),
         out,
     ) {
         Ok(status) => Ok(status),

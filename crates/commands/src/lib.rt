@@ -9,7 +9,6 @@ mod process;
 mod program;
 mod text;
 mod version;
-mod watch;
 mod worded;
 
 pub use command_line::{
@@ -17,6 +16,7 @@ pub use command_line::{
     KeepsReason, Meter, NamedFiles, NamedSource, OutputSink, Progress, ReadTap, Reason,
     SharedTerminal, StandardInput, SystemFiles, is_input, open_fault, write_fault,
 };
+pub use printing::TextFault;
 pub use process::run;
 pub use program::command;
-pub use text::{TextFault, write_batch};
+pub use text::write_batch;

@@ -4,11 +4,11 @@ ghost use Rattle.common.specs.declared.drawing_kind.DrawingKind.TheVariants.{Qui
 ghost use Rattle.lanes.specs.Opening.{IsPlacedAt, IsEndAt};
 ghost use Rattle.printing.specs.Spelt.{IsSpelt};
 
-use crate::watch::Watch;
 use crate::worded::Worded;
 use answers::{
     DrawScratch, EmbedScratch, Embedded, Framed, ShapeScratch, Shaped, StageScratch, Task,
 };
+use command_line::FileNotes;
 use common::{Choice, DrawingKind};
 use lane_runs::{LaneKind, LaneScratch};
 use lanes::Numbered;
@@ -20,20 +20,20 @@ use std::marker::PhantomData;
 use streams::SourceEnd;
 
 /// The kind of lanes that answer records and make their output lines, in one format and with drawings of one kind.
-/// `watch` is told how each file ends.
+/// How each file ends is noted in `notes`, if there are any.
 #[derive(Drop)]
-pub struct LineLanes<'w, J: Meant, G> {
+pub struct LineLanes<'n, J: Meant> {
     pub form: Form,
     pub drawing_kind: DrawingKind,
     pub meant: PhantomData<J>,
-    pub watch: &'w G,
+    pub notes: Option<&'n FileNotes>,
 }
 
-impl<'w, J: Meant, G> LineLanes<'w, J, G> {
+impl<'n, J: Meant> LineLanes<'n, J> {
     /// Lanes that make output lines in this style.
     ///
     /// The report shows no coordinates, so its lines are of quick drawings, whatever kind is asked for.
-    pub fn new(style: Style, watch: &'w G) -> LineLanes<'w, J, G>
+    pub fn new(style: Style, notes: Option<&'n FileNotes>) -> LineLanes<'n, J>
         ensures form { result.form ≡ style.form }
         ensures report { style.form ≡ Form.Report → result.drawing_kind ≡ Quick }
         ensures json { style.form ≡ Form.Json → result.drawing_kind ≡ style.drawing_kind }
@@ -46,12 +46,12 @@ impl<'w, J: Meant, G> LineLanes<'w, J, G> {
             form: style.form,
             drawing_kind,
             meant: PhantomData,
-            watch,
+            notes,
         }
     }
 }
 
-impl<J: Meant + Send + Sync, G: Watch> LaneKind for LineLanes<'_, J, G> {
+impl<J: Meant + Send + Sync> LaneKind for LineLanes<'_, J> {
     type Framed = Framed<Worded<J>>;
 
     type Embedded = Embedded<Worded<J>>;
@@ -88,7 +88,9 @@ impl<J: Meant + Send + Sync, G: Watch> LaneKind for LineLanes<'_, J, G> {
     }
 
     fn end(&self, file: u32, end: SourceEnd) -> KnownEnd<J> {
-        self.watch.end(file, end.mark);
+        if let Some(notes) = self.notes {
+            notes.end(file, end.mark);
+        }
         known_end(file, end)
     }
 

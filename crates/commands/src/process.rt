@@ -6,9 +6,9 @@ ghost use Rattle.command_line.specs.Naming.{meaning_of};
 ghost use Rattle.commands.specs.Statuses.{IsOutcome};
 
 use crate::program::command;
-use command_line::{Console, Fault, FilesAndInput, KeepsReason, SystemFiles, write_fault};
+use command_line::{Console, Fault, FilesAndInput, KeepsReason, Reason, SystemFiles, write_fault};
 use lanes::Opener;
-use std::alloc::Global;
+use std::alloc::{AllocError, Global};
 use std::env::{Env, FillError};
 use std::process::ExitCode;
 use std::rt::Files;
@@ -53,7 +53,7 @@ where
             ExitCode::from(command(rt, words.as_slice(), &files, console, out, err))
         }
         Err(fault) => {
-            write_fault(fault, err);
+            write_fault(fault, Reason::UNKNOWN, err);
             ExitCode::from(fault.status())
         }
     }
@@ -67,9 +67,7 @@ where
 fn arguments<R: Env + AllocGlobal>(rt: &R) -> Result<Vec<String>, Fault> {
     let mut words = Vec::new(rt.alloc());
     let mut buffer = Vec::new(rt.alloc());
-    if buffer.resize(LONGEST, 0).is_err() {
-        return Err(Fault::Memory);
-    }
+    buffer.resize(LONGEST, 0)?;
     for argument in 1..u32::MAX {
         match rt.arg(argument as usize, buffer.as_mut_slice()) {
             Ok(len) => {

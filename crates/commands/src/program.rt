@@ -23,10 +23,10 @@ use clap::Error;
 use clap::error::ErrorKind;
 use command_line::{
     Console, Fault, FileNotes, KeepsReason, Keyword, LayoutRequest, Meter, NamedFiles, ParseFault,
-    Reason, Request, asks, open_source, parse, write_fault, write_output_fault,
+    Reason, Request, asks, open_source, parse, write_fault,
 };
 use reports::status_of;
-use std::alloc::Global;
+use std::alloc::{AllocError, Global};
 use std::sync::Wait;
 use std::thread::Threads;
 use streams::{Sink, WriteFault, put_all, run_frames, write_frames};
@@ -163,9 +163,7 @@ fn lay_out<
     ensures intact { OnErr result (E.failed err.new ≡ false) }
 {
     let names = asked.names.as_slice();
-    let Ok(notes) = FileNotes::new(rt.alloc(), names.len()) else {
-        return Err(Fault::Memory);
-    };
+    let notes = FileNotes::new(rt.alloc(), names.len())?;
     let meter = Meter::new(console, asked.progress, names.len());
     let outcome = layout(rt, asked, files, &meter, &notes, out);
     meter.finish();
@@ -180,10 +178,7 @@ fn end_by<E: Sink>(fault: Fault, reason: Reason, err: &mut E) -> u8
     ensures refused { IsMisuse fault → result ≡ 2 }
     ensures failed { ¬ IsMisuse fault → result ≡ 1 }
 {
-    match fault {
-        Fault::Write(WriteFault::Write) => write_output_fault(reason, err),
-        _ => write_fault(fault, err),
-    }
+    write_fault(fault, reason, err);
     fault.status()
 }
 
@@ -204,15 +199,11 @@ fn frames<R: AllocGlobal + Threads + Wait + Sync, N: NamedFiles, S: Sink, E: Sin
         ⊎ IsBegunTextOfRecords (N.meaning files.now name.now) (S.taken out.old) (S.taken out.new)) }
     ensures intact { OnErr result (E.failed err.new ≡ false) }
 {
-    let Ok(notes) = FileNotes::new(rt.alloc(), 1) else {
-        return Err(Fault::Memory);
-    };
+    let notes = FileNotes::new(rt.alloc(), 1)?;
     let source = open_source(files, rt.alloc(), name, notes.note(0))?;
     let found = run_frames(rt, rt.alloc(), source, CAPACITY)?;
     write_frames(&found, out)?;
-    if let Some(note) = notes.note(0) {
-        note.end(found.mark());
-    }
+    notes.end(0, found.mark());
     notes.write(rt.alloc(), &[name], err);
     Ok(status_of(found.mark()))
 }

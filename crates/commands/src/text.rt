@@ -1,21 +1,20 @@
 //! A run whose output is streamed.
-ghost use Rattle.std.specs.Prelude.{◌≡◌, ◌≤◌, ◌<◌, ◌⊎◌, ◌↔◌, List, [], Err, false, true, IfOk, IfErr, OnOk, OnErr};
-ghost use Rattle.ruled_lanes.specs.declared.limits.TheConstants.{LANES, MAX_CAPACITY};
-ghost use Rattle.entries.specs.declared.limits.TheConstants.{MAX_FILES};
+ghost use Rattle.std.specs.Prelude.{◌≡◌, ◌≤◌, ◌⊎◌, ◌↔◌, List, [], Err, false, true, IfOk, IfErr, OnOk, OnErr};
+ghost use Rattle.ruled_lanes.specs.declared.limits.TheConstants.{MAX_CAPACITY};
 ghost use Rattle.lanes.specs.Notes.{Note};
 ghost use Rattle.lanes.specs.Files.{AreToldWhole};
 ghost use Rattle.lane_runs.specs.Faults.{HoldsOnRunFault};
 ghost use Rattle.lane_runs.specs.Accepting.{AcceptsFiles};
 ghost use Rattle.printing.specs.Whole.{IsAllWritten, IsBegun};
-ghost use Rattle.commands.specs.TextRuns.{IsMisuseOfRun};
+ghost use Rattle.commands.specs.TextRuns.{IsMisuseOfRun, IsStreamed};
 
 use crate::line_lanes::LineLanes;
-use crate::watch::{Unwatched, Watch};
+use command_line::FileNotes;
 use common::Choice;
 use entries::MAX_FILES;
 use lane_runs::{LaneKind, Run, RunFault, run_lanes};
 use lanes::{Consumer, Gate, Opener, Pauses, PausingOpener};
-use printing::{Lines, Meant, Pace, Refusal, Texts};
+use printing::{Lines, Meant, Pace, TextFault, Texts};
 use reports::Style;
 use ruled_lanes::LANES;
 use std::alloc::Global;
@@ -23,15 +22,6 @@ use std::marker::Brand;
 use std::sync::Wait;
 use std::thread::Threads;
 use streams::{BatchFault, Sink, WriteFault};
-
-/// The reason why the text of a run was not written completely. What was written is then a prefix of such a text.
-#[derive(Clone, Copy, Debug, PartialEq, Eq)]
-pub enum TextFault {
-    /// The run failed.
-    Run(BatchFault),
-    /// The sink has failed.
-    Write,
-}
 
 /// Answers all records of the first `files` files on `lanes` lanes, and streams the text to `sink`.
 ///
@@ -70,32 +60,15 @@ pub fn write_batch<R: Threads + Wait + Sync, O: Opener, G: Gate, S: Sink>(
     requires least { 1 ≤ capacity }
     requires most { capacity ≤ MAX_CAPACITY }
     requires stands { S.failed sink.old ≡ false }
-    ensures written { IfOk result (IsAllWritten choice (O.meaning opener.now) style.form files (S.taken sink.old) (S.taken sink.new)) }
-    ensures begun { OnErr result ∥ IsBegun choice (O.meaning opener.now) style.form files (S.taken sink.old) (S.taken sink.new) ∥₁ }
-    ensures status { IfOk result (λ status. (status ≡ 0) ⊎ (status ≡ 3)) }
-    ensures too_many { (MAX_FILES < files) ↔ (result ≡ Err (TextFault.Run BatchFault.TooManyFiles)) }
-    ensures bad_lanes { (((lanes ≡ 0) ⊎ (LANES < lanes)) × (files ≤ MAX_FILES))
-        ↔ (result ≡ Err (TextFault.Run BatchFault.BadLanes)) }
-    ensures refused { IfErr result (λ fault. IsMisuseOfRun fault → sink.new ≡ sink.old) }
-    ensures failed { (result ≡ Err TextFault.Write) ↔ (S.failed sink.new ≡ true) }
+    ensures { IsStreamed choice (O.meaning opener.now) style.form files lanes S.taken S.failed sink.old sink.new result }
 {
     write_watched(
-        rt,
-        alloc,
-        opener,
-        files,
-        lanes,
-        capacity,
-        waiting,
-        choice,
-        style,
-        &Unwatched { gate },
-        sink,
+        rt, alloc, opener, files, lanes, capacity, waiting, choice, style, gate, None, sink,
     )
 }
 
-/// Streams the text of a run as `write_batch` does; `watch`, which is also the gate, is told how each file ends.
-pub(crate) fn write_watched<R: Threads + Wait + Sync, O: Opener, G: Gate + Watch, S: Sink>(
+/// Streams the text of a run as `write_batch` does, and notes how each file ends.
+pub(crate) fn write_watched<R: Threads + Wait + Sync, O: Opener, G: Gate, S: Sink>(
     rt: &R,
     alloc: Global,
     opener: &O,
@@ -105,20 +78,14 @@ pub(crate) fn write_watched<R: Threads + Wait + Sync, O: Opener, G: Gate + Watch
     waiting: usize,
     choice: Choice,
     style: Style,
-    watch: &G,
+    gate: &G,
+    notes: Option<&FileNotes>,
     sink: &mut S,
 ) -> Result<u8, TextFault>
     requires least { 1 ≤ capacity }
     requires most { capacity ≤ MAX_CAPACITY }
     requires stands { S.failed sink.old ≡ false }
-    ensures written { IfOk result (IsAllWritten choice (O.meaning opener.now) style.form files (S.taken sink.old) (S.taken sink.new)) }
-    ensures begun { OnErr result ∥ IsBegun choice (O.meaning opener.now) style.form files (S.taken sink.old) (S.taken sink.new) ∥₁ }
-    ensures status { IfOk result (λ status. (status ≡ 0) ⊎ (status ≡ 3)) }
-    ensures too_many { (MAX_FILES < files) ↔ (result ≡ Err (TextFault.Run BatchFault.TooManyFiles)) }
-    ensures bad_lanes { (((lanes ≡ 0) ⊎ (LANES < lanes)) × (files ≤ MAX_FILES))
-        ↔ (result ≡ Err (TextFault.Run BatchFault.BadLanes)) }
-    ensures refused { IfErr result (λ fault. IsMisuseOfRun fault → sink.new ≡ sink.old) }
-    ensures failed { (result ≡ Err TextFault.Write) ↔ (S.failed sink.new ≡ true) }
+    ensures { IsStreamed choice (O.meaning opener.now) style.form files lanes S.taken S.failed sink.old sink.new result }
 {
     if files > MAX_FILES {
         return Err(TextFault::Run(BatchFault::TooManyFiles));
@@ -136,7 +103,7 @@ pub(crate) fn write_watched<R: Threads + Wait + Sync, O: Opener, G: Gate + Watch
         rt,
         alloc,
         opener: &pausing,
-        gate: watch,
+        gate,
         files,
         lanes,
         capacity,
@@ -146,17 +113,17 @@ pub(crate) fn write_watched<R: Threads + Wait + Sync, O: Opener, G: Gate + Watch
         pauses: &pauses,
         most: waiting,
     };
-    write_files::<Brand, _, _, _, _>(&run, style, pace, sink)
+    write_files::<Brand, _, _, _, _>(&run, style, pace, notes, sink)
 }
 
 /// Writes the text of a run in this style and at this pace. The type `J` represents what the files mean.
-fn write_files<
-    J: Meant + Send + Sync,
-    R: Threads + Wait + Sync,
-    O: Opener,
-    G: Gate + Watch,
-    S: Sink,
->(run: &Run<'_, R, O, G>, style: Style, pace: Pace<'_>, sink: &mut S) -> Result<u8, TextFault>
+fn write_files<J: Meant + Send + Sync, R: Threads + Wait + Sync, O: Opener, G: Gate, S: Sink>(
+    run: &Run<'_, R, O, G>,
+    style: Style,
+    pace: Pace<'_>,
+    notes: Option<&FileNotes>,
+    sink: &mut S,
+) -> Result<u8, TextFault>
     requires stands { S.failed sink.old ≡ false }
     requires same_meaning { J.meaning ≡ O.meaning run.now.opener.now }
     ensures written { IfOk result (IsAllWritten run.now.choice (O.meaning run.now.opener.now) style.form run.now.files (S.taken sink.old) (S.taken sink.new)) }
@@ -169,7 +136,7 @@ fn write_files<
         return Err(TextFault::Run(BatchFault::Memory));
     };
     let texts = Texts::new(run.alloc, sink, lines, pace);
-    let lanes = LineLanes::<J, G>::new(style, run.gate);
+    let lanes = LineLanes::<J>::new(style, notes);
     let mut ran = Ok(());
     let texts = run_into(run, &lanes, texts, &mut ran);
     match ran {
@@ -192,17 +159,15 @@ fn let_go<S: Sink>(texts: Texts<'_, S, Lines>)
 }
 
 /// The returned fault for the fault of a run.
-fn fault_of(fault: RunFault<Refusal>) -> TextFault
-    ensures write { (result ≡ TextFault.Write) ↔ (fault ≡ RunFault.Refused Refusal.Write) }
-    ensures begun { ¬ IsMisuseOfRun result }
+fn fault_of(fault: RunFault<TextFault>) -> TextFault
+    ensures write { (result ≡ TextFault.Write) ↔ (fault ≡ RunFault.Refused TextFault.Write) }
+    ensures begun { IsMisuseOfRun result → fault ≡ RunFault.Refused result }
 {
     match fault {
-        RunFault::Memory | RunFault::Refused(Refusal::Memory) => TextFault::Run(BatchFault::Memory),
-        RunFault::LaneLost | RunFault::Refused(Refusal::Astray) => TextFault::Run(
-            BatchFault::LaneLost,
-        ),
+        RunFault::Memory => TextFault::Run(BatchFault::Memory),
+        RunFault::LaneLost => TextFault::Run(BatchFault::LaneLost),
         RunFault::Thread => TextFault::Run(BatchFault::Thread),
-        RunFault::Refused(Refusal::Write) => TextFault::Write,
+        RunFault::Refused(fault) => fault,
     }
 }
 

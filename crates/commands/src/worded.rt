@@ -5,7 +5,8 @@ ghost use Rattle.answers.specs.Steps.{IsFoundFor, IsShaped};
 ghost use Rattle.answers.specs.Tasks.{about_in};
 ghost use Rattle.printing.specs.Spelt.{IsSpelt};
 
-use answers::{DrawScratch, Purpose, ShapeFault, ShapedPlane, Task, find_points};
+use answers::{DrawScratch, Purpose, ShapedPlane, Task, find_points};
+use embedding::ReadFault;
 use lanes::Numbered;
 use planar_code::Record;
 use printing::{Meant, Printed, found_line};
@@ -50,7 +51,7 @@ impl<J: Meant + Send + Sync> Purpose for Worded<J> {
         scratch: &mut DrawScratch,
         task: Task,
         rec: Snapshot<Record>,
-        shaped_plane: Result<ShapedPlane, ShapeFault>,
+        shaped_plane: Result<ShapedPlane, ReadFault>,
     ) -> Printed<J>
         requires known { ∥ IsPlacedAt (J.meaning task.file) task.ordinal rec.value × IsSpelt rec.value ∥₁ }
         requires shaped { ∥ IsShaped task.choice rec.value shaped_plane ∥₁ }

@@ -3,20 +3,17 @@ use Rattle.std.proofs.Common.{◌≡◌, ℕ, List, Option, Some, is_some}
 use Rattle.planar_code.specs.Stream.{IsRecord}
 use Rattle.common.specs.declared.choice.Choice.{Choice}
 use Rattle.common.specs.declared.drawing_kind.DrawingKind.{DrawingKind}
+use Rattle.conditions.specs.declared.conditions.Conditions.{Conditions}
 use Rattle.planarbend_c.specs.declared.counts.Counts.{Counts}
-use Rattle.planarbend_c.specs.declared.keeping.KeepingFault.{KeepingFault}
 use Rattle.planarbend_c.specs.declared.outcome.Outcome.{Outcome}
 use Rattle.planarbend_c.specs.declared.outcome.Outcome.TheVariants.{Laid, Refused, NotARecord, Memory, Room, Argument, NoShape, NoEdge, NoOuter, Wide}
-use Rattle.planarbend_c.specs.declared.keeping.KeepingFault.TheVariants as keeping
-use Rattle.planarbend_c.specs.declared.layout.Fault.{Fault}
-use Rattle.planarbend_c.specs.declared.layout.Fault.TheVariants as fault
 use Rattle.planarbend_c.specs.declared.request.Request.{Request}
 use Rattle.planarbend_c.specs.Cuts.{CutModel}
 use Rattle.planarbend_c.specs.Faults.{IsFault, IsKeepingFault}
 use Rattle.planarbend_c.specs.Requests.{choice_in, drawing_in}
 use Rattle.planarbend_c.specs.Held.{ListsModel}
 use Rattle.planarbend_c.specs.Found.{Finding}
-use Rattle.planarbend_c.specs.Outcomes.{IsAnswerOf, IsOutcome, IsOutcomeKeeping, IsOutcomeOf, IsCutTold, IsTold, outcome_of, refusal_of}
+use Rattle.planarbend_c.specs.Outcomes.{IsAnswerOf, IsOutcome, IsOutcomeKeeping, IsOutcomeOf, IsTold}
 
 -- what is found is an answer
 pub answer_of : (Is : Choice → List ℕ → Finding → Type 0) (bytes : List ℕ) (outer drawing : ℕ) (choice : Choice) (kind : Option DrawingKind) (found : Finding)
@@ -51,20 +48,44 @@ told Is Unkept bytes outer drawing found counts lists NoOuter answer is = absurd
 told Is Unkept bytes outer drawing found counts lists Wide answer is = absurd is
 
 -- a refusal is what comes of the call
-pub refused_told : (bytes : List ℕ) (outer drawing : ℕ) (counts : Counts) (lists : ListsModel) (it : Fault)
-    → IsFault bytes it → IsOutcome bytes outer drawing counts lists (refusal_of it)
-refused_told bytes outer drawing counts lists (fault.Rule rule) shown = shown
-refused_told bytes outer drawing counts lists fault.NotARecord shown = shown
-refused_told bytes outer drawing counts lists fault.Memory shown = tt
+pub refused_told : (bytes : List ℕ) (outer drawing : ℕ) (counts : Counts) (lists : ListsModel) (it : Outcome)
+    → IsFault bytes it → IsOutcome bytes outer drawing counts lists it
+refused_told bytes outer drawing counts lists (Refused rule) shown = shown
+refused_told bytes outer drawing counts lists NotARecord shown = shown
+refused_told bytes outer drawing counts lists Memory shown = tt
+refused_told bytes outer drawing counts lists Laid shown = absurd shown
+refused_told bytes outer drawing counts lists Room shown = absurd shown
+refused_told bytes outer drawing counts lists Argument shown = absurd shown
+refused_told bytes outer drawing counts lists NoShape shown = absurd shown
+refused_told bytes outer drawing counts lists NoEdge shown = absurd shown
+refused_told bytes outer drawing counts lists NoOuter shown = absurd shown
+refused_told bytes outer drawing counts lists Wide shown = absurd shown
 
 -- the same where conditions are to be kept
-pub unlaid_told : (request : Request) (choice : Choice) (bytes : List ℕ) (counts : Counts) (lists : ListsModel) (cut : CutModel) (it : KeepingFault)
-    → choice_in request.outer ≡ Some choice → IsKeepingFault request.conditions choice bytes it → IsCutTold it cut
-    → IsOutcomeKeeping request bytes counts lists cut (outcome_of it)
-unlaid_told request choice bytes counts lists cut (keeping.Record (fault.Rule rule)) asked shown told = shown
-unlaid_told request choice bytes counts lists cut (keeping.Record fault.NotARecord) asked shown told = shown
-unlaid_told request choice bytes counts lists cut (keeping.Record fault.Memory) asked shown told = tt
-unlaid_told request choice bytes counts lists cut (keeping.NoShape why) asked shown told = record { why = why; unlaid = record { choice = choice; choice_asked = asked; shown = shown }; held = told }
-unlaid_told request choice bytes counts lists cut keeping.NoEdge asked shown told = record { choice = choice; choice_asked = asked; shown = shown }
-unlaid_told request choice bytes counts lists cut keeping.NoOuter asked shown told = record { choice = choice; choice_asked = asked; shown = shown }
-unlaid_told request choice bytes counts lists cut keeping.Wide asked shown told = record { choice = choice; choice_asked = asked; shown = shown }
+pub unlaid_told : (request : Request) (choice : Choice) (bytes : List ℕ) (counts : Counts) (lists : ListsModel) (cut : CutModel) (it : Outcome)
+    → choice_in request.outer ≡ Some choice → IsKeepingFault request.conditions choice bytes cut it
+    → IsOutcomeKeeping request bytes counts lists cut it
+unlaid_told request choice bytes counts lists cut (Refused rule) asked shown = shown
+unlaid_told request choice bytes counts lists cut NotARecord asked shown = shown
+unlaid_told request choice bytes counts lists cut Memory asked shown = tt
+unlaid_told request choice bytes counts lists cut NoShape asked shown = record { choice = choice; choice_asked = asked; shown = shown }
+unlaid_told request choice bytes counts lists cut NoEdge asked shown = record { choice = choice; choice_asked = asked; shown = shown }
+unlaid_told request choice bytes counts lists cut NoOuter asked shown = record { choice = choice; choice_asked = asked; shown = shown }
+unlaid_told request choice bytes counts lists cut Wide asked shown = record { choice = choice; choice_asked = asked; shown = shown }
+unlaid_told request choice bytes counts lists cut Laid asked shown = absurd shown
+unlaid_told request choice bytes counts lists cut Room asked shown = absurd shown
+unlaid_told request choice bytes counts lists cut Argument asked shown = absurd shown
+
+-- bytes that are not laid out without conditions are not laid out with any
+pub unlaid_anyhow : (conditions : Conditions) (choice : Choice) (bytes : List ℕ) (cut : CutModel) (it : Outcome)
+    → IsFault bytes it → IsKeepingFault conditions choice bytes cut it
+unlaid_anyhow conditions choice bytes cut (Refused rule) shown = shown
+unlaid_anyhow conditions choice bytes cut NotARecord shown = shown
+unlaid_anyhow conditions choice bytes cut Memory shown = tt
+unlaid_anyhow conditions choice bytes cut Laid shown = absurd shown
+unlaid_anyhow conditions choice bytes cut Room shown = absurd shown
+unlaid_anyhow conditions choice bytes cut Argument shown = absurd shown
+unlaid_anyhow conditions choice bytes cut NoShape shown = absurd shown
+unlaid_anyhow conditions choice bytes cut NoEdge shown = absurd shown
+unlaid_anyhow conditions choice bytes cut NoOuter shown = absurd shown
+unlaid_anyhow conditions choice bytes cut Wide shown = absurd shown

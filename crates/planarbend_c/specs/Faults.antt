@@ -10,19 +10,22 @@ use Rattle.entries.specs.declared.cause.Cause.TheVariants as cause
 use Rattle.entries.specs.Drawn.{IsCause}
 use Rattle.conditions.specs.declared.conditions.Conditions.{Conditions}
 use Rattle.conditions.specs.declared.fault.KeepFault.TheVariants as keep
+use Rattle.conditions.specs.declared.fault.Unkept.{Unkept}
 use Rattle.conditions.specs.Chosen.{IsKept}
 use Rattle.answers.specs.Kept.{IsUnkept}
-use Rattle.planarbend_c.specs.declared.keeping.KeepingFault.{KeepingFault}
-use Rattle.planarbend_c.specs.declared.keeping.KeepingFault.TheVariants as keeping
-use Rattle.planarbend_c.specs.declared.layout.Fault.{Fault}
-use Rattle.planarbend_c.specs.declared.layout.Fault.TheVariants.{Rule, NotARecord, Memory}
+use Rattle.planarbend_c.specs.Cuts.{CutModel, HoldsCut}
+use Rattle.planarbend_c.specs.declared.outcome.Outcome.{Outcome}
+use Rattle.planarbend_c.specs.declared.outcome.Outcome.TheVariants.{Refused, NotARecord, Memory, NoShape, NoEdge, NoOuter, Wide}
 
-abbrev pub IsFault : List ℕ → Fault → Type 0
+-- what an outcome shows of bytes that are not laid out
+abbrev pub IsFault : List ℕ → Outcome → Type 0
 -- the rule is broken, and none before it
-IsFault bytes (Rule rule) = IsRecord bytes × FirstBroken (lists_of bytes) rule
+IsFault bytes (Refused rule) = IsRecord bytes × FirstBroken (lists_of bytes) rule
 IsFault bytes NotARecord = ¬ IsRecord bytes
 -- nothing is said
 IsFault bytes Memory = ⊤
+-- no other comes of it
+IsFault bytes _ = ⊥
 
 -- a shape that keeps the conditions has boxes, and no coordinates in their order are in the grid
 pub record IsTooWide (conditions : Conditions) (choice : Choice) (bytes : List ℕ) : Type 0 where
@@ -33,10 +36,17 @@ pub record IsTooWide (conditions : Conditions) (choice : Choice) (bytes : List �
   pub kept : IsKept conditions choice plane shape prices
   pub shown : IsCause plane shape cause.Wide
 
--- the same where conditions are to be kept
-abbrev pub IsKeepingFault : Conditions → Choice → List ℕ → KeepingFault → Type 0
-IsKeepingFault conditions choice bytes (keeping.Record fault) = IsFault bytes fault
-IsKeepingFault conditions choice bytes (keeping.NoShape why) = IsRecord bytes × IsUnkept conditions choice bytes (keep.NoShape why)
-IsKeepingFault conditions choice bytes keeping.NoEdge = IsRecord bytes × IsUnkept conditions choice bytes keep.NoEdge
-IsKeepingFault conditions choice bytes keeping.NoOuter = IsRecord bytes × IsUnkept conditions choice bytes keep.NoOuter
-IsKeepingFault conditions choice bytes keeping.Wide = IsRecord bytes × IsTooWide conditions choice bytes
+-- no shape keeps the edges straight, and the vertices and faces that show it stand in the lists of the cut
+pub record HasCut (conditions : Conditions) (choice : Choice) (bytes : List ℕ) (cut : CutModel) : Type 0 where
+  pub why : Unkept
+  pub is_record : IsRecord bytes
+  pub unkept : IsUnkept conditions choice bytes (keep.NoShape why)
+  pub held : HoldsCut why cut
+
+-- what an outcome shows where conditions are to be kept
+abbrev pub IsKeepingFault : Conditions → Choice → List ℕ → CutModel → Outcome → Type 0
+IsKeepingFault conditions choice bytes cut NoShape = HasCut conditions choice bytes cut
+IsKeepingFault conditions choice bytes cut NoEdge = IsRecord bytes × IsUnkept conditions choice bytes keep.NoEdge
+IsKeepingFault conditions choice bytes cut NoOuter = IsRecord bytes × IsUnkept conditions choice bytes keep.NoOuter
+IsKeepingFault conditions choice bytes cut Wide = IsRecord bytes × IsTooWide conditions choice bytes
+IsKeepingFault conditions choice bytes cut outcome = IsFault bytes outcome

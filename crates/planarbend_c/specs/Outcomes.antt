@@ -6,12 +6,7 @@ use Rattle.common.specs.declared.choice.Choice.{Choice}
 use Rattle.common.specs.declared.drawing_kind.DrawingKind.{DrawingKind}
 use Rattle.conditions.specs.declared.conditions.Conditions.{Conditions}
 use Rattle.planarbend_c.specs.declared.request.Request.{Request}
-use Rattle.planarbend_c.specs.declared.keeping.KeepingFault.{KeepingFault}
-use Rattle.planarbend_c.specs.declared.keeping.KeepingFault.TheVariants as keeping
-use Rattle.planarbend_c.specs.declared.layout.Fault.{Fault}
-use Rattle.planarbend_c.specs.declared.layout.Fault.TheVariants as fault
-use Rattle.conditions.specs.declared.fault.Unkept.{Unkept}
-use Rattle.planarbend_c.specs.Cuts.{CutModel, HoldsCut}
+use Rattle.planarbend_c.specs.Cuts.{CutModel}
 use Rattle.planarbend_c.specs.Faults.{IsKeepingFault}
 use Rattle.planarbend_c.specs.declared.counts.Counts.{Counts}
 use Rattle.planarbend_c.specs.declared.outcome.Outcome.{Outcome}
@@ -70,57 +65,15 @@ abbrev pub IsOutcome : List ℕ → ℕ → ℕ → Counts → ListsModel → Ou
 IsOutcome bytes outer drawing counts lists outcome = IsOutcomeOf IsFound (λ _. ⊥) bytes outer drawing counts lists outcome
 
 -- a choice that is asked for, and what is shown under it
-pub record IsUnlaid (request : Request) (bytes : List ℕ) (fault : KeepingFault) : Type 0 where
+pub record IsUnlaid (request : Request) (bytes : List ℕ) (cut : CutModel) (outcome : Outcome) : Type 0 where
   pub choice : Choice
   pub choice_asked : choice_in request.outer ≡ Some choice
-  pub shown : IsKeepingFault request.conditions choice bytes fault
-
--- no shape keeps the edges straight, and the vertices and faces that show it stand in the lists of the cut
-pub record HasCut (request : Request) (bytes : List ℕ) (cut : CutModel) : Type 0 where
-  pub why : Unkept
-  pub unlaid : IsUnlaid request bytes (keeping.NoShape why)
-  pub held : HoldsCut why cut
-
--- what is shown where conditions are not kept
-abbrev pub IsNotKept : Request → List ℕ → CutModel → Outcome → Type 0
-IsNotKept request bytes cut NoShape = HasCut request bytes cut
-IsNotKept request bytes cut NoEdge = IsUnlaid request bytes keeping.NoEdge
-IsNotKept request bytes cut NoOuter = IsUnlaid request bytes keeping.NoOuter
-IsNotKept request bytes cut Wide = IsUnlaid request bytes keeping.Wide
--- it comes of something else
-IsNotKept request bytes cut Laid = ⊥
-IsNotKept request bytes cut (Refused rule) = ⊥
-IsNotKept request bytes cut NotARecord = ⊥
-IsNotKept request bytes cut Memory = ⊥
-IsNotKept request bytes cut Room = ⊥
-IsNotKept request bytes cut Argument = ⊥
+  pub shown : IsKeepingFault request.conditions choice bytes cut outcome
 
 -- with conditions
 abbrev pub IsOutcomeKeeping : Request → List ℕ → Counts → ListsModel → CutModel → Outcome → Type 0
 IsOutcomeKeeping request bytes counts lists cut outcome =
-    IsOutcomeOf (IsFoundKeeping request.conditions) (IsNotKept request bytes cut) bytes request.outer request.drawing counts lists outcome
-
--- where no shape keeps the edges straight, the lists of the cut say why
-abbrev pub IsCutTold : KeepingFault → CutModel → Type 0
-IsCutTold (keeping.NoShape why) cut = HoldsCut why cut
-IsCutTold (keeping.Record fault) cut = ⊤
-IsCutTold keeping.NoEdge cut = ⊤
-IsCutTold keeping.NoOuter cut = ⊤
-IsCutTold keeping.Wide cut = ⊤
-
--- what comes of the call where bytes are not laid out
-abbrev pub refusal_of : Fault → Outcome
-refusal_of (fault.Rule rule) = Refused rule
-refusal_of fault.NotARecord = NotARecord
-refusal_of fault.Memory = Memory
-
--- the same where conditions are to be kept
-abbrev pub outcome_of : KeepingFault → Outcome
-outcome_of (keeping.Record fault) = refusal_of fault
-outcome_of (keeping.NoShape why) = NoShape
-outcome_of keeping.NoEdge = NoEdge
-outcome_of keeping.NoOuter = NoOuter
-outcome_of keeping.Wide = Wide
+    IsOutcomeOf (IsFoundKeeping request.conditions) (IsUnlaid request bytes cut) bytes request.outer request.drawing counts lists outcome
 
 -- what an outcome shows of a finding that is told to C
 abbrev pub IsTold : Finding → Counts → ListsModel → Outcome → Type 0
@@ -128,10 +81,4 @@ IsTold found counts lists Laid = AreCounts found counts × HoldFinding found lis
 IsTold found counts lists Room = AreCounts found counts × (¬ HaveRoom (is_some found.points) counts lists)
 IsTold found counts lists Memory = ⊤
 -- no other comes of it
-IsTold found counts lists (Refused rule) = ⊥
-IsTold found counts lists NotARecord = ⊥
-IsTold found counts lists Argument = ⊥
-IsTold found counts lists NoShape = ⊥
-IsTold found counts lists NoEdge = ⊥
-IsTold found counts lists NoOuter = ⊥
-IsTold found counts lists Wide = ⊥
+IsTold found counts lists _ = ⊥

@@ -6,13 +6,13 @@ ghost use Rattle.planarbend_c.specs.Codes.{code_of};
 ghost use Rattle.planarbend_c.specs.Held.{contents};
 ghost use Rattle.planarbend_c.specs.Cuts.{cut_contents};
 ghost use Rattle.planarbend_c.specs.Found.{AreCounts, HaveRoom, HoldFinding, IsDrawnIfAsked, finding_of};
-ghost use Rattle.planarbend_c.specs.Outcomes.{IsOutcome, IsOutcomeKeeping, IsTold, IsCutTold, outcome_of, refusal_of};
+ghost use Rattle.planarbend_c.specs.Outcomes.{IsOutcome, IsOutcomeKeeping, IsTold};
 
 use crate::counts::{Counts, counts_of};
-use crate::cut::{CutLists, put_cut};
-use crate::keeping::{KeepingFault, lay_out_keeping};
+use crate::cut::CutLists;
+use crate::keeping::lay_out_keeping;
 use crate::laid::Layout;
-use crate::layout::{Fault, lay_out};
+use crate::layout::lay_out;
 use crate::lists::Lists;
 use crate::outcome::Outcome;
 use crate::points::{put_corner_starts, put_corners, put_points};
@@ -75,9 +75,9 @@ fn answer_keeping(
     let Some(kind) = drawing_of(request.drawing) else {
         return Outcome::Argument;
     };
-    match lay_out_keeping(alloc, bytes, choice, kind, &request.conditions) {
+    match lay_out_keeping(alloc, bytes, choice, kind, &request.conditions, cut) {
         Ok(layout) => tell(&layout, counts, lists),
-        Err(fault) => unlaid(fault, cut),
+        Err(outcome) => outcome,
     }
 }
 
@@ -100,36 +100,7 @@ fn answer(
     };
     match lay_out(alloc, bytes, choice, kind) {
         Ok(layout) => tell(&layout, counts, lists),
-        Err(fault) => refused(fault),
-    }
-}
-
-/// The outcome of a call if conditions are not kept for this reason. If no shape keeps the edges straight, the cut is
-/// written.
-fn unlaid(fault: KeepingFault, cut: &mut CutLists<'_>) -> Outcome
-    ensures outcome { result ≡ outcome_of fault }
-    ensures cut { IsCutTold fault (cut_contents cut.new) }
-{
-    match fault {
-        KeepingFault::Record(fault) => refused(fault),
-        KeepingFault::NoShape(why) => {
-            put_cut(cut, &why);
-            Outcome::NoShape
-        }
-        KeepingFault::NoEdge => Outcome::NoEdge,
-        KeepingFault::NoOuter => Outcome::NoOuter,
-        KeepingFault::Wide => Outcome::Wide,
-    }
-}
-
-/// The outcome of a call if bytes are not laid out for this reason.
-fn refused(fault: Fault) -> Outcome
-    ensures { result ≡ refusal_of fault }
-{
-    match fault {
-        Fault::Rule(rule) => Outcome::Refused(rule),
-        Fault::NotARecord => Outcome::NotARecord,
-        Fault::Memory => Outcome::Memory,
+        Err(outcome) => outcome,
     }
 }
 

@@ -8,76 +8,69 @@ ghost use Rattle.ortho_rep.specs.Prices.{HasPrices};
 ghost use Rattle.entries.specs.declared.cause.Cause.TheVariants.{Wide};
 ghost use Rattle.entries.specs.Drawn.{IsCause};
 ghost use Rattle.answers.specs.Kept.{IsKeptPlane, IsKeptFault};
+ghost use Rattle.planarbend_c.specs.Cuts.{cut_contents};
 ghost use Rattle.planarbend_c.specs.Found.{IsDrawnIfAsked, AreStraightIfAsked, IsFoundKeeping, finding, finding_of};
 ghost use Rattle.planarbend_c.specs.Faults.{IsKeepingFault};
 
+use crate::cut::{CutLists, put_cut};
 use crate::laid::Layout;
-use crate::layout::{Fault, parsed};
-use answers::{DrawFault, KeptFault, KeptPlane, RecordScratch, ShapeFault};
+use crate::layout::parsed;
+use crate::outcome::Outcome;
+use answers::{KeptFault, KeptPlane, RecordScratch};
 use common::{Choice, DrawingKind};
-use conditions::{Conditions, KeepFault, Unkept};
+use compact::CompactFault;
+use conditions::{Conditions, KeepFault};
+use embedding::ReadFault;
 use ortho_rep::Points;
 use planar_code::Record;
 use std::alloc::Global;
 
-/// Why bytes are not laid out so that conditions are kept.
-#[derive(Drop)]
-pub(crate) enum KeepingFault {
-    /// They are not laid out with any.
-    Record(Fault),
-    /// No shape with the outer face that was asked for keeps the edges straight.
-    NoShape(Unkept),
-    /// Two vertices that are named are not adjacent.
-    NoEdge,
-    /// All faces are to stay inside.
-    NoOuter,
-    /// No drawing of the shape in the order of its boxes is in the grid.
-    Wide,
-}
-
 /// The layout that keeps conditions of the record that the bytes are, with this drawing or none.
+///
+/// If no shape keeps the edges straight, the cut is written.
 pub(crate) fn lay_out_keeping(
     alloc: Global,
     bytes: &[u8],
     choice: Choice,
     kind: Option<DrawingKind>,
     conditions: &Conditions<'_>,
-) -> Result<Layout, KeepingFault>
+    cut: &mut CutLists<'_>,
+) -> Result<Layout, Outcome>
     ensures found { IfOk result (λ layout. IsFoundKeeping conditions.now choice bytes.now (finding_of layout)) }
     ensures asked { IfOk result (λ layout. is_some layout.drawing ≡ is_some kind) }
     ensures is_record { IfOk result (λ _. IsRecord bytes.now) }
-    ensures fault { IfErr result (IsKeepingFault conditions.now choice bytes.now) }
+    ensures fault { IfErr result (IsKeepingFault conditions.now choice bytes.now (cut_contents cut.new)) }
 {
     let rec = match parsed(alloc, bytes) {
         Ok(rec) => rec,
-        Err(fault) => return Err(KeepingFault::Record(fault)),
+        Err(outcome) => return Err(outcome),
     };
-    let mut scratch = RecordScratch::empty(alloc);
-    laid_keeping(alloc, &mut scratch, &rec, choice, kind, conditions)
+    laid_keeping(alloc, &rec, choice, kind, conditions, cut)
 }
 
 /// The layout that keeps conditions of a record, with this drawing or none.
 fn laid_keeping(
     alloc: Global,
-    scratch: &mut RecordScratch,
     rec: &Record,
     choice: Choice,
     kind: Option<DrawingKind>,
     conditions: &Conditions<'_>,
-) -> Result<Layout, KeepingFault>
+    cut: &mut CutLists<'_>,
+) -> Result<Layout, Outcome>
     requires { IsRecord rec.now }
     ensures found { IfOk result (λ layout. IsFoundKeeping conditions.now choice rec.now (finding_of layout)) }
     ensures asked { IfOk result (λ layout. is_some layout.drawing ≡ is_some kind) }
-    ensures fault { IfErr result (IsKeepingFault conditions.now choice rec.now) }
+    ensures fault { IfErr result (IsKeepingFault conditions.now choice rec.now (cut_contents cut.new)) }
 {
+    let mut scratch = RecordScratch::empty(alloc);
     let kept = match scratch.shape_keeping(alloc, rec, conditions, choice) {
         Ok(kept) => kept,
-        Err(fault) => return Err(fault_of(fault)),
+        Err(fault) => return Err(unkept(fault, cut)),
     };
-    match drawn_keeping(alloc, scratch, &kept, kind) {
+    match drawn_keeping(alloc, &mut scratch, &kept, kind) {
         Ok(drawing) => Ok(laid_kept(kept, drawing)),
-        Err(DrawFault::Wide) => Err(KeepingFault::Wide),
-        Err(DrawFault::Memory) => Err(KeepingFault::Record(Fault::Memory)),
+        Err(CompactFault::Wide) => Err(Outcome::Wide),
+        Err(CompactFault::Memory) => Err(Outcome::Memory),
     }
 }
 
@@ -100,18 +93,22 @@ fn laid_kept(kept: KeptPlane, drawing: Option<Points>) -> Layout
     }
 }
 
-/// Why there is no shape that keeps the conditions, as it is told.
-fn fault_of(fault: KeptFault) -> KeepingFault
+/// The outcome of a call if a record has no shape that keeps the conditions for this reason. If none keeps the edges
+/// straight, the cut is written.
+fn unkept(fault: KeptFault, cut: &mut CutLists<'_>) -> Outcome
     ensures { (conditions : Conditions) (choice : Choice) (bytes : List ℕ) → IsRecord bytes
-        → IsKeptFault conditions choice bytes fault → IsKeepingFault conditions choice bytes result }
+        → IsKeptFault conditions choice bytes fault → IsKeepingFault conditions choice bytes (cut_contents cut.new) result }
 {
     match fault {
-        KeptFault::Record(ShapeFault::Rule(rule)) => KeepingFault::Record(Fault::Rule(rule)),
-        KeptFault::Record(ShapeFault::Memory) => KeepingFault::Record(Fault::Memory),
-        KeptFault::Conditions(KeepFault::NoShape(why)) => KeepingFault::NoShape(why),
-        KeptFault::Conditions(KeepFault::NoEdge) => KeepingFault::NoEdge,
-        KeptFault::Conditions(KeepFault::NoOuter) => KeepingFault::NoOuter,
-        KeptFault::Conditions(KeepFault::Memory) => KeepingFault::Record(Fault::Memory),
+        KeptFault::Record(ReadFault::Rule(rule)) => Outcome::Refused(rule),
+        KeptFault::Record(ReadFault::Memory) => Outcome::Memory,
+        KeptFault::Conditions(KeepFault::NoShape(why)) => {
+            put_cut(cut, &why);
+            Outcome::NoShape
+        }
+        KeptFault::Conditions(KeepFault::NoEdge) => Outcome::NoEdge,
+        KeptFault::Conditions(KeepFault::NoOuter) => Outcome::NoOuter,
+        KeptFault::Conditions(KeepFault::Memory) => Outcome::Memory,
     }
 }
 
@@ -121,11 +118,11 @@ fn drawn_keeping(
     scratch: &mut RecordScratch,
     kept: &KeptPlane,
     kind: Option<DrawingKind>,
-) -> Result<Option<Points>, DrawFault>
+) -> Result<Option<Points>, CompactFault>
     ensures drawn { IfOk result (IsDrawnIfAsked kept.now.plane kept.now.shape) }
     ensures straight { IfOk result (AreStraightIfAsked kept.now.plane kept.now.shape) }
     ensures asked { IfOk result (λ drawing. is_some drawing ≡ is_some kind) }
-    ensures wide { IfErr result (λ fault. fault ≡ DrawFault.Wide → IsCause kept.now.plane kept.now.shape Wide) }
+    ensures wide { IfErr result (λ fault. fault ≡ CompactFault.Wide → IsCause kept.now.plane kept.now.shape Wide) }
 {
     let Some(kind) = kind else {
         return Ok(None);

@@ -7,23 +7,13 @@ ghost use Rattle.planarbend_c.specs.Found.{IsDrawnIfAsked, IsFound, finding, fin
 ghost use Rattle.planarbend_c.specs.Faults.{IsFault};
 
 use crate::laid::Layout;
-use answers::{RecordScratch, ShapeFault, ShapedPlane};
+use crate::outcome::Outcome;
+use answers::{RecordScratch, ShapedPlane};
 use common::{Choice, DrawingKind};
-use embedding::Rule;
+use embedding::ReadFault;
 use ortho_rep::Points;
 use planar_code::{ParseFault, Record};
 use std::alloc::{AllocError, Global};
-
-/// Why bytes are not laid out.
-#[derive(Clone, Copy)]
-pub(crate) enum Fault {
-    /// They are a record, and this is the first rule that it breaks.
-    Rule(Rule),
-    /// They are not one record.
-    NotARecord,
-    /// Memory ran out.
-    Memory,
-}
 
 /// The layout of the record that the bytes are, with this drawing or none.
 pub(crate) fn lay_out(
@@ -31,7 +21,7 @@ pub(crate) fn lay_out(
     bytes: &[u8],
     choice: Choice,
     kind: Option<DrawingKind>,
-) -> Result<Layout, Fault>
+) -> Result<Layout, Outcome>
     ensures found { IfOk result (λ layout. IsFound choice bytes.now (finding_of layout)) }
     ensures asked { IfOk result (λ layout. is_some layout.drawing ≡ is_some kind) }
     ensures is_record { IfOk result (λ _. IsRecord bytes.now) }
@@ -49,7 +39,7 @@ fn laid_record(
     rec: &Record,
     choice: Choice,
     kind: Option<DrawingKind>,
-) -> Result<Layout, Fault>
+) -> Result<Layout, Outcome>
     ensures found { IfOk result (λ layout. IsFound choice rec.now (finding_of layout)) }
     ensures asked { IfOk result (λ layout. is_some layout.drawing ≡ is_some kind) }
     ensures fault { IfErr result (IsFault rec.now) }
@@ -78,15 +68,15 @@ fn laid_shape(shaped_plane: ShapedPlane, drawing: Option<Points>) -> Layout
 }
 
 /// The record that the bytes are.
-pub(crate) fn parsed(alloc: Global, bytes: &[u8]) -> Result<Record, Fault>
+pub(crate) fn parsed(alloc: Global, bytes: &[u8]) -> Result<Record, Outcome>
     ensures same { IfOk result (λ rec. rec ≡ bytes.now) }
     ensures is_record { IfOk result (λ _. IsRecord bytes.now) }
     ensures fault { IfErr result (IsFault bytes.now) }
 {
     match Record::parse(alloc, bytes) {
         Ok(rec) => Ok(rec),
-        Err(ParseFault::Memory) => Err(Fault::Memory),
-        Err(_) => Err(Fault::NotARecord),
+        Err(ParseFault::Memory) => Err(Outcome::Memory),
+        Err(_) => Err(Outcome::NotARecord),
     }
 }
 
@@ -97,7 +87,7 @@ fn shaped(
     rec: &Record,
     choice: Choice,
     kind: Option<DrawingKind>,
-) -> Result<ShapedPlane, Fault>
+) -> Result<ShapedPlane, Outcome>
     ensures plane { IfOk result (λ shaped_plane. IsPlaneOf choice rec.now shaped_plane.plane) }
     ensures fault { IfErr result (IsFault rec.now) }
 {
@@ -105,8 +95,8 @@ fn shaped(
     let _bytes = rec.bytes();
     match scratch.shape(alloc, rec, choice, kind.unwrap_or(DrawingKind::Quick)) {
         Ok(shaped_plane) => Ok(shaped_plane),
-        Err(ShapeFault::Rule(rule)) => Err(Fault::Rule(rule)),
-        Err(ShapeFault::Memory) => Err(Fault::Memory),
+        Err(ReadFault::Rule(rule)) => Err(Outcome::Refused(rule)),
+        Err(ReadFault::Memory) => Err(Outcome::Memory),
     }
 }
 
@@ -116,20 +106,20 @@ fn drawn(
     scratch: &mut RecordScratch,
     shaped_plane: &ShapedPlane,
     kind: Option<DrawingKind>,
-) -> Result<Option<Points>, Fault>
+) -> Result<Option<Points>, Outcome>
     ensures drawn { IfOk result (IsDrawnIfAsked shaped_plane.now.plane shaped_plane.now.shape) }
     ensures asked { IfOk result (λ drawing. is_some drawing ≡ is_some kind) }
-    ensures fault { IfErr result (λ fault. fault ≡ Fault.Memory) }
+    ensures fault { IfErr result (λ fault. fault ≡ Outcome.Memory) }
 {
     match kind {
         None => Ok(None),
         Some(DrawingKind::Quick) => match scratch.quick_points(alloc, shaped_plane) {
             Ok(points) => Ok(Some(points)),
-            Err(AllocError) => Err(Fault::Memory),
+            Err(AllocError) => Err(Outcome::Memory),
         },
         Some(DrawingKind::Short) => match scratch.draw(alloc, shaped_plane, DrawingKind::Short) {
             Ok(drawing) => Ok(Some(drawing.into_points())),
-            Err(AllocError) => Err(Fault::Memory),
+            Err(AllocError) => Err(Outcome::Memory),
         },
     }
 }

@@ -3,7 +3,7 @@ ghost use Rattle.std.specs.Prelude.{◌≡◌, ◌++◌, [], false, OnOk, OnErr,
 ghost use Rattle.printing.specs.Concatenated.{concatenated};
 ghost use Rattle.printing.specs.Written.{GoesOn, IsPartlyAdded, GivesUp};
 
-use crate::refusal::Refusal;
+use crate::fault::TextFault;
 use crate::writing::put;
 use std::alloc::{AllocError, Global};
 use std::marker::Model;
@@ -75,12 +75,16 @@ impl Chunks {
     }
 
     /// Writes the text to the buffer and the sink.
-    pub(crate) fn put<S: Sink>(&self, buffer: &mut TextBuffer, sink: &mut S) -> Result<(), Refusal>
+    pub(crate) fn put<S: Sink>(
+        &self,
+        buffer: &mut TextBuffer,
+        sink: &mut S,
+    ) -> Result<(), TextFault>
         requires { S.failed sink.old ≡ false }
         ensures put { OnOk result (GoesOn (S.taken sink.old) buffer.old (S.taken sink.new) buffer.new self.now) }
         ensures partial { OnErr result (IsPartlyAdded (S.taken sink.old) buffer.old (S.taken sink.new) self.now) }
         ensures stands { OnOk result (S.failed sink.new ≡ false) }
-        ensures gave_up { IfErr result (λ refusal. GivesUp (S.failed sink.new) refusal) }
+        ensures gave_up { IfErr result (λ fault. GivesUp (S.failed sink.new) fault) }
     {
         put_each(self.full.as_slice(), buffer, sink)?;
         put(buffer, sink, self.last.as_slice())
@@ -92,12 +96,12 @@ fn put_each<S: Sink>(
     chunks: &[Vec<u8>],
     buffer: &mut TextBuffer,
     sink: &mut S,
-) -> Result<(), Refusal>
+) -> Result<(), TextFault>
     requires { S.failed sink.old ≡ false }
     ensures put { OnOk result (GoesOn (S.taken sink.old) buffer.old (S.taken sink.new) buffer.new (concatenated chunks.now)) }
     ensures partial { OnErr result (IsPartlyAdded (S.taken sink.old) buffer.old (S.taken sink.new) (concatenated chunks.now)) }
     ensures stands { OnOk result (S.failed sink.new ≡ false) }
-    ensures gave_up { IfErr result (λ refusal. GivesUp (S.failed sink.new) refusal) }
+    ensures gave_up { IfErr result (λ fault. GivesUp (S.failed sink.new) fault) }
 {
     for chunk in chunks {
         put(buffer, sink, chunk.as_slice())?;

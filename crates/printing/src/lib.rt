@@ -4,12 +4,12 @@
 
 mod chunks;
 mod drawn_texts;
+mod fault;
 mod line;
 mod lines;
 mod meant;
 mod pace;
 mod printed;
-mod refusal;
 mod run_lines;
 mod texts;
 mod waiting;
@@ -17,12 +17,11 @@ mod writing;
 
 pub use chunks::Chunks;
 pub use drawn_texts::{books_are_drawn, lines_tell_drawings};
+pub use fault::TextFault;
 pub use line::Line;
-pub use lines::entry_text;
 pub use meant::{KnownEnd, Meant, known_end};
 pub use pace::Pace;
 pub use printed::{Printed, found_line};
-pub use refusal::Refusal;
 pub use reports::{Form, ReportLine, write_json, write_report};
 pub use run_lines::Lines;
 pub use texts::Texts;

@@ -47,12 +47,4 @@ impl Line {
             text: SmallVec::from_slice(alloc, text)?,
         })
     }
-
-    /// The text, on the heap.
-    pub(crate) fn into_list(self) -> Result<Vec<u8>, AllocError>
-        ensures { IfOk result (λ text. text.items ≡ self) }
-    {
-        let Line { text } = self;
-        Ok(text.into_vec()?)
-    }
 }

@@ -8,23 +8,11 @@ ghost use Rattle.printing.specs.FormLines.{line_in, preamble_in, end_in};
 
 use crate::line::Line;
 use answers::ShapedPlane;
-use entries::{Answer, Entry};
+use entries::Answer;
 use ortho_rep::Points;
 use reports::{Form, LaidGraph, ReportLine};
 use std::alloc::{AllocError, Global};
-use streams::{Mark, mark_word};
-
-/// The output line of an entry in this format, with a newline (byte 0A) at its end. It takes a few allocations.
-///
-/// # Errors
-///
-/// `AllocError` if there is no memory for the line; in JSON also if the number of the entry's file, counted from 1,
-/// does not fit in 32 bits.
-pub fn entry_text(alloc: Global, form: Form, entry: &Entry) -> Result<Vec<u8>, AllocError>
-    ensures { IfOk result (λ text. text.items ≡ line_in form entry.now) }
-{
-    answer_line(alloc, form, entry.file, entry.ordinal, &entry.answer)?.into_list()
-}
+use streams::Mark;
 
 /// The output line of the answer to the record at this place of this file, in this format. A short line of a report is
 /// not allocated.
@@ -143,7 +131,7 @@ pub fn end_text(
     let graphs = u64::from(count);
     match form {
         Form::Report => Vec::from_slice(alloc, ReportLine::of_end(mark, graphs).as_slice()),
-        Form::Json => reports::end_line(alloc, number_of(file)?, mark_word(mark), graphs),
+        Form::Json => reports::end_line(alloc, number_of(file)?, mark, graphs),
     }
 }
 

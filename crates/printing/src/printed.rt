@@ -13,8 +13,9 @@ ghost use Rattle.printing.specs.Spelt.{IsSpelt};
 use crate::line::Line;
 use crate::lines::{answer_line, drawn_line};
 use crate::meant::Meant;
-use answers::{PointsFound, ShapeFault};
+use answers::PointsFound;
 use common::Choice;
+use embedding::ReadFault;
 use entries::Answer;
 use lanes::Numbered;
 use planar_code::Record;
@@ -79,10 +80,10 @@ pub fn found_line(
         Ok((shaped_plane, points)) => {
             drawn_line(alloc, form, file, ordinal, shaped_plane, points)
         }
-        Err(ShapeFault::Rule(rule)) => {
+        Err(ReadFault::Rule(rule)) => {
             answer_line(alloc, form, file, ordinal, &Answer::Refused(*rule))
         }
-        Err(ShapeFault::Memory) => return None,
+        Err(ReadFault::Memory) => return None,
     };
     match line {
         Ok(line) => Some(line),

@@ -14,17 +14,17 @@ ghost use Rattle.printing.specs.Written.{IsPartialText, GivesUp};
 ghost use Rattle.printing.specs.Holding.{form_of, choice_of, files_of, IsFlushed, LinesWrite, LinesRemain, LinesHold, ArePartialLines, ArePartialLinesAt, AreLinesOf, StandAt};
 ghost use Rattle.printing.specs.Whole.{HaveFiles, IsAllWritten};
 
+use crate::fault::TextFault;
 use crate::lines::{lacking_text, preamble_text};
 use crate::meant::{KnownEnd, Meant};
 use crate::printed::Printed;
-use crate::refusal::Refusal;
 use crate::waiting::{Waiting, count_one, keep_line, keep_mark, none_come, take_lines};
 use crate::writing::{put, put_end, put_preamble};
 use common::Choice;
 use planar_code::{Ending, MAX_RECORDS};
 use reports::Form;
 use std::alloc::{AllocError, Global};
-use streams::{Mark, Sink, SourceEnd, TextBuffer, WriteFault};
+use streams::{BatchFault, Mark, Sink, SourceEnd, TextBuffer, WriteFault};
 
 /// A reorder buffer for the lines of a run, which go to a sink file after file.
 ///
@@ -103,20 +103,20 @@ impl Lines {
     /// # Errors
     ///
     /// `Write` exactly if the sink has then failed; `Memory` if there was no memory for a line that has to be buffered
-    /// or that reports a lack of memory; `Astray` if no lane gives such a message.
+    /// or that reports a lack of memory; `LaneLost` if no lane gives such a message.
     pub(crate) fn line<S: Sink, J: Meant>(
         &mut self,
         alloc: Global,
         sink: &mut S,
         printed: Printed<J>,
-    ) -> Result<(), Refusal>
+    ) -> Result<(), TextFault>
         requires { S.failed sink.old ≡ false }
         ensures held { OnOk result ((start : Option (List ℕ)) (ns : List Note) → LinesHold J.meaning start (S.taken sink.old) self.old ns
             → LinesHold J.meaning start (S.taken sink.new) self.new (ns ++ Item (record { file = printed.file; ordinal = printed.ordinal; bytes = printed.rec.value; choice = printed.choice }) ∷ [])) }
         ensures partial { OnErr result ((start : Option (List ℕ)) (ns : List Note) → LinesHold J.meaning start (S.taken sink.old) self.old ns
             → ArePartialLinesAt J.meaning start (S.taken sink.new) self.new ns (Item (record { file = printed.file; ordinal = printed.ordinal; bytes = printed.rec.value; choice = printed.choice }))) }
         ensures stands { OnOk result (S.failed sink.new ≡ false) }
-        ensures gave_up { IfErr result (λ refusal. GivesUp (S.failed sink.new) refusal) }
+        ensures gave_up { IfErr result (λ fault. GivesUp (S.failed sink.new) fault) }
         ensures same { AreLinesOf self.old self.new }
     {
         let Printed {
@@ -130,7 +130,7 @@ impl Lines {
             meant: _,
         } = printed;
         if form != self.form || choice != self.choice || !self.is_next(file, ordinal) {
-            return Err(Refusal::Astray);
+            return Err(TextFault::Run(BatchFault::LaneLost));
         }
         match line {
             Some(line) => self.add(alloc, sink, file, line.as_slice()),
@@ -142,7 +142,7 @@ impl Lines {
     ///
     /// # Errors
     ///
-    /// `Write` exactly if the sink has then failed; `Memory` if there was no memory for a line; `Astray` if no lane
+    /// `Write` exactly if the sink has then failed; `Memory` if there was no memory for a line; `LaneLost` if no lane
     /// gives such a message.
     pub(crate) fn end<S: Sink, J: Meant>(
         &mut self,
@@ -151,21 +151,21 @@ impl Lines {
         file: u32,
         mark: Mark,
         known: KnownEnd<J>,
-    ) -> Result<(), Refusal>
+    ) -> Result<(), TextFault>
         requires { S.failed sink.old ≡ false }
         ensures held { OnOk result ((start : Option (List ℕ)) (ns : List Note) → LinesHold J.meaning start (S.taken sink.old) self.old ns
             → LinesHold J.meaning start (S.taken sink.new) self.new (ns ++ End file mark ∷ [])) }
         ensures partial { OnErr result ((start : Option (List ℕ)) (ns : List Note) → LinesHold J.meaning start (S.taken sink.old) self.old ns
             → ArePartialLinesAt J.meaning start (S.taken sink.new) self.new ns (End file mark)) }
         ensures stands { OnOk result (S.failed sink.new ≡ false) }
-        ensures gave_up { IfErr result (λ refusal. GivesUp (S.failed sink.new) refusal) }
+        ensures gave_up { IfErr result (λ fault. GivesUp (S.failed sink.new) fault) }
         ensures same { AreLinesOf self.old self.new }
     {
         if known.file != file || known.mark != mark {
-            return Err(Refusal::Astray);
+            return Err(TextFault::Run(BatchFault::LaneLost));
         }
         if !self.is_to_come(file) || !keep_mark(&mut self.waiting, file, known.count, mark) {
-            return Err(Refusal::Astray);
+            return Err(TextFault::Run(BatchFault::LaneLost));
         }
         self.flawless = is_flawless_with(self.flawless, mark);
         self.advance(alloc, sink)
@@ -183,7 +183,7 @@ impl Lines {
     /// # Errors
     ///
     /// `Write` exactly if the sink has then failed. There is no other error.
-    pub(crate) fn flush<S: Sink>(&mut self, sink: &mut S) -> Result<(), Refusal>
+    pub(crate) fn flush<S: Sink>(&mut self, sink: &mut S) -> Result<(), TextFault>
         requires { S.failed sink.old ≡ false }
         ensures held { OnOk result ((meaning : ℕ → Meaning) (start : Option (List ℕ)) (ns : List Note)
             → LinesHold meaning start (S.taken sink.old) self.old ns → LinesHold meaning start (S.taken sink.new) self.new ns) }
@@ -191,12 +191,12 @@ impl Lines {
             → LinesHold meaning start (S.taken sink.old) self.old ns → ArePartialLines meaning start (S.taken sink.new) self.new ns) }
         ensures flushed { OnOk result (IsFlushed self.new) }
         ensures stands { OnOk result (S.failed sink.new ≡ false) }
-        ensures gave_up { IfErr result (λ refusal. GivesUp (S.failed sink.new) refusal) }
+        ensures gave_up { IfErr result (λ fault. GivesUp (S.failed sink.new) fault) }
         ensures same { AreLinesOf self.old self.new }
     {
         match self.buffer.flush(sink) {
             Ok(()) => Ok(()),
-            Err(_) => Err(Refusal::Write),
+            Err(_) => Err(TextFault::Write),
         }
     }
 
@@ -249,7 +249,7 @@ impl Lines {
         sink: &mut S,
         file: u32,
         line: &[u8],
-    ) -> Result<(), Refusal>
+    ) -> Result<(), TextFault>
         requires stands { S.failed sink.old ≡ false }
         requires from { self.old.current ≤ file }
         requires below { file < length self.old.waiting.items }
@@ -260,7 +260,7 @@ impl Lines {
             → line_in self.old.form entry ≡ line.now → HasEntryMore file entry before after → LinesWrite start (S.taken sink.old) self.old before
             → IsPartialText self.old.form start (S.taken sink.new) (files_of self.old) before ⊎ IsPartialText self.old.form start (S.taken sink.new) (files_of self.old) after) }
         ensures stands { OnOk result (S.failed sink.new ≡ false) }
-        ensures gave_up { IfErr result (λ refusal. GivesUp (S.failed sink.new) refusal) }
+        ensures gave_up { IfErr result (λ fault. GivesUp (S.failed sink.new) fault) }
         ensures same { StandAt self.old self.new }
     {
         count_one(&mut self.waiting, file)?;
@@ -279,7 +279,7 @@ impl Lines {
         sink: &mut S,
         file: u32,
         ordinal: u32,
-    ) -> Result<(), Refusal>
+    ) -> Result<(), TextFault>
         requires stands { S.failed sink.old ≡ false }
         requires from { self.old.current ≤ file }
         requires below { file < length self.old.waiting.items }
@@ -291,7 +291,7 @@ impl Lines {
             → LinesWrite start (S.taken sink.old) self.old before
             → IsPartialText self.old.form start (S.taken sink.new) (files_of self.old) before ⊎ IsPartialText self.old.form start (S.taken sink.new) (files_of self.old) after) }
         ensures stands { OnOk result (S.failed sink.new ≡ false) }
-        ensures gave_up { IfErr result (λ refusal. GivesUp (S.failed sink.new) refusal) }
+        ensures gave_up { IfErr result (λ fault. GivesUp (S.failed sink.new) fault) }
         ensures current { self.new.current ≡ self.old.current }
         ensures lacking { OnOk result (self.new.flawless ≡ false) }
         ensures same { AreLinesOf self.old self.new }
@@ -301,12 +301,12 @@ impl Lines {
                 self.flawless = false;
                 self.add(alloc, sink, file, line.as_slice())
             }
-            Err(_) => Err(Refusal::Memory),
+            Err(_) => Err(TextFault::Run(BatchFault::Memory)),
         }
     }
 
     /// Ends the current file and moves on, as long as the current file has its mark.
-    fn advance<S: Sink>(&mut self, alloc: Global, sink: &mut S) -> Result<(), Refusal>
+    fn advance<S: Sink>(&mut self, alloc: Global, sink: &mut S) -> Result<(), TextFault>
         requires { S.failed sink.old ≡ false }
         ensures written { OnOk result ((start : Option (List ℕ)) (came : ℕ → Came)
             → LinesWrite start (S.taken sink.old) self.old came → LinesWrite start (S.taken sink.new) self.new came) }
@@ -315,7 +315,7 @@ impl Lines {
         ensures unended { OnOk result ((other : Waiting) → self.new.current < length self.new.waiting.items
             → (slice_index_or self.new.waiting.items self.new.current other).mark ≡ None) }
         ensures stands { OnOk result (S.failed sink.new ≡ false) }
-        ensures gave_up { IfErr result (λ refusal. GivesUp (S.failed sink.new) refusal) }
+        ensures gave_up { IfErr result (λ fault. GivesUp (S.failed sink.new) fault) }
         ensures flawless { self.new.flawless ≡ self.old.flawless }
         ensures same { AreLinesOf self.old self.new }
     {
@@ -340,7 +340,7 @@ impl Lines {
     }
 
     /// Ends the current file with its mark and moves on to the next file.
-    fn leave<S: Sink>(&mut self, alloc: Global, sink: &mut S, mark: Mark) -> Result<(), Refusal>
+    fn leave<S: Sink>(&mut self, alloc: Global, sink: &mut S, mark: Mark) -> Result<(), TextFault>
         requires stands { S.failed sink.old ≡ false }
         requires below { self.old.current < length self.old.waiting.items }
         requires mark { (other : Waiting) → (slice_index_or self.old.waiting.items self.old.current other).mark ≡ Some mark }
@@ -349,13 +349,13 @@ impl Lines {
         ensures partial { OnErr result ((start : Option (List ℕ)) (came : ℕ → Came)
             → LinesWrite start (S.taken sink.old) self.old came → IsPartialText self.old.form start (S.taken sink.new) (files_of self.old) came) }
         ensures stands { OnOk result (S.failed sink.new ≡ false) }
-        ensures gave_up { IfErr result (λ refusal. GivesUp (S.failed sink.new) refusal) }
+        ensures gave_up { IfErr result (λ fault. GivesUp (S.failed sink.new) fault) }
         ensures current { OnOk result (self.new.current ≡ self.old.current + 1) }
         ensures flawless { self.new.flawless ≡ self.old.flawless }
         ensures same { AreLinesOf self.old self.new }
     {
         let Some(next) = self.current.checked_add(1) else {
-            return Err(Refusal::Astray);
+            return Err(TextFault::Run(BatchFault::LaneLost));
         };
         let count = self.waiting[self.current as usize].count;
         let end = SourceEnd { count, mark };
@@ -369,7 +369,7 @@ impl Lines {
     }
 
     /// Writes what has arrived of the current file.
-    fn begin<S: Sink>(&mut self, alloc: Global, sink: &mut S) -> Result<(), Refusal>
+    fn begin<S: Sink>(&mut self, alloc: Global, sink: &mut S) -> Result<(), TextFault>
         requires stands { S.failed sink.old ≡ false }
         requires below { self.old.current < length self.old.waiting.items }
         ensures begun { OnOk result ((start : Option (List ℕ)) (came : ℕ → Came)
@@ -377,7 +377,7 @@ impl Lines {
         ensures partial { OnErr result ((start : Option (List ℕ)) (came : ℕ → Came)
             → LinesRemain start (S.taken sink.old) self.old came → IsPartialText self.old.form start (S.taken sink.new) (files_of self.old) came) }
         ensures stands { OnOk result (S.failed sink.new ≡ false) }
-        ensures gave_up { IfErr result (λ refusal. GivesUp (S.failed sink.new) refusal) }
+        ensures gave_up { IfErr result (λ fault. GivesUp (S.failed sink.new) fault) }
         ensures same { StandAt self.old self.new }
     {
         put_preamble(alloc, &mut self.buffer, sink, self.form, self.current)?;

@@ -9,10 +9,10 @@ ghost use Rattle.printing.specs.Stops.{held_stop};
 ghost use Rattle.printing.specs.Holding.{form_of, files_of, IsFlushed, LinesHold, ArePartialLines, AreLinesOf};
 ghost use Rattle.printing.specs.Whole.{HaveFiles, IsAllWritten};
 
+use crate::fault::TextFault;
 use crate::meant::{KnownEnd, Meant};
 use crate::pace::Pace;
 use crate::printed::Printed;
-use crate::refusal::Refusal;
 use crate::run_lines::Lines;
 use lanes::Consumer;
 use std::alloc::Global;
@@ -93,24 +93,24 @@ impl<S: Sink> Texts<'_, S, Lines> {
 }
 
 impl<S: Sink, J: Meant + Send + Sync> Consumer<Printed<J>, KnownEnd<J>> for Texts<'_, S, Lines> {
-    type Refusal = Refusal;
+    type Refusal = TextFault;
 
     ghost holds = { λ t ns. (S.failed t.sink.now ≡ false) × LinesHold J.meaning (S.taken t.start.value) (S.taken t.sink.now) t.lines ns };
 
     ghost stays = { λ a b. (a.sink.ghost_name ≡ b.sink.ghost_name) × (a.start.value ≡ b.start.value) × AreLinesOf a.lines b.lines };
 
-    ghost gave_up = { λ t refusal. GivesUp (S.failed t.sink.now) refusal
+    ghost gave_up = { λ t fault. GivesUp (S.failed t.sink.now) fault
         × ((ns : List Note) × ArePartialLines J.meaning (S.taken t.start.value) (S.taken t.sink.now) t.lines ns) };
 
     ghost passed_on = { λ t. IsFlushed t.lines };
 
-    fn item(&mut self, item: Printed<J>) -> Result<(), Refusal> {
+    fn item(&mut self, item: Printed<J>) -> Result<(), TextFault> {
         let taken = self.lines.line(self.alloc, self.sink, item);
         self.keep_pace(taken.is_ok());
         taken
     }
 
-    fn end(&mut self, file: u32, mark: Mark, known: KnownEnd<J>) -> Result<(), Refusal> {
+    fn end(&mut self, file: u32, mark: Mark, known: KnownEnd<J>) -> Result<(), TextFault> {
         let taken = self.lines.end(self.alloc, self.sink, file, mark, known);
         self.keep_pace(taken.is_ok());
         taken
@@ -120,7 +120,7 @@ impl<S: Sink, J: Meant + Send + Sync> Consumer<Printed<J>, KnownEnd<J>> for Text
         self.lines.is_flushed()
     }
 
-    fn flush(&mut self) -> Result<(), Refusal> {
+    fn flush(&mut self) -> Result<(), TextFault> {
         let flushed = self.lines.flush(self.sink);
         self.keep_pace(flushed.is_ok());
         flushed

@@ -3,10 +3,10 @@ ghost use Rattle.std.specs.Prelude.{◌≡◌, ◌<◌, IfOk, IfErr, OnOk, All, 
 ghost use Rattle.printing.specs.Waits.{ChangesAt, IsNothing, IsCountedOne, GetsLine, GetsMark, IsTaken, IsUnmarked};
 
 use crate::chunks::Chunks;
-use crate::refusal::Refusal;
+use crate::fault::TextFault;
 use std::alloc::{AllocError, Global};
 use std::mem;
-use streams::Mark;
+use streams::{BatchFault, Mark};
 
 /// The buffered lines and the state of a file that has not been written completely.
 #[derive(Drop)]
@@ -35,12 +35,12 @@ pub(crate) fn none_come(alloc: Global, files: u32) -> Result<Vec<Waiting>, Alloc
     Ok(waiting)
 }
 
-/// Counts one more entry of a file. `Astray` if there are too many to count.
-pub(crate) fn count_one(waiting: &mut Vec<Waiting>, file: u32) -> Result<(), Refusal>
+/// Counts one more entry of a file. `LaneLost` if there are too many to count.
+pub(crate) fn count_one(waiting: &mut Vec<Waiting>, file: u32) -> Result<(), TextFault>
     requires { file < length waiting.old.items }
     ensures count { length waiting.new.items ≡ length waiting.old.items }
     ensures counted { OnOk result (ChangesAt file IsCountedOne waiting.old.items waiting.new.items) }
-    ensures astray { IfErr result (λ refusal. refusal ≡ Refusal.Astray) }
+    ensures astray { IfErr result (λ fault. fault ≡ TextFault.Run BatchFault.LaneLost) }
 {
     let here = &mut waiting[file as usize];
     match here.count.checked_add(1) {
@@ -48,7 +48,7 @@ pub(crate) fn count_one(waiting: &mut Vec<Waiting>, file: u32) -> Result<(), Ref
             here.count = count;
             Ok(())
         }
-        None => Err(Refusal::Astray),
+        None => Err(TextFault::Run(BatchFault::LaneLost)),
     }
 }
 
@@ -58,16 +58,16 @@ pub(crate) fn keep_line(
     waiting: &mut Vec<Waiting>,
     file: u32,
     line: &[u8],
-) -> Result<usize, Refusal>
+) -> Result<usize, TextFault>
     requires { file < length waiting.old.items }
     ensures count { length waiting.new.items ≡ length waiting.old.items }
     ensures kept { OnOk result (ChangesAt file (GetsLine line.now) waiting.old.items waiting.new.items) }
-    ensures memory { IfErr result (λ refusal. refusal ≡ Refusal.Memory) }
+    ensures memory { IfErr result (λ fault. fault ≡ TextFault.Run BatchFault.Memory) }
 {
     let here = &mut waiting[file as usize];
     match here.lines.push(alloc, line) {
         Ok(more) => Ok(more),
-        Err(_) => Err(Refusal::Memory),
+        Err(_) => Err(TextFault::Run(BatchFault::Memory)),
     }
 }
 

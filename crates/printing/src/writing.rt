@@ -3,27 +3,27 @@ ghost use Rattle.std.specs.Prelude.{◌≡◌, ◌+◌, false, OnOk, OnErr, IfEr
 ghost use Rattle.printing.specs.FormLines.{preamble_in, end_in};
 ghost use Rattle.printing.specs.Written.{GoesOn, IsPartlyAdded, GivesUp};
 
+use crate::fault::TextFault;
 use crate::lines::{end_text, preamble_text};
-use crate::refusal::Refusal;
 use reports::{Form, push_line};
 use std::alloc::Global;
-use streams::{Sink, SourceEnd, TextBuffer};
+use streams::{BatchFault, Sink, SourceEnd, TextBuffer};
 
 /// Writes `text` to the sink through the buffer.
 pub(crate) fn put<S: Sink>(
     buffer: &mut TextBuffer,
     sink: &mut S,
     text: &[u8],
-) -> Result<(), Refusal>
+) -> Result<(), TextFault>
     requires { S.failed sink.old ≡ false }
     ensures put { OnOk result (GoesOn (S.taken sink.old) buffer.old (S.taken sink.new) buffer.new text.now) }
     ensures partial { OnErr result (IsPartlyAdded (S.taken sink.old) buffer.old (S.taken sink.new) text.now) }
     ensures stands { OnOk result (S.failed sink.new ≡ false) }
-    ensures gave_up { IfErr result (λ refusal. GivesUp (S.failed sink.new) refusal) }
+    ensures gave_up { IfErr result (λ fault. GivesUp (S.failed sink.new) fault) }
 {
     match push_line(buffer, sink, text) {
         Ok(()) => Ok(()),
-        Err(_) => Err(Refusal::Write),
+        Err(_) => Err(TextFault::Write),
     }
 }
 
@@ -34,16 +34,16 @@ pub(crate) fn put_preamble<S: Sink>(
     sink: &mut S,
     form: Form,
     file: u32,
-) -> Result<(), Refusal>
+) -> Result<(), TextFault>
     requires { S.failed sink.old ≡ false }
     ensures put { OnOk result (GoesOn (S.taken sink.old) buffer.old (S.taken sink.new) buffer.new (preamble_in form (file + 1))) }
     ensures partial { OnErr result (IsPartlyAdded (S.taken sink.old) buffer.old (S.taken sink.new) (preamble_in form (file + 1))) }
     ensures stands { OnOk result (S.failed sink.new ≡ false) }
-    ensures gave_up { IfErr result (λ refusal. GivesUp (S.failed sink.new) refusal) }
+    ensures gave_up { IfErr result (λ fault. GivesUp (S.failed sink.new) fault) }
 {
     match preamble_text(alloc, form, file) {
         Ok(text) => put(buffer, sink, text.as_slice()),
-        Err(_) => Err(Refusal::Memory),
+        Err(_) => Err(TextFault::Run(BatchFault::Memory)),
     }
 }
 
@@ -55,15 +55,15 @@ pub(crate) fn put_end<S: Sink>(
     form: Form,
     file: u32,
     end: SourceEnd,
-) -> Result<(), Refusal>
+) -> Result<(), TextFault>
     requires { S.failed sink.old ≡ false }
     ensures put { OnOk result (GoesOn (S.taken sink.old) buffer.old (S.taken sink.new) buffer.new (end_in form (file + 1) end.mark end.count)) }
     ensures partial { OnErr result (IsPartlyAdded (S.taken sink.old) buffer.old (S.taken sink.new) (end_in form (file + 1) end.mark end.count)) }
     ensures stands { OnOk result (S.failed sink.new ≡ false) }
-    ensures gave_up { IfErr result (λ refusal. GivesUp (S.failed sink.new) refusal) }
+    ensures gave_up { IfErr result (λ fault. GivesUp (S.failed sink.new) fault) }
 {
     match end_text(alloc, form, file, end.mark, end.count) {
         Ok(text) => put(buffer, sink, text.as_slice()),
-        Err(_) => Err(Refusal::Memory),
+        Err(_) => Err(TextFault::Run(BatchFault::Memory)),
     }
 }

@@ -5,7 +5,7 @@ use crate::shared::{
     Case, Ran, Row, check_failed_write, check_rows, check_said, check_wants, expect_texts,
     make_file, run, run_narrow, words_for,
 };
-use commands::{Fault, write_fault};
+use commands::{Fault, Reason, write_fault};
 use std::alloc::{AllocError, Global};
 use std::fs;
 use std::process::Abort;
@@ -187,7 +187,7 @@ const FAULTS: [(Fault, &[u8], u8); 10] = [
 /// The line of a fault.
 fn line_of(fault: Fault) -> Narrow {
     let mut err = IoSink::new(Narrow::new(64, usize::MAX, true));
-    write_fault(fault, &mut err);
+    write_fault(fault, Reason::UNKNOWN, &mut err);
     err.into_writer()
 }
 

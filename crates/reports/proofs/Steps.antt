@@ -8,6 +8,13 @@ use Rattle.serde_json.specs.View.{items_of}
 use Rattle.serde_json.specs.Written.{comma_if, compact_text, items_text}
 use Rattle.ortho_rep.specs.declared.turn.Turn.{Turn}
 use Rattle.ortho_rep.specs.declared.turn.Turn.TheVariants.{Left, Right}
+use Rattle.planar_code.specs.declared.ending.Ending.TheVariants as ending
+use Rattle.streams.specs.declared.frames.Mark.{Mark}
+use Rattle.streams.specs.declared.frames.Mark.TheVariants.{Ended, Io}
+use Rattle.streams.specs.Text as marks
+use Rattle.embedding.specs.declared.rules.Rule.{Rule}
+use Rattle.embedding.specs.declared.rules.Rule.TheVariants.{Range, Loop, Multi, Asymmetric, Edgeless, Degree, Disconnected, Genus}
+use Rattle.embedding.specs.Words as rules
 use Rattle.entries.specs.declared.cause.Cause.{Cause}
 use Rattle.entries.specs.declared.cause.Cause.TheVariants.{Wide, OutOfGrid, NotAxis, WrongTurn, Meet}
 use Rattle.entries.specs.CauseWords.{word_of}
@@ -86,7 +93,7 @@ whole_array value xs some first start now end begins lists all last =
     ∙ ap (λ (t : List ℕ). first ++ 91 ∷ t) (sym (ends false (map value some)))
     ∙ ap (λ ys. first ++ compact_text (array_of value ys)) all
 
--- letters of turns, and words of causes, need no escape
+-- letters of turns, and words of causes, rules and marks, need no escape
 pub plain_letters : (turns : List Turn) → escape (map letter_of turns) ≡ map letter_of turns
 unfolding escape_byte
 plain_letters [] = refl
@@ -100,3 +107,25 @@ plain_word OutOfGrid = refl
 plain_word NotAxis = refl
 plain_word WrongTurn = refl
 plain_word Meet = refl
+
+pub plain_rule : (rule : Rule) → escape (rules.word_of rule) ≡ rules.word_of rule
+unfolding escape_byte
+plain_rule Range = refl
+plain_rule Loop = refl
+plain_rule Multi = refl
+plain_rule Asymmetric = refl
+plain_rule Edgeless = refl
+plain_rule Degree = refl
+plain_rule Disconnected = refl
+plain_rule Genus = refl
+
+pub plain_mark : (mark : Mark) → escape (marks.word_of mark) ≡ marks.word_of mark
+unfolding escape_byte
+plain_mark (Ended ending.Complete) = refl
+plain_mark (Ended ending.Truncated) = refl
+plain_mark (Ended ending.Header) = refl
+plain_mark (Ended ending.Large) = refl
+plain_mark (Ended ending.Oversize) = refl
+plain_mark (Ended ending.Many) = refl
+plain_mark (Ended ending.Memory) = refl
+plain_mark Io = refl

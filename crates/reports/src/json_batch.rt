@@ -8,7 +8,7 @@ ghost use Rattle.reports.specs.Json.{json_text, book_json, entry_json, end_json}
 use crate::json_lines::{end_line, entry_line};
 use entries::{Batch, Book, Entry};
 use std::alloc::Global;
-use streams::{LINE, Mark, Sink, TextBuffer, WriteFault, mark_word};
+use streams::{LINE, Mark, Sink, TextBuffer, WriteFault};
 
 /// Writes a batch as JSON lines: for each file a line for each entry and one for its mark.
 ///
@@ -99,7 +99,7 @@ fn write_end<S: Sink>(
     ensures { StaysOrLacks (S.taken sink.old) lines.old (S.taken sink.new) lines.new
         (S.failed sink.new) (end_json file mark count) result }
 {
-    match end_line(alloc, file, mark_word(mark), count) {
+    match end_line(alloc, file, mark, count) {
         Ok(line) => push_line(lines, sink, line.as_slice()),
         Err(_) => Err(WriteFault::Memory),
     }

@@ -1,22 +1,23 @@
 //! The lines of JSON output.
-ghost use Rattle.std.specs.Prelude.{◌≡◌, [], IfOk};
-ghost use Rattle.serde_json.specs.Data.{Data};
+ghost use Rattle.std.specs.Prelude.{◌≡◌, IfOk};
 ghost use Rattle.ortho_rep.specs.Representation.{HasDarts};
 ghost use Rattle.ortho_rep.specs.Prices.{HasPrices};
 ghost use Rattle.entries.specs.declared.answer.Answer.TheVariants.{NoMemory, Refused};
-ghost use Rattle.reports.specs.LineData.{answer_data, end_data, laid_data, line_of, points_in};
-ghost use Rattle.reports.specs.Adding.{tokens_of};
+ghost use Rattle.reports.specs.Json.{end_json};
+ghost use Rattle.reports.specs.LineData.{answer_data, laid_data, line_of, points_in};
 ghost use Rattle.reports.specs.Answered.{IsAnswer};
 
-use crate::json_objects::{put_drawing, put_end, put_place, put_prices, put_shape, put_sizes};
-use crate::json_put;
+use crate::json_objects::{
+    natural_at, put_drawing, put_end, put_place, put_prices, put_shape, put_sizes,
+};
+use crate::json_text::bytes;
 use drawing_check::Drawing;
 use embedding::Rule;
 use entries::{Answer, Cause, Entry};
 use faces::Plane;
-use json::Writer;
 use ortho_rep::{Points, Prices, Shape};
 use std::alloc::{AllocError, Global};
+use streams::{Mark, mark_word};
 
 /// The initial capacity of a short line, in bytes.
 const SHORT_ROOM: usize = 96;
@@ -103,25 +104,24 @@ fn points_of(drawing: &Result<Drawing, Cause>) -> Result<&Points, Cause>
 pub fn lacking_line(alloc: Global, file: u32, graph: u64) -> Result<Vec<u8>, AllocError>
     ensures { IfOk result (λ line. line.items ≡ line_of (answer_data file graph NoMemory)) }
 {
-    let mut out = Writer::new(Vec::with_capacity(alloc, SHORT_ROOM)?);
-    json_put::begin_object(&mut out)?;
-    json_put::place(&mut out, file, graph)?;
-    json_put::text_at(&mut out, "status", "memory")?;
-    json_put::end_object(&mut out)?;
-    ended(out)
+    let mut out = Vec::with_capacity(alloc, SHORT_ROOM)?;
+    natural_at(&mut out, b"{\"file\":", u64::from(file))?;
+    natural_at(&mut out, b",\"graph\":", graph)?;
+    bytes(&mut out, b",\"status\":\"memory\"}\n")?;
+    Ok(out)
 }
 
 /// The JSON line of a graph whose record breaks this rule.
 fn refused_line(alloc: Global, file: u32, graph: u64, rule: Rule) -> Result<Vec<u8>, AllocError>
     ensures { IfOk result (λ line. line.items ≡ line_of (answer_data file graph (Refused rule))) }
 {
-    let mut out = Writer::new(Vec::with_capacity(alloc, SHORT_ROOM)?);
-    json_put::begin_object(&mut out)?;
-    json_put::place(&mut out, file, graph)?;
-    json_put::text_at(&mut out, "rule", rule.word())?;
-    json_put::text_at(&mut out, "status", "refused")?;
-    json_put::end_object(&mut out)?;
-    ended(out)
+    let mut out = Vec::with_capacity(alloc, SHORT_ROOM)?;
+    natural_at(&mut out, b"{\"file\":", u64::from(file))?;
+    natural_at(&mut out, b",\"graph\":", graph)?;
+    bytes(&mut out, b",\"rule\":\"")?;
+    bytes(&mut out, rule.word().as_bytes())?;
+    bytes(&mut out, b"\",\"status\":\"refused\"}\n")?;
+    Ok(out)
 }
 
 /// The data of the JSON line of a graph that breaks no rule.
@@ -178,24 +178,14 @@ pub fn laid_line(
 /// # Errors
 ///
 /// `AllocError` if there is no memory for the line.
-pub fn end_line(alloc: Global, file: u32, word: &str, graphs: u64) -> Result<Vec<u8>, AllocError>
-    ensures { IfOk result (λ line. line.items ≡ line_of (end_data file word.now graphs)) }
+pub fn end_line(alloc: Global, file: u32, mark: Mark, graphs: u64) -> Result<Vec<u8>, AllocError>
+    ensures { IfOk result (λ line. line.items ≡ end_json file mark graphs) }
 {
-    let mut out = Writer::new(Vec::with_capacity(alloc, SHORT_ROOM)?);
-    json_put::begin_object(&mut out)?;
-    json_put::text_at(&mut out, "end", word)?;
-    json_put::natural_at(&mut out, "file", u64::from(file))?;
-    json_put::natural_at(&mut out, "graphs", graphs)?;
-    json_put::end_object(&mut out)?;
-    ended(out)
-}
-
-/// The text of a finished writer, followed by the byte that ends a line.
-fn ended(out: Writer) -> Result<Vec<u8>, AllocError>
-    requires { out.before ≡ [] }
-    ensures { (d : Data) → out.tokens ≡ tokens_of d → IfOk result (λ line. line.items ≡ line_of d) }
-{
-    let mut text = out.into_inner();
-    text.push(b'\n')?;
-    Ok(text)
+    let mut out = Vec::with_capacity(alloc, SHORT_ROOM)?;
+    bytes(&mut out, b"{\"end\":\"")?;
+    bytes(&mut out, mark_word(mark).as_bytes())?;
+    natural_at(&mut out, b"\",\"file\":", u64::from(file))?;
+    natural_at(&mut out, b",\"graphs\":", graphs)?;
+    bytes(&mut out, b"}\n")?;
+    Ok(out)
 }

@@ -40,7 +40,7 @@ pub(crate) fn put_shape(
 }
 
 /// Appends a number after a key, which is given as written.
-fn natural_at(out: &mut Vec<u8>, key: &[u8], number: u64) -> Result<(), AllocError>
+pub(crate) fn natural_at(out: &mut Vec<u8>, key: &[u8], number: u64) -> Result<(), AllocError>
     ensures { OnOk result (out.new.items ≡ out.old.items ++ (key.now ++ decimal number)) }
 {
     bytes(out, key)?;

@@ -5,9 +5,11 @@ use drawing_check::{Drawing, check};
 use entries::Cause;
 use faces::Plane;
 use ortho_rep::{Points, Shape, certify, is_shape};
+use planar_code::Ending;
 use reports::{LaidGraph, end_line, laid_line};
 use std::alloc::Global;
 use std::process::Abort;
+use streams::Mark;
 use test_inputs::{Case, ONE_BEND, Place, plane_in, points_in, prices_in, shape_in};
 use test_tools::same;
 
@@ -106,7 +108,8 @@ fn shows_a_triangle(rt: HostRuntime) {
 
 #[test]
 fn shows_an_end(rt: HostRuntime) {
-    let text = end_line(rt.alloc(), 64, "truncated", 1_000_000).expect(&rt, "memory");
+    let mark = Mark::Ended(Ending::Truncated);
+    let text = end_line(rt.alloc(), 64, mark, 1_000_000).expect(&rt, "memory");
     let expected = "{\"end\":\"truncated\",\"file\":64,\"graphs\":1000000}\n";
     same!(&rt, text.as_slice(), expected.as_bytes());
 }

@@ -2,7 +2,7 @@ use Rattle.std.proofs.Common.{rules, ◌≡◌, ◌∙◌, List, OnOk, IfErr, fa
 use Rattle.lanes.specs.Notes.{Note}
 use Rattle.lanes.specs.Files.{AreToldWhole}
 use Rattle.lane_runs.specs.Faults.{HoldsOnRunFault}
-use Rattle.printing.specs.declared.refusal.Refusal.{Refusal}
+use Rattle.printing.specs.declared.fault.TextFault.{TextFault}
 use Rattle.printing.specs.Written.{GivesUp}
 use Rattle.printing.specs.Holding.{form_of, choice_of, files_of, LinesHold, ArePartialLines}
 use Rattle.printing.specs.Whole.{IsAllWritten, IsBegun}
@@ -10,6 +10,7 @@ use Rattle.printing.proofs.Ordering.{begun_none}
 use Rattle.printing.proofs.Held.{left_off_held}
 use Rattle.commands.proofs.Begun.{ended_with, begun_lines}
 use Rattle.commands.proofs.Accepting.{accepts_known}
+use Rattle.commands.proofs.FaultStatus.{of_text}
 use Rattle.commands.proofs.text.write_files.Goals as goal
 
 pub returns-in-Ok-finish-clause-written : goal.returns-in-Ok-finish-clause-written
@@ -58,7 +59,7 @@ returns-in-Err-clause-begun g c =
     let texts = c.run_into-texts.result in
     let stays = c.run_into-texts.ensures.stays in
     let Left : Type 0 = (ns : List Note) × ArePartialLines g.J.Meant.meaning (taken texts.start.value) (taken texts.sink.now) texts.lines ns in
-    let gave_up : Refusal → Type 0 = λ refusal. GivesUp (g.S.Sink.failed texts.sink.now) refusal × Left in
+    let gave_up : TextFault → Type 0 = λ fault. GivesUp (g.S.Sink.failed texts.sink.now) fault × Left in
     let holds : List Note → Type 0 = λ ns. (g.S.Sink.failed texts.sink.now ≡ false) × LinesHold g.J.Meant.meaning (taken texts.start.value) (taken texts.sink.now) texts.lines ns in
     let failed = subst (λ r. IfErr r (HoldsOnRunFault gave_up holds)) c.in-Err.is c.run_into-texts.ensures.failed in
     let choice : choice_of texts.lines ≡ c.args.run.now.choice = stays.2.choice ∙ ap choice_of c.new-texts.ensures.lines ∙ c.in-Ok.ensures.choice in
@@ -72,6 +73,17 @@ returns-in-Err-clause-begun g c =
     (subst (λ b. ∥ IsBegun c.args.run.now.choice (g.O.Opener.meaning c.args.run.now.opener.now) c.args.style.form c.args.run.now.files (taken b) (taken texts.sink.now) ∥₁) start
     (subst (λ m. ∥ IsBegun c.args.run.now.choice m c.args.style.form c.args.run.now.files (taken texts.start.value) (taken texts.sink.now) ∥₁) c.requires.same_meaning
     (begun_lines c.args.run.now.choice g.J.Meant.meaning c.args.style.form c.args.run.now.files (taken texts.start.value) (taken texts.sink.now) texts.lines choice form files left.0 left.1))))
+
+pub returns-in-Err-clause-began : goal.returns-in-Err-clause-began
+returns-in-Err-clause-began g c = λ misuse.
+    let taken = g.S.Sink.taken in
+    let texts = c.run_into-texts.result in
+    let Left : Type 0 = (ns : List Note) × ArePartialLines g.J.Meant.meaning (taken texts.start.value) (taken texts.sink.now) texts.lines ns in
+    let gave_up : TextFault → Type 0 = λ fault. GivesUp (g.S.Sink.failed texts.sink.now) fault × Left in
+    let holds : List Note → Type 0 = λ ns. (g.S.Sink.failed texts.sink.now ≡ false) × LinesHold g.J.Meant.meaning (taken texts.start.value) (taken texts.sink.now) texts.lines ns in
+    let failed = subst (λ r. IfErr r (HoldsOnRunFault gave_up holds)) c.in-Err.is c.run_into-texts.ensures.failed in
+    let given : gave_up c.fault_of.result = subst (HoldsOnRunFault gave_up holds) (c.fault_of.ensures.begun misuse) failed in
+    of_text (g.S.Sink.failed texts.sink.now) c.fault_of.result given.0 misuse
 
 pub run_into-texts-requires-clause-accepts : goal.run_into-texts-requires-clause-accepts
 run_into-texts-requires-clause-accepts g c κs within = accepts_known _ _ c.requires.same_meaning

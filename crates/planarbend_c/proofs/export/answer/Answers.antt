@@ -25,4 +25,4 @@ returns-in-Ok c =
 
 pub returns-in-Err : goal.returns-in-Err
 returns-in-Err c =
-    rw c.refused.ensures (refused_told c.args.bytes.now c.args.outer c.args.drawing c.args.counts.now (contents c.args.lists.now) c.in-Err.fault c.in-Err.ensures.fault)
+    refused_told c.args.bytes.now c.args.outer c.args.drawing c.args.counts.now (contents c.args.lists.now) c.in-Err.outcome c.in-Err.ensures.fault

@@ -2,7 +2,7 @@ use Rattle.std.proofs.Common.{◌∙◌, inl, inr, sym}
 use Rattle.planarbend_c.specs.Held.{contents}
 use Rattle.planarbend_c.specs.Found.{IsFoundKeeping, finding_of}
 use Rattle.planarbend_c.specs.Cuts.{cut_contents}
-use Rattle.planarbend_c.specs.Outcomes.{IsNotKept}
+use Rattle.planarbend_c.specs.Outcomes.{IsUnlaid}
 use Rattle.planarbend_c.proofs.Told.{answer_of, told, unlaid_told}
 use Rattle.planarbend_c.proofs.export.answer_keeping.Goals as goal
 
@@ -20,7 +20,7 @@ returns-in-Ok c =
     let request = c.args.request.now in
     let layout = c.in-Ok.layout in
     let found = c.in-Ok.ensures in
-    told (IsFoundKeeping request.conditions) (IsNotKept request c.args.bytes.now (cut_contents c.args.cut.now)) c.args.bytes.now request.outer request.drawing (finding_of layout) c.tell.new.counts (contents c.tell.new.lists) c.tell.result
+    told (IsFoundKeeping request.conditions) (IsUnlaid request c.args.bytes.now (cut_contents c.lay_out_keeping.new.cut)) c.args.bytes.now request.outer request.drawing (finding_of layout) c.tell.new.counts (contents c.tell.new.lists) c.tell.result
     (answer_of (IsFoundKeeping request.conditions) c.args.bytes.now request.outer request.drawing c.in-Some.choice c.in-Some-drawing_of.kind (finding_of layout)
     (sym c.choice_of.ensures ∙ c.in-Some.is) (sym c.drawing_of.ensures ∙ c.in-Some-drawing_of.is) found.is_record found.found
     found.asked)
@@ -28,5 +28,5 @@ returns-in-Ok c =
 
 pub returns-in-Err : goal.returns-in-Err
 returns-in-Err c =
-    rw c.unlaid.ensures.outcome (unlaid_told c.args.request.now c.in-Some.choice c.args.bytes.now c.args.counts.now (contents c.args.lists.now) (cut_contents c.unlaid.new.cut) c.in-Err.fault
-    (sym c.choice_of.ensures ∙ c.in-Some.is) c.in-Err.ensures.fault c.unlaid.ensures.cut)
+    unlaid_told c.args.request.now c.in-Some.choice c.args.bytes.now c.args.counts.now (contents c.args.lists.now) (cut_contents c.lay_out_keeping.new.cut) c.in-Err.outcome
+    (sym c.choice_of.ensures ∙ c.in-Some.is) c.in-Err.ensures.fault

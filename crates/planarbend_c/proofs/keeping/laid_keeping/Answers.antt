@@ -3,7 +3,7 @@ use Rattle.planarbend_c.specs.Found.{Finding, IsFoundKeeping}
 use Rattle.planarbend_c.proofs.keeping.laid_keeping.Goals as goal
 
 pub returns-in-Err-clause-fault : goal.returns-in-Err-clause-fault
-returns-in-Err-clause-fault c = c.fault_of.ensures c.args.conditions.now c.args.choice c.args.rec.now c.requires c.in-Err.ensures.fault
+returns-in-Err-clause-fault c = c.unkept.ensures c.args.conditions.now c.args.choice c.args.rec.now c.requires c.in-Err.ensures.fault
 
 pub returns-in-Err-Wide-clause-fault : goal.returns-in-Err-Wide-clause-fault
 returns-in-Err-Wide-clause-fault c =

@@ -1,5 +1,0 @@
-use Rattle.std.proofs.Math.Logic.{∥∥₁_map}
-use Rattle.printing.proofs.lines.entry_text.Goals as goal
-
-pub answer_line-requires : goal.answer_line-requires
-answer_line-requires c = ∥∥₁_map c.args.entry.now.answers (λ answers. (c.args.entry.now.choice, c.args.entry.now.rec, answers))
