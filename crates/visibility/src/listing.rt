@@ -1,6 +1,6 @@
 //! The segments of a drawing, listed edge by edge.
 
-ghost use Rattle.std.specs.Prelude.{◌≡◌, ◌*◌, ◌<◌, ◌≤◌, All, length, true, IfOk, OnOk};
+ghost use Rattle.std.specs.Prelude.{◌≡◌, ◌*◌, ◌<◌, ◌≤◌, All, length, vec_len, true, IfOk, IfSome, OnOk};
 ghost use Rattle.faces.specs.Planes.{darts, vertices};
 ghost use Rattle.visibility.specs.Axes.{AreFew};
 ghost use Rattle.visibility.specs.Crossing.{AreCrossed};
@@ -40,16 +40,15 @@ pub(crate) fn list_segments(
     requires corners { 2 * length points.now.corners ≡ darts plane.now }
     ensures { IfOk result (λ listed. listed ≡ true → AreCrossed lists.new.x lists.new.y) }
 {
+    lists.x.begin(points.vertex_count())?;
+    lists.y.begin(points.vertex_count())?;
+    list_edges(lists, plane, points)?;
     let x = &mut lists.x;
     let y = &mut lists.y;
-    let bent = &mut lists.bent;
-    x.begin(points.vertex_count())?;
-    y.begin(points.vertex_count())?;
-    list_edges(plane, points, x, y, bent)?;
     if !list_straight(plane.graph().vertices(), points, x, y)? {
         return Ok(false);
     }
-    if !list_bent(bent.as_slice(), points, x, y)? {
+    if !list_bent(lists.bent.as_slice(), points, x, y)? {
         return Ok(false);
     }
     if !find_ends(x, y)? {
@@ -59,47 +58,60 @@ pub(crate) fn list_segments(
 }
 
 /// Joins the ends of all edges that have no corner, and lists those that have some.
-fn list_edges(
-    plane: &Plane,
-    points: &Points,
-    x: &mut Segments,
-    y: &mut Segments,
-    bent: &mut Vec<Bent>,
-) -> Result<(), AllocError>
+fn list_edges(lists: &mut Lists, plane: &Plane, points: &Points) -> Result<(), AllocError>
     requires vertices { length points.now.vertices ≡ vertices plane.now }
     requires corners { 2 * length points.now.corners ≡ darts plane.now }
-    ensures x { x.new.segments ≡ x.old.segments }
-    ensures y { y.new.segments ≡ y.old.segments }
-    ensures bent { OnOk result (All (λ b. b.edge < length points.now.corners) bent.new.items) }
+    ensures x { lists.new.x.segments ≡ lists.old.x.segments }
+    ensures y { lists.new.y.segments ≡ lists.old.y.segments }
+    ensures bent { OnOk result (All (λ b. b.edge < length points.now.corners) lists.new.bent.items) }
 {
     let graph = plane.graph();
     let edges = points.edge_count();
-    bent.clear();
+    lists.bent.clear();
     let mut edge: u16 = 0;
     for dart in 0..graph.darts() {
         let reverse = graph.reverse(dart);
         if dart < reverse && usize::from(edge) < edges {
-            let tail = graph.head(reverse);
-            let head = graph.head(dart);
-            let from = points.vertex(tail);
-            let to = points.vertex(head);
-            if let Some(first) = points.corners(edge).first() {
-                let vertical = first.x == from.x;
-                bent.push(Bent {
-                    edge,
-                    tail: tail - 1,
-                    head: head - 1,
-                    from,
-                    to,
-                    vertical,
-                })?;
-            } else if from.x == to.x {
-                x.edges.connect(tail, from.y, head, to.y);
-            } else {
-                y.edges.connect(tail, from.x, head, to.x);
-            }
+            list_edge(lists, points, edge, graph.head(reverse), graph.head(dart))?;
             edge += 1;
         }
+    }
+    Ok(())
+}
+
+/// Joins the ends of an edge that has no corner, or lists it if it has some.
+fn list_edge(
+    lists: &mut Lists,
+    points: &Points,
+    edge: u16,
+    tail: u8,
+    head: u8,
+) -> Result<(), AllocError>
+    requires edge { edge < length points.now.corners }
+    requires starts { 0 < tail }
+    requires tail { tail ≤ length points.now.vertices }
+    requires ends { 0 < head }
+    requires head { head ≤ length points.now.vertices }
+    requires bent { All (λ b. b.edge < length points.now.corners) lists.old.bent.items }
+    ensures x { lists.new.x.segments ≡ lists.old.x.segments }
+    ensures y { lists.new.y.segments ≡ lists.old.y.segments }
+    ensures bent { OnOk result (All (λ b. b.edge < length points.now.corners) lists.new.bent.items) }
+{
+    let from = points.vertex(tail);
+    let to = points.vertex(head);
+    if let Some(first) = points.corners(edge).first() {
+        lists.bent.push(Bent {
+            edge,
+            tail: tail - 1,
+            head: head - 1,
+            from,
+            to,
+            vertical: first.x == from.x,
+        })?;
+    } else if from.x == to.x {
+        lists.x.edges.connect(tail, from.y, head, to.y);
+    } else {
+        lists.y.edges.connect(tail, from.x, head, to.x);
     }
     Ok(())
 }
@@ -210,8 +222,10 @@ fn turn(
 ) -> Result<Option<u16>, AllocError>
     requires from { AreFew from_segments.old.segments.items }
     requires to { AreFew to_segments.old.segments.items }
+    requires segment { segment < vec_len from_segments.old.segments }
     ensures from { AreFew from_segments.new.segments.items }
     ensures to { AreFew to_segments.new.segments.items }
+    ensures next { IfOk result (λ found. IfSome found (λ next. next < vec_len to_segments.new.segments)) }
 {
     let (from, to) = run;
     if !from_segments.extend(segment, place, from < to) {

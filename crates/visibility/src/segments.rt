@@ -176,16 +176,17 @@ impl Segments {
         Ok(true)
     }
 
-    /// Makes a segment begin or end at the vertex or corner with this place, to which one part more leads; false if
-    /// there is no such segment, or if it has 65,535 parts.
+    /// Makes a segment begin or end at the vertex or corner with this place, to which one part more leads; false if it has
+    /// 65,535 parts.
     pub(crate) fn extend(&mut self, segment: u16, place: u16, is_end: bool) -> bool
-        requires { AreFew self.old.segments.items }
+        requires few { AreFew self.old.segments.items }
+        requires segment { segment < vec_len self.old.segments }
         ensures few { AreFew self.new.segments.items }
         ensures of { self.new.of ≡ self.old.of }
+        ensures count { vec_len self.new.segments ≡ vec_len self.old.segments }
     {
-        let Some(segment) = self.segments.get_mut(usize::from(segment)) else {
-            return false;
-        };
+        let segment = &mut self.segments[usize::from(segment)];
+        // No invariant says how many parts there are.
         let Some(parts) = segment.parts.checked_add(1) else {
             return false;
         };
@@ -309,7 +310,9 @@ impl Segments {
     }
 
     /// The segment on which the vertex at this place lies, if it lies on one.
-    pub(crate) fn segment_at(&self, place: u8) -> Option<u16> {
+    pub(crate) fn segment_at(&self, place: u8) -> Option<u16>
+        ensures { IfSome result (λ segment. segment < vec_len self.now.segments) }
+    {
         segment_of(self.of.as_slice(), usize::from(place), self.segments.len())
     }
 

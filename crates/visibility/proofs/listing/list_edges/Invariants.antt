@@ -5,8 +5,8 @@ use Rattle.visibility.proofs.listing.list_edges.Given as goal
 
 abbrev pub invariant-loop-dart : goal.invariant-loop-dart
 invariant-loop-dart l = record {
-  x : l.x.segments ≡ l.initial.x.segments;
-  y : l.y.segments ≡ l.initial.y.segments;
+  x : l.lists.x.segments ≡ l.initial.lists.x.segments;
+  y : l.lists.y.segments ≡ l.initial.lists.y.segments;
   edge : l.edge ≤ l.edges;
-  bent : All (λ (b : Bent). b.edge < length l.points.corners) l.bent.items;
+  bent : All (λ (b : Bent). b.edge < length l.points.corners) l.lists.bent.items;
 }
