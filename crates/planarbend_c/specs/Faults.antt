@@ -40,7 +40,7 @@ pub record IsTooWide (conditions : Conditions) (choice : Choice) (bytes : List â
 pub record HasCut (conditions : Conditions) (choice : Choice) (bytes : List â„•) (cut : CutModel) : Type 0 where
   pub why : Unkept
   pub is_record : IsRecord bytes
-  pub unkept : IsUnkept conditions choice bytes (keep.NoShape why)
+  pub shown : IsUnkept conditions choice bytes (keep.NoShape why)
   pub held : HoldsCut why cut
 
 -- what an outcome shows where conditions are to be kept

@@ -97,19 +97,13 @@ pub fn lacking_text(
     }
 }
 
-/// The text before the lines of a file in this format: the file's first line in the report, and nothing in JSON.
-///
-/// The empty text allocates nothing.
-///
-/// # Errors
-///
-/// `AllocError` if there is no memory for the line.
-pub fn preamble_text(alloc: Global, form: Form, file: u32) -> Result<Vec<u8>, AllocError>
-    ensures { IfOk result (λ text. text.items ≡ preamble_in form (file + 1)) }
+/// The line before the lines of a file in this format: the file's first line in the report, and an empty one in JSON.
+pub fn preamble_line(form: Form, file: u32) -> ReportLine
+    ensures { result ≡ preamble_in form (file + 1) }
 {
     match form {
-        Form::Report => Vec::from_slice(alloc, ReportLine::of_file(u64::from(file) + 1).as_slice()),
-        Form::Json => Ok(Vec::new(alloc)),
+        Form::Report => ReportLine::of_file(u64::from(file) + 1),
+        Form::Json => ReportLine::new(),
     }
 }
 

@@ -15,7 +15,7 @@ ghost use Rattle.printing.specs.Holding.{form_of, choice_of, files_of, IsFlushed
 ghost use Rattle.printing.specs.Whole.{HaveFiles, IsAllWritten};
 
 use crate::fault::TextFault;
-use crate::lines::{lacking_text, preamble_text};
+use crate::lines::{lacking_text, preamble_line};
 use crate::meant::{KnownEnd, Meant};
 use crate::printed::Printed;
 use crate::waiting::{Waiting, count_one, keep_line, keep_mark, none_come, take_lines};
@@ -53,7 +53,7 @@ impl Lines {
     ///
     /// # Errors
     ///
-    /// `AllocError` if there is no memory to keep this many files, or for the first line.
+    /// `AllocError` if there is no memory to keep this many files.
     pub fn new(alloc: Global, form: Form, choice: Choice, files: u32) -> Result<Lines, AllocError>
         ensures held { IfOk result (λ lines. (meaning : ℕ → Meaning) (start : Option (List ℕ))
             → LinesHold meaning start start lines []) }
@@ -64,7 +64,7 @@ impl Lines {
         let waiting = none_come(alloc, files)?;
         let mut buffer = TextBuffer::new();
         if files > 0 {
-            buffer.push(preamble_text(alloc, form, 0)?.as_slice());
+            buffer.push(preamble_line(form, 0).as_slice());
         }
         Ok(Lines {
             form,
@@ -380,7 +380,7 @@ impl Lines {
         ensures gave_up { IfErr result (λ fault. GivesUp (S.failed sink.new) fault) }
         ensures same { StandAt self.old self.new }
     {
-        put_preamble(alloc, &mut self.buffer, sink, self.form, self.current)?;
+        put_preamble(&mut self.buffer, sink, self.form, self.current)?;
         let lines = take_lines(alloc, &mut self.waiting, self.current);
         self.held = self.held.saturating_sub(lines.size());
         lines.put(&mut self.buffer, sink)

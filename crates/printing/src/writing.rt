@@ -4,7 +4,7 @@ ghost use Rattle.printing.specs.FormLines.{preamble_in, end_in};
 ghost use Rattle.printing.specs.Written.{GoesOn, IsPartlyAdded, GivesUp};
 
 use crate::fault::TextFault;
-use crate::lines::{end_text, preamble_text};
+use crate::lines::{end_text, preamble_line};
 use reports::{Form, push_line};
 use std::alloc::Global;
 use streams::{BatchFault, Sink, SourceEnd, TextBuffer};
@@ -29,7 +29,6 @@ pub(crate) fn put<S: Sink>(
 
 /// Writes the text before the lines of a file to the sink through the buffer.
 pub(crate) fn put_preamble<S: Sink>(
-    alloc: Global,
     buffer: &mut TextBuffer,
     sink: &mut S,
     form: Form,
@@ -41,10 +40,7 @@ pub(crate) fn put_preamble<S: Sink>(
     ensures stands { OnOk result (S.failed sink.new ≡ false) }
     ensures gave_up { IfErr result (λ fault. GivesUp (S.failed sink.new) fault) }
 {
-    match preamble_text(alloc, form, file) {
-        Ok(text) => put(buffer, sink, text.as_slice()),
-        Err(_) => Err(TextFault::Run(BatchFault::Memory)),
-    }
+    put(buffer, sink, preamble_line(form, file).as_slice())
 }
 
 /// Writes the last line of a file to the sink through the buffer.
