@@ -111,11 +111,11 @@ module _ {E M : Type 0} (about : E → About) where
   each_lane choice meaning tickets fan items held idle ran seats running many lanes run still settled-idle settled-ran past stopped lane =
       elim (cases_lt lane running) [
         | inl below ↦ ran_at choice meaning tickets fan items held 0 ran seats run settled-ran lane lane (omega (arith, below, many)) (omega arith) (stopped lane below)
-        | inr above ↦ nothing_drawn choice meaning (drawn_at seats lane) (notes about (of_lane lane items)) (drawn_past seats lane (omega (arith, above, many)))
-            (ap (notes about) (elim (cases_lt lane LANES) [
+        | inr above ↦ (let none : of_lane lane items ≡ [] = elim (cases_lt lane LANES) [
               | inl known ↦ idle_at fan items held running idle still settled-idle (lane - running) lane (omega (arith, known, above, lanes)) (omega (arith, above))
               | inr unknown ↦ past lane unknown
-            ]))
+            ] in
+            nothing_drawn choice meaning (drawn_at seats lane) (notes about (of_lane lane items)) (drawn_past seats lane (omega (arith, above, many))) (ap (notes about) none))
       ]
 
 module _ {X : Type 0} (P : X → Type 0) where

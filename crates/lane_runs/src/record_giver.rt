@@ -60,14 +60,16 @@ impl<R: Wait, G: Gate, L: LaneKind> Keep for RecordGiver<'_, R, G, L> {
         if self.filling.items.len() < self.most && self.bytes < MOST_BYTES {
             return Ok(());
         }
-        match self.give_all() {
+        self.bytes = 0;
+        match self.filling.give(self.rt, &mut self.giver) {
             Ok(()) => Ok(()),
             Err(gone) => Err(gone),
         }
     }
 
     fn pass_on(&mut self) -> Result<(), Gone> {
-        match self.give_all() {
+        self.bytes = 0;
+        match self.filling.give(self.rt, &mut self.giver) {
             Ok(()) => Ok(()),
             Err(gone) => Err(gone),
         }

@@ -38,7 +38,8 @@ impl<A: Staged, R: Wait, G: Gate> Bench<'_, A, R, G> {
         batch: Batch<A>,
         to: &mut O,
     ) -> Result<(), Gone>
-        requires { self.old.filling.items.items ≡ [] }
+        requires about { O.about ≡ A.Next.about }
+        requires none { self.old.filling.items.items ≡ [] }
         ensures told { OnOk result (O.told to.new ≡ O.told to.old ++ notes_of_items A.about batch.items.items) }
         ensures none { OnOk result (self.new.filling.items.items ≡ []) }
         ensures going { GoOn (O.told to.old) → GoOn (O.told to.new) }

@@ -1,10 +1,9 @@
 //! The items that the next message of a stage takes along.
 ghost use Rattle.std.specs.Prelude.{◌≡◌, ◌∷◌, ◌++◌, [], OnOk, IfSome, IfNone};
-ghost use Rattle.lanes.specs.Notes.{Item, notes_of, notes_of_items, GoOn};
+ghost use Rattle.lanes.specs.Notes.{About, Item, notes_of, notes_of_items, GoOn};
 
 use crate::batch::Batch;
 use crate::message::Message;
-use crate::numbered::Numbered;
 use crate::outlet::{Gone, Outlet};
 use crate::return_queue::ReturnQueue;
 use std::alloc::Global;
@@ -33,7 +32,7 @@ pub struct Filling<T: Drop> {
     home: ReturnQueue<Vec<T>>,
 }
 
-impl<T: Numbered> Filling<T> {
+impl<T: Drop> Filling<T> {
     /// No items. Without memory no list returns.
     pub fn new(alloc: Global) -> Filling<T>
         ensures { result.items.items ≡ [] }
@@ -57,8 +56,8 @@ impl<T: Numbered> Filling<T> {
         to: &mut O,
         item: T,
     ) -> Result<(), Gone>
-        ensures told { OnOk result (O.told to.new ++ notes_of_items T.about self.new.items.items
-            ≡ O.told to.old ++ notes_of_items T.about self.old.items.items ++ Item (T.about item) ∷ []) }
+        ensures told { OnOk result (O.told to.new ++ notes_of_items O.about self.new.items.items
+            ≡ O.told to.old ++ notes_of_items O.about self.old.items.items ++ Item (O.about item) ∷ []) }
         ensures going { GoOn (O.told to.old) → GoOn (O.told to.new) }
         ensures stays { O.stays to.old to.new }
     {
@@ -83,7 +82,7 @@ impl<T: Numbered> Filling<T> {
         rt: &R,
         to: &mut O,
     ) -> Result<(), Gone>
-        ensures told { OnOk result (O.told to.new ≡ O.told to.old ++ notes_of_items T.about self.old.items.items) }
+        ensures told { OnOk result (O.told to.new ≡ O.told to.old ++ notes_of_items O.about self.old.items.items) }
         ensures none { OnOk result (self.new.items.items ≡ []) }
         ensures going { GoOn (O.told to.old) → GoOn (O.told to.new) }
         ensures stays { O.stays to.old to.new }
@@ -100,7 +99,7 @@ impl<T: Numbered> Filling<T> {
 
     /// The items in one message, where there are any: one item alone without a list.
     fn next_message<M: Drop>(&mut self) -> Option<Message<T, M>>
-        ensures told { IfSome result (λ message. notes_of T.about message ≡ notes_of_items T.about self.old.items.items) }
+        ensures told { IfSome result (λ message. (about : T → About) → notes_of about message ≡ notes_of_items about self.old.items.items) }
         ensures nothing { IfNone result (self.old.items.items ≡ []) }
         ensures none { self.new.items.items ≡ [] }
     {

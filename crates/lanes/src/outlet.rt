@@ -3,7 +3,7 @@ ghost use Rattle.std.specs.Prelude.{◌≡◌, ◌++◌, List, OnOk, OnErr};
 ghost use Rattle.std.proofs.Common.{refl, ◌∙◌};
 ghost use Rattle.ruled_lanes.specs.LinkEnds.{given, GivesToSame};
 ghost use Rattle.ruled_lanes.specs.FanEnds.{given_at, GivesToSameLane};
-ghost use Rattle.lanes.specs.Notes.{Note, notes, notes_of};
+ghost use Rattle.lanes.specs.Notes.{About, Note, notes, notes_of};
 
 use crate::message::Message;
 use crate::numbered::Numbered;
@@ -16,15 +16,18 @@ pub struct Gone;
 
 /// The end of a link, or of the fan at one lane, to which a stage gives its messages.
 ///
-/// In proofs it has what was told so far: the notes of all messages given to it, in order.
-pub trait Outlet<T: Numbered, M: Drop>: Drop {
+/// In proofs it has which record an item is about, and what was told so far: the notes of all messages given to it, in
+/// order.
+pub trait Outlet<T: Drop, M: Drop>: Drop {
+    ghost about: { T → About };
+
     ghost told: { Self → List Note };
 
     ghost stays: { Self → Self → Type 0 };
 
     /// Gives a message, and waits while there is no room for it. At an error nothing was given.
     fn tell<R: Wait>(&mut self, rt: &R, message: Message<T, M>) -> Result<(), Gone>
-        ensures more { OnOk result (told self.new ≡ told self.old ++ notes_of T.about message) }
+        ensures more { OnOk result (told self.new ≡ told self.old ++ notes_of about message) }
         ensures refused { OnErr result (told self.new ≡ told self.old) }
         ensures stays { stays self.old self.new };
 
@@ -35,6 +38,8 @@ pub trait Outlet<T: Numbered, M: Drop>: Drop {
 }
 
 impl<T: Numbered, M: Drop> Outlet<T, M> for Giver<Message<T, M>> {
+    ghost about = { T.about };
+
     ghost told = { λ g. notes T.about (given g) };
 
     ghost stays = { λ x y. GivesToSame x y };
@@ -56,6 +61,8 @@ impl<T: Numbered, M: Drop> Outlet<T, M> for Giver<Message<T, M>> {
 }
 
 impl<T: Numbered, M: Drop> Outlet<T, M> for LaneGiver<Message<T, M>> {
+    ghost about = { T.about };
+
     ghost told = { λ g. notes T.about (given_at g) };
 
     ghost stays = { λ x y. GivesToSameLane x y };

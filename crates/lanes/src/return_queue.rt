@@ -20,7 +20,7 @@ pub struct ReturnQueue<T: Drop> {
     queue: Option<Arc<ArrayQueue<T>>>,
 }
 
-impl<T: Drop + Send> ReturnQueue<T> {
+impl<T: Drop> ReturnQueue<T> {
     /// No queue: what is sent is dropped, and nothing arrives.
     pub fn none() -> ReturnQueue<T> {
         ReturnQueue { queue: None }

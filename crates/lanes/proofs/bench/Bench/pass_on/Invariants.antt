@@ -5,7 +5,7 @@ use Rattle.lanes.proofs.bench.Bench.pass_on.Given as goal
 
 abbrev pub invariant-loop-item : goal.invariant-loop-item
 invariant-loop-item g l =
-    let about = g.A.Next.Numbered.about in
+    let about = g.O.Outlet.about in
     record {
       can : (goal.iterator-loop-item g).can_next l.item-iterator;
       finite : (goal.iterator-loop-item g).is_finite l.item-iterator;
