@@ -68,6 +68,7 @@ fn count_ends(segments: &mut [Segment], first: u16, last: u16) -> bool
     ensures listed { (firsts : List ℕ) → AreListed segments.old firsts → AreListed segments.new firsts }
     ensures ends { KeepEnds segments.old segments.new }
 {
+    // No invariant says how many have been counted before.
     let begun = segments[usize::from(first)].begun.checked_add(1);
     let ended = segments[usize::from(last)].ended.checked_add(1);
     let (Some(begun), Some(ended)) = (begun, ended) else {

@@ -42,6 +42,7 @@ pub(crate) fn list_segments(
 {
     lists.x.begin(points.vertex_count())?;
     lists.y.begin(points.vertex_count())?;
+    lists.bent.clear();
     list_edges(lists, plane, points)?;
     let x = &mut lists.x;
     let y = &mut lists.y;
@@ -61,17 +62,16 @@ pub(crate) fn list_segments(
 fn list_edges(lists: &mut Lists, plane: &Plane, points: &Points) -> Result<(), AllocError>
     requires vertices { length points.now.vertices ≡ vertices plane.now }
     requires corners { 2 * length points.now.corners ≡ darts plane.now }
+    requires bent { All (λ b. b.edge < length points.now.corners) lists.old.bent.items }
     ensures x { lists.new.x.segments ≡ lists.old.x.segments }
     ensures y { lists.new.y.segments ≡ lists.old.y.segments }
     ensures bent { OnOk result (All (λ b. b.edge < length points.now.corners) lists.new.bent.items) }
 {
     let graph = plane.graph();
-    let edges = points.edge_count();
-    lists.bent.clear();
-    let mut edge: u16 = 0;
+    let mut edge = 0;
     for dart in 0..graph.darts() {
         let reverse = graph.reverse(dart);
-        if dart < reverse && usize::from(edge) < edges {
+        if dart < reverse {
             list_edge(lists, points, edge, graph.head(reverse), graph.head(dart))?;
             edge += 1;
         }

@@ -159,6 +159,7 @@ impl Segments {
         let mut last = vertex;
         let mut parts = 0;
         for steps in 0..255 {
+            // No invariant says that an edge leads to one of the vertices that have places.
             let Some(of) = self.of.get_mut(usize::from(last) - 1) else {
                 return Ok(false);
             };
@@ -395,6 +396,7 @@ fn spread(segments: &mut [Segment], firsts: &[u16]) -> bool
             if named == 0 {
                 break;
             }
+            // No invariant says that each segment is in one list only.
             if free == 0 {
                 return false;
             }

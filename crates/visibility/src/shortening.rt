@@ -55,6 +55,7 @@ impl Shortening {
         if !find_shorter(&mut self.search, segments, wires, &mut self.coordinates)? {
             return Ok(false);
         }
+        // The search does not say how great coordinates are.
         if !are_low(self.coordinates.as_slice()) {
             return Ok(false);
         }
@@ -87,6 +88,7 @@ impl Shortening {
                     break;
                 }
                 let place = self.segments.len();
+                // No invariant says that each segment is in one list only.
                 if place >= segments.len() {
                     return Ok(false);
                 }
