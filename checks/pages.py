@@ -7,6 +7,7 @@ docs/planarbend.1 has the arguments and options of --help in the same words, its
 `man --warnings` finds no fault in it. Its texts are those of checks/start/texts, which checks/first-answer compares
 with the program's. Run directly, this script puts these texts into the man page.
 """
+import collections
 import difflib
 import glob
 import os
@@ -26,9 +27,9 @@ WRITTEN = {"bench/RESULTS.md", "docs/COUNTS.md"}  # by scripts, and so not count
 NO_TREE = {"bench/RESULTS.md"}  # quotes what ran
 NUMBER = re.compile(r"([\d,]*\d) (crates|proofs|edits|attacks|tests)\b")
 # Words of other programs, of formats, and of the system.
-OUTSIDE = set("""rt ci check fmt tidy lemma test doc version must-fail verdict Ok Err printf png svg planarg geng -p -c -D4
-    plantri parallel slurm-wlm munge nauty chromium futex clap MOD RES kill cred_expire slurm.conf sshlogin workdir env
-    passed failed smallvec --only requires docs/REFUSED.md python3-networkx""".split())
+OUTSIDE = set("""rt ci check fmt tidy lemma test doc version must-fail verdict Ok Err printf png svg planarg geng -p -c
+    -D4 plantri parallel slurm-wlm munge nauty chromium futex clap MOD RES kill cred_expire slurm.conf sshlogin workdir
+    env passed failed smallvec --only requires docs/REFUSED.md python3-networkx""".split())
 MAN, TEXTS = "docs/planarbend.1", "checks/start/texts"
 ENTRY = re.compile(r"^ {2,6}(-\S.*?|<.*?>\S*)  +(\S.*)$")  # an argument or option of --help, and what it says
 WORD = re.compile(r"-{0,2}[A-Za-z_][\w\-]*(?:\.[a-z]\w*)*|\d[\d,.]*")
@@ -57,7 +58,6 @@ class Tree:
 
     def __init__(self, crates):
         self.crates = [crate.name for crate in crates]
-        self.uses = {crate.name: [dep.name for dep in crate.deps] for crate in crates}
         self.files, self.folders = set(), set()
         for folder, below, names in os.walk(ROOT):
             below[:] = [name for name in below if name not in (".git", "out", "__pycache__")]
@@ -107,7 +107,7 @@ class Tree:
 
 def near(tree, text):
     """The crates that a piece of text names in backticks."""
-    return [name for name in re.findall(r"`(\w+)(?=::|`)", text) if name in tree.uses]
+    return [name for name in re.findall(r"`(\w+)(?=::|`)", text) if name in tree.crates]
 
 
 def spans(page, text):
@@ -129,7 +129,7 @@ def lost_names(tree, page, text):
         if tree.has_path(name) or (crates == tree.crates and name in tree.all):
             continue
         first = name.split("::")[0]
-        here = [first] if first != name and first in tree.uses else []
+        here = [first] if first != name and first in tree.crates else []
         for word in WORD.findall(re.sub(r"['\"\[\]{}()|=]", " ", name.replace("::", " "))):
             if not (tree.has(word, here or crates) or tree.has_path(word)):
                 lost.append(f"{page}: `{name}`: there is no {word}"
@@ -140,12 +140,11 @@ def lost_names(tree, page, text):
 
 def clauses_by_call(tree):
     """The named clauses of all functions of the crates, by the function's name."""
-    found = {}
-    for file in tree.files:
-        if re.fullmatch(r"crates/\w+/src/.*\.rt", file):
-            _, *parts = re.split(r"\bfn (\w+)", text_of(file))
-            for name, contract in zip(parts[::2], parts[1::2]):
-                found.setdefault(name, set()).update(re.findall(r"\bensures (\w+) \{", contract))
+    found = collections.defaultdict(set)
+    for file in filter(re.compile(r"crates/\w+/src/.*\.rt").fullmatch, tree.files):
+        _, *parts = re.split(r"\bfn (\w+)", text_of(file))
+        for name, contract in zip(parts[::2], parts[1::2]):
+            found[name].update(re.findall(r"\bensures (\w+) \{", contract))
     return found
 
 

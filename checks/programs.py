@@ -37,6 +37,10 @@ RESULTS = os.path.join(ROOT, "bench/RESULTS.md")
 EDGE, TRIANGLE, LONE = b"\2\2\0\1\0", b"\3\2\3\0\3\1\0\1\2\0", b"\1\0"
 OCTAHEDRON = bytes([6, 2, 3, 4, 5, 0, 6, 3, 1, 5, 0, 2, 6, 4, 1, 0, 1, 3, 6, 5, 0, 2, 1, 4, 6, 0, 2, 5, 4, 3, 0])
 
+# Messages of the program.
+MEMORY, THREAD = "planarbend: out of memory\n", "planarbend: cannot start a thread\n"
+LOST = "planarbend: internal error: a worker thread disconnected\n"
+
 PIECE = 1 << 20  # bytes of output read at a time, at most
 
 
@@ -176,24 +180,15 @@ def planarbend() -> str:
     return built(os.environ.get("PLANARBEND") or f"{ROOT}/crates/planarbend/out/planarbend", "./planarbend --build")
 
 
-def measures() -> str:
-    """The built program of crates/measures, which times the layers of the library."""
-    return of_crate("measures", "run -- planes")
+def of_crate(crate: str, command: str) -> str:
+    """The program that `rt` with this command builds in a crate: its tests, or the program that it is."""
+    name = crate + "_tests" if command == "test" else crate
+    return built(f"{ROOT}/crates/{crate}/out/{name}", f"(cd crates/{crate} && rt {command})")
 
 
 def corpus() -> str:
     """The built program of crates/corpus, which tries the layers of the library."""
     return of_crate("corpus", "run -- again")
-
-
-def tests_of(crate: str) -> str:
-    """The built tests of a crate."""
-    return of_crate(crate, "test", "_tests")
-
-
-def of_crate(crate: str, command: str, ending: str = "") -> str:
-    """What `rt` with this command builds in a crate."""
-    return built(f"{ROOT}/crates/{crate}/out/{crate}{ending}", f"(cd crates/{crate} && rt {command})")
 
 
 def built(program: str, command: str) -> str:
@@ -282,20 +277,19 @@ def copy_crates(folder: str, top: str, root: str = ROOT) -> str:
     return os.path.join(folder, "crates", top)
 
 
-def plant(edit: str, crate: str) -> None:
-    """Makes the changes of an edit in a crate: lines `file:`, `old:` and `new:`."""
-    with open(edit, encoding="utf-8") as lines:
-        for line in lines:
-            word, _, text = line.rstrip("\n").partition(": ")
-            if word == "file":
-                path = os.path.join(crate, text)
-            elif word == "old":
-                old = text
-            elif word == "new":
-                whole = read(path).decode()
-                if whole.count(old) != 1:
-                    sys.exit(f"{edit}: its text does not occur once in {path}")
-                Path(path).write_text(whole.replace(old, text), encoding="utf-8")
+def plant(edit: str, folder: str) -> None:
+    """Makes the changes of an edit, lines `file:`, `old:` and `new:`, in the copy of its crate below a folder."""
+    for line in read(edit).decode().splitlines():
+        word, _, text = line.partition(": ")
+        if word == "file":
+            path = Path(folder, "crates", os.path.basename(os.path.dirname(edit)), text)
+        elif word == "old":
+            old = text
+        elif word == "new":
+            whole = path.read_text(encoding="utf-8")
+            if whole.count(old) != 1:
+                sys.exit(f"{edit}: its text does not occur once in {path}")
+            path.write_text(whole.replace(old, text), encoding="utf-8")
 
 
 def run(words: Sequence[str], stderr: int | None = None) -> Run:

@@ -12,9 +12,9 @@
     copies    twelve copies of a tree and of a path, in turn (crates/corpus/data/copies.pc). The tree has ten vertices,
               none of degree 2; the path has forty. Both can be drawn without bends and with edges of length 1, the path
               without a turn, so they are 9 and 39 long, and longer in quick drawings.
-    prism     the medial graph of a prism over a cycle of 85 vertices (crates/corpus/data/prism85.pc): its vertices are
-              the 255 edges of the prism, and two are joined if one follows the other round a face. They are numbered
-              by a breadth-first search from the first.
+    prism     the medial graph of a prism over a cycle of 85 vertices (crates/corpus/data/prism85.pc), numbered by a
+              breadth-first search: its vertices are the 255 edges of the prism, and two are joined if one follows the
+              other round a face.
     growing   graphs that grow by an edge each to that one, from one edge to 510: of every order from 2 to 255 and every
               number of faces from 1 to 257. Each has its first edges, by their greater ends and then their lesser
               ones, and keeps the order of neighbours. The program `corpus` makes them too.
@@ -36,7 +36,7 @@ from collections.abc import Callable, Iterator
 
 sys.path.insert(0, os.path.join(os.path.dirname(os.path.abspath(__file__)), "../../checks"))
 import programs
-from planarbend.planar_code import HEADER, record_of
+from planarbend.planar_code import HEADER, Lists, record_of
 from planarbend.reports import End, File, Graph
 
 MOST_DEGREE = 4
@@ -45,7 +45,6 @@ PATH = [[2], *([at - 1, at + 1] for at in range(2, 40)), [39]]
 SIDES = 85
 
 Rotation = dict[int, list[int]]  # the neighbours of each vertex, clockwise, from 0
-Lists = list[list[int]]  # the same, in order
 Dart = tuple[int, int]
 Placed = tuple[list[tuple[float, float]], list[Dart]]  # the places of vertices, and edges
 

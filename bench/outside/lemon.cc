@@ -1,6 +1,6 @@
-// Answers of an outside program, to compare with, by its first argument. FILE is planar_code; `bends`, `best` and `planes`
-// print the lines of the report up to the bends, by LEMON's network simplex, and totals at last, which stand alone after
-// the word `quiet`.
+// Answers of an outside program, to compare with, by its first argument. FILE is planar_code; `bends`, `best` and
+// `planes` print the lines of the report up to the bends, by LEMON's network simplex, and totals at last, which stand
+// alone after the word `quiet`.
 //
 //   bends FILE    the fewest bends of each graph
 //   best FILE     the fewest bends with whichever face as the outer one
@@ -21,7 +21,6 @@
 #include <lemon/list_graph.h>
 #include <stdexcept>
 #include <utility>
-
 
 // The fewest bends with whichever face as the outer one.
 static long best_bends(Graph graph) {
@@ -106,10 +105,10 @@ static void print_report(const std::string &text, Report report) {
 // ---- Lengths of drawings along one axis.
 //
 // Segments keep their order on each level that two of them share, one unit apart at least: the dual of that linear
-// program sends units from segments where more edges begin to those where more end, over each such pair, and as many as
-// can be. A drawing on standard input is whole numbers: how many segments there are; how many wires, and the segments of
-// each, counted from 0, the lesser coordinate first; how many pairs that are one unit apart at least, and likewise their
-// segments. Wires are pairs too.
+// program sends units from segments where more edges begin to those where more end, over each such pair, and as many
+// as can be. A drawing on standard input is whole numbers: how many segments there are; how many wires, and the
+// segments of each, counted from 0, the lesser coordinate first; how many pairs that are one unit apart at least, and
+// likewise their segments. Wires are pairs too.
 
 struct Random {
   uint64_t state;
@@ -119,20 +118,13 @@ struct Random {
   }
 };
 
-struct Segment {
-  int low, high;
-};
+using Pair = std::pair<int, int>;
+using Pairs = std::vector<Pair>;
 
-static bool share_a_level(const Segment &one, const Segment &other) {
-  return std::max(one.low, other.low) <= std::min(one.high, other.high);
+// Whether segments share a level, each given by its least and its greatest.
+static bool share_a_level(const Pair &one, const Pair &other) {
+  return std::max(one.first, other.first) <= std::min(one.second, other.second);
 }
-
-// How many segments a drawing has, on how many levels and each on how many at most, and how many wires are tried.
-struct Size {
-  int count, levels, height, wires;
-};
-
-using Pairs = std::vector<std::pair<int, int>>;
 
 static long least_length(int count, const Pairs &wires, const Pairs &apart) {
   lemon::ListDigraph graph;
@@ -151,16 +143,15 @@ static long least_length(int count, const Pairs &wires, const Pairs &apart) {
   return -simplex.totalCost<long>();
 }
 
-static long least_length(Random &random, const Size &size) {
-  const int count = size.count;
-  std::vector<Segment> segments;
+// Of a drawing with so many segments, on so many levels and each on at most `height`.
+static long least_length(Random &random, int count, int levels, int height) {
+  Pairs segments, wires, apart;
   for (int r = 0; r < count; ++r) {
     random.below(3);  // how far behind the segment before it is drawn
-    const int low = random.below(size.levels);
-    segments.push_back({low, std::min(low + random.below(size.height), size.levels - 1)});
+    const int low = random.below(levels);
+    segments.push_back({low, std::min(low + random.below(height), levels - 1)});
   }
-  Pairs wires, apart;
-  for (int tried = 0; tried < size.wires; ++tried) {
+  for (int tried = 0; tried < 2 * count; ++tried) {
     const int one = random.below(count), other = random.below(count);
     if (one == other || !share_a_level(segments[one], segments[other])) continue;
     wires.push_back({std::min(one, other), std::max(one, other)});
@@ -200,13 +191,13 @@ static int print_lengths() {
     for (uint64_t drawing = first; drawing < first + 100; ++drawing) {
       Random random{drawing};
       const int count = random.below(30) + 2, levels = random.below(12) + 1;
-      total += least_length(random, {count, levels, levels, 2 * count});
+      total += least_length(random, count, levels, levels);
     }
     std::cout << total << "\n";
   }
   for (const int count : {300, 600, 1000}) {
     Random random{static_cast<uint64_t>(count)};
-    std::cout << count << " " << least_length(random, {count, 40, 8, 2 * count}) << "\n";
+    std::cout << count << " " << least_length(random, count, 40, 8) << "\n";
   }
   return 0;
 }

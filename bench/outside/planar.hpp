@@ -14,7 +14,7 @@
 struct Graph {
   int vertices = 0;
   std::vector<std::vector<int>> lists;   // by vertex, from 1
-  std::vector<int> tail, head, reverse, after, next, face;
+  std::vector<int> tail, head, reverse, after, face;
   std::vector<int> degree;               // by face
   int outer = 0;
   int darts() const { return static_cast<int>(head.size()); }
@@ -90,7 +90,6 @@ inline const char *broken_rule(Graph &graph) {
   if (reached != n) return "disconnected";
   graph.reverse.resize(darts);
   graph.after.resize(darts);
-  graph.next.resize(darts);
   int first = 0;
   for (int u = 1; u <= n; ++u) {
     const int degree = static_cast<int>(graph.lists[u].size());
@@ -98,13 +97,12 @@ inline const char *broken_rule(Graph &graph) {
     first += degree;
   }
   for (int d = 0; d < darts; ++d) graph.reverse[d] = place[graph.head[d]][graph.tail[d]];
-  for (int d = 0; d < darts; ++d) graph.next[d] = graph.after[graph.reverse[d]];
   graph.face.assign(darts, -1);
   graph.degree.clear();
   for (int d = 0; d < darts; ++d) {
     if (graph.face[d] >= 0) continue;
     int size = 0;
-    for (int e = d; graph.face[e] < 0; e = graph.next[e]) {
+    for (int e = d; graph.face[e] < 0; e = graph.after[graph.reverse[e]]) {
       graph.face[e] = static_cast<int>(graph.degree.size());
       ++size;
     }
@@ -153,4 +151,6 @@ inline long least_cost(const Graph &graph, int bend, int turn, const std::vector
   return simplex.totalCost();
 }
 
-inline long fewest_bends(const Graph &graph, const std::vector<bool> &straight = {}) { return least_cost(graph, 1, 0, straight); }
+inline long fewest_bends(const Graph &graph, const std::vector<bool> &straight = {}) {
+  return least_cost(graph, 1, 0, straight);
+}

@@ -12,12 +12,11 @@ from typing import Any
 from machine import (
     AS_NOBODY, broken_pipe, closing, FULL, full_disk, HEADER, is_fault, limits, LONE, Machine, Ran, TRIANGLE, TWICE,
     TWO, WRITE, Wrong)
+from outputs import ends_by
+from programs import ROOT, read
 
 
 # ---- Arguments of the command line: wrong ones, help, and the version.
-
-ROOT = os.path.dirname(os.path.dirname(os.path.dirname(os.path.abspath(__file__))))
-
 
 NEEDS_JSON = ("error: --drawing needs --json: the report has no drawings\n\nUsage: planarbend <COMMAND>\n\n"
               "For more information, try '--help'.\n")
@@ -48,20 +47,18 @@ def refused(path: str) -> list[tuple[str, list[Any], str | None]]:
         ("a choice that is not said", ["layout", path, "--outer"], None),
         ("no such drawing", ["layout", "--drawing", "x", path], None),
         ("a kind of drawing for the report", ["layout", "--drawing", "short", path], NEEDS_JSON),
-        *[(f"{option} {number}", ["layout", option, number, path], f"planarbend: {option[2:]} must be 1 to {most}\n")
-          for option, most in (("--lanes", 8), ("--waiting", 65536)) for number in ("0", "-1", "x", "", "1.5", "65537")],
-        *[(f"{option}={number}", ["layout", f"{option}={number}", path], f"planarbend: {option[2:]} must be 1 to {most}\n")
-          for option, most in (("--lanes", 8), ("--waiting", 65536)) for number in ("0", "-1", "x", "4294967297")]]
+        *[(" ".join(words), ["layout", *words, path], f"planarbend: {option[2:]} must be 1 to {most}\n")
+          for option, most in (("--lanes", 8), ("--waiting", 65536))
+          for words in [*([option, number] for number in ("0", "-1", "x", "", "1.5", "65537")),
+                        *([f"{option}={number}"] for number in ("0", "-1", "x", "4294967297"))]]]
 
 
 def version_text() -> bytes:
     """The newest version in CHANGELOG.md, and the output of `rt version` without the letter after the kit's number,
     since kits with the same number and logic prove the same; if there is no `rt`, the text of checks/start."""
     if not shutil.which("rt"):
-        with open(os.path.join(ROOT, "checks/start/texts/version"), "rb") as text:
-            return text.read()
-    with open(os.path.join(ROOT, "CHANGELOG.md"), encoding="utf-8") as changes:
-        number = re.search(r"^## ([0-9.]+), ", changes.read(), re.MULTILINE)
+        return read(f"{ROOT}/checks/start/texts/version")
+    number = re.search(r"^## ([0-9.]+), ", read(f"{ROOT}/CHANGELOG.md").decode(), re.MULTILINE)
     toolchain = subprocess.run(["rt", "version"], stdout=subprocess.PIPE, text=True, check=True).stdout.strip()
     kit = re.sub(r"^(rattle-kit-\d+)[a-z]*", r"\1", toolchain)
     return f"planarbend {number[1] if number else ''}\nproved with {kit}\n".encode()
@@ -75,7 +72,7 @@ ROOM = 64 << 20  # bytes of address space, in which a line of any length is read
 DRAWN = b"""{"points":{"vertices":[[0,0],[5,0]],"corners":[[]]}}
 {"points":{"vertices":[[0,1],[1,1],[0,0]],"corners":[[],[],[[1,0]]]}}
 """
-OBLIQUE = DRAWN.replace(b"[[1,0]]", b"")
+OBLIQUE = DRAWN.replace(b"[[1,0]]", b"[]")
 OK = b"graph 1 ok bends=0 fewest=0\ngraph 2 ok bends=1 fewest=1\nend complete graphs=2 surplus=0\n"
 OK_JSON = (b'{"graph":1,"ok":true,"bends":0,"fewest":0}\n{"graph":2,"ok":true,"bends":1,"fewest":1}\n'
            b'{"end":"complete","graphs":2,"surplus":0}\n')
@@ -91,14 +88,16 @@ def check_check(machine: Machine) -> None:
     says(machine, "two drawings", [two, drawn], OK, 0)
     says(machine, "two drawings as JSON", [two, drawn, "--json"], OK_JSON, 0)
     says(machine, "an oblique edge", ["--faces", two, oblique], NOT_OK, 4)
-    says(machine, "the same file twice", [none, none], b"end header graphs=0 surplus=0\n", 3, NEVER.format(none, "empty file"))
+    says(machine, "the same file twice", [none, none], b"end header graphs=0 surplus=0\n", 3,
+         NEVER.format(none, "empty file"))
     reads_pipes(machine, two, drawn)
     names_files(machine, two, none)
     reads_long_lines(machine)
     fails_to_write(machine, [two, drawn])
     ends_by_signals(machine, two)
-    for name, words, text in [("no file", [], None), ("one file", [two], None), ("three files", [two, drawn, drawn], None),
-                              ("standard input twice", ["-", "-"], TWICE), ("--lanes", ["--lanes", "2", two, drawn], None),
+    for name, words, text in [("no file", [], None), ("one file", [two], None),
+                              ("three files", [two, drawn, drawn], None), ("standard input twice", ["-", "-"], TWICE),
+                              ("--lanes", ["--lanes", "2", two, drawn], None),
                               ("--progress", ["--progress", two, drawn], None)]:
         with machine.case("check", name):
             is_fault(machine.run(["check", *words]), 2, text)
@@ -112,7 +111,8 @@ def says(machine: Machine, name: str, words: list[Any], out: bytes, status: int,
 
 def is_said(ran: Ran, out: bytes, status: int, err: str = "") -> None:
     if ran != (status, out, err):
-        raise Wrong(f"status {ran.status}, {ran.out[-200:]!r}, {ran.err!r}; not status {status}, {out[-200:]!r}, {err!r}")
+        raise Wrong(f"status {ran.status}, {ran.out[-200:]!r}, {ran.err!r}; not status {status}, {out[-200:]!r},"
+                    f" {err!r}")
 
 
 def reads_pipes(machine: Machine, two: str, drawn: str) -> None:
@@ -141,8 +141,9 @@ def names_files(machine: Machine, two: str, none: str) -> None:
         said = NEVER.format(path, reason)
         says(machine, f"{name} for the graphs", [path, none], NO_GRAPHS, 3, said, **how)
         says(machine, f"{name} for the lines", [two, path], UNREAD, 3, said, **how)
-    says(machine, "both missing", [missing, missing + "-too"], NO_GRAPHS, 3,
-         NEVER.format(missing, "No such file or directory") + NEVER.format(missing + "-too", "No such file or directory"))
+    both = [missing, missing + "-too"]
+    says(machine, "both missing", both, NO_GRAPHS, 3,
+         "".join(NEVER.format(path, "No such file or directory") for path in both))
 
 
 def reads_long_lines(machine: Machine) -> None:
@@ -168,8 +169,8 @@ def fails_to_write(machine: Machine, paths: list[str]) -> None:
     for name, make, said in [("full disk", full_disk, FULL), ("closed pipe", broken_pipe, "")]:
         with machine.case("check", f"standard output is a {name}"), make() as output:
             is_said(machine.run(["check", *paths], stdout=output), b"", 1, said)
-    says(machine, "standard output closed", paths, b"", 1, WRITE.format("Bad file descriptor"), stdout=subprocess.DEVNULL,
-         preexec_fn=closing(1))
+    says(machine, "standard output closed", paths, b"", 1, WRITE.format("Bad file descriptor"),
+         stdout=subprocess.DEVNULL, preexec_fn=closing(1))
     says(machine, "standard error closed", paths, OK, 0, preexec_fn=closing(2))
 
 
@@ -179,7 +180,4 @@ def ends_by_signals(machine: Machine, two: str) -> None:
         with machine.case("check", f"{which.name} while it waits for a FIFO"):
             with machine.started(["check", two, machine.fifo()]) as child:
                 time.sleep(0.05)
-                child.send_signal(which)
-                ran = machine.ended(child)
-            if ran.status != -which or ran.out or ran.err:
-                raise Wrong(f"status {ran.status}, {ran.out!r}, {ran.err!r}")
+                ends_by(machine, child, which)

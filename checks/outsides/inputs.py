@@ -19,9 +19,9 @@ from collections.abc import Callable
 from typing import Any
 
 from machine import (
-    AS_NOBODY, BULKY, closing, Command, COMMANDS, EDGE, File, FRAMES, IO, is_fault, is_stopped, is_whole, LAYOUT,
-    LAYOUT_JSON, LAYOUTS, LONE, Machine, PATH_OF_10, PATIENCE, place_in, Ran, split, TRIANGLE, TWICE, TWO, wait_for,
-    waiting_bytes, Wrong)
+    AS_NOBODY, both_ends, BULKY, closing, Command, COMMANDS, EDGE, File, FRAMES, IO, is_fault, is_stopped, is_whole,
+    LAYOUT, LAYOUT_JSON, LAYOUTS, LONE, Machine, PATH_OF_10, PATIENCE, place_in, Ran, split, TRIANGLE, TWICE, TWO,
+    wait_for, waiting_bytes, Wrong)
 from planarbend.planar_code import HEADER, MOST_RECORDS
 
 
@@ -85,7 +85,6 @@ def check_several(machine: Machine) -> None:
 
 PIECE = 65_536  # bytes that one read asks for
 GRAPHS = 45_000  # whose report leaves in more than 100 writes
-ROW = 255  # bytes of a list of a bulky record, with the 0 after it
 
 
 def check_pieces(machine: Machine) -> None:
@@ -108,15 +107,12 @@ def check_pieces(machine: Machine) -> None:
 
 def bulky_text(count: int) -> tuple[bytes, list[bytes]]:
     """This many of the longest records: each value from 1 to 255 occurs as an entry at the end of a piece."""
-    text = bytearray(HEADER + (b"\xff" + 255 * (b"\1" * (ROW - 1) + b"\0")) * count)
-    value = 0
-    for end in range(PIECE, len(text), PIECE):
-        value = value % 255 + 1
+    text = bytearray(HEADER + BULKY * count)
+    for piece, end in enumerate(range(PIECE, len(text), PIECE)):
         for place in (end - 1, end):
             if text[place] == 1:
-                text[place] = value
-    size = 1 + 255 * ROW
-    body = bytes(text[len(HEADER):])
+                text[place] = piece % 255 + 1
+    size, body = len(BULKY), bytes(text[len(HEADER):])
     return bytes(text), [body[place:place + size] for place in range(0, len(body), size)]
 
 
@@ -188,22 +184,16 @@ def named_pipes(machine: Machine, command: Command) -> None:
 def slowly(machine: Machine, command: Command, text: bytes, pause: float, stop: bool = False) -> Ran:
     """A run over a FIFO that delivers this text, with a pause after each byte, in which the run may be stopped."""
     path = machine.fifo()
-    writer = os.open(path, os.O_RDWR)
-    try:
-        with machine.started([*command.words, path]) as child:
-            for byte in text:
-                os.write(writer, bytes([byte]))
-                time.sleep(pause)
-                if stop:
-                    child.send_signal(signal.SIGSTOP)
-                    child.send_signal(signal.SIGCONT)
-            wait_for(lambda: not waiting_bytes(writer) or child.poll() is not None, "the end of the FIFO")
-            os.close(writer)
-            writer = -1
-            return machine.ended(child)
-    finally:
-        if writer >= 0:
-            os.close(writer)
+    with both_ends(path) as writer, machine.started([*command.words, path]) as child:
+        for byte in text:
+            writer.write(bytes([byte]))
+            time.sleep(pause)
+            if stop:
+                child.send_signal(signal.SIGSTOP)
+                child.send_signal(signal.SIGCONT)
+        wait_for(lambda: not waiting_bytes(writer.fileno()) or child.poll() is not None, "the end of the FIFO")
+        writer.close()
+        return machine.ended(child)
 
 
 def endless(pipe: Any) -> None:
@@ -260,33 +250,26 @@ def input_is_a_file(machine: Machine, command: Command, before: str) -> None:
 
 def input_is_a_folder(machine: Machine, command: Command) -> None:
     """Standard input that opens, and that no read reads."""
-    with machine.case(command, "- is a directory"):
+    with machine.case(command, "- is a directory"), contextlib.ExitStack() as opened:
         folder = os.open(machine.room, os.O_RDONLY)
-        try:
-            is_whole(command, machine.run([*command.words, "-"], stdin=folder), [IO])
-        finally:
-            os.close(folder)
+        opened.callback(os.close, folder)
+        is_whole(command, machine.run([*command.words, "-"], stdin=folder), [IO])
 
 
 def numbered_as_input(machine: Machine, command: Command) -> Ran:
     """A run of two lanes without standard input over two FIFOs and `-`. One of the FIFOs gets the number of standard
     input, and ends after `-` has come."""
     paths = [machine.fifo(), machine.fifo()]
-    writers = {path: os.open(path, os.O_RDWR) for path in paths}
-    try:
-        with machine.started([*command.words, *paths, "-"], preexec_fn=closing(0)) as child:
-            wait_for(lambda: child.poll() is not None or all(place_in(child.pid, path) >= 0 for path in paths),
-                     "two files")
-            first = os.path.realpath(f"/proc/{child.pid}/fd/0")
-            for path in sorted(paths, key=lambda path: path == first):
-                os.write(writers[path], TWO)
-                os.close(writers.pop(path))
-                wait_for(lambda: child.poll() is not None or place_in(child.pid, path) < 0, "the end of a file")
-                time.sleep(0.1)
-            return machine.ended(child)
-    finally:
-        for writer in writers.values():
-            os.close(writer)
+    with both_ends(paths[0]) as one, both_ends(paths[1]) as other, \
+            machine.started([*command.words, *paths, "-"], preexec_fn=closing(0)) as child:
+        wait_for(lambda: child.poll() is not None or all(place_in(child.pid, path) >= 0 for path in paths), "two files")
+        first = os.path.realpath(f"/proc/{child.pid}/fd/0")
+        for path, writer in sorted([(paths[0], one), (paths[1], other)], key=lambda pair: pair[0] == first):
+            writer.write(TWO)
+            writer.close()
+            wait_for(lambda: child.poll() is not None or place_in(child.pid, path) < 0, "the end of a file")
+            time.sleep(0.1)
+        return machine.ended(child)
 
 
 # ---- Files that shrink and grow while they are read.
@@ -393,13 +376,11 @@ def fails_in_the_middle(machine: Machine, command: Command) -> None:
     """A read that fails after two records: the other end of a terminal is gone."""
     with machine.case(command, "what is said of a read that fails in the middle"):
         master, terminal = pty.openpty()
-        try:
+        with os.fdopen(master, "rb", buffering=0) as given:
             tty.setraw(terminal)
             os.write(terminal, TWO)
             os.close(terminal)
-            ran = machine.run([*command.words, "-"], stdin=master)
-        finally:
-            os.close(master)
+            ran = machine.run([*command.words, "-"], stdin=given)
         is_whole(command, ran, [File([EDGE, TRIANGLE], "io")], f"planarbend: -: {FAILED}\n")
 
 
@@ -408,10 +389,12 @@ def misfits() -> list[tuple[str, bytes, str | None]]:
     said of them; and a file of which nothing is said."""
     two_bytes = "two-byte form: at most 255 vertices here"
     cases: list[tuple[str, bytes, str | None]] = [
-        ("gzip", gzip.compress(TWO), "gzip-compressed: use zcat"), ("xz", lzma.compress(TWO), "xz-compressed: use xzcat"),
+        ("gzip", gzip.compress(TWO), "gzip-compressed: use zcat"),
+        ("xz", lzma.compress(TWO), "xz-compressed: use xzcat"),
         ("bzip2", bz2.compress(TWO), "bzip2-compressed: use bzcat"),
         ("two bytes", HEADER + b"\0\1\x2c" + b"\0\2\0\0" * 300, two_bytes),
-        ("little endian", b">>planar_code le<<" + EDGE, two_bytes), ("big endian", b">>planar_code be<<" + EDGE, two_bytes),
+        *[(f"{order} endian", b">>planar_code " + order[:1].encode() + b"e<<" + EDGE, two_bytes)
+          for order in ("little", "big")],
         ("edge_code", b">>edge_code<<\3\1\2\xff\1", "edge_code, not planar_code"),
         ("graph6", b"C~\nDhC\n", "graph6: use planarg -p"), ("sparse6", b":Cca\n", "sparse6: use planarg -p"),
         ("an empty file", b"", "empty file"), ("text", b"graph { a -- b }\n", "text, not planar_code"),

@@ -1,6 +1,7 @@
 """Limits on open files, threads and address space."""
 from __future__ import annotations
 
+import bisect
 import contextlib
 import ctypes
 import os
@@ -11,10 +12,11 @@ from collections.abc import Iterable
 from typing import Any, NamedTuple
 
 from machine import (
-    are_same, AS_NOBODY, Command, COMMANDS, events_of, expected_events, File, IO, is_beginning, is_fault, IS_ROOT,
-    is_whole, lacks_memory, LAYOUT, LAYOUT_JSON, LAYOUTS, limits, LOST, Machine, MEMORY, NOBODY, Ran, split, THREAD,
-    TRIANGLE, TWO, wait_for, waiting_bytes, Wrong)
+    are_same, AS_NOBODY, both_ends, Command, COMMANDS, events_of, expected_events, File, IO, is_beginning, is_fault,
+    IS_ROOT, is_whole, lacks_memory, LAYOUT, LAYOUT_JSON, LAYOUTS, limits, Machine, NOBODY, Ran, split, TRIANGLE, TWO,
+    wait_for, waiting_bytes, Wrong)
 from planarbend.planar_code import HEADER
+from programs import LOST, MEMORY, THREAD
 
 
 # ---- Limits on open files: a file that cannot be opened is `io`.
@@ -46,12 +48,11 @@ def one_at_a_time(machine: Machine, command: Command) -> None:
 def without_files(machine: Machine, command: Command) -> Ran:
     """A run over a FIFO and a file, which may open no more files once it reads the FIFO."""
     path = machine.fifo()
-    writer = os.open(path, os.O_RDWR)
-    with machine.started([*command.words, path, machine.two]) as child:
-        os.write(writer, TWO)
-        wait_for(lambda: not waiting_bytes(writer), "a read")
+    with both_ends(path) as writer, machine.started([*command.words, path, machine.two]) as child:
+        writer.write(TWO)
+        wait_for(lambda: not waiting_bytes(writer.fileno()), "a read")
         resource.prlimit(child.pid, resource.RLIMIT_NOFILE, (3, 3))
-        os.close(writer)
+        writer.close()
         return machine.ended(child)
 
 
@@ -119,13 +120,12 @@ def check_memory(machine: Machine) -> None:
 
 def loaded_from(machine: Machine) -> int:
     """The least address space, in kB, with which the system's loader brings the program to its start."""
-    low, high = 0, MOST_TO_LOAD
-    while high - low > 4:
-        middle = (low + high) // 2
+    def is_enough(space: int) -> bool:
         traced = {"LD_TRACE_LOADED_OBJECTS": "1"}  # the loader ends where the program would start
-        ran = machine.run([], environment=traced, preexec_fn=limits(AS=middle << 10))
-        low, high = (low, middle) if ran.status == 0 else (middle, high)
-    return high
+        return machine.run([], environment=traced, preexec_fn=limits(AS=space << 10)).status == 0
+
+    steps = range(0, MOST_TO_LOAD, 4)
+    return steps[bisect.bisect_left(steps, True, key=is_enough)]
 
 
 def climb(machine: Machine, runs: Climb) -> None:

@@ -18,12 +18,12 @@ from typing import Any, NamedTuple
 
 from planarbend import planar_code, reports
 from planarbend.planar_code import HEADER
+from programs import EDGE, LONE, TRIANGLE
 
 
 # ---- What the program is given and must answer: the commands that are tried, the records of the files, the texts of
 # faults, and the lines of a whole report, as README.md, docs/FORMAT.md and docs/JSON.md say.
 
-EDGE, TRIANGLE, LONE = b"\2\2\0\1\0", b"\3\2\3\0\3\1\0\1\2\0", b"\1\0"
 # A path of 10 vertices, whose record begins with a line end.
 PATH_OF_10 = b"\n\2\0" + b"".join(bytes([vertex - 1, vertex + 1, 0]) for vertex in range(2, 10)) + b"\x09\0"
 BULKY = b"\xff" + 255 * (254 * b"\1" + b"\0")  # the longest record there is; no graph
@@ -35,8 +35,6 @@ LONG = HEADER + (EDGE + TRIANGLE) * MANY
 ANSWERS = {EDGE: "ok n=2 m=1 f=1 bends=0 drawn=yes", TRIANGLE: "ok n=3 m=3 f=2 bends=1 drawn=yes",
            LONE: "refused edgeless", PATH_OF_10: "ok n=10 m=9 f=1 bends=0 drawn=yes"}
 
-MEMORY, THREAD = "planarbend: out of memory\n", "planarbend: cannot start a thread\n"
-LOST = "planarbend: internal error: a worker thread disconnected\n"
 WRITE = "planarbend: cannot write output: {}\n"  # with the reason, as the system has it
 FULL = WRITE.format("No space left on device")
 TWICE = ("error: '-' (standard input) may be given only once\n\n"
@@ -185,7 +183,8 @@ def lacks_memory(event: Event) -> bool:
 def are_same(events: list[Event], expected: list[Event], scarce: bool) -> bool:
     """Whether these are the lines expected; where memory is scarce, a graph may be `memory` instead."""
     return len(events) == len(expected) and all(
-        event == other or scarce and lacks_memory(event) and event[0] == other[0] and event[1].split()[:2] == other[1].split()[:2]
+        event == other or scarce and lacks_memory(event)
+        and (event[0], event[1].split()[:2]) == (other[0], other[1].split()[:2])
         for event, other in zip(events, expected))
 
 
@@ -243,6 +242,11 @@ def broken_pipe() -> Any:
 def full_disk() -> Any:
     """An output without space."""
     return open("/dev/full", "wb", buffering=0)
+
+
+def both_ends(fifo: str) -> Any:
+    """The end of a FIFO by which it is written, and by which it is also open for reading."""
+    return open(fifo, "r+b", buffering=0)
 
 
 def wait_for(holds: Callable[[], object], text: str) -> None:

@@ -16,9 +16,9 @@ from collections.abc import Iterator
 from typing import Any
 
 from machine import (
-    broken_pipe, closing, Command, COMMANDS, EDGE, Event, events_of, expected_events, File, FRAMES, FULL, full_disk,
-    IO, is_beginning, is_fault, is_whole, LAYOUT, LAYOUTS, limits, LONG, Machine, MANY, PATIENCE, place_in, Ran,
-    split, TRIANGLE, TWO, wait_for, waiting_bytes, WRITE, Wrong)
+    both_ends, broken_pipe, closing, Command, COMMANDS, EDGE, Event, events_of, expected_events, File, FRAMES, FULL,
+    full_disk, IO, is_beginning, is_fault, is_whole, LAYOUT, LAYOUTS, limits, LONG, Machine, MANY, PATIENCE, place_in,
+    Ran, split, TRIANGLE, TWO, wait_for, waiting_bytes, WRITE, Wrong)
 from planarbend.planar_code import HEADER
 
 
@@ -106,9 +106,9 @@ def to_a_short_file(machine: Machine, words: list[Any]) -> Ran:
         signal.signal(signal.SIGXFSZ, signal.SIG_IGN)
         limits(FSIZE=16)()
     path = machine.path()
-    with open(path, "wb") as file:
+    with open(path, "w+b") as file:
         ran = machine.run(words, stdout=file, preexec_fn=prepare)
-    with open(path, "rb") as file:
+        file.seek(0)
         return ran._replace(out=file.read())
 
 
@@ -155,11 +155,10 @@ def check_signals(machine: Machine) -> None:
 def ends_while_it_reads(machine: Machine, command: Command, which: signal.Signals) -> None:
     """The run has read a part of a FIFO, and waits for the rest."""
     path = machine.fifo()
-    with contextlib.closing(os.fdopen(os.open(path, os.O_RDWR), "r+b", buffering=0)) as writer:
-        with machine.started([*command.words, path]) as child:
-            writer.write(TWO + EDGE[:2])
-            wait_for(lambda: not waiting_bytes(writer.fileno()), "a read")
-            ends_by(machine, child, which)
+    with both_ends(path) as writer, machine.started([*command.words, path]) as child:
+        writer.write(TWO + EDGE[:2])
+        wait_for(lambda: not waiting_bytes(writer.fileno()), "a read")
+        ends_by(machine, child, which)
 
 
 def ends_by(machine: Machine, child: subprocess.Popen[bytes], which: signal.Signals, writes: bool = False) -> None:
@@ -199,10 +198,6 @@ class Fed:
     def __init__(self, child: subprocess.Popen[bytes], pipe: Any) -> None:
         self.child, self.pipe, self.out = child, pipe, b""
 
-    def give(self, text: bytes) -> None:
-        """Gives it these bytes at once."""
-        os.write(self.pipe, text)
-
     def tells(self, command: Command, expected: list[Event], patience: float) -> None:
         """It has written these lines within this many seconds, and no others."""
         end = time.monotonic() + patience
@@ -225,15 +220,9 @@ class Fed:
 
     def ends(self, machine: Machine, command: Command, files: list[File]) -> None:
         """The pipe is closed, and the run ends with the whole report of these files."""
-        self.close()
+        self.pipe.close()
         ran = machine.ended(self.child)
         is_whole(command, ran._replace(out=self.out + ran.out), files)
-
-    def close(self) -> None:
-        """Closes the pipe, once."""
-        if self.pipe >= 0:
-            os.close(self.pipe)
-            self.pipe = -1
 
 
 @contextlib.contextmanager
@@ -241,16 +230,12 @@ def feeding(machine: Machine, command: Command, path: str, *more: str) -> Iterat
     """A run over this pipe, and over further files."""
     if path == "-":
         reader, writer = os.pipe()
+        ends = os.fdopen(reader, "rb"), os.fdopen(writer, "wb", buffering=0)
     else:
-        reader, writer = subprocess.DEVNULL, os.open(path, os.O_RDWR)
-    with machine.started([*command.words, path, *more], stdin=reader) as child:
-        if path == "-":
-            os.close(reader)
-        fed = Fed(child, writer)
-        try:
-            yield fed
-        finally:
-            fed.close()
+        ends = open(os.devnull, "rb"), both_ends(path)
+    with ends[0] as reader, ends[1] as writer, machine.started([*command.words, path, *more], stdin=reader) as child:
+        reader.close()
+        yield Fed(child, writer)
 
 
 def begun(command: Command, records: list[bytes]) -> list[Event]:
@@ -262,7 +247,7 @@ def falls_silent(machine: Machine, command: Command, path: str) -> None:
     """Graphs come at once, and then nothing for some seconds."""
     records = [EDGE, TRIANGLE] * (AT_ONCE // 2)
     with feeding(machine, command, path) as fed:
-        fed.give(HEADER + b"".join(records))
+        fed.pipe.write(HEADER + b"".join(records))
         fed.tells(command, begun(command, records), SECOND)
         time.sleep(SECOND / 2)
         before = fed.busy()
@@ -270,7 +255,7 @@ def falls_silent(machine: Machine, command: Command, path: str) -> None:
         took = (fed.busy() - before) / REST
         if took > PART:
             raise Wrong(f"{took:.2%} of a core while nothing comes")
-        fed.give(EDGE)
+        fed.pipe.write(EDGE)
         fed.tells(command, begun(command, [*records, EDGE]), SECOND)
         fed.ends(machine, command, [File([*records, EDGE], "complete")])
 
@@ -279,11 +264,11 @@ def comes_slowly(machine: Machine, command: Command) -> None:
     """One graph per second arrives, and its line within that second."""
     records: list[bytes] = []
     with feeding(machine, command, "-") as fed:
-        fed.give(HEADER)
+        fed.pipe.write(HEADER)
         before, start = 0.0, time.monotonic()
         for record in [EDGE, TRIANGLE, EDGE, EDGE]:
             records.append(record)
-            fed.give(record)
+            fed.pipe.write(record)
             fed.tells(command, begun(command, records), SECOND)
             time.sleep(max(0.0, start + len(records) * SECOND - time.monotonic()))
             if len(records) == 1:  # the run has begun
@@ -299,7 +284,7 @@ def is_before_another(machine: Machine, command: Command) -> None:
     records = [TRIANGLE] * 3
     other = machine.file(HEADER + EDGE * 2_000)
     with feeding(machine, command, "-", other) as fed:
-        fed.give(HEADER + b"".join(records))
+        fed.pipe.write(HEADER + b"".join(records))
         fed.tells(command, begun(command, records), SECOND)
         fed.ends(machine, command, [File(records, "complete"), File([EDGE] * 2_000, "complete")])
 
@@ -345,7 +330,7 @@ def tells_on_a_terminal(machine: Machine, command: Command, wanted: bool) -> Non
 
 
 def shares_a_terminal(machine: Machine, command: Command) -> None:
-    """On a terminal to which the report goes too, each of its lines stands whole, and then the last line of progress."""
+    """On a terminal to which the report goes too, each of its lines stands whole, and then the last of progress."""
     ran, shown = on_a_terminal(machine, command, 200, "stdout", "stderr")
     *report, last = screen_of(shown)
     text = "".join(line + "\n" for line in report).encode()
@@ -467,15 +452,8 @@ def check_waiting(machine: Machine) -> None:
 def pauses(machine: Machine, words: list[str], later: str, wanted: int) -> None:
     """While the first file is held, this many bytes of a later one are read, and not many more."""
     path = machine.fifo()
-    writer = os.open(path, os.O_RDWR)
-    try:
-        with machine.started(["layout", "--lanes", "2", *words, path, later]) as child:
-            place = place_where_it_pauses(child, later, wanted // 2)
-            child.kill()
-            child.wait()
-    finally:
-        os.close(writer)
-        os.remove(path)
+    with both_ends(path), machine.started(["layout", "--lanes", "2", *words, path, later]) as child:
+        place = place_where_it_pauses(child, later, wanted // 2)
     if not wanted // 2 <= place <= wanted + ON_THE_WAY:
         raise Wrong(f"{place} bytes were read, not {wanted // 2} to {wanted + ON_THE_WAY}")
 
@@ -498,18 +476,13 @@ def place_where_it_pauses(child: subprocess.Popen[bytes], path: str, least: int)
 def opens(machine: Machine, words: list[str], lanes: int) -> None:
     """Of ten files without data, as many are open at once as there are lanes."""
     paths = [machine.fifo() for _ in range(10)]
-    writers = [os.open(path, os.O_RDWR) for path in paths]
-    try:
-        with machine.started(["layout", *words, *paths]) as child:
-            wait_for(lambda: count_open(child.pid, paths) >= lanes, f"{lanes} open files")
-            time.sleep(0.1)
-            found = count_open(child.pid, paths)
-            child.kill()
-            child.wait()
-    finally:
-        for path, writer in zip(paths, writers):
-            os.close(writer)
-            os.remove(path)
+    with contextlib.ExitStack() as opened:
+        for path in paths:
+            opened.enter_context(both_ends(path))
+        child = opened.enter_context(machine.started(["layout", *words, *paths]))
+        wait_for(lambda: count_open(child.pid, paths) >= lanes, f"{lanes} open files")
+        time.sleep(0.1)
+        found = count_open(child.pid, paths)
     if found != lanes:
         raise Wrong(f"{found} files were open, not {lanes}")
 

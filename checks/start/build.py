@@ -1,16 +1,13 @@
 #!/usr/bin/env python3
 """Proves and builds the program and the library for C, and shows its progress and about how much time is left. What is
-proved is kept, so a build that was stopped continues there. The exit status is 0 if both are built, otherwise 1;
-nothing is laid out.
+proved is kept, so a build that was stopped continues there. The exit status is 0 if both are built, otherwise 1.
 
 Libraries are proved in parallel, first those on which the longest chain of others depends. Each is built with only its
 statements, as in `rt ci`, so that crates above need not load its proofs. rt builds libraries with their proofs, so the
 kit's compiler is called directly, and its output is kept next to that of rt.
 
 A file next to the program records its sources: their checksums, as `sha256sum` writes them, and as comments their lines
-of crates.txt. With it, `planarbend` detects whether a source has changed since.
-
-`planarbend --build` starts this script.
+of crates.txt. With it, `planarbend` detects whether a source has changed. `planarbend --build` starts this script.
 """
 import concurrent.futures
 import contextlib
