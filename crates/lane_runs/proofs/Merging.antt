@@ -1,5 +1,5 @@
 -- What was taken of all lanes, in whatever order, tells each file that one lane drew.
-use Rattle.std.proofs.Common.{◌≡◌, ◌≢◌, ℕ, zero, suc, ◌+◌, ◌-◌, ◌==◌, ◌<◌, ◌≤◌, Bool, true, false, cond, List, [], ◌∷◌, ◌++◌, map, filter, length, All, inl, inr, refl, sym, ap, subst, ◌∙◌, arith}
+use Rattle.std.proofs.Common.{◌≡◌, ◌≢◌, ℕ, zero, suc, ◌+◌, ◌-◌, ◌==◌, ◌<◌, ◌≤◌, Bool, cond, List, [], ◌∷◌, ◌++◌, map, filter, length, All, inl, inr, refl, sym, ap, subst, ◌∙◌, arith}
 use Rattle.std.proofs.lemmas.Bool.{cases_eq, cases_lt, eq-eqb, ne_eqb}
 use Rattle.std.proofs.lemmas.List.Elements.{filter-append, All-nil, All-cons, All-head, All-tail}
 use Rattle.common.specs.declared.choice.Choice.{Choice}
@@ -112,9 +112,9 @@ module _ {E M : Type 0} (about : E → About) where
       elim (cases_lt lane running) [
         | inl below ↦ ran_at choice meaning tickets fan items held 0 ran seats run settled-ran lane lane (omega (arith, below, many)) (omega arith) (stopped lane below)
         | inr above ↦ (let none : of_lane lane items ≡ [] = elim (cases_lt lane LANES) [
-              | inl known ↦ idle_at fan items held running idle still settled-idle (lane - running) lane (omega (arith, known, above, lanes)) (omega (arith, above))
-              | inr unknown ↦ past lane unknown
-            ] in
+          | inl known ↦ idle_at fan items held running idle still settled-idle (lane - running) lane (omega (arith, known, above, lanes)) (omega (arith, above))
+          | inr unknown ↦ past lane unknown
+        ] in
             nothing_drawn choice meaning (drawn_at seats lane) (notes about (of_lane lane items)) (drawn_past seats lane (omega (arith, above, many))) (ap (notes about) none))
       ]
 

@@ -1,6 +1,6 @@
 -- What the first stage told, the last one told too, since the links are settled.
 use Rattle.std.proofs.Common.{IfSome, subst}
-use Rattle.ruled_lanes.specs.LinkEnds.{given, taken}
+use Rattle.ruled_lanes.specs.LinkEnds.{taken}
 use Rattle.ruled_lanes.specs.TicketSeats.{drawn}
 use Rattle.lanes.specs.Stages.{IsHandedOn}
 use Rattle.lane_runs.specs.Lanes.{ReadsSeat}

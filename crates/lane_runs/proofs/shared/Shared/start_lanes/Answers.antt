@@ -1,4 +1,5 @@
-use Rattle.std.proofs.Common.{◌≡◌, [], length, Some, arith, ap, sym}
+use Rattle.std.proofs.Common.{◌≡◌, ◌++◌, [], List, length, Some, arith, ap, sym, ◌∙◌, append-nil}
+use Rattle.std.proofs.lemmas.List.{nil_from_length}
 use Rattle.std.proofs.lemmas.List.Elements.{All-head, All-rest, All-same, All-push, All-pop}
 use Rattle.ruled_lanes.specs.FanEnds.{given_at}
 use Rattle.ruled_lanes.specs.TicketSeats.{IsSeatOf, IsUnused}
@@ -35,3 +36,12 @@ start_lane-requires-clause-ready g c κs within =
 pub push_reserved-requires : goal.push_reserved-requires
 push_reserved-requires g c =
     let inv = c.loop-giver.invariant in omega (arith, inv.count, inv.room, c.in-Some-pop.ensures.cases)
+
+-- nothing is left to add
+all_added : {X : Type 0} (xs left ys : List X) → xs ++ left ≡ ys → length left ≡ 0 → xs ≡ ys
+all_added xs left ys all none = sym (append-nil xs) ∙ ap (λ l. xs ++ l) (sym (nil_from_length left none)) ∙ all
+
+pub returns-clause-givers : goal.returns-clause-givers
+returns-clause-givers g c =
+    let inv = c.loop-giver.invariant in
+    all_added _ c.loop-giver.giver-iterator.rest.items _ inv.givers (omega (arith, c.in-None.ensures.steps.0, c.loop-giver.giver-iterator.rest.ok.0))
