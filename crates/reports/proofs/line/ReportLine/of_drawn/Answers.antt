@@ -2,7 +2,7 @@ use Rattle.std.proofs.Common.{◌≡◌, ◌++◌, ◌∙◌, ℕ, List, ap, app
 use Rattle.reports.specs.Report.{sizes_text}
 use Rattle.reports.proofs.line.ReportLine.of_drawn.Goals as goal
 
-joined : (a b c d e f : List ℕ) → (((a ++ b) ++ c) ++ d) ++ (e ++ f) ≡ a ++ (b ++ ((c ++ (d ++ e)) ++ f))
+joined : (a b c d e f : List ℕ) → (((a ++ b) ++ c) ++ d) ++ (e ++ f) ≡ ((a ++ b) ++ ((c ++ d) ++ e)) ++ f
 joined a b c d e f = simp append_assoc
 
 pub returns : goal.returns
