@@ -1,0 +1,20 @@
+use Rattle.std.proofs.Common.{ℕ, List, subst}
+use Rattle.answers.specs.Steps.{IsShaped, IsPlaneOf}
+use Rattle.answers.proofs.stages.find_points.Goals as goal
+
+-- the plane is that of the record, and the points draw its shape
+pub returns-in-Ok-clause-answers : goal.returns-in-Ok-clause-answers
+returns-in-Ok-clause-answers c choice bytes shaped =
+    let found = c.in_ok-shaped_plane.shaped_plane in
+    let known : IsPlaneOf choice bytes found.plane = subst (IsShaped choice bytes) c.in_ok-shaped_plane.was shaped in
+    record {
+      lists = known.lists;
+      rules = known.rules;
+      chosen = known.chosen;
+      shape_is = found.shape_is;
+      least = found.least;
+      proof = found.proof;
+      drawn = c.in-Ok.ensures.drawn;
+      no_longer = c.in-Ok.ensures.no_longer;
+      near = c.in-Ok.ensures.near;
+    }
