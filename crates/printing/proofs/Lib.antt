@@ -1,4 +1,5 @@
 pub mod BookTexts
+pub mod DrawnLines
 pub mod Books
 pub mod Notes
 pub mod FlawlessBooks
