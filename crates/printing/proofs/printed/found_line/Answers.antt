@@ -1,4 +1,4 @@
-use Rattle.std.proofs.Common.{◌≡◌, ◌×◌, Result, Err, subst, rules}
+use Rattle.std.proofs.Common.{◌≡◌, Result, Err, subst, rules}
 use Rattle.ortho_rep.specs.Points.{PointsModel}
 use Rattle.embedding.specs.declared.faults.ReadFault.{ReadFault}
 use Rattle.embedding.specs.declared.faults.ReadFault.TheVariants.{Rule}
