@@ -23,7 +23,8 @@ use std::sync::Wait;
 use std::thread::Threads;
 use streams::{BatchFault, Sink, WriteFault};
 
-/// Answers all records of the first `files` files on `lanes` lanes, and streams the text to `sink`.
+/// Answers all records of the first `files` files on `lanes` lanes, streams the text to `sink`, and returns the exit
+/// status.
 ///
 /// Each record is answered under this choice of the outer face. The text is that of the files' books in the format of
 /// this style, as `Form::write` writes books, and is written while the files are read. JSON lines have drawings of the
