@@ -231,7 +231,7 @@ const HELP: [(&str, &str); 4] = [
     ("check --help", EXAMPLE),
     ("check -h a b", EXAMPLE),
     ("help check", EXAMPLE),
-    ("help", "  check   Checks drawings"),
+    ("help", "  check   Check drawings"),
 ];
 
 #[test]
