@@ -174,7 +174,7 @@ impl Boxes {
         self.old
     }
 
-    /// The number, among the vertices of the boxes, of a vertex of the plane, which is numbered from 1.
+    /// The vertex of the boxes that is this vertex of the plane, where vertices are numbered from 1.
     pub fn old(&self, vertex: u8) -> u32
         requires from { 1 ≤ vertex }
         requires to { vertex ≤ self.now.old }

@@ -38,11 +38,11 @@ impl Model for Plane {
     ghost invariant = { λ p. IsPlane (model_of p.graph p.numbering.0.0 p.numbering.0.1 p.outer) };
 }
 
-/// The reason why a graph is not a plane. Each variant returns the graph unchanged.
+/// The reason why no plane was returned. Each variant returns the graph unchanged.
 #[derive(Debug, Drop, Error)]
 pub enum TraceFault {
-    /// The number of vertices less edges plus faces is not two.
-    #[error("vertices less edges plus faces are not two")]
+    /// The graph is not embedded in the plane: vertices minus edges plus faces is not 2.
+    #[error("not a planar embedding: V - E + F is not 2")]
     Genus(Graph),
     /// Out of memory. Since a graph keeps its faces, no call returns this.
     #[error("out of memory")]

@@ -5,7 +5,7 @@ ghost use Rattle.ruled_lanes.specs.declared.limits.TheConstants.{LANES, MAX_CAPA
 use common::Choice;
 use std::alloc::Global;
 
-/// The parameters of a run of lanes over the first files of an opener: everything but its kind and its consumer.
+/// The parameters of a run: its runtime, opener and gate, the numbers of files, lanes and messages, and a choice.
 #[derive(Drop)]
 pub struct Run<'r, R, O, G> {
     /// The runtime, which starts threads and lets them wait.

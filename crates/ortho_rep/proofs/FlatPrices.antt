@@ -9,7 +9,7 @@ use Rattle.std.proofs.lemmas.List.FromFn.{length-map-range_with_len, get_or-map-
 abbrev pub first : (ℕ → ℤ) → ℕ → List ℤ
 first q n = map q (range_with_len 0 n)
 
--- with one more behind them
+-- with one more after them
 pub first-more : (q : ℕ → ℤ) (n : ℕ) (prices : List ℤ) (price : ℤ) (more : ℕ) → prices ≡ first q n → price ≡ q n → n + 1 ≡ more → prices ++ price ∷ [] ≡ first q more
 first-more q n prices price more are is next =
     ap (λ (ps : List ℤ). ps ++ price ∷ []) are

@@ -10,7 +10,7 @@ pub fn record_of(alloc: Global, bytes: &[u8]) -> Option<Record> {
     Record::parse(alloc, bytes).ok()
 }
 
-/// The graph of the record that these bytes are; `Memory` also if they are none.
+/// Reads the graph of the record that these bytes are; `ReadFault::Memory` also if they are not one record.
 pub fn read(alloc: Global, bytes: &[u8]) -> Result<Graph, ReadFault> {
     let record = record_of(alloc, bytes).ok_or(ReadFault::Memory)?;
     Graph::read(alloc, &record)
