@@ -20,7 +20,7 @@ pub struct Run<'r, R, O, G> {
     pub files: u32,
     /// The number of lanes that read them.
     pub lanes: u32,
-    /// The number of messages for which a link has room, and for which the fan has.
+    /// The number of messages for which each link and the fan have room.
     pub capacity: u32,
     /// The rule by which the outer face of each plane is chosen.
     pub choice: Choice,

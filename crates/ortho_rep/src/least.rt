@@ -119,7 +119,7 @@ pub fn least_shape_keeping_in(
     Ok(made)
 }
 
-/// The representation that a flow of least cost is, and its prices, in the memory of these lists. It keeps the edges
+/// The representation that a flow of least cost is, and its prices; reuses these lists. It keeps the edges
 /// straight that are to stay so in the network.
 pub(crate) fn shape_in(
     alloc: Global,
@@ -147,7 +147,7 @@ pub(crate) fn shape_in(
     ))
 }
 
-/// A flow of least cost in a network; `NoShape` where it has no flow.
+/// A flow of least cost in a network; `NoShape` if it has no flow.
 fn least_flow(
     alloc: Global,
     scratch: &mut min_cost_flow::Scratch,
