@@ -147,7 +147,7 @@ pub(crate) fn shape_in(
     ))
 }
 
-/// A flow of least cost in a network; `NoShape` if it has no flow.
+/// A flow of least cost in a network; `NoShape` where it has no flow.
 fn least_flow(
     alloc: Global,
     scratch: &mut min_cost_flow::Scratch,
