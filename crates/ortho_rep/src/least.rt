@@ -119,7 +119,7 @@ pub fn least_shape_keeping_in(
     Ok(made)
 }
 
-/// The representation that a flow of least cost is, and its prices; reuses these lists. It keeps the edges
+/// The representation that a flow of least cost is, and its prices, in the memory of these lists. It keeps the edges
 /// straight that are to stay so in the network.
 pub(crate) fn shape_in(
     alloc: Global,
