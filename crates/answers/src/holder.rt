@@ -18,13 +18,13 @@ enum Slot<T: Drop> {
     Spent(T),
 }
 
-/// An empty holder. Lists that are no longer needed may return to an earlier stage in it.
+/// An empty holder, in which lists that are no longer needed may return to an earlier stage.
 #[derive(Drop)]
 pub struct Shell<T: Drop> {
     slot: Box<Slot<T>>,
 }
 
-/// A value with the shell in which its lists return once it is no longer needed. In contracts it is the value.
+/// A boxed value. Once it is spent, its box returns its lists to an earlier stage. In contracts it is the value.
 #[derive(Drop)]
 pub struct Holder<T: Drop> {
     slot: Box<Slot<T>>,

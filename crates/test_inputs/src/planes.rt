@@ -5,7 +5,7 @@ use faces::Plane;
 use planar_code::Record;
 use std::alloc::Global;
 
-/// The record that these bytes are, if they are one and there is memory.
+/// Parses these bytes as one record; `None` if they are not one, or memory ran out.
 pub fn record_of(alloc: Global, bytes: &[u8]) -> Option<Record> {
     Record::parse(alloc, bytes).ok()
 }
@@ -16,7 +16,7 @@ pub fn read(alloc: Global, bytes: &[u8]) -> Result<Graph, ReadFault> {
     Graph::read(alloc, &record)
 }
 
-/// The plane of a record, if these bytes are one of a plane and there is memory.
+/// The plane of the record that these bytes are; `None` if they are not one of a plane, or memory ran out.
 pub fn plane_in(alloc: Global, bytes: &[u8]) -> Option<Plane> {
     let graph = read(alloc, bytes).ok()?;
     Plane::trace(alloc, graph).ok()
