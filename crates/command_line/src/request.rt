@@ -57,8 +57,9 @@ pub struct CheckRequest<'a> {
 /// The reason why no request was returned: help was asked for, or the arguments are not valid.
 #[derive(Drop)]
 pub enum ParseFault {
-    /// The error of `clap`: the help, if it is asked for; why the arguments are refused; or that memory ran out, of kind
-    /// `OutOfMemory`.
+    /// The error of `clap`: the help, if it is asked for; why the arguments are refused; or that memory ran out.
+    ///
+    /// The last is of the kind `OutOfMemory`.
     Told(Error),
     /// The value of `--waiting` is not 1 to 65536.
     BadWaiting,

@@ -14,8 +14,10 @@ pub enum LineFault {
     /// The value has no field `points` with lists of points in `vertices` and `corners`.
     #[error("no points")]
     Points,
-    /// A number is not an integer in its range: 0 to 4,294,967,295 for coordinates and bends, 0 to 65,535 for a face, 0
-    /// to 255 for angles, and 32 bits with sign for prices.
+    /// A number is not an integer in the range of its field.
+    ///
+    /// The ranges are 0 to 4,294,967,295 for coordinates and bends, 0 to 65,535 for a face, 0 to 255
+    /// for angles, and 32 bits with sign for prices.
     #[error("a number is no integer of its range")]
     Number,
     /// `angles` is not a list.

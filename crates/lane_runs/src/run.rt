@@ -5,7 +5,7 @@ ghost use Rattle.ruled_lanes.specs.declared.limits.TheConstants.{LANES, MAX_CAPA
 use common::Choice;
 use std::alloc::Global;
 
-/// The parameters of a run: its runtime, opener and gate, the numbers of files, lanes and messages, and a choice.
+/// The parameters of a run: runtime, opener, gate, numbers of files, lanes and messages, and choice of outer faces.
 #[derive(Drop)]
 pub struct Run<'r, R, O, G> {
     /// The runtime, which starts threads and lets them wait.

@@ -33,7 +33,7 @@ pub struct Filling<T: Drop> {
 }
 
 impl<T: Drop> Filling<T> {
-    /// Nothing collected. If memory runs out, it works without reusing lists.
+    /// No items yet. If memory runs out, it works without reusing lists.
     pub fn new(alloc: Global) -> Filling<T>
         ensures { result.items.items ≡ [] }
     {

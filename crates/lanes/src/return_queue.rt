@@ -13,8 +13,9 @@ const NAPS: u32 = 5;
 /// The length of the first nap, in microseconds. Each is twice as long as the one before, so the five take 30 to 480.
 const NAP: u64 = 30;
 
-/// One end of a queue that returns buffers from one thread to another, or an end without a queue. The items have no
-/// influence on results: they are only buffers to be reused.
+/// One end of a queue that returns buffers from one thread to another, or an end without a queue.
+///
+/// The items in the queue have no influence on results: they are only buffers to be reused.
 #[derive(Drop)]
 pub struct ReturnQueue<T: Drop> {
     queue: Option<Arc<ArrayQueue<T>>>,

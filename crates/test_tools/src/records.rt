@@ -41,8 +41,9 @@ pub const CAPPED_CUBE: &[u8] = &[
     4, 5, 9, 7, 0, 5, 6, 7, 8, 0,
 ];
 
-/// The capped cube with a tenth vertex on the edge from 1 to 5: the face with fewest bends is not among those with most
-/// darts.
+/// The capped cube with a tenth vertex on the edge from 1 to 5.
+///
+/// The face with the fewest bends is not among those with the most darts.
 pub const LONGER_CUBE: &[u8] = &[
     10, 10, 4, 2, 0, 3, 6, 1, 0, 4, 7, 2, 0, 1, 8, 3, 0, 10, 6, 9, 8, 0, 2, 7, 9, 5, 0, 3, 8, 9, 6,
     0, 4, 5, 9, 7, 0, 5, 6, 7, 8, 0, 1, 5, 0,
