@@ -12,9 +12,9 @@ use std::mem;
 enum Slot<T: Drop> {
     /// Nothing.
     Empty,
-    /// What goes on to the next stage.
+    /// A value that goes on to the next stage.
     Full(T),
-    /// What is done with and goes back.
+    /// A spent value, whose lists go back.
     Spent(T),
 }
 
@@ -56,7 +56,7 @@ impl<T: Drop> Shell<T> {
         Holder { slot }
     }
 
-    /// Puts what is done with in the holder.
+    /// Puts a spent value into the holder.
     pub(crate) fn refill(&mut self, spent: T) {
         *self.slot = Slot::Spent(spent);
     }

@@ -26,7 +26,7 @@ pub enum LineFault {
     /// `turns` is not a list of strings of the letters L and R.
     #[error("turns are no list of texts of L and R")]
     Turns,
-    /// `prices` has not both a list `vertices` and a list `faces`.
+    /// `prices` lacks a list `vertices` or a list `faces`.
     #[error("prices are no lists")]
     Prices,
     /// Memory ran out.

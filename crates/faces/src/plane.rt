@@ -146,7 +146,7 @@ impl Plane {
         self.graph.face_of(dart)
     }
 
-    /// The least dart of a face. The time is linear in its number.
+    /// The least dart of a face. The time is linear in the number of that dart.
     pub fn least_dart(&self, face: u16) -> u16
         requires { face < self.now.faces }
         ensures inside { result < darts self.now }
