@@ -6,7 +6,7 @@ use thiserror::Error;
 /// The reason why the graph of a record was not read.
 #[derive(Debug, Clone, Copy, PartialEq, Eq, Error)]
 pub enum ReadFault {
-    /// The first rule that the record breaks; it is one of the first seven.
+    /// The first rule that the record breaks. `Graph::read` tests the first seven.
     #[error("a rule is broken: {}", .0.word())]
     Rule(Rule),
     /// Memory ran out for the graph.

@@ -78,7 +78,7 @@ impl Plane {
     ///
     /// # Errors
     ///
-    /// `Genus` returns the graph exactly if its vertices less its edges plus its faces are not two. `Memory` is never
+    /// `Genus` returns the graph exactly if its vertices minus its edges plus its faces is not 2. `Memory` is never
     /// returned.
     pub fn trace(alloc: Global, graph: Graph) -> Result<Plane, TraceFault>
         ensures graph { IfOk result (λ p. p.lists ≡ graph) }
