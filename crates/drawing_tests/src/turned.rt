@@ -99,7 +99,7 @@ fn with_a_step(
     shape_from(rt, angles, strings)
 }
 
-/// Least shapes of these bytes, each with one more random step than the one before it, are drawn.
+/// Checks that least shapes of these bytes, each with one more random step than the one before it, are drawn.
 fn expect_steps(rt: &impl Abort, alloc: Global, bytes: &[u8], seed: u64) {
     let plane = plane_in(alloc, bytes).expect(rt, "a plane");
     let mut shape = shape_of(rt, alloc, &plane);

@@ -104,6 +104,7 @@ fn work_of(rt: &impl Abort, alloc: Global, network: &Network) -> (u32, u64) {
     (solved.searches(), solved.looks())
 }
 
+/// The number of looks is exactly the one counted by hand.
 /// Each search finds one unit's end. It scans the first node, which has one residual arc, and the second one, which has
 /// one for each unit and one back. In all it looks at two more than there are units, whichever end it finds.
 #[test]
@@ -114,9 +115,9 @@ fn looks_are_told_exactly(rt: HostRuntime) {
     }
 }
 
-/// Of two nodes equally near to the first one the one that only it leads to has the lesser score, and is found. The
-/// first search therefore looks at two residual arcs, and that of the second node at one. Had it found the other one,
-/// the second search would have to go back along its unit, and look at five.
+/// Of two nodes equally near to the first one, the one with the lesser score is found: only the first node leads to it.
+/// The first search therefore looks at two residual arcs, and that of the second node at one. Had it found the other
+/// one, the second search would have to go back along its unit, and look at five.
 #[test]
 fn the_least_score_is_found(rt: HostRuntime) {
     for (first, second) in [(2, 3), (3, 2)] {

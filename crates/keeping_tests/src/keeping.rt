@@ -1,5 +1,5 @@
-//! Least shapes among those that keep edges straight, and the best outer face among those that are not barred, beside bends
-//! that were found by hand or by another program.
+//! Least shapes among those that keep edges straight, and the best outer face among those that are not barred, compared
+//! with bends that were found by hand or by another program.
 
 use embedding::MAX_DARTS;
 use faces::Plane;
@@ -32,7 +32,7 @@ fn figures_keeping(alloc: Global, plane: &Plane, straight: &[bool]) -> Result<Fi
     Ok((shape.bends(), (is_shape(plane, &shape), proved)))
 }
 
-/// Sees that so many bends are needed, or that there is no shape.
+/// Checks that this many bends are needed, or that there is no shape.
 fn expect_bends(
     rt: &impl Abort,
     alloc: Global,
@@ -45,7 +45,7 @@ fn expect_bends(
     same!(rt, figures_keeping(alloc, &plane, straight), want);
 }
 
-/// Records, marks, and how many bends are needed; `None` where there is no shape.
+/// Records, marks, and how many bends are needed; `None` if there is no shape.
 ///
 /// A grid needs no bend, nor does a square. A triangle without bends would turn three times at most; with one edge
 /// free it needs the bend there, whichever that is. No face of three darts goes without a bend, and a cube needs four.
@@ -114,8 +114,8 @@ fn best_keeping(
 /// A record, marks of darts, and marks of faces.
 type Asked = (&'static [u8], &'static [bool], &'static [bool]);
 
-/// What is asked, and the bends and the face that networkx's network simplex found over all faces; `None` where there is
-/// no shape.
+/// A record and its marks, and the bends and the face that networkx's network simplex found over all faces; `None` if
+/// there is no shape.
 const BEST_OF_AN_ORACLE: [(Asked, Option<(u32, u16)>); 16] = [
     ((&GRID, &ALL, &[]), Some((0, 0))),
     ((&GRID, &ALL, &[true]), None),

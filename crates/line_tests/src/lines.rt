@@ -9,7 +9,7 @@ use std::alloc::Global;
 const TRIANGLE: &str =
     "{\"points\":{\"vertices\":[[0,1],[1,1],[0,0]],\"corners\":[[],[],[[1,0]]]},\"bends\":1}";
 
-/// Lines that say no points, and why.
+/// Lines without points, and why they are refused.
 const REFUSED: [(&str, LineFault); 12] = [
     ("", LineFault::Malformed),
     ("{\"points\":", LineFault::Malformed),
@@ -43,7 +43,7 @@ const REFUSED: [(&str, LineFault); 12] = [
     ),
 ];
 
-/// The points of the vertices, in pairs with whether they are the list that is wanted, and the corners of the last edge.
+/// Whether a line has these points of vertices and three edges, the last of which has these corners.
 fn says(alloc: Global, line: &str, vertices: &[Point], last: &[Point]) -> Result<bool, LineFault> {
     let points = points_of_line(alloc, line.as_bytes())?;
     let edges = points.edge_count();

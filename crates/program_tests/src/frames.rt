@@ -191,7 +191,7 @@ fn line_of(fault: Fault) -> Narrow {
     err.into_writer()
 }
 
-/// The line and the status of each fault.
+/// Each fault has its line and its status.
 #[test]
 fn tells_each_fault_in_a_line(rt: HostRuntime) {
     for (fault, line, status) in FAULTS {

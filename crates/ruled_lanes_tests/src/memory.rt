@@ -1,5 +1,5 @@
-//! Calls that allocate nothing. `checks/refuse-allocations` refuses each allocation of these tests in turn: those are
-//! all of the calls that make the ends, where a test then ends.
+//! Calls that allocate nothing. `checks/refuse-allocations` refuses each allocation of these tests in turn: all of them
+//! are in the calls that make the ends, and a refused one ends the test.
 
 use ruled_lanes::{Tickets, fan_in, link};
 use std::test::*;

@@ -43,8 +43,8 @@ fn bends_of(rt: &impl Abort, alloc: Global, bytes: &[u8]) -> (u32, u32, u16) {
     (first, best, plane.outer())
 }
 
-/// Graphs of which another face is better, and others, whose faces are all alike, or there is one: both numbers of
-/// bends and the best face.
+/// Graphs for which another face is better, and others, whose faces are all alike, or which have one face: both numbers
+/// of bends and the best face.
 const BEST: [(&[u8], (u32, u32, u16)); 9] = [
     (CAPPED_CUBE, (10, 8, 2)),
     (LONGER_CUBE, (9, 8, 2)),

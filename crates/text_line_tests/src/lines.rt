@@ -5,7 +5,7 @@ use std::test::Fail;
 use streams::{MemTap, Tap, TapFault};
 use text_lines::{Lines, MAX_LINE, Next};
 
-/// A source that gives what another gives, and fails where that ends.
+/// A source that returns what another one returns, and fails where that one ends.
 #[derive(Drop)]
 struct FailsAtEnd {
     source: MemTap,
@@ -27,7 +27,7 @@ impl Tap for FailsAtEnd {
     }
 }
 
-/// The bytes of a text, in reads of at most so many bytes.
+/// A source of a text, of which a read returns at most this many bytes.
 fn source(alloc: Global, text: &[u8], most: usize) -> Result<MemTap, AllocError> {
     Ok(MemTap::new(text.to_vec(alloc)?, most.max(1)))
 }

@@ -8,7 +8,7 @@ use std::test::Fail;
 use test_tools::records::EDGE;
 use verdicts::Verdict;
 
-/// Lines of an edge, and what is said of them.
+/// Lines of an edge, and their verdicts.
 const LINES: [(&str, Verdict); 16] = [
     ("", Verdict::Line(LineFault::Malformed)),
     ("7", Verdict::Line(LineFault::Malformed)),
@@ -42,7 +42,7 @@ const LINES: [(&str, Verdict); 16] = [
         "{\"points\":{\"vertices\":[[0,0],[5,0]],\"corners\":[[]]},\"bends\":-1}",
         Verdict::Line(LineFault::Number),
     ),
-    // What has no form is told before what is wrong with the points.
+    // A fault of the format is reported before a fault of the points.
     (
         "{\"points\":{\"vertices\":[[0,0]],\"corners\":[[]]},\"outer\":65536}",
         Verdict::Line(LineFault::Number),
