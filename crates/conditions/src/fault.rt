@@ -7,13 +7,13 @@ use thiserror::Error;
 #[derive(Debug, Drop, Error)]
 pub enum KeepFault {
     /// Two vertices that name an edge or a face are not adjacent.
-    #[error("two vertices are not neighbours")]
+    #[error("two vertices are not adjacent")]
     NoEdge,
     /// All faces are to stay inside, so none can be the outer face.
-    #[error("all faces are to stay inside")]
+    #[error("all faces must be inner, so none can be the outer face")]
     NoOuter,
     /// No shape with a chosen outer face keeps these edges straight.
-    #[error("no shape keeps these edges straight")]
+    #[error("no orthogonal representation keeps these edges straight")]
     NoShape(Unkept),
     /// An allocation was refused.
     #[error("out of memory")]

@@ -9,25 +9,25 @@ use thiserror::Error;
 #[derive(Clone, Copy, Debug, PartialEq, Eq, Error)]
 pub enum LineFault {
     /// The line is not a JSON value.
-    #[error("not JSON")]
+    #[error("the line is not valid JSON")]
     Malformed,
     /// The value has no field `points` with lists of points in `vertices` and `corners`.
-    #[error("no points")]
+    #[error("missing or malformed `points`")]
     Points,
     /// A number is not an integer in the range of its field.
     ///
     /// The ranges are 0 to 4,294,967,295 for coordinates and bends, 0 to 65,535 for a face, 0 to 255
     /// for angles, and 32 bits with sign for prices.
-    #[error("a number is no integer of its range")]
+    #[error("a number is not an integer in the range of its field")]
     Number,
     /// `angles` is not a list.
-    #[error("angles are no list")]
+    #[error("`angles` is not a list")]
     Angles,
     /// `turns` is not a list of strings of the letters L and R.
-    #[error("turns are no list of texts of L and R")]
+    #[error("`turns` is not a list of strings of L and R")]
     Turns,
     /// `prices` lacks a list `vertices` or a list `faces`.
-    #[error("prices are no lists")]
+    #[error("`prices` lacks a list `vertices` or `faces`")]
     Prices,
     /// Memory ran out.
     #[error("out of memory")]

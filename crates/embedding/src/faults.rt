@@ -7,7 +7,7 @@ use thiserror::Error;
 #[derive(Debug, Clone, Copy, PartialEq, Eq, Error)]
 pub enum ReadFault {
     /// The first rule that the record breaks. `Graph::read` tests the first seven.
-    #[error("a rule is broken: {}", .0.word())]
+    #[error("the graph breaks rule {}", .0.word())]
     Rule(Rule),
     /// Memory ran out for the graph.
     #[error("out of memory")]

@@ -22,7 +22,7 @@ pub enum NetFault {
     #[error("a supply is above 2048 in absolute value")]
     BadSupply,
     /// An arc costs neither 0 nor 1.
-    #[error("an arc costs neither 0 nor 1")]
+    #[error("the cost of an arc is neither 0 nor 1")]
     BadCost,
 }
 

@@ -10,7 +10,7 @@ use thiserror::Error;
 #[derive(Clone, Copy, Debug, PartialEq, Eq, Error)]
 pub enum ShapeFault {
     /// No orthogonal representation of the plane with its outer face keeps these edges straight.
-    #[error("no shape keeps these edges straight")]
+    #[error("no orthogonal representation keeps these edges straight")]
     NoShape,
     /// An allocation was refused.
     #[error("out of memory")]

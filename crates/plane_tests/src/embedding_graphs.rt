@@ -12,7 +12,7 @@ use test_tools::same;
 fn faults_have_messages(rt: HostRuntime) {
     let rule = ReadFault::Rule(Rule::Multi);
     let text = format!(in rt.alloc(); "{rule}, {}, {}", ReadFault::Memory, ParseFault::Long);
-    let want = "a rule is broken: multi, out of memory, more bytes follow the record";
+    let want = "the graph breaks rule multi, out of memory, more bytes follow the record";
     same!(&rt, text.expect(&rt, "memory").as_str(), want);
 }
 
