@@ -35,6 +35,7 @@ fn lines_of(rt: &impl Abort, alloc: Global, files: &[&[u8]]) -> Vec<u8> {
     text_of(alloc, &batch).expect(rt, "lines")
 }
 
+/// The JSON lines of refused graphs and of ends of files are as in the description.
 #[test]
 fn shows_refused_graphs_and_ends(rt: HostRuntime) {
     let lines = lines_of(&rt, rt.alloc(), &[b"", REFUSED, b">>planar_code<<"]);
@@ -86,6 +87,7 @@ fn check_rooms<R: AllocGlobal + Abort>(rt: &R, batch: &Batch, text: &[u8]) {
     check_room(rt, batch, text, (2048, 1), Ok(()));
 }
 
+/// A writer that fails holds a beginning of the JSON lines.
 #[test]
 fn writes_a_beginning_before_a_fault(rt: HostRuntime) {
     let batch = batch_of(rt.alloc(), &THREE_FILES).expect(&rt, "a batch");

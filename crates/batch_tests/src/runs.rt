@@ -204,6 +204,7 @@ fn fault_of<R: AllocGlobal + Threads + Wait + Sync>(
     .err()
 }
 
+/// More than 256 files are refused, and otherwise 0 or more than 8 lanes.
 #[test]
 fn refuses_bad_numbers(rt: HostRuntime) {
     same!(&rt, fault_of(&rt, 257, 0), Some(BatchFault::TooManyFiles));

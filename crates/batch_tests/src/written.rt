@@ -80,6 +80,7 @@ fn check_record<R: AllocGlobal + Abort>(rt: &R, bytes: &[u8], said: &str) {
     check_files(rt, &[bytes.as_slice()], report.as_slice());
 }
 
+/// The line of a graph has its sizes or the rule that it breaks.
 #[test]
 fn tells_sizes_and_rules(rt: HostRuntime) {
     for (bytes, said) in RECORDS {
@@ -109,6 +110,7 @@ const ENDINGS: [(&[&[u8]], &str); 5] = [
     ),
 ];
 
+/// The last line of a file has its mark and its number of graphs.
 #[test]
 fn tells_how_a_file_ended(rt: HostRuntime) {
     for (parts, lines) in ENDINGS {
@@ -121,6 +123,7 @@ fn tells_how_a_file_ended(rt: HostRuntime) {
     check_file(&rt, &long, "end oversize graphs=0\n");
 }
 
+/// The report has all files in their order.
 #[test]
 fn tells_of_all_files_in_order(rt: HostRuntime) {
     check_files(&rt, &THREE_FILES, OF_THREE.as_bytes());
@@ -135,6 +138,7 @@ fn narrow_report(alloc: Global) -> Option<(Narrow, Result<(), WriteFault>)> {
     Some((sink.into_writer(), found))
 }
 
+/// A writer that fails holds a beginning of the report.
 #[test]
 fn writes_a_beginning_before_a_fault(rt: HostRuntime) {
     let (narrow, found) = narrow_report(rt.alloc()).expect(&rt, "a batch");
@@ -174,6 +178,7 @@ fn check_cause<R: Abort>(rt: &R, cause: Cause, text: &str) {
     same!(rt, line.as_slice(), text.as_bytes());
 }
 
+/// The line of a graph that is not drawn names the cause.
 #[test]
 fn names_each_cause(rt: HostRuntime) {
     let cases = [

@@ -63,6 +63,7 @@ fn bent_edge(rt: &impl Abort, alloc: Global, shape: &Shape) -> DartTable {
     bend_of(rt, alloc, &plane, shape).expect(rt, "memory")
 }
 
+/// The drawing of an edge with one bend is the one worked out by hand.
 #[test]
 fn edge_with_one_bend(rt: HostRuntime) {
     let shape = spiral_in(rt.alloc(), 1).expect(&rt, "a shape");

@@ -46,6 +46,7 @@ const EDGES: [([&[Turn]; 2], [u8; 2]); 4] = [
     ([&[L, L, R, L], &[R, L, R, R]], [0, 0]),
 ];
 
+/// The directions of the darts of an edge are those worked out by hand.
 #[test]
 fn worked_out_by_hand(rt: HostRuntime) {
     for (strings, want) in EDGES {

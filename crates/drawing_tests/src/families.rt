@@ -101,6 +101,7 @@ const SOLIDS: [(&[u8], u32); 7] = [
     (&[5, 2, 3, 4, 5, 0, 1, 0, 1, 0, 1, 0, 1, 0], 0),
 ];
 
+/// Known graphs are drawn with their fewest bends.
 #[test]
 fn solids_with_bends(rt: HostRuntime) {
     for (bytes, bends) in SOLIDS {
@@ -130,6 +131,7 @@ const RINGS: [(&[&[Beside]], [u8; 2], [u32; 2]); 6] = [
     (&ANTIPRISM, [4, 12], [4, 2]),
 ];
 
+/// Rings of vertices are drawn with their fewest bends.
 #[test]
 fn rings_with_bends(rt: HostRuntime) {
     for (named, [least, most], [bends, more]) in RINGS {

@@ -58,6 +58,7 @@ fn draw_in(rt: &impl Abort, alloc: Global, lent: &mut Lent, bytes: &[u8], shape:
     draw_shape_in(rt, alloc, lent, &plane, &shape);
 }
 
+/// Shapes of several sizes are drawn with the same buffers.
 #[test]
 fn drawings_in_lent_memory(rt: HostRuntime) {
     let alloc = rt.alloc();

@@ -74,6 +74,7 @@ fn are_same_if_any(one: Option<&Boxes>, other: Option<&Boxes>) -> bool {
     }
 }
 
+/// The boxes of the triangle are the same at two calls, one of which may run out of memory.
 #[test]
 fn dissections(rt: HostRuntime) {
     // At most one allocation is refused.
@@ -113,6 +114,7 @@ fn expect_points(rt: &impl Abort, alloc: Global, boxes: &Boxes) {
     same!(rt, are_alike(&points, &again), true);
 }
 
+/// The points of the triangle are the same at two calls, one of which may run out of memory.
 #[test]
 fn coordinates(rt: HostRuntime) {
     if let Some(boxes) = boxes_at_last(&rt, rt.alloc()) {

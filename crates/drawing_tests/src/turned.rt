@@ -110,6 +110,7 @@ fn expect_steps(rt: &impl Abort, alloc: Global, bytes: &[u8], seed: u64) {
     }
 }
 
+/// Shapes with superfluous bends are drawn.
 #[test]
 fn steps_are_drawn(rt: HostRuntime) {
     let alloc = rt.alloc();
@@ -125,6 +126,7 @@ fn steps_are_drawn(rt: HostRuntime) {
     }
 }
 
+/// Spirals of up to 5,000 turns are drawn.
 #[test]
 fn spirals_are_drawn(rt: HostRuntime) {
     let plane = plane_in(rt.alloc(), EDGE).expect(&rt, "a plane");

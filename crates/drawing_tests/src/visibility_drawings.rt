@@ -165,6 +165,7 @@ fn figure_of(
     compacted(rt, alloc, lent, &plane, &points).expect(rt, "memory")
 }
 
+/// Compaction shortens drawings as was found by hand.
 #[test]
 fn figures_by_hand(rt: HostRuntime) {
     let alloc = rt.alloc();
@@ -294,6 +295,7 @@ fn expect_spiral(rt: &impl Abort, alloc: Global, lent: &mut Lent) {
     let _found = expect_shorter(rt, alloc, lent, &plane, &spiral);
 }
 
+/// What compaction finds for known graphs draws them with shorter edges.
 #[test]
 fn known_graphs_are_compacted(rt: HostRuntime) {
     let alloc = rt.alloc();

@@ -75,6 +75,7 @@ pub(crate) const FREE_WAY: [(u32, u32, Cap, u32); 3] = [
     (1, 2, Cap::Any, 0),
 ];
 
+/// Units take arcs without cost before the expensive one.
 #[test]
 fn units_take_the_free_way_first(rt: HostRuntime) {
     let network = network(&rt, rt.alloc(), &[2, 0, -2], &FREE_WAY).expect(&rt, "a network");
@@ -164,6 +165,7 @@ const COSTS: [(&[i32], &[(u32, u32, Cap, u32)], Result<u64, SolveFault>); 13] = 
     (&[2048, -2048], &[(0, 1, Cap::Any, 1)], Ok(2048)),
 ];
 
+/// The least costs of small networks are those found by hand, also with unusual arcs.
 #[test]
 fn special_arcs_serve(rt: HostRuntime) {
     for (supplies, arcs, expected) in COSTS {
@@ -180,6 +182,7 @@ const FAULTS: [(&[i32], (u32, u32, Cap, u32), NetFault); 4] = [
     (&[2048, -2048], (0, 1, Cap::Any, 2), NetFault::BadCost),
 ];
 
+/// A network with several faults is refused with the first one.
 #[test]
 fn the_first_fault_is_named(rt: HostRuntime) {
     for (supplies, arc, expected) in FAULTS {
@@ -188,6 +191,7 @@ fn the_first_fault_is_named(rt: HostRuntime) {
     }
 }
 
+/// The faults of networks and solutions have their messages.
 #[test]
 fn faults_say_what_is_wrong(rt: HostRuntime) {
     let text = format!(in rt.alloc(); "{}, {}", NetFault::BadEnd, SolveFault::Memory);

@@ -64,6 +64,7 @@ const BENDS: [(&[u8], &[bool], Option<u32>); 12] = [
     (CUBE, &ALL, None),
 ];
 
+/// Shapes that keep edges straight have the bends found by hand.
 #[test]
 fn bends_by_hand(rt: HostRuntime) {
     for (record, straight, bends) in BENDS {
@@ -87,6 +88,7 @@ const OF_AN_ORACLE: [(&[u8], &[bool], Option<u32>); 12] = [
     (SIX, &[true; 5], None),
 ];
 
+/// Shapes that keep edges straight have the bends that networkx found.
 #[test]
 fn bends_of_an_oracle(rt: HostRuntime) {
     for (record, straight, bends) in OF_AN_ORACLE {
@@ -138,6 +140,7 @@ const BEST_OF_AN_ORACLE: [(Asked, Option<(u32, u16)>); 16] = [
     ((TRIANGLE, &ALL, &[]), None),
 ];
 
+/// The best outer face that is not barred, and its bends, are those that networkx found.
 #[test]
 fn best_faces_of_an_oracle(rt: HostRuntime) {
     for ((record, straight, barred), found) in BEST_OF_AN_ORACLE {
@@ -174,6 +177,7 @@ const PROVED: [(Case<'static>, &[bool], bool); 7] = [
     (STEP, &[true], false),
 ];
 
+/// Prices prove a shape least among those that keep edges straight exactly if this was found by hand.
 #[test]
 fn prices_by_hand(rt: HostRuntime) {
     for (case, straight, proved) in PROVED {

@@ -50,6 +50,7 @@ fn says(alloc: Global, line: &str, vertices: &[Point], last: &[Point]) -> Result
     Ok(points.vertices() == vertices && edges == 3 && points.corners(2) == last)
 }
 
+/// The points of a line are read in their order.
 #[test]
 fn points_come_in_order(rt: HostRuntime) {
     let vertices = [
@@ -86,6 +87,7 @@ fn claims(
     Ok((bends_in(&value)?, outer_in(&value)?, angle, turn))
 }
 
+/// The claims of a line are read, and missing ones are `None`.
 #[test]
 fn claims_are_read(rt: HostRuntime) {
     let line = "{\"angles\":[3],\"turns\":[\"RL\",\"\"],\"bends\":2,\"outer\":7}";
@@ -93,6 +95,7 @@ fn claims_are_read(rt: HostRuntime) {
     assert!(rt; claims(rt.alloc(), TRIANGLE) == Ok((Some(1), None, None, None)));
 }
 
+/// A malformed claim is refused with the fault of its field.
 #[test]
 fn claims_are_refused(rt: HostRuntime) {
     for (line, fault) in [

@@ -202,6 +202,7 @@ const DRAWINGS: [(&Figure, &[Place], &[&[Place]], Option<CheckFault>); 15] = [
     ),
 ];
 
+/// Each drawing has the first fault that was found by hand, also at a second call.
 #[test]
 fn drawings_by_hand(rt: HostRuntime) {
     for (figure, vertices, corners, fault) in DRAWINGS {

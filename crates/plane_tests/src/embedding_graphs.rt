@@ -8,6 +8,7 @@ use test_inputs::record_of;
 use test_tools::records::{EDGE, OCTAHEDRON, STAR, TETRAHEDRON, TRIANGLE};
 use test_tools::same;
 
+/// The faults of records and graphs have their messages.
 #[test]
 fn faults_have_messages(rt: HostRuntime) {
     let rule = ReadFault::Rule(Rule::Multi);

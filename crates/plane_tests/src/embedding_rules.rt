@@ -55,6 +55,7 @@ const RECORDS: [(&[u8], Option<Rule>); 16] = [
     ),
 ];
 
+/// Each record is refused with the first rule that it breaks.
 #[test]
 fn each_rule_is_named(rt: HostRuntime) {
     for (bytes, rule) in RECORDS {
@@ -123,6 +124,7 @@ fn a_large_torus_breaks_the_last_rule(rt: HostRuntime) {
     same!(&rt, broken(rt.alloc(), &bytes), Ok(Some(Rule::Genus)));
 }
 
+/// Each rule has its word.
 #[test]
 fn rules_have_their_words(rt: HostRuntime) {
     let words = [

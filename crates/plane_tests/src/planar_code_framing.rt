@@ -47,6 +47,7 @@ const TEXTS: [(&[u8], usize, Ending); 9] = [
     (b">>planar_code<<\x01\x00\x02\x00\x00", 2, Ending::Complete),
 ];
 
+/// The framer and the splitter find the records of each text and how it ends.
 #[test]
 fn tells_the_endings(rt: HostRuntime) {
     for (text, count, ending) in TEXTS {
@@ -113,6 +114,7 @@ const FEEDS: [(&[Feed<'static>], Ending); 3] = [
     ),
 ];
 
+/// Each piece that is fed has its own result.
 #[test]
 fn pieces_are_answered_one_by_one(rt: HostRuntime) {
     for (feeds, ending) in FEEDS {
@@ -138,6 +140,7 @@ const BEHIND_A_MILLION: [(&[u8], Ending); 4] = [
     (&[1, 0], Ending::Many),
 ];
 
+/// A stream may have a million records, and no byte may follow them.
 #[test]
 fn a_million_records_are_most(rt: HostRuntime) {
     for (bytes, ending) in BEHIND_A_MILLION {

@@ -193,6 +193,7 @@ const OUTSIDES: [(&Drawn, &[bool]); 6] = [
     (&PATH_DRAWN, &[true]),
 ];
 
+/// The face outside each drawing is the one found by hand.
 #[test]
 fn outsides_by_hand(rt: HostRuntime) {
     for (drawn, due) in OUTSIDES {
@@ -205,6 +206,7 @@ fn outsides_by_hand(rt: HostRuntime) {
     }
 }
 
+/// The regions of a drawing are the faces of a plane exactly if this was found by hand.
 #[test]
 fn regions_by_hand(rt: HostRuntime) {
     for (drawn, record, due) in ROWS {

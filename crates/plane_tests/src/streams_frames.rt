@@ -138,6 +138,7 @@ fn check_most(rt: &impl Abort, found: &Frames, most: usize) {
     check_writer(rt, found, narrow, Ok(()), OF_AN_EDGE);
 }
 
+/// A writer that fails holds a beginning of the text.
 #[test]
 fn writes_a_beginning_before_a_fault(rt: HostRuntime) {
     let found = found_in(&rt, 1, &EDGES[..20], 9).expect(&rt, "an answer");

@@ -343,6 +343,7 @@ fn line_of(alloc: Global, files: u32) -> Result<String, AllocError> {
     Ok(line)
 }
 
+/// Invalid command lines of `layout` are refused with status 2, and its help shows a pipe.
 #[test]
 fn refuses_other_command_lines(rt: HostRuntime) {
     check_said(&rt, &REFUSED, 2);
@@ -391,6 +392,7 @@ fn names_a_failed_write(rt: HostRuntime) {
     }
 }
 
+/// With each allocation refused in turn, `layout` writes its report or says what ran out of memory.
 #[test]
 fn names_want_of_memory(rt: HostRuntime) {
     check_wants(&rt, &ONE_EDGE);
@@ -409,6 +411,7 @@ const ONE_VERTEX: Case = Case {
     may_begin: true,
 };
 
+/// With each allocation refused in turn, `layout --json` writes its lines or says what ran out of memory.
 #[test]
 fn json_names_want_of_memory(rt: HostRuntime) {
     check_wants(&rt, &ONE_VERTEX);

@@ -112,6 +112,7 @@ pub(crate) fn staged(
     pass(alloc, pass(alloc, pass(alloc, framed)))
 }
 
+/// Records by hand have their answers under either choice of the outer face.
 #[test]
 fn answers_known_records(rt: HostRuntime) {
     for (bytes, said) in CASES {
@@ -134,6 +135,7 @@ fn chooses_the_outer_face(rt: HostRuntime) {
     }
 }
 
+/// Each cause has its word.
 #[test]
 fn names_all_causes(rt: HostRuntime) {
     let words = [

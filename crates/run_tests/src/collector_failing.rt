@@ -46,6 +46,7 @@ const OF_EDGES: [&[u8]; 3] = [
     b"file 1\ngraph 1 ok n=2 m=1 f=1 bends=0 drawn=yes\ngraph 2 ok n=2 m=1 f=1 bends=0 drawn=yes\nend io graphs=2\n",
 ];
 
+/// The records that were read before a failing read are reported.
 #[test]
 fn records_before_a_failing_read_stay(rt: HostRuntime) {
     for reads in 0..=25 {

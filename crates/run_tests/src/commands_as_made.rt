@@ -36,6 +36,7 @@ fn files_come_in_their_order(rt: HostRuntime) {
     }
 }
 
+/// A writer that fails during streamed output holds a beginning of the report.
 #[test]
 fn a_beginning_is_written_before_a_fault(rt: HostRuntime) {
     for room in [0, 1, 2, 7, 100, 209, 210, 211] {

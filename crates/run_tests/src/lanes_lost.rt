@@ -47,6 +47,7 @@ fn work_of_embedding(alloc: Global) -> StageWork<Framed> {
     }
 }
 
+/// A stage ends if the stage before it is gone, and drops its own end.
 #[test]
 fn a_stage_ends_where_the_one_before_is_gone(rt: HostRuntime) {
     let taker = left_alone::<Message<Framed, ()>>(rt.alloc()).expect(&rt, "memory");
@@ -57,6 +58,7 @@ fn a_stage_ends_where_the_one_before_is_gone(rt: HostRuntime) {
     assert!(rt; next.take(&rt).is_err());
 }
 
+/// A stage ends if the stage after it is gone, and drops its own end.
 #[test]
 fn a_stage_ends_where_the_next_one_is_gone(rt: HostRuntime) {
     let (mut before, taker) = link::<Message<Framed, ()>>(rt.alloc(), 2).expect(&rt, "memory");
@@ -111,6 +113,7 @@ fn gathered_of_none<R: AllocGlobal + Wait + Abort>(rt: &R, lanes: u32) -> Ended
     end_of_gathering(rt, gatherer, lanes)
 }
 
+/// Gathering ends with the fault of a lost lane if all lanes are gone.
 #[test]
 fn gathering_ends_where_all_lanes_are_gone(rt: HostRuntime) {
     same!(&rt, gathered_of_none(&rt, 1), Ended::Lost);

@@ -79,6 +79,7 @@ fn free_way(rt: &impl Abort, alloc: Global) -> Network {
     Network::new(supplies, arcs).expect(rt, "a network")
 }
 
+/// The searches and looks of the solver are bounded by the units and arcs of the network.
 #[test]
 fn little_work(rt: HostRuntime) {
     let alloc = rt.alloc();

@@ -123,6 +123,7 @@ const ROWS: &[Row] = &[
     (NARROW_ANGLE, (false, true), 0),
 ];
 
+/// Both tests give the answers found by hand for small planes.
 #[test]
 fn triangles_paths_and_edges(rt: HostRuntime) {
     expect(&rt, rt.alloc(), ROWS);
@@ -136,6 +137,7 @@ fn spiral(alloc: Global, count: usize) -> Result<Vec<Vec<Turn>>, AllocError> {
     Ok(strings)
 }
 
+/// The shape of an edge with a million turns passes the test of shapes.
 #[test]
 fn strings_of_a_million_turns(rt: HostRuntime) {
     let alloc = rt.alloc();
@@ -409,6 +411,7 @@ const BENDS: [(&[u8], u32); 7] = [
     (CUBE, 4),
 ];
 
+/// Least shapes of known graphs have the fewest bends.
 #[test]
 fn fewest_bends(rt: HostRuntime) {
     for (bytes, bends) in BENDS {

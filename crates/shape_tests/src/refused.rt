@@ -50,6 +50,7 @@ fn pieces_in(alloc: Global) -> Option<Vec<Vec<u8>>> {
     vec![in alloc; piece].ok()
 }
 
+/// Streams are split and framed at the second call if the first one runs out of memory.
 #[test]
 fn streams(rt: HostRuntime) {
     expect_records(&rt, split_at_last(&rt, rt.alloc()));
@@ -97,6 +98,7 @@ fn expect_solution(rt: &impl Abort, alloc: Global, network: &Network) {
     same!(rt, counts, (true, true));
 }
 
+/// A network is solved at the second call if the first one runs out of memory.
 #[test]
 fn flows(rt: HostRuntime) {
     if let Some(network) = one_arc(&rt, rt.alloc()) {
@@ -134,6 +136,7 @@ fn expect_standing(rt: &impl Abort, alloc: Global, network: &Network) {
     expect_read_off(rt, alloc, &warm_start);
 }
 
+/// A warm start is made at the second call if the first one runs out of memory.
 #[test]
 fn standing_flows(rt: HostRuntime) {
     if let Some(network) = one_arc(&rt, rt.alloc()) {
@@ -171,6 +174,7 @@ fn network_at_last(rt: &impl Abort, alloc: Global, plane: &Plane) -> FaceNet
     }
 }
 
+/// The network of the triangle is built at the second call if the first one runs out of memory.
 #[test]
 fn networks(rt: HostRuntime) {
     let Some(plane) = plane_in(rt.alloc(), TRIANGLE) else {
@@ -191,6 +195,7 @@ fn expect_least(rt: &impl Abort, alloc: Global, plane: &Plane) {
     same!(rt, answers(plane, &shape, &prices), (true, true));
 }
 
+/// A least shape is found at the second call if the first one runs out of memory.
 #[test]
 fn least_shapes(rt: HostRuntime) {
     if let Some(plane) = plane_in(rt.alloc(), TRIANGLE) {
@@ -210,6 +215,7 @@ fn best_bends(rt: &impl Abort, alloc: Global, plane: &mut Plane) -> u32 {
     shape.bends()
 }
 
+/// A best shape is found at the second call if the first one runs out of memory.
 #[test]
 fn best_shapes(rt: HostRuntime) {
     if let Some(mut plane) = plane_in(rt.alloc(), CAPPED_CUBE) {
@@ -241,6 +247,7 @@ fn straight_figures(rt: &impl Abort, alloc: Global, plane: &Plane) -> Figures {
     figures(plane, &shape, &prices)
 }
 
+/// A shape is made straighter at the second call if the first one runs out of memory.
 #[test]
 fn straight_shapes(rt: HostRuntime) {
     if let Some(plane) = plane_in(rt.alloc(), PATH) {

@@ -96,6 +96,7 @@ const CAUSES: [(Cause, &str); 5] = [
     (Cause::Meet, "meet"),
 ];
 
+/// The JSON line of a triangle is the one worked out by hand, drawn or with the cause.
 #[test]
 fn shows_a_triangle(rt: HostRuntime) {
     let plane = plane_in(rt.alloc(), PRICED.record).expect(&rt, "a plane");
@@ -106,6 +107,7 @@ fn shows_a_triangle(rt: HostRuntime) {
     check_drawn(&rt, &plane, &shape);
 }
 
+/// The JSON line of an end has its mark, file and number of graphs.
 #[test]
 fn shows_an_end(rt: HostRuntime) {
     let mark = Mark::Ended(Ending::Truncated);

@@ -76,6 +76,7 @@ const RECORDS: [(&[u8], Rule); 4] = [
     (&[3, 2, 0, 1, 0, 0], Rule::Disconnected),
 ];
 
+/// Lines with a fault have the verdict that names it.
 #[test]
 fn lines_are_refused(rt: HostRuntime) -> Result<(), Fail> {
     for (line, wanted) in LINES.iter() {
@@ -85,6 +86,7 @@ fn lines_are_refused(rt: HostRuntime) -> Result<(), Fail> {
     Ok(())
 }
 
+/// Records that break a rule are refused with it.
 #[test]
 fn records_are_refused(rt: HostRuntime) -> Result<(), Fail> {
     for (bytes, rule) in RECORDS.iter() {
@@ -94,6 +96,7 @@ fn records_are_refused(rt: HostRuntime) -> Result<(), Fail> {
     Ok(())
 }
 
+/// The line of an end has no verdict.
 #[test]
 fn ends_are_told(rt: HostRuntime) -> Result<(), Fail> {
     let found = verdict_on(
