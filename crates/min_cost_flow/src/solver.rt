@@ -102,7 +102,7 @@ impl Solver {
     }
 
     /// Augment: sends along the path as much as can go, at least one unit.
-    pub(crate) fn augment(&mut self, root: usize)
+    fn augment(&mut self, root: usize)
         requires { (net : NetworkModel) × CanAugment net self.old root }
         ensures sent { (net : NetworkModel) → CanAugment net self.old root → IsSentAlong net self.old self.new }
         ensures work { (self.new.searches ≡ self.old.searches) × (self.new.looks ≡ self.old.looks) }
