@@ -2,7 +2,7 @@
 
 use thiserror::Error;
 
-/// The reason why boxes get no coordinates.
+/// The reason why no coordinates were returned.
 #[derive(Clone, Copy, Debug, PartialEq, Eq, Error)]
 pub enum CompactFault {
     /// No coordinates that grow along the darts are all at most 65,535.

@@ -40,7 +40,7 @@ stretch_direction w sound k a b l r =
         let rest : (w.direction b + w.angle m) % 4 ≡ (w.direction m + 2) % 4 = go w sound k m b m_in r.1 onward in
         omega (arith, rest, r.0, step)
 
--- a right and two lefts behind it lead back along the right's way
+-- a right and two lefts after it lead back along the right's way
 pub hook_faces : (w : DartMap) (d c1 c : ℕ) → IsSound w → d < w.darts → c1 < w.darts → c < w.darts → Stretches w d c1 → Stretches w c1 c →
     w.angle c1 ≡ 1 → w.angle c ≡ 1 → (w.direction (w.next c) + w.angle d) % 4 ≡ w.direction d
 hook_faces w d c1 c sound d_in c1_in c_in to_first to_second left_first left =

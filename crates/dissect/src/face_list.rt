@@ -26,7 +26,7 @@ pub struct Faces {
 }
 
 impl Faces {
-    /// No faces. It allocates nothing.
+    /// An empty list of faces. It allocates nothing.
     pub fn empty(alloc: Global) -> Faces
         ensures { result.corners.items ≡ [] }
     {

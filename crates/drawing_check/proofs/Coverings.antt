@@ -18,7 +18,7 @@ point_is p q ex ey =
 
 -- ---- no repeat in two lists, one after the other
 
--- the element at i behind l
+-- the element at i after l
 behind : (l m : List Point) (i : ℕ) (d : Point) → get_or (l ++ m) (length l + i) d ≡ get_or m i d
 behind l m i d = get_or-append_right l m (length l + i) d (omega arith) ∙ ap (λ (k : ℕ). get_or m k d) (omega arith)
 

@@ -153,7 +153,7 @@ fills_once marks a b size_a size_b fills_a fills_b = same_number_lists a b (size
         ∙ ap (λ v. cond (eqb (get_or marks (i + 1) 0) BLANK) v (get_or marks (i + 1) 0)) before
         ∙ sym (fills_b.onward i (omega arith)))
 
--- the first so many cells are filled up
+-- the first n cells are filled up
 pub record FillsTo (n : ℕ) (marks cells : List ℕ) : Type 0 where
   pub first : get_or cells 0 0 ≡ get_or marks 0 0
   pub onward : (i : ℕ) → i + 1 < n → get_or cells (i + 1) 0 ≡ cond (eqb (get_or marks (i + 1) 0) BLANK) (get_or cells i 0) (get_or marks (i + 1) 0)

@@ -11,15 +11,13 @@ pub enum CheckFault {
     /// Two consecutive points of a path are equal, or differ in both coordinates.
     #[error("a part of an edge is not parallel to an axis")]
     NotAxis,
-    /// An edge has not as many corners as turns, or a corner or an angle at a vertex is not the
-    /// shape's.
+    /// An edge has more or fewer corners than turns, or a corner or an angle at a vertex is not the shape's.
     #[error("a corner or an angle is not that of the shape")]
     WrongTurn,
-    /// Two paths meet, or a path meets itself or a vertex that is not its end, or two vertices are at
-    /// one point.
+    /// Two paths meet, or a path meets itself or a vertex that is not its end, or two vertices are at one point.
     #[error("a point is met twice")]
     Meet,
-    /// Memory ran out: only whether a point is met twice is left open.
+    /// Memory ran out. All conditions hold except perhaps the last one, `Meet`.
     #[error("out of memory")]
     Memory,
 }

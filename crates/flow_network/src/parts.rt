@@ -22,7 +22,7 @@ fn degree_of(plane: &Plane, vertex: u8) -> u8
     plane.graph().neighbours(vertex).len() as u8
 }
 
-/// What a face supplies: the right angles by which it turns to the left, less its degree.
+/// The supply of a face: the right angles by which it turns to the left, minus its degree.
 fn face_supply(plane: &Plane, face: u16) -> i32
     requires { face < plane.now.faces }
     ensures { result
@@ -32,7 +32,9 @@ fn face_supply(plane: &Plane, face: u16) -> i32
     turn - i32::from(plane.degree(face))
 }
 
-/// The supply of each node: those of the vertices, followed by those of the faces. Reuses the buffer of `old`.
+/// Returns the supply of each node of the plane's flow network: of all vertices, then of all faces.
+///
+/// Reuses the buffer of `old`.
 pub fn supplies_of(old: Vec<i32>, plane: &Plane) -> Result<Vec<i32>, AllocError>
     ensures nodes { IfOk result (λ s. length s.items ≡ vertices plane.now + plane.now.faces) }
     ensures at_vertex { IfOk result (λ s. (v : ℕ) → 1 ≤ v → v ≤ vertices plane.now
@@ -53,7 +55,7 @@ pub fn supplies_of(old: Vec<i32>, plane: &Plane) -> Result<Vec<i32>, AllocError>
     Ok(supplies)
 }
 
-/// What the crossing arc of a dart may carry: nothing where its edge is to stay straight.
+/// The capacity of the crossing arc of a dart: 0 if its edge is to stay straight, else unlimited.
 fn cap_across(plane: &Plane, straight: &[bool], dart: u16) -> Cap
     requires { dart < darts plane.now }
     ensures { result ≡ crossing_cap (is_straight plane.now straight.now dart) }
@@ -65,9 +67,9 @@ fn cap_across(plane: &Plane, straight: &[bool], dart: u16) -> Cap
     }
 }
 
-/// The arcs: the corner arcs of all darts, followed by their crossing arcs. Reuses the buffer of `old`.
+/// Returns the arcs of the plane's flow network: the corner arcs of all darts, then the crossing arcs of all darts.
 ///
-/// The edges of marked darts are to stay straight.
+/// The crossing arcs of edges that are marked in `straight` have capacity 0. Reuses the buffer of `old`.
 pub fn arcs_of(old: Vec<Arc>, plane: &Plane, straight: &[bool]) -> Result<Vec<Arc>, AllocError>
     ensures arcs { IfOk result (λ a. length a.items ≡ darts plane.now + darts plane.now) }
     ensures corner { IfOk result (λ a. (d : ℕ) → d < darts plane.now

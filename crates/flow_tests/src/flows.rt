@@ -190,7 +190,7 @@ fn the_first_fault_is_named(rt: HostRuntime) {
 #[test]
 fn faults_say_what_is_wrong(rt: HostRuntime) {
     let text = format!(in rt.alloc(); "{}, {}", NetFault::BadEnd, SolveFault::Memory);
-    let want = "an arc has an end that is no node, out of memory";
+    let want = "arc endpoint out of range, out of memory";
     same!(&rt, text.expect(&rt, "memory").as_str(), want);
 }
 

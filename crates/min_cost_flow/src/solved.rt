@@ -69,7 +69,7 @@ impl Solved {
         self.searches
     }
 
-    /// The number of looks at residual arcs, in all searches.
+    /// The number of times that the searches examined a residual arc.
     pub fn looks(&self) -> u64
         ensures { result ≡ self.now.looks }
     {

@@ -139,7 +139,7 @@ impl Solver {
     }
 }
 
-/// The reason why there is no solution.
+/// The reason why no solution was returned.
 #[derive(Clone, Copy, Debug, PartialEq, Eq, Error)]
 pub enum SolveFault {
     /// No flow meets the supplies.

@@ -38,7 +38,7 @@ behind n first arcs p e s q predecessor order place scanned ordered reached radi
       | inr h ↦ h
     ]
 
--- ---- labels that fall behind those that are ordered
+-- ---- labels that fall after those that are ordered
 
 lesser : (a x b : ℤ) → a ≡ x → x <ℤ b → a ≤ℤ b
 lesser a x b h l = omega (arith, ints)
@@ -62,7 +62,7 @@ put_lower q q' v w x put less =
       | inr ne ↦ same_le (q' w) (q w) (put.others w ne)
     ]
 
--- a residual arc from a scanned node serves a node, whose place is behind
+-- a residual arc from a scanned node serves a node, whose place comes after
 pub offered_entered : (n : ℕ) (first : List ℕ) (arcs : List ResidualArc) (p : ℕ → ℤ) (s : ℕ) (q q' : ℕ → ℤ) (place place' : ℕ → ℕ) (scanned : ℕ) (radius : ℤ) (k v : ℕ) (x : ℤ) → IsCandidate n first arcs p s q place scanned radius k v x → q' v ≡ x → AreLowered n scanned q place q' place' → scanned ≤ place' v → HasPredecessor n first arcs q' place' scanned v k
 offered_entered n first arcs p s q q' place place' scanned radius k v x o here kept behind =
     let same : (q' o.start ≡ q o.start) × (place' o.start ≡ place o.start) = kept.same o.start o.node o.labelled o.are_scanned in
@@ -744,7 +744,7 @@ next_node n first arcs p e s q predecessor order place scanned ordered reached r
       high = r.here (order scanned) (r.node scanned b) l (omega arith);
     }
 
--- the same after labels that fall behind it
+-- the same once labels after it fall
 pub next_kept : (n : ℕ) (p : ℕ → ℤ) (s : ℕ) (q q' : ℕ → ℤ) (place place' : ℕ → ℕ) (scanned : ℕ) (radius : ℤ) (u : ℕ) → IsNext n p s q place scanned radius u → AreLowered n (scanned + 1) q place q' place' → IsNext n p s q' place' scanned radius u
 next_kept n p s q q' place place' scanned radius u x kept =
     let at : place u ≡ scanned = x.stands in

@@ -92,7 +92,7 @@ pub some_of_tried : (p : PlaneModel) (marks barred : List Bool) (n : ℕ) (incum
 some_of_tried p marks barred n incumbent tried none =
     let (a, s, rep, keeps, is) = tried.some in none a s rep keeps
 
--- the bends of a least shape are so many as are needed
+-- the bends of a least shape are as many as are needed
 pub counted_shape : (p : PlaneModel) (marks : List Bool) (shape : ShapeModel) (bends : ℕ) → HasDarts p shape → IsLeastKeeping p marks shape → bends ≡ bends_of (length shape.strings) (turns_at shape) → IsCounted p marks (Some bends)
 counted_shape p marks shape bends lengths least is =
     let all : bends_of (darts p) (turns_at shape) ≡ bends = ap (λ (n : ℕ). bends_of n (turns_at shape)) (sym lengths.strings) ∙ sym is in (

@@ -15,12 +15,12 @@ pub record IsConcatenated {A : Type 0} (starts : List ℕ) (items : List A) (n :
   pub pieces : (k : ℕ) → k < n → (slice_of : List A) → IsPiece k slice_of →
       slice_range items (get_or starts k 0) (get_or starts (k + 1) 0) ≡ slice_of
 
--- a piece stays where more is put behind it
+-- a piece stays if more is appended
 pub slice_range-append : {A : Type 0} (xs ys : List A) (a b : ℕ) → a ≤ b → b ≤ length xs → slice_range (xs ++ ys) a b ≡ slice_range xs a b
 slice_range-append xs ys a b h k =
     ap (take (b - a)) (drop-append-le a xs ys (omega arith)) ∙ take-append-le (b - a) (drop a xs) ys (omega (arith, length-drop a xs))
 
--- and what is put behind is a piece
+-- and what is appended is a piece
 slice_range-behind : {A : Type 0} (xs ys : List A) → slice_range (xs ++ ys) (length xs) (length (xs ++ ys)) ≡ ys
 slice_range-behind xs ys =
     ap (take (length (xs ++ ys) - length xs)) (drop_at xs ys (length xs) refl) ∙ take_all (length (xs ++ ys) - length xs) ys (omega (arith, length-append xs ys))
@@ -77,7 +77,7 @@ concatenated-more {A} starts items more n IsPiece is this =
       ];
     }
 
--- what is put behind a list is one piece
+-- what is appended to a list is one piece
 one_behind : {A : Type 0} (items more other : List A) → items ++ more ≡ items ++ other → more ≡ other
 one_behind items more other same =
     sym (drop_at items more (length items) refl) ∙ ap (drop (length items)) same ∙ drop_at items other (length items) refl

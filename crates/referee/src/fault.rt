@@ -36,7 +36,7 @@ pub enum Fault {
     /// The edges at this vertex do not leave it in the clockwise order of the record.
     #[error("the edges at vertex {vertex} are not in the order of the record")]
     Embedding { vertex: u8 },
-    /// There is no face that can be the outer one: whichever it were, some face would not turn as it must.
+    /// No face can be the outer one: with each choice, some face does not turn as it must.
     #[error("no face is the outer one")]
     Outer,
     /// Two edges meet, or an edge meets itself or a vertex that is not its end, or two vertices are at one point.

@@ -112,7 +112,7 @@ found_faulted known before after known_fails fails rounds earlier old new state 
       marked = marked_split _ so_far.1 _ (ending_of f) (λ cut. failed_not_open (r.read ++ piece) so_far.0 (earlier ++ new) f stands cut.1) (stands so_far.0);
     }
 
--- want of memory for one more record
+-- memory runs out for one more record
 found_wanting : (known before after : Option (List ℕ)) (known_fails fails : Bool) (rounds : ℕ) (earlier old new : List (List ℕ)) (state : FramerState) (piece : List ℕ)
     → IsBeingRead known known_fails rounds before fails (earlier ++ old) state → Consumes before after piece
     → (added : List (List ℕ)) → new ≡ old ++ added → LosesRecord state piece added
