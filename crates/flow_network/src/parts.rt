@@ -79,24 +79,58 @@ pub fn arcs_of(old: Vec<Arc>, plane: &Plane, straight: &[bool]) -> Result<Vec<Ar
         → slice_index_or a.items (darts plane.now + d) no_arc
         ≡ record { from = vertices plane.now + face_at plane.now d; to = vertices plane.now + face_at plane.now (reverse_dart plane.now d); cap = crossing_cap (is_straight plane.now straight.now d); cost = 1 }) }
 {
+    let mut arcs = resized(old, 2 * usize::from(plane.graph().darts()))?;
+    write_arcs(&mut arcs, plane, straight);
+    Ok(arcs)
+}
+
+/// A list of so many arcs, to be overwritten, in the buffer of `old`. If that is too small, it allocates exactly as many.
+fn resized(old: Vec<Arc>, count: usize) -> Result<Vec<Arc>, AllocError>
+    ensures { IfOk result (λ a. length a.items ≡ count) }
+{
+    let mut arcs = old;
+    arcs.reserve_exact(count.saturating_sub(arcs.len()))?;
+    let none = Arc {
+        from: 0,
+        to: 0,
+        cap: Cap::Any,
+        cost: 0,
+    };
+    arcs.resize(count, none)?;
+    Ok(arcs)
+}
+
+/// Writes the corner arcs of all darts, followed by their crossing arcs.
+fn write_arcs(arcs: &mut [Arc], plane: &Plane, straight: &[bool])
+    requires { length arcs.old ≡ darts plane.now + darts plane.now }
+    ensures arcs { length arcs.new ≡ darts plane.now + darts plane.now }
+    ensures corner { (d : ℕ) → d < darts plane.now
+        → slice_index_or arcs.new d no_arc
+        ≡ record { from = head plane.now d - 1; to = vertices plane.now + face_at plane.now d; cap = AtMost 3; cost = 0 } }
+    ensures crossing { (d : ℕ) → d < darts plane.now
+        → slice_index_or arcs.new (darts plane.now + d) no_arc
+        ≡ record { from = vertices plane.now + face_at plane.now d; to = vertices plane.now + face_at plane.now (reverse_dart plane.now d); cap = crossing_cap (is_straight plane.now straight.now d); cost = 1 } }
+{
     let graph = plane.graph();
     let first_face = u32::from(graph.vertices());
-    let mut arcs = emptied(old, 2 * graph.darts() as usize)?;
-    'corners: for dart in 0..graph.darts() {
-        arcs.push(Arc {
-            from: u32::from(graph.head(dart)) - 1,
-            to: first_face + u32::from(plane.face_of(dart)),
+    let count = usize::from(graph.darts());
+    'write: for dart in 0..graph.darts() {
+        let vertex = u32::from(graph.head(dart)) - 1;
+        let face = first_face + u32::from(plane.face_of(dart));
+        let across = first_face + u32::from(plane.face_of(graph.reverse(dart)));
+        let cap = cap_across(plane, straight, dart);
+        let place = usize::from(dart);
+        arcs[place] = Arc {
+            from: vertex,
+            to: face,
             cap: Cap::AtMost(3),
             cost: 0,
-        })?;
-    }
-    'crossings: for dart in 0..graph.darts() {
-        arcs.push(Arc {
-            from: first_face + u32::from(plane.face_of(dart)),
-            to: first_face + u32::from(plane.face_of(graph.reverse(dart))),
-            cap: cap_across(plane, straight, dart),
+        };
+        arcs[count + place] = Arc {
+            from: face,
+            to: across,
+            cap,
             cost: 1,
-        })?;
+        };
     }
-    Ok(arcs)
 }

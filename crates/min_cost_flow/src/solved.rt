@@ -55,6 +55,13 @@ impl Solved {
         self.potential[node as usize]
     }
 
+    /// The potentials, by node.
+    pub fn potentials(&self) -> &[i32]
+        ensures { result.now ≡ self.now.potential }
+    {
+        &self.potential
+    }
+
     /// The number of searches for a path.
     pub fn searches(&self) -> u32
         ensures { result ≡ self.now.searches }
