@@ -31,13 +31,15 @@ pub fn find_right(table: &DartTable, outer: u32) -> u32
 }
 
 /// Appends a dart to the corners if it is one, that is, if its angle is not straight. It is appended in any case,
-/// and removed again if it is none: a branch could not be predicted.
+/// and removed again if it is none, which only changes the length: a branch could not be predicted.
 fn push_corner(corners: &mut Vec<u32>, dart: u32, angle: u8) -> Result<(), AllocError>
     ensures { OnOk result (((angle ≢ 2) × (corners.new.items ≡ corners.old.items ++ (dart ∷ [])))
         ⊎ ((angle ≡ 2) × (corners.new.items ≡ corners.old.items))) }
 {
     corners.push(dart)?;
-    corners.truncate(corners.len() - usize::from(angle == 2));
+    if angle == 2 {
+        corners.pop();
+    }
     Ok(())
 }
 
