@@ -1,9 +1,7 @@
 -- Lists that grow by one element a round.
-use Rattle.std.proofs.Common.{◌≡◌, ℕ, zero, suc, ◌+◌, ◌<◌, ◌≤◌, ◌==◌, if◌then◌else◌, ◌∙◌, Bool, true, false, List, [], ◌∷◌, ◌++◌, length, get_or, set, arith, sym, ap, refl, inl, inr, eqb, get_or-set_same, get_or-set_other}
-use Rattle.std.proofs.lemmas.Bool.{cases_eq, eq-eqb, ne_eqb, cond-true, cond-false}
+use Rattle.std.proofs.Common.{◌≡◌, ℕ, zero, suc, ◌+◌, ◌<◌, ◌≤◌, ◌==◌, if◌then◌else◌, ◌∙◌, List, [], ◌∷◌, ◌++◌, length, get_or, arith, sym, ap, refl, inl, inr}
+use Rattle.std.proofs.lemmas.Bool.{cases_eq}
 use Rattle.std.proofs.lemmas.List.{get_or_append_left, length-append}
-use Rattle.common.specs.Sums.{sum_below}
-use Rattle.common.proofs.Sums.{sum_below-more, sum_below-le, sum_below-constant}
 use Rattle.networks.specs.declared.arc.Arc.{Arc}
 use Rattle.networks.specs.declared.arc.Cap.{Cap}
 
@@ -51,34 +49,3 @@ pub arc_alike : (from from' to to' : ℕ) (cap cap' : Cap) (cost : ℕ) → from
 arc_alike from from' to to' cap cap' cost same_from same_to same_cap =
     let last : Cap → Arc = λ c. record { from = from'; to = to'; cap = c; cost = cost } in
     arc_same from from' to to' cap cost same_from same_to ∙ ap last same_cap
-
--- ones sum to no more than there are
-pub ones_few : (n : ℕ) (at : ℕ → ℕ) (v : ℕ) → sum_below n (λ e. if at e == v then 1 else 0) ≤ n
-ones_few n at v =
-    omega (arith, sum_below-le n (λ e. if at e == v then 1 else 0) (λ _. 1) (λ e l. one (eqb (at e) v)), sum_below-constant n 1)
-  where
-    one : (b : Bool) → (if b then 1 else 0) ≤ 1
-    one true = omega arith
-    one false = omega arith
-
--- one more dart is counted at its head
-pub counts_more : (counts : List ℕ) (n h : ℕ) (at : ℕ → ℕ) → h < length counts → h ≡ at n →
-    ((v : ℕ) → v < 256 → get_or counts v 0 ≡ sum_below n (λ e. if at e == v then 1 else 0)) →
-    (v : ℕ) → v < 256 → get_or (set counts h (get_or counts h 0 + 1)) v 0 ≡ sum_below (n + 1) (λ e. if at e == v then 1 else 0)
-counts_more counts n h at inside is before v l =
-    let more = sum_below-more n (λ e. if at e == v then 1 else 0) in
-    elim (cases_eq v h) [
-      | inl same ↦
-          let here : get_or (set counts h (get_or counts h 0 + 1)) v 0 ≡ get_or counts h 0 + 1 =
-          ap (λ (k : ℕ). get_or (set counts h (get_or counts h 0 + 1)) k 0) same ∙ get_or-set_same counts h (get_or counts h 0 + 1) 0 inside in
-          let was : get_or counts h 0 ≡ sum_below n (λ e. if at e == v then 1 else 0) = ap (λ (k : ℕ). get_or counts k 0) (sym same) ∙ before v l in
-          omega (arith, more, here, was, cond-true {A = ℕ} (eqb (at n) v) 1 0 (eq-eqb (at n) v (sym is ∙ sym same)))
-      | inr other ↦
-          omega (
-            arith,
-            more,
-            get_or-set_other counts h v (get_or counts h 0 + 1) 0 other,
-            before v l,
-            cond-false {A = ℕ} (eqb (at n) v) 1 0 (ne_eqb (at n) v (λ e. other (sym e ∙ sym is))),
-          )
-    ]
