@@ -253,9 +253,6 @@ scan_kept w0 face w d c1 c way st rest o rs new face_cutting wait bite =
       unread = map_kept w d c1 c (w.next c) way new bite rest below_tail.1.1.1 (λ h. after.0 (inr (inr h)));
     }
 
-pub total_kept : (w new : DartMap) (rest : List ℕ) → map new.angle rest ≡ map w.angle rest → total (map new.angle rest) ≡ total (map w.angle rest)
-total_kept w new rest e = ap total e
-
 pub scan_cut_straight : (w0 : DartMap) (face : List ℕ) (w : DartMap) (d c1 c way : ℕ) (st rest : List ℕ) (o : ℕ) (rs : List (List ℕ)) (new : DartMap) →
     IsFaceCutting w0 face w (c ∷ c1 ∷ d ∷ st) rest → AreWaiting w0 o (face ∷ rs) → w.angle c1 ≡ 1 → w.angle c ≡ 1 →
     IsCut w d (w.next c) way new → new.angle d ≡ 2 → IsFaceCutting w0 face new ((w.darts + 2) ∷ st) rest
