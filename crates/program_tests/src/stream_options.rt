@@ -65,6 +65,7 @@ const INPUTS: [(&[&[u8]], Row); 3] = [
     (&[HEADER, EDGE, &[2, 2, 0, 1]], ("frames -- -", CUT, 3)),
 ];
 
+/// The argument `-` reads standard input as a file.
 #[test]
 fn reads_standard_input(rt: HostRuntime) {
     check_on(&rt, &[HEADER, EDGE, TRIANGLE], &OF_BOTH);
@@ -99,6 +100,7 @@ const BESIDE_FILES: [Row; 2] = [
     ),
 ];
 
+/// Standard input has its place among files, and `./-` is a file.
 #[test]
 fn reads_standard_input_beside_files(rt: HostRuntime) {
     make_file(&rt, "-", &[HEADER, TRIANGLE]);

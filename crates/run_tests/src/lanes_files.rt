@@ -137,6 +137,7 @@ const ENDS: [(u32, Mark, u32); 4] = [
     (3, Mark::Io, 0),
 ];
 
+/// Each file has its mark, and all its records are kept.
 #[test]
 fn keeps_the_records_of_each_file(rt: HostRuntime) {
     let files = files(rt.alloc()).expect(&rt, "memory");
