@@ -121,7 +121,8 @@ class Library:
         self._object = ctypes.c_void_p()
         name = name or path()
         if name is None:
-            raise NoProgram(f"the library {NAME} was not found: build it (./planarbend --build), or set PLANARBEND_LIBRARY to its path")
+            raise NoProgram(f"the library {NAME} was not found: run ./planarbend --build, or set PLANARBEND_LIBRARY"
+                            " to its path")
         try:
             self._library = ctypes.CDLL(name)
         except OSError as error:
