@@ -257,8 +257,8 @@ def input_is_a_folder(machine: Machine, command: Command) -> None:
 
 
 def numbered_as_input(machine: Machine, command: Command) -> Ran:
-    """A run of two lanes without standard input over two FIFOs and `-`. One of the FIFOs gets the descriptor of standard
-    input, and ends after `-` was tried."""
+    """A run of two lanes without standard input over two FIFOs and `-`. One of the FIFOs gets the descriptor of
+    standard input, and ends after `-` was tried."""
     paths = [machine.fifo(), machine.fifo()]
     with both_ends(paths[0]) as one, both_ends(paths[1]) as other, \
             machine.started([*command.words, *paths, "-"], preexec_fn=closing(0)) as child:

@@ -330,7 +330,7 @@ def tells_on_a_terminal(machine: Machine, command: Command, wanted: bool) -> Non
 
 
 def shares_a_terminal(machine: Machine, command: Command) -> None:
-    """On a terminal that also gets the report, each line of the report is complete, and the last line of progress follows."""
+    """On a terminal that also gets the report, each of its lines is complete, and the last line of progress follows."""
     ran, shown = on_a_terminal(machine, command, 200, "stdout", "stderr")
     *report, last = screen_of(shown)
     text = "".join(line + "\n" for line in report).encode()
@@ -378,7 +378,7 @@ def screen_of(shown: str) -> list[str]:
 
 
 def tells_in_time(machine: Machine, command: Command) -> None:
-    """While graphs arrive for more than a second, lines are written at most four times a second, and once at the end."""
+    """While graphs arrive for over a second, lines are written at most four times a second, and once at the end."""
     start = time.monotonic()
     ran = machine.fed([*command.words, "-"], HEADER + EDGE * 300, 0.001)
     passed = time.monotonic() - start
