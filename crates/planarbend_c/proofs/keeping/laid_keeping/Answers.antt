@@ -26,16 +26,16 @@ laid_kept-requires c =
     let known : IsKeptPlane c.args.conditions.now c.args.choice c.args.rec.now c.in-Ok-Ok.kept = subst (λ made. IfOk made (IsKeptPlane c.args.conditions.now c.args.choice c.args.rec.now)) c.in-Ok-Ok.field-0-is c.in-Ok-Ok.ensures.kept in
     known.kept.proof.prices
 
-pub returns-in-Ok-drawn_keeping-clause-found : goal.returns-in-Ok-drawn_keeping-clause-found
-returns-in-Ok-drawn_keeping-clause-found c =
+pub returns-in-Ok-clause-found : goal.returns-in-Ok-clause-found
+returns-in-Ok-clause-found c =
     let known : IsKeptPlane c.args.conditions.now c.args.choice c.args.rec.now c.in-Ok-Ok.kept = subst (λ made. IfOk made (IsKeptPlane c.args.conditions.now c.args.choice c.args.rec.now)) c.in-Ok-Ok.field-0-is c.in-Ok-Ok.ensures.kept in
     subst (IsFoundKeeping c.args.conditions.now c.args.choice c.args.rec.now) (sym c.laid_kept.ensures) (record {
       lists = known.lists;
       rules = known.rules;
       kept = known.kept;
-      drawn = c.in-Ok-drawn_keeping.ensures.drawn;
-      straight = c.in-Ok-drawn_keeping.ensures.straight;
+      drawn = c.in-Ok.ensures.drawn;
+      straight = c.in-Ok.ensures.straight;
     })
 
-pub returns-in-Ok-drawn_keeping-clause-asked : goal.returns-in-Ok-drawn_keeping-clause-asked
-returns-in-Ok-drawn_keeping-clause-asked c = ap (λ (found : Finding). is_some found.points) c.laid_kept.ensures ∙ c.in-Ok-drawn_keeping.ensures.asked
+pub returns-in-Ok-clause-asked : goal.returns-in-Ok-clause-asked
+returns-in-Ok-clause-asked c = ap (λ (found : Finding). is_some found.points) c.laid_kept.ensures ∙ c.in-Ok.ensures.asked
