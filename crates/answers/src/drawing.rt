@@ -194,6 +194,8 @@ pub(crate) fn points_of(
     drawing_kind: DrawingKind,
 ) -> Result<Points, AllocError>
     ensures drawn { IfOk result (IsDrawingOf shaped_plane.now.plane shaped_plane.now.shape) }
+    ensures quick { drawing_kind ≡ DrawingKind.Quick
+        → IfOk result (IsQuick shaped_plane.now.plane shaped_plane.now.shape) }
     ensures no_longer { IfOk result (IsNoLonger shaped_plane.now.plane shaped_plane.now.shape) }
     ensures near { IfOk result (IsNear shaped_plane.now.plane shaped_plane.now.shape) }
 {
