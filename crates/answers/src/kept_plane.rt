@@ -22,11 +22,11 @@ pub struct KeptPlane {
     pub ghost directed: { AreDirectionsOf plane shape directions.items } by { Prim.hlevel props },
 }
 
-/// The reason why a record has no shape that keeps conditions.
+/// The reason why no shape of a record that keeps conditions was returned.
 #[derive(Debug, Drop)]
 pub enum KeptFault {
-    /// It has no plane.
+    /// The record breaks a rule, or memory ran out for its graph.
     Record(ReadFault),
-    /// Its plane has no such shape.
+    /// No shape of its plane keeps the conditions, or memory ran out for one.
     Conditions(KeepFault),
 }

@@ -20,7 +20,7 @@ ended_with gave_up holds Memory given held ends = held ends.0 ends.1
 ended_with gave_up holds LaneLost given held ends = held ends.0 ends.1
 ended_with gave_up holds Thread given held ends = held ends.0 ends.1
 
--- lines of so many files in this form, under this choice
+-- lines of this many files in this form, under this choice
 pub begun_lines : (choice : Choice) (meaning : ℕ → Meaning) (form : Form) (files : ℕ) (start now : Option (List ℕ)) (lines : Lines) → choice_of lines ≡ choice → form_of lines ≡ form → files_of lines ≡ files
     → (ns : List Note) → ArePartialLines meaning start now lines ns → ∥ IsBegun choice meaning form files start now ∥₁
 begun_lines choice meaning form files start now lines choice_is form_is files_is ns left =

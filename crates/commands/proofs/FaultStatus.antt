@@ -1,6 +1,5 @@
 -- The status of what was refused or failed.
-use Rattle.std.proofs.Common.{◌≡◌, ◌⊎◌, ℕ, Bool, arith, inl, inr, refl}
-use Rattle.streams.specs.declared.faults.BatchFault.{BatchFault}
+use Rattle.std.proofs.Common.{◌≡◌, ◌⊎◌, ℕ, Bool, arith, inl, inr}
 use Rattle.streams.specs.declared.faults.BatchFault.TheVariants.{TooManyFiles, BadLanes, Memory, LaneLost, Thread}
 use Rattle.printing.specs.declared.fault.TextFault.{TextFault}
 use Rattle.printing.specs.declared.fault.TextFault.TheVariants as text
@@ -20,21 +19,6 @@ not_two status (inr is) two = omega (arith, is, two)
 -- it is neither that of a whole report nor that of one that lacks something
 pub ends_else : (fault : Fault) (status : ℕ) → (IsMisuse fault → status ≡ 2) → ((IsMisuse fault → ⊥) → status ≡ 1) → (status ≡ 0) ⊎ (status ≡ 3) → ⊥
 ends_else fault status refused failed either = not_one status either (failed (λ refusal. not_two status either (refused refusal)))
-
--- a run that is refused is one of too many files, or of bad lanes
-pub refusable_run : {P Q : Type 0} (fault : BatchFault) → (fault ≡ TooManyFiles → P) → (fault ≡ BadLanes → Q) → IsMisuse (Fault.Run fault) → P ⊎ Q
-refusable_run TooManyFiles many lanes is = inl (many refl)
-refusable_run BadLanes many lanes is = inr (lanes refl)
-refusable_run Memory many lanes is = absurd is
-refusable_run LaneLost many lanes is = absurd is
-refusable_run Thread many lanes is = absurd is
-
-pub misuse_of_run : (fault : BatchFault) → IsMisuse (Fault.Run fault) → IsMisuseOfRun (TextFault.Run fault)
-misuse_of_run TooManyFiles is = is
-misuse_of_run BadLanes is = is
-misuse_of_run Memory is = absurd is
-misuse_of_run LaneLost is = absurd is
-misuse_of_run Thread is = absurd is
 
 -- a text gives up for nothing that was asked of the run
 pub of_text : (failed : Bool) (fault : TextFault) → GivesUp failed fault → IsMisuseOfRun fault → ⊥

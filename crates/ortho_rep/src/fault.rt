@@ -1,4 +1,4 @@
-//! Why a plane is given no shape.
+//! Why no shape of a plane was returned.
 
 ghost use Rattle.std.specs.Prelude.{◌≡◌};
 ghost use Rattle.ortho_rep.specs.declared.fault.ShapeFault.TheVariants.{Memory};
@@ -6,11 +6,11 @@ ghost use Rattle.ortho_rep.specs.declared.fault.ShapeFault.TheVariants.{Memory};
 use std::alloc::AllocError;
 use thiserror::Error;
 
-/// The reason why there is no shape.
+/// The reason why no shape was returned.
 #[derive(Clone, Copy, Debug, PartialEq, Eq, Error)]
 pub enum ShapeFault {
     /// No orthogonal representation of the plane with its outer face keeps these edges straight.
-    #[error("no shape keeps these edges straight")]
+    #[error("no orthogonal representation keeps these edges straight")]
     NoShape,
     /// An allocation was refused.
     #[error("out of memory")]
