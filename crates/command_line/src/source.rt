@@ -56,19 +56,20 @@ impl<F: Tap + KeepsReason> Tap for NotedSource<'_, F> {
     ghost fails = { noted_fails F.fails };
 
     fn read(&mut self, buf: &mut [u8]) -> Result<usize, TapFault> {
+        let note = self.note;
         let Some(source) = &mut self.source else {
             return Err(TapFault);
         };
         match source.read(buf) {
             Ok(count) => {
-                if let Some(note) = self.note {
+                if let Some(note) = note {
                     note.begin(self.place, &buf[..count]);
                 }
                 self.place = self.place.saturating_add(count);
                 Ok(count)
             }
             Err(fault) => {
-                if let Some(note) = self.note {
+                if let Some(note) = note {
                     note.fail(source.reason());
                 }
                 Err(fault)
