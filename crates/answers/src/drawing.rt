@@ -191,7 +191,9 @@ pub(crate) fn points_of(
     shaped_plane: &ShapedPlane,
     drawing_kind: DrawingKind,
 ) -> Result<Points, AllocError>
-    ensures { IfOk result (IsDrawing shaped_plane.now.plane shaped_plane.now.shape) }
+    ensures drawn { IfOk result (IsDrawing shaped_plane.now.plane shaped_plane.now.shape) }
+    ensures quick { drawing_kind ≡ DrawingKind.Quick
+        → IfOk result (IsQuick shaped_plane.now.plane shaped_plane.now.shape) }
 {
     match drawing_kind {
         DrawingKind::Quick => least_points(

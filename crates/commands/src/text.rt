@@ -13,7 +13,7 @@ use command_line::FileNotes;
 use common::Choice;
 use entries::MAX_FILES;
 use lane_runs::{LaneKind, Run, RunFault, run_lanes};
-use lanes::{Consumer, Gate, Opener, Pauses, PausingOpener};
+use lanes::{Consumer, Gate, Opener, Pauses};
 use printing::{Lines, Meant, Pace, TextFault, Texts};
 use reports::Style;
 use ruled_lanes::LANES;
@@ -94,15 +94,11 @@ pub(crate) fn write_watched<R: Threads + Wait + Sync, O: Opener, G: Gate, S: Sin
         return Err(TextFault::Run(BatchFault::BadLanes));
     }
     let pauses = Pauses::none();
-    let pausing = PausingOpener {
-        rt,
-        opener,
-        pauses: &pauses,
-    };
     let run = Run {
         rt,
         alloc,
-        opener: &pausing,
+        opener,
+        pauses: &pauses,
         gate,
         files,
         lanes,
