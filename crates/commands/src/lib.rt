@@ -16,7 +16,6 @@ pub use command_line::{
     KeepsReason, Meter, NamedFiles, NamedSource, OutputSink, Progress, ReadTap, Reason,
     SharedTerminal, StandardInput, SystemFiles, is_input, open_fault, write_fault,
 };
-pub use printing::TextFault;
 pub use process::run;
 pub use program::command;
 pub use text::write_batch;
