@@ -33,7 +33,7 @@ PART = re.compile(r"(.*)-part-(\d+)-of-(\d+)")
 
 
 class Incomplete(Exception):
-    """Why there is no table."""
+    """A part is missing, given twice or incomplete, so there is no table; the message says which."""
 
 
 @dataclasses.dataclass

@@ -1,5 +1,5 @@
 //! How far the parts of a run are ahead of one another: lines leave while their file is read, links and the fan hold as
-//! many messages as they are made for, stages pass the gate before they hand a record on, and nothing is read behind a
+//! many messages as they are made for, stages pass the gate before they hand a record on, and nothing is read after a
 //! fault.
 ghost use Rattle.std.specs.Prelude.{false, None};
 ghost use Rattle.lanes.specs.Opening.{Silent};
@@ -17,9 +17,9 @@ use std::thread::Threads;
 use std::{io, thread};
 use test_tools::{same, wait_for_count};
 
-/// What was seen of a run: how often each stage has passed the gate, the sink had bytes, and had a full buffer of them (one
-/// that is not full leaves where no line comes for a while); whether one part waited too long for another; and whether
-/// something came too early or was done once more.
+/// What was seen of a run: how often each stage passed the gate, how often the sink got bytes, and how often it got a
+/// full buffer of them (one that is not full leaves if no line comes for a while); whether one part waited too long for
+/// another; and whether something came too early or was done once more.
 #[derive(Drop)]
 struct Seen {
     read: AtomicU32,
@@ -52,12 +52,12 @@ impl Seen {
         }
     }
 
-    /// Waits until a part was seen so often, and notes where a million turns were too few.
+    /// Waits until a part was seen this often, and notes if a million turns were too few.
     fn wait_for(&self, part: &AtomicU32, least: u32) {
         wait_for_count(part, least, &self.ran_out);
     }
 
-    /// Waits for a while, and notes where the next part was then seen more than so often.
+    /// Waits for a while, and notes if the next part was then seen more than `most` times.
     fn hold(&self, next: &AtomicU32, most: u32) {
         for _ in 0..4_000 {
             thread::yield_now();
@@ -67,8 +67,8 @@ impl Seen {
         }
     }
 
-    /// A stage passes the gate: it waits at its first record until the stage before it is so far ahead, and at the
-    /// record of this place for a while, in which the next part is not to have it.
+    /// A stage passes the gate: it waits at its first record until the stage before it is `ahead` records ahead, and at
+    /// the record of this place for a while, in which the next part must not get it.
     fn pass_at(
         &self,
         ordinal: u32,
@@ -97,8 +97,8 @@ impl Gate for Seen {
     }
 }
 
-/// A source of 451 edges and a fault behind them. It gives one a read, and waits in front of the last one until the sink
-/// has had bytes.
+/// A source of 451 edges followed by a fault. It returns one edge a read, and waits before the last one until the sink
+/// got bytes.
 #[derive(Drop)]
 struct Edges<'s> {
     seen: &'s Seen,
@@ -106,7 +106,7 @@ struct Edges<'s> {
 }
 
 impl Edges<'_> {
-    /// What the next read gives, if there is to be one.
+    /// What the next read returns, if there is to be one.
     fn next(&mut self) -> Option<&'static [u8]> {
         let read = self.reads;
         self.reads = read.saturating_add(1);
@@ -138,7 +138,7 @@ impl Tap for Edges<'_> {
     }
 }
 
-/// Opens one such source.
+/// Opens one of these sources.
 #[derive(Clone, Copy)]
 struct Files<'s> {
     seen: &'s Seen,
@@ -157,7 +157,7 @@ impl<'s> Opener for Files<'s> {
     }
 }
 
-/// Takes a text. Where it has a full buffer it waits until so many records are drawn.
+/// Takes a text. When it gets a full buffer it waits until `drawn` records are drawn.
 #[derive(Drop)]
 struct Held<'s> {
     seen: &'s Seen,
@@ -179,7 +179,7 @@ impl Write for Held<'_> {
     }
 }
 
-/// The text of the source in this form over one lane whose links have room for 64, and how the run ended.
+/// The output for the source in this form, over one lane whose links have room for 64, and how the run ended.
 fn run<R: AllocGlobal + Threads + Wait + Sync>(
     rt: &R,
     seen: &Seen,
@@ -208,7 +208,7 @@ fn run<R: AllocGlobal + Threads + Wait + Sync>(
     (ended, text)
 }
 
-/// The text has so many lines, ends so, and nothing came too late or too early.
+/// Checks that the text has this many lines and this end, and that nothing came too late or too early.
 fn check<R: AllocGlobal + Threads + Wait + Sync + Abort>(
     rt: &R,
     seen: &Seen,
@@ -225,7 +225,8 @@ fn check<R: AllocGlobal + Threads + Wait + Sync + Abort>(
     same!(rt, found, lines);
 }
 
-/// The lines of the first 372 records take 15,888 bytes, so that 496 are left where a line is to have 512. While these
+/// Lines leave while their file is read, and each part is as far ahead as there is room.
+/// The lines of the first 372 records take 15,888 bytes, so that 496 are left for a line that needs 512. While these
 /// leave, the fan has room for 64 more, and the last stage has one.
 #[test]
 fn gate_sees_lines_leave(rt: HostRuntime) {

@@ -23,7 +23,7 @@ struct Edges<'r> {
 }
 
 impl Edges<'_> {
-    /// What the next read gives.
+    /// What the next read returns.
     fn next(&mut self) -> &'static [u8] {
         if !self.is_begun {
             self.is_begun = true;
@@ -59,7 +59,7 @@ impl KeepsReason for Edges<'_> {
     }
 }
 
-/// Opens such sources of 400 edges.
+/// Opens sources of 400 edges.
 #[derive(Clone, Copy)]
 struct Input<'r> {
     reads: &'r AtomicU32,
@@ -79,8 +79,8 @@ impl<'r> Opener for Input<'r> {
     }
 }
 
-/// A console that shows nothing. It tells the time when a run begins; if it is asked again, it waits until the input was
-/// read 150 times, and notes if a million turns were too few.
+/// A console that shows nothing. A run asks it for the time when it begins; when it is asked again, it waits until the
+/// input was read 150 times, and notes if a million turns were too few.
 #[derive(Drop)]
 struct Held<'r> {
     is_begun: AtomicBool,

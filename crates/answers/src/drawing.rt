@@ -50,7 +50,7 @@ impl DrawScratch {
         }
     }
 
-    /// Takes back the lists of a shaped plane and of its points, which are no longer read, to be reused.
+    /// Consumes a shaped plane and its points, whose lists are reused.
     ///
     /// Those of the points stay here; those of the shaped plane return in its holder.
     pub fn take_back(&mut self, shaped_plane: ShapedPlane, points: Points) {

@@ -62,10 +62,10 @@ impl RecordScratch {
         shape(alloc, &mut self.shapes, plane, choice, drawing_kind)
     }
 
-    /// A drawing of a plane with a least shape, quick or short. Each least shape has one.
+    /// Returns a drawing of the plane that has the shape of `shaped_plane`: quick or short, as `drawing_kind` says.
     ///
-    /// The edges of a short drawing are together no longer than those of a quick one. For n vertices and b bends,
-    /// coordinates are below 3n + 2b + 5.
+    /// Each least shape has a drawing. The edges of a short one are in all no longer than those of a quick one. For n
+    /// vertices and b bends, coordinates are below 3n + 2b + 5.
     ///
     /// # Errors
     ///
@@ -87,7 +87,7 @@ impl RecordScratch {
         drawing_of(alloc, &mut self.drawings, shaped_plane, drawing_kind)
     }
 
-    /// The points of a quick drawing, as `draw` makes them, but not checked: it is proved that they draw the shape.
+    /// Returns the points of a quick drawing, as `draw` makes them; no check of them is needed, as they are proved.
     ///
     /// # Errors
     ///

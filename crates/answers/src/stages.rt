@@ -106,7 +106,7 @@ pub(crate) fn answer_with(
     }
 }
 
-/// The shaped plane of a record with points that draw it, or why there are none.
+/// Adds points that draw the shape to a shaped plane; a record without a plane keeps its fault.
 ///
 /// The points of a quick drawing are not checked: it is proved that they draw the shape.
 pub fn find_points(

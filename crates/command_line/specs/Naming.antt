@@ -22,6 +22,3 @@ meanings_in files names file = meaning_at files (slice_get names file)
 -- the meaning of the file with this name, where the other files are those of a system, of which nothing is known
 abbrev pub meaning_of : Meaning → List ℕ → Meaning
 meaning_of input name = meaning_in input (λ _. Silent) name
-
-abbrev pub meanings : Meaning → List (Bor (List ℕ)) → ℕ → Meaning
-meanings input names file = meanings_in (meaning_of input) names file

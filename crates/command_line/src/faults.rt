@@ -6,7 +6,7 @@ use std::alloc::AllocError;
 use streams::{BatchFault, SinkFault, WriteFault};
 use thiserror::Error;
 
-/// The reason why there is no complete output. Its message is what the program prints after its own name.
+/// The reason why the program did not complete its output. Its message is printed after the program's name.
 #[derive(Clone, Copy, Debug, PartialEq, Eq, Error)]
 pub enum Fault {
     /// Out of memory for the arguments, for the text of help or of an error message, or while a file was opened.

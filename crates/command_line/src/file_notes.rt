@@ -12,7 +12,7 @@ use streams::{Mark, Sink, WriteFault, put_all};
 /// The number of a file's first bytes that are noted.
 pub(crate) const FRONT: usize = 96;
 
-/// The notes on one file, which any thread may write.
+/// Notes on one file while it is read: why it failed, its first bytes, and how it ended. Any thread may write them.
 #[derive(Drop)]
 pub struct FileNote {
     /// The reason why it was not opened or a read of it failed, encoded as by `code_of`, or 0.
@@ -101,14 +101,14 @@ fn reason_of(number: u64) -> Option<Reason> {
     }
 }
 
-/// The notes on each file of a run.
+/// A [`FileNote`] for each file of a run, from which messages about files that failed are written.
 #[derive(Drop)]
 pub struct FileNotes {
     notes: Vec<FileNote>,
 }
 
 impl FileNotes {
-    /// Empty notes on `files` files.
+    /// An empty note for each of `files` files.
     pub fn new(alloc: Global, files: usize) -> Result<FileNotes, AllocError> {
         let mut notes = Vec::with_capacity(alloc, files)?;
         for _ in 0..files {
@@ -117,12 +117,12 @@ impl FileNotes {
         Ok(FileNotes { notes })
     }
 
-    /// The note on the file with this number; `None` past the last.
+    /// The note on the file with this number, from 0; `None` if there is no such file.
     pub fn note(&self, file: u32) -> Option<&FileNote> {
         self.notes.get(file as usize)
     }
 
-    /// Notes that the file with this number ended with this mark.
+    /// Stores in the note of a file that the file ended with this mark.
     pub fn end(&self, file: u32, mark: Mark) {
         if let Some(note) = self.note(file) {
             note.end(mark);

@@ -96,7 +96,7 @@ impl<'c, C: Console> Meter<'c, C> {
         }
     }
 
-    /// The counter of the files that were opened, or could not be.
+    /// The atomic counter of the files that were opened or could not be opened.
     pub fn opened(&self) -> &AtomicU64 {
         &self.opened
     }

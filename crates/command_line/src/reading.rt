@@ -7,7 +7,7 @@ ghost use Rattle.command_line.specs.Requests.{role_after, asks, asks_in, files_i
 use crate::standard_input::is_input;
 use std::alloc::{AllocError, Global};
 
-/// The role of an argument, given the arguments before it.
+/// What an argument may be, given the arguments before it.
 #[derive(Clone, Copy)]
 pub enum Role {
     /// The first argument: a command, or `--version`.
@@ -41,7 +41,7 @@ pub enum Keyword {
     Faces,
 }
 
-/// The numbers that arguments can give.
+/// An option whose value is a number.
 #[derive(Clone, Copy)]
 pub enum Number {
     /// The value of `--lanes`.

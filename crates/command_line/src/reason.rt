@@ -6,7 +6,7 @@ use std::io::Error;
 use std::{fmt, io};
 use streams::{IoSink, MemTap};
 
-/// The reason why the system refused a call: its error code, if it gave one. Its text is the system's.
+/// The system's error code for a failed call, if it gave one. It is displayed as the system's message.
 #[derive(Clone, Copy, Debug, PartialEq, Eq)]
 pub struct Reason {
     pub code: Option<i32>,

@@ -11,7 +11,7 @@ use std::alloc::Global;
 use std::io::ErrorKind;
 use streams::{Tap, TapFault};
 
-/// A named file, or standard input.
+/// The source of a name: a file, or standard input.
 #[derive(Drop)]
 pub enum NamedSource<F, I> {
     /// The file with this name.
@@ -89,7 +89,7 @@ impl<F: Tap + KeepsReason> Tap for NotedSource<'_, F> {
     }
 }
 
-/// An open file, or one that could not be opened, every read of which fails.
+/// A file that is open, or that could not be opened, in which case every read fails.
 #[derive(Drop)]
 pub enum FileSource<F> {
     /// An open file.
@@ -147,7 +147,7 @@ pub fn open_source<'r, N: NamedFiles>(
     }
 }
 
-/// The fault of a file that was not opened, from the kind of the error.
+/// Converts the kind of a system error into the fault of a file that was not opened.
 pub fn open_fault(kind: ErrorKind) -> OpenFault
     ensures memory { (result ≡ OpenFault.Memory) ↔ (kind ≡ ErrorKind.OutOfMemory) }
 {

@@ -17,7 +17,7 @@ pub ended_with : {F Q : Type 0} (gave_up : RunFault F → Type 0) (holds : List 
 ended_with gave_up holds fault given held (inl gave) = given gave
 ended_with gave_up holds fault given held (inr (of, ns, has)) = held of ns has
 
--- lines of so many files in this form, under this choice
+-- lines of this many files in this form, under this choice
 pub begun_lines : (choice : Choice) (meaning : ℕ → Meaning) (form : Form) (files : ℕ) (start now : Option (List ℕ)) (lines : Lines) → choice_of lines ≡ choice → form_of lines ≡ form → files_of lines ≡ files
     → (ns : List Note) → ArePartialLines meaning start now lines ns → ∥ IsBegun choice meaning form files start now ∥₁
 begun_lines choice meaning form files start now lines choice_is form_is files_is ns left =

@@ -10,7 +10,7 @@ use std::alloc::AllocError;
 use std::sync::Wait;
 use streams::Sink;
 
-/// Writes the verdicts that a `check` request asks for; returns their exit status.
+/// Writes the verdicts that a `check` request asks for; returns the exit status.
 ///
 /// It checks the drawings in one file of the graphs in another one. Lines about the two files are written to `err`.
 ///

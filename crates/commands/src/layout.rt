@@ -18,7 +18,7 @@ pub const CAPACITY: u32 = MAX_CAPACITY;
 /// The number of bytes of a megabyte.
 const MEGABYTE: usize = 1_000_000;
 
-/// Writes the answers that a `layout` request asks for; returns the exit status of their text.
+/// Writes the answers that a `layout` request asks for; returns the exit status.
 ///
 /// They are written while the files are read. `files` opens the files that are named. The meter counts files and
 /// graphs. How files begin, end and fail is noted in `notes`. Later files pause once `waiting` megabytes of their text

@@ -19,7 +19,7 @@ use std::alloc::{AllocError, Global};
 use std::marker::PhantomData;
 use streams::SourceEnd;
 
-/// The kind of lanes that answer records and make their output lines, in one format and with drawings of one kind.
+/// The `LaneKind` of lanes that answer records and make output lines, in one format and with drawings of one kind.
 /// How each file ends is noted in `notes`, if there are any.
 #[derive(Drop)]
 pub struct LineLanes<'n, J: Meant> {

@@ -23,15 +23,14 @@ use std::sync::Wait;
 use std::thread::Threads;
 use streams::{BatchFault, Sink, SinkFault};
 
-/// Answers all records of the first `files` files on `lanes` lanes, streams the text to `sink`, and returns the exit
-/// status.
+/// Answers all records of the first `files` files, streams the text to `sink`, and returns the exit status of the run.
 ///
 /// Each record is answered under this choice of the outer face. The text is that of the files' books in the format of
 /// this style, as `Form::write` writes books, and is written while the files are read. JSON lines have drawings of the
 /// style's kind; the report shows no coordinates, and its lines are of quick ones. It returns the exit status of the
 /// whole text: 0 if each file ended complete and memory ran out for no record's answer or line, and otherwise 3.
 ///
-/// Files go over lanes as in `run_batch`. They are written in their order: the lines of the first file that has not
+/// Files go over `lanes` lanes as in `run_batch`, and are written in order: the lines of the first file that has not
 /// ended go to the sink as they arrive, and those of later files are buffered. The layout of a record is freed once its
 /// line is made. If the buffered lines hold `waiting` bytes of memory or more, the reading of later files pauses until
 /// there is room again or they become first; what lanes have read by then still arrives and is buffered too.

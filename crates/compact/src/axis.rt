@@ -165,7 +165,7 @@ fn relaxed_along(
     Ok(coordinates)
 }
 
-/// The x and y coordinates of the vertices: the least such that they grow along the darts.
+/// Returns the x and y coordinates of the vertices: the least that grow along the darts.
 ///
 /// They reuse the buffers of `x` and `y`. `around` has the neighbours of each vertex.
 pub fn least_coordinates(

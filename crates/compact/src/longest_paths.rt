@@ -65,8 +65,8 @@ impl<'a> Neighbours<'a> {
 /// A stack of the first vertices of segments that are still to come. The first vertex of a segment has no neighbour to
 /// its right.
 ///
-/// Time and the coordinates depend on what it holds. Whatever that is, no coordinate goes above any that grow along the
-/// arcs.
+/// Time and the coordinates depend on what it holds: where a segment comes twice, its second visit can even lower a
+/// coordinate. Whatever it holds, no coordinate goes above any that grow along the arcs; only that is proved.
 #[derive(Drop)]
 struct SegmentStack<'a> {
     firsts: &'a mut [u32],
@@ -93,7 +93,7 @@ impl SegmentStack<'_> {
     }
 }
 
-/// The first vertex from `begin` on that has no neighbour to its right and none behind it, or `NO_VERTEX`. In boxes, all
+/// The first vertex from `begin` on with no neighbour to its right and none at its back, or `NO_VERTEX`. In boxes, all
 /// segments are reached from its segment.
 fn find_source(neighbours: Neighbours<'_>, begin: u32, vertices: u32) -> u32
     requires directions { (neighbours.right < 4) × (neighbours.back < 4) }
@@ -185,10 +185,11 @@ fn place_segment(
     }
 }
 
-/// Raises coordinates, all of them 0 at first, to the lengths of longest paths, segment by segment in a topological order.
+/// Sets coordinates, all of them 0 at first, to lengths of longest paths, segment by segment in a topological order.
 ///
 /// Segments wait in `stack`, which has a place for each vertex. The first one of all is looked for from the vertex
-/// `begin` on. Linear in the vertices, if all faces are boxes.
+/// `begin` on. If all faces are boxes, it visits each segment once, in time linear in the vertices. What is proved, of
+/// any faces, is that no coordinate goes above any that grow along the arcs.
 pub fn raise_to_longest_paths(
     stack: &mut [u32],
     neighbours: Neighbours<'_>,

@@ -61,7 +61,7 @@ abbrev pub leaving : PlaneModel → PointsModel → ℕ → Direction
 leaving p points d = direction_of (dart_path p points d) 0
 
 -- The angle of a dart lies at its head on the left, between the next dart of its face and the way back along its
--- reverse: so many quarters to the left of the next dart is the way back. So the direction turns by 2 less the
+-- reverse: the way back is this many quarters to the left of the next dart. So the direction turns by 2 less the
 -- angle, in left quarters, from a dart to the next.
 pub record TurnAsSaid (p : PlaneModel) (shape : ShapeModel) (points : PointsModel) : Type 0 where
   pub edges : All (λ d. IsTurning (path_along p points d) (turns_at shape d)) (lesser_darts p)

@@ -8,7 +8,7 @@ use Rattle.drawing_check.specs.declared.fault.CheckFault.TheVariants.{OutOfGrid,
 use Rattle.drawing_check.specs.Paths.{paths}
 use Rattle.drawing_check.specs.Draws.{AreInGrid, AreOnAxes, TurnAsSaid, MeetNowhere}
 
--- the condition that the fault names fails, and those before it hold; want of memory says nothing of the points
+-- the condition that the fault names fails, and those before it hold; running out of memory says nothing of the points
 abbrev pub IsFirstFault : PlaneModel → ShapeModel → PointsModel → CheckFault → Type 0
 IsFirstFault p shape points OutOfGrid = ¬ AreInGrid points
 IsFirstFault p shape points NotAxis = AreInGrid points × ¬ AreOnAxes (paths p points)

@@ -1,5 +1,5 @@
-//! Least shapes among those that keep edges straight, and the best outer face among those that are not barred, beside bends
-//! that were found by hand or by another program.
+//! Least shapes among those that keep edges straight, and the best outer face among those that are not barred, compared
+//! with bends that were found by hand or by another program.
 
 use embedding::MAX_DARTS;
 use faces::Plane;
@@ -32,7 +32,7 @@ fn figures_keeping(alloc: Global, plane: &Plane, straight: &[bool]) -> Result<Fi
     Ok((shape.bends(), (is_shape(plane, &shape), proved)))
 }
 
-/// Sees that so many bends are needed, or that there is no shape.
+/// Checks that this many bends are needed, or that there is no shape.
 fn expect_bends(
     rt: &impl Abort,
     alloc: Global,
@@ -48,7 +48,7 @@ fn expect_bends(
     same!(rt, figures_keeping(alloc, &plane, straight), want);
 }
 
-/// Records, marks, and how many bends are needed; `None` where there is no shape.
+/// Records, marks, and how many bends are needed; `None` if there is no shape.
 ///
 /// A grid needs no bend, nor does a square. A triangle without bends would turn three times at most; with one edge
 /// free it needs the bend there, whichever that is. No face of three darts goes without a bend, and a cube needs four.
@@ -67,6 +67,7 @@ const BENDS: [(&[u8], &[bool], Option<u32>); 12] = [
     (CUBE, &ALL, None),
 ];
 
+/// Shapes that keep edges straight have the bends found by hand.
 #[test]
 fn bends_by_hand(rt: HostRuntime) {
     for (record, straight, bends) in BENDS {
@@ -90,6 +91,7 @@ const OF_AN_ORACLE: [(&[u8], &[bool], Option<u32>); 12] = [
     (SIX, &[true; 5], None),
 ];
 
+/// Shapes that keep edges straight have the bends that networkx found.
 #[test]
 fn bends_of_an_oracle(rt: HostRuntime) {
     for (record, straight, bends) in OF_AN_ORACLE {
@@ -117,8 +119,8 @@ fn best_keeping(
 /// A record, marks of darts, and marks of faces.
 type Asked = (&'static [u8], &'static [bool], &'static [bool]);
 
-/// What is asked, and the bends and the face that networkx's network simplex found over all faces; `None` where there is
-/// no shape.
+/// A record and its marks, and the bends and the face that networkx's network simplex found over all faces; `None` if
+/// there is no shape.
 const BEST_OF_AN_ORACLE: [(Asked, Option<(u32, u16)>); 16] = [
     ((&GRID, &ALL, &[]), Some((0, 0))),
     ((&GRID, &ALL, &[true]), None),
@@ -141,6 +143,7 @@ const BEST_OF_AN_ORACLE: [(Asked, Option<(u32, u16)>); 16] = [
     ((TRIANGLE, &ALL, &[]), None),
 ];
 
+/// The best outer face that is not barred, and its bends, are those that networkx found.
 #[test]
 fn best_faces_of_an_oracle(rt: HostRuntime) {
     for ((record, straight, barred), found) in BEST_OF_AN_ORACLE {
@@ -177,6 +180,7 @@ const PROVED: [(Case<'static>, &[bool], bool); 7] = [
     (STEP, &[true], false),
 ];
 
+/// Prices prove a shape least among those that keep edges straight exactly if this was found by hand.
 #[test]
 fn prices_by_hand(rt: HostRuntime) {
     for (case, straight, proved) in PROVED {

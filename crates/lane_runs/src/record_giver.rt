@@ -15,7 +15,7 @@ use std::sync::Wait;
 /// The number of bytes of records from which on a message takes no more.
 const MOST_BYTES: usize = 4096;
 
-/// A `Keep` that passes the gate for each record, and gives messages of several.
+/// A `Keep` that calls the gate for each record, and sends the records in messages of several.
 ///
 /// No record waits for the next read of its file.
 #[derive(Drop)]
@@ -74,7 +74,7 @@ impl<R: Wait, G: Gate, L: LaneKind> Keep for RecordGiver<'_, R, G, L> {
 }
 
 impl<R: Wait, G: Gate, L: LaneKind> RecordGiver<'_, R, G, L> {
-    /// Gives the records that are not given yet.
+    /// Sends the records that were not sent yet.
     pub fn give_all(&mut self) -> Result<(), Gone>
         ensures told { OnOk result (notes L.Framed.about (given self.new.giver)
             ≡ notes L.Framed.about (given self.old.giver) ++ notes_of_items L.Framed.about self.old.filling.items.items) }

@@ -44,7 +44,7 @@ impl<E: Numbered> Drafts<E> {
         Ok(Drafts { files: drafts })
     }
 
-    /// Returns the drafts, which are ready if everything about their files was received.
+    /// Returns the draft of each file; it is complete if everything about the file was received.
     pub fn into_ready(self) -> Vec<Draft<E>>
         ensures count { vec_len result ≡ vec_len self.files }
         ensures ready { (choice : Choice) (meaning : ℕ → Meaning) (ns : List Note) → AreDrafts E.about 0 ns self.files.items

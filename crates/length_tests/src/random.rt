@@ -13,8 +13,8 @@ const LEAST: [u32; 10] = [
 /// Numbers of segments, and the least length of a drawing with this many.
 const LARGE_LEAST: [(u16, u32); 3] = [(300, 2_637), (600, 10_923), (1_000, 30_318)];
 
-/// The size of a drawing: how many segments, on how many levels and each on how many at most, and how many wires are
-/// tried.
+/// The size of a drawing: the number of segments, the number of levels, the greatest number of levels of a segment, and
+/// the number of wires that are tried.
 #[derive(Clone, Copy)]
 struct Size {
     count: u16,

@@ -206,7 +206,7 @@ fn dart_shape(plane: &Plane, net: &FaceNet, solved: &Solved, dart: u16) -> DartS
     }
 }
 
-/// The potentials of the vertices followed by those of the faces, in the buffer of one list.
+/// The potentials of the vertices followed by those of the faces, as in the network, in the buffer of one list.
 fn prices_in(
     lent: Vec<i32>,
     plane: &Plane,
@@ -218,14 +218,8 @@ fn prices_in(
     ensures { IfOk result (λ prices. prices.items
         ≡ map (at_nodes solved.now.potential) (range_with_len 0 (vertices plane.now + plane.now.faces))) }
 {
-    let vertices = plane.graph().vertices();
-    let faces = plane.face_count();
-    let mut prices = emptied(lent, usize::from(vertices) + usize::from(faces))?;
-    for place in 0..vertices {
-        prices.push(solved.potential(net.vertex_node(place + 1)))?;
-    }
-    for face in 0..faces {
-        prices.push(solved.potential(net.face_node(face)))?;
-    }
+    let potentials = solved.potentials();
+    let mut prices = emptied(lent, potentials.len())?;
+    prices.extend_from_slice(potentials)?;
     Ok(prices)
 }

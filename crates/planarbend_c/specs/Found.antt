@@ -92,7 +92,7 @@ pub record IsFoundKeeping (conditions : Conditions) (choice : Choice) (bytes : L
 
 -- ---- how it is told
 
--- so many turns to the left, and so many to the right
+-- these numbers of turns to the left and to the right
 abbrev pub both_turns : ℕ → ℕ → DartTurns
 both_turns left right = record { left = left; right = right }
 
@@ -155,7 +155,7 @@ pub record HavePointRoom (counts : Counts) (lists : ListsModel) : Type 0 where
   pub starts : HasRoom lists.corner_starts (counts.edges + 1)
   pub corners : HasRoom lists.corners counts.corners
 
--- each list has room for what is counted; those of points need some only where there is a drawing
+-- each list has room for what is counted; those of points need some only if there is a drawing
 pub record HaveRoom (drawn : Bool) (counts : Counts) (lists : ListsModel) : Type 0 where
   pub angles : HasRoom lists.angles (2 * counts.edges)
   pub turns : HasRoom lists.turns (2 * counts.edges)

@@ -124,6 +124,7 @@ where
     expect_report(rt, &run(rt, line.as_str()), said.as_bytes(), 0);
 }
 
+/// Files with names of 1 to 255 bytes are opened.
 #[test]
 fn opens_names_of_each_length(rt: HostRuntime) {
     for length in 1..=255 {

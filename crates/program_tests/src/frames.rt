@@ -85,6 +85,7 @@ const CANNOT_BE_READ: [Row; 3] = [
     ("frames frames_folder/missing.pc", UNREAD, 3),
 ];
 
+/// A file that cannot be read has the mark `io`.
 #[test]
 fn marks_what_cannot_be_read(rt: HostRuntime) {
     fs::create_dir_all(&rt, "frames_folder").expect(&rt, "a folder");
@@ -111,6 +112,7 @@ const HELP: [(&str, &str); 4] = [
     ("--help layout", ALL),
 ];
 
+/// Invalid command lines of `frames` are refused with status 2, and its help is shown.
 #[test]
 fn answers_command_lines(rt: HostRuntime) {
     check_said(&rt, &REFUSED, 2);
@@ -191,7 +193,7 @@ fn line_of(fault: Fault) -> Narrow {
     err.into_writer()
 }
 
-/// The line and the status of each fault.
+/// Each fault has its line and its status.
 #[test]
 fn tells_each_fault_in_a_line(rt: HostRuntime) {
     for (fault, line, status) in FAULTS {
@@ -200,6 +202,7 @@ fn tells_each_fault_in_a_line(rt: HostRuntime) {
     }
 }
 
+/// With each allocation refused in turn, `frames` writes its report or says what ran out of memory.
 #[test]
 fn names_want_of_memory(rt: HostRuntime) {
     check_wants(&rt, &ONE_EDGE);

@@ -123,7 +123,7 @@ const BEST: &str = "file 1\n\
     graph 2 ok n=10 m=17 f=9 bends=8 drawn=yes\n\
     end complete graphs=2\n";
 
-/// A record that goes on for more bytes than a list may have, and its beginning.
+/// A list that is too long is marked, and a file cut in it is marked as cut.
 #[test]
 fn marks_lists_that_are_too_long(rt: HostRuntime) {
     let mut long = [1; 256];
@@ -236,7 +236,7 @@ const REPORTS: [Row; 24] = [
     ("layout torus.pc --json", TORUS, 0),
 ];
 
-/// Each file by itself, several, and files that are missing.
+/// Files are reported one by one, several at once, and if some are missing.
 #[test]
 fn reports_files(rt: HostRuntime) {
     for (name, parts) in FILES {
@@ -245,7 +245,7 @@ fn reports_files(rt: HostRuntime) {
     check_rows(&rt, &REPORTS);
 }
 
-/// The line of a single edge, but for its points and prices.
+/// The JSON line of a single edge has its parts before and after its points and prices.
 #[test]
 fn shows_an_edge_as_json(rt: HostRuntime) {
     make_file(&rt, "json_edge.pc", &[HEADER, EDGE]);
@@ -343,6 +343,7 @@ fn line_of(alloc: Global, files: u32) -> Result<String, AllocError> {
     Ok(line)
 }
 
+/// Invalid command lines of `layout` are refused with status 2, and its help shows a pipe.
 #[test]
 fn refuses_other_command_lines(rt: HostRuntime) {
     check_said(&rt, &REFUSED, 2);
@@ -371,7 +372,8 @@ const ONE_EDGE: Case = Case {
     may_begin: false,
 };
 
-/// An output that refuses each write, as a file does that was opened for reading: the run ends with status 1.
+/// A run whose output refuses each write ends with status 1.
+/// This output is a file that was opened for reading.
 #[test]
 fn ends_where_the_output_refuses(rt: HostRuntime) {
     let words = words_for(&rt, &ONE_EDGE).expect(&rt, "a file");
@@ -390,6 +392,7 @@ fn names_a_failed_write(rt: HostRuntime) {
     }
 }
 
+/// With each allocation refused in turn, `layout` writes its report or says what ran out of memory.
 #[test]
 fn names_want_of_memory(rt: HostRuntime) {
     check_wants(&rt, &ONE_EDGE);
@@ -408,6 +411,7 @@ const ONE_VERTEX: Case = Case {
     may_begin: true,
 };
 
+/// With each allocation refused in turn, `layout --json` writes its lines or says what ran out of memory.
 #[test]
 fn json_names_want_of_memory(rt: HostRuntime) {
     check_wants(&rt, &ONE_VERTEX);

@@ -57,6 +57,7 @@ const REFUSED: [(&str, &str); 5] = [
     ("layout short --drawing=short", NEEDS_JSON),
 ];
 
+/// Options may stand between files, and their values are not taken as files.
 #[test]
 fn takes_options_out_of_the_files(rt: HostRuntime) {
     make_file(&rt, "edge.pc", &[HEADER, EDGE]);
@@ -84,6 +85,7 @@ const BEHIND_DASHES: [Row; 10] = [
     ),
 ];
 
+/// All arguments after `--` are files.
 #[test]
 fn takes_words_behind_dashes_as_files(rt: HostRuntime) {
     check_rows(&rt, &BEHIND_DASHES);

@@ -118,6 +118,7 @@ const READ_TWICE: [(&str, &str); 5] = [
     ("frames - -", "unexpected argument '-' found\n"),
 ];
 
+/// Standard input that is named twice is refused.
 #[test]
 fn reads_standard_input_once(rt: HostRuntime) {
     check_said(&rt, &READ_TWICE, 2);
@@ -221,6 +222,7 @@ const TOLD: [(&str, bool, &[&str]); 5] = [
     ("layout --progress - --progress", false, &APART),
 ];
 
+/// Progress is shown if `--progress` is given and there is a terminal, or if it is given twice.
 #[test]
 fn tells_how_far_it_is(rt: HostRuntime) {
     for (line, terminal, wanted) in TOLD {
@@ -241,6 +243,7 @@ fn lines_of(graphs: u32, step: u64) -> u64 {
     console.counts().0
 }
 
+/// At most four lines of progress are written in a second.
 #[test]
 fn tells_at_most_four_lines_a_second(rt: HostRuntime) {
     for (graphs, step, lines) in [
@@ -268,6 +271,7 @@ fn last_line_of(graphs: u32, wanted: &str) -> (u64, u64) {
     console.counts()
 }
 
+/// The last line of progress counts each graph.
 #[test]
 fn counts_each_graph(rt: HostRuntime) {
     for (graphs, wanted) in [

@@ -42,6 +42,7 @@ fn refused_memory_is_told(rt: HostRuntime) {
     same!(&rt, tickets.close(seats), 5);
 }
 
+/// No number is drawn of none.
 #[test]
 fn nothing_to_draw(rt: HostRuntime) {
     let (tickets, mut seats) = Tickets::new(rt.alloc(), 0, 1).expect(&rt, "memory");

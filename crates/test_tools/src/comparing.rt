@@ -1,7 +1,7 @@
 //! How tests compare values.
 ghost use Rattle.std.specs.Prelude.{◌≡◌, ◌↔◌, IsTrue, IsOk, IfErr};
 
-/// Nothing if two values are equal, and else both.
+/// `Ok` if two values are equal, and otherwise `Err` with both.
 pub fn compared<T: PartialEq + Drop>(got: T, want: T) -> Result<(), (T, T)>
     ensures equal { IsOk result ↔ IsTrue (T.eq got want) }
     ensures both { IfErr result (λ both. both ≡ (got, want)) }

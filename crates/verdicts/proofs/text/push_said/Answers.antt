@@ -12,7 +12,7 @@ said_not_ok false v is other = absurd (let e : false ≡ true = is in cc)
 said_not_ok true (verdict.Ok bends fewest) is other = absurd (other bends fewest refl)
 said_not_ok true _ is other = refl
 
--- three texts, one behind another
+-- three texts, one after another
 three_pushed : (old first second third a b c word said : List ℕ) → first ≡ old ++ a → second ≡ first ++ b → third ≡ second ++ c → b ≡ word
     → said ≡ a ++ word ++ c → third ≡ old ++ said
 three_pushed old first second third a b c word said one two three same is =
