@@ -4,18 +4,18 @@ ghost use Rattle.std.specs.Prelude.{◌≡◌, IfOk, IfErr};
 ghost use Rattle.entries.specs.declared.cause.Cause.TheVariants.{Wide};
 ghost use Rattle.entries.specs.Drawn.{IsCause};
 ghost use Rattle.answers.specs.Drawings.{IsDrawing};
-ghost use Rattle.answers.specs.Kept.{IsKeptPlane, IsKeptFault, AreDrawnStraight};
+ghost use Rattle.answers.specs.Kept.{IsKeptPlane, IsUnkept, AreDrawnStraight};
 ghost use Rattle.entries.specs.Lengths.{IsQuick};
-ghost use Rattle.answers.specs.Steps.{IsShaped};
+ghost use Rattle.answers.specs.Steps.{IsRefused, IsShaped};
 
 use crate::drawing::{DrawScratch, draw, drawing_of, least_points};
-use crate::kept_plane::{KeptFault, KeptPlane};
+use crate::kept_plane::KeptPlane;
 use crate::shaped_plane::ShapedPlane;
 use crate::shaping::{ShapeScratch, with_shape_keeping};
 use crate::stages::{embed, shape};
 use common::{Choice, DrawingKind};
 use compact::CompactFault;
-use conditions::Conditions;
+use conditions::{Conditions, KeepFault};
 use drawing_check::Drawing;
 use embedding::ReadFault;
 use ortho_rep::Points;
@@ -112,25 +112,21 @@ impl RecordScratch {
     ///
     /// # Errors
     ///
-    /// `Record` if the record has no plane; `Conditions` if its plane has no such shape.
+    /// The outer one as of [`RecordScratch::shape`], if the record has no plane; the inner one if its plane has no such
+    /// shape.
     pub fn shape_keeping(
         &mut self,
         alloc: Global,
         rec: &Record,
         conditions: &Conditions<'_>,
         choice: Choice,
-    ) -> Result<KeptPlane, KeptFault>
-        ensures kept { IfOk result (IsKeptPlane conditions.now choice rec.now) }
-        ensures fault { IfErr result (IsKeptFault conditions.now choice rec.now) }
+    ) -> Result<Result<KeptPlane, KeepFault>, ReadFault>
+        ensures kept { IfOk result (λ made. IfOk made (IsKeptPlane conditions.now choice rec.now)) }
+        ensures unkept { IfOk result (λ made. IfErr made (IsUnkept conditions.now choice rec.now)) }
+        ensures refused { IfErr result (IsRefused rec.now) }
     {
-        let plane = match embed(alloc, &mut self.planes, rec) {
-            Ok(plane) => plane,
-            Err(fault) => return Err(KeptFault::Record(fault)),
-        };
-        match with_shape_keeping(alloc, &mut self.shapes, plane, conditions, choice) {
-            Ok(made) => Ok(made),
-            Err(fault) => Err(KeptFault::Conditions(fault)),
-        }
+        let plane = embed(alloc, &mut self.planes, rec)?;
+        Ok(with_shape_keeping(alloc, &mut self.shapes, plane, conditions, choice))
     }
 
     /// A drawing of a shape that keeps conditions, in which an edge without turns has no corners.

@@ -1,12 +1,17 @@
 -- The status of what was refused or failed.
-use Rattle.std.proofs.Common.{◌≡◌, ◌⊎◌, ℕ, Bool, arith, inl, inr}
-use Rattle.streams.specs.declared.faults.BatchFault.TheVariants.{TooManyFiles, BadLanes, Memory, LaneLost, Thread}
-use Rattle.printing.specs.declared.fault.TextFault.{TextFault}
-use Rattle.printing.specs.declared.fault.TextFault.TheVariants as text
+use Rattle.std.proofs.Common.{rules, ◌≡◌, ◌⊎◌, ◌↔◌, ℕ, Bool, true, false, arith, inl, inr, refl, sym, ◌∙◌, true≢false}
+use Rattle.streams.specs.declared.faults.BatchFault.TheVariants.{TooManyFiles, BadLanes}
+use Rattle.streams.specs.declared.faults.BatchFault.TheVariants as batch
+use Rattle.streams.specs.declared.faults.WriteFault.TheVariants as write
+use Rattle.streams.specs.declared.output.SinkFault.{SinkFault}
+use Rattle.lanes.specs.declared.fault.RunFault.{RunFault}
+use Rattle.lanes.specs.declared.fault.RunFault.TheVariants.{Memory, LaneLost, Thread, Refused}
+use Rattle.lanes.specs.Faults.{IsOfLanes}
 use Rattle.printing.specs.Written.{GivesUp}
-use Rattle.commands.specs.TextRuns.{IsMisuseOfRun}
 use Rattle.command_line.specs.declared.faults.Fault.{Fault}
+use Rattle.command_line.specs.Faults.{fault_of}
 use Rattle.command_line.specs.Refusals.{IsMisuse}
+use Rattle.commands.specs.TextRuns.{HasFailedBy, IsOfTextRun}
 
 not_one : (status : ℕ) → (status ≡ 0) ⊎ (status ≡ 3) → status ≡ 1 → ⊥
 not_one status (inl is) one = omega (arith, is, one)
@@ -20,11 +25,53 @@ not_two status (inr is) two = omega (arith, is, two)
 pub ends_else : (fault : Fault) (status : ℕ) → (IsMisuse fault → status ≡ 2) → ((IsMisuse fault → ⊥) → status ≡ 1) → (status ≡ 0) ⊎ (status ≡ 3) → ⊥
 ends_else fault status refused failed either = not_one status either (failed (λ refusal. not_two status either (refused refusal)))
 
--- a text gives up for nothing that was asked of the run
-pub of_text : (failed : Bool) (fault : TextFault) → GivesUp failed fault → IsMisuseOfRun fault → ⊥
-of_text failed text.Write gives misuse = misuse
-of_text failed (text.Run TooManyFiles) gives misuse = gives.1
-of_text failed (text.Run BadLanes) gives misuse = gives.1
-of_text failed (text.Run Memory) gives misuse = misuse
-of_text failed (text.Run LaneLost) gives misuse = misuse
-of_text failed (text.Run Thread) gives misuse = misuse
+-- a run that is refused is one of too many files, or of bad lanes
+pub refusable_run : {P Q : Type 0} (fault : Fault) → IsOfTextRun fault → (fault ≡ Fault.Run TooManyFiles → P) → (fault ≡ Fault.Run BadLanes → Q) → IsMisuse fault → P ⊎ Q
+refusable_run (Fault.Run TooManyFiles) of many lanes is = inl (many refl)
+refusable_run (Fault.Run BadLanes) of many lanes is = inr (lanes refl)
+refusable_run (Fault.Run batch.Memory) of many lanes is = absurd is
+refusable_run (Fault.Run batch.LaneLost) of many lanes is = absurd is
+refusable_run (Fault.Run batch.Thread) of many lanes is = absurd is
+refusable_run (Fault.Write fault) of many lanes is = absurd is
+refusable_run Fault.Memory of many lanes is = absurd is
+refusable_run (Fault.NotText argument) of many lanes is = absurd of
+refusable_run Fault.BadWaiting of many lanes is = absurd of
+
+-- lanes fail for nothing that was asked of the run
+pub asked_well : (fault : RunFault SinkFault) → IsMisuse (fault_of fault) → ⊥
+asked_well Memory is = is
+asked_well LaneLost is = is
+asked_well Thread is = is
+asked_well (Refused fault) is = is
+
+pub of_text_run : (fault : RunFault SinkFault) → IsOfTextRun (fault_of fault)
+of_text_run Memory = tt
+of_text_run LaneLost = tt
+of_text_run Thread = tt
+of_text_run (Refused fault) = tt
+
+-- the sink has failed exactly if that is the fault
+pub write_failed : (failed : Bool) (fault : RunFault SinkFault) → HasFailedBy failed fault → fault_of fault ≡ Fault.Write write.Write → failed ≡ true
+write_failed failed Memory has is = search rules
+write_failed failed LaneLost has is = search rules
+write_failed failed Thread has is = search rules
+write_failed failed (Refused fault) has is = has
+
+pub failed_write : (failed : Bool) (fault : RunFault SinkFault) → HasFailedBy failed fault → failed ≡ true → fault_of fault ≡ Fault.Write write.Write
+failed_write failed Memory has is = absurd (true≢false (sym is ∙ has))
+failed_write failed LaneLost has is = absurd (true≢false (sym is ∙ has))
+failed_write failed Thread has is = absurd (true≢false (sym is ∙ has))
+failed_write failed (Refused fault) has is = refl
+
+-- a text gave up, or the lanes failed and the sink did not
+pub text_failed : (failed : Bool) (fault : RunFault SinkFault) → GivesUp failed fault → HasFailedBy failed fault
+text_failed failed Memory gave = gave
+text_failed failed LaneLost gave = gave
+text_failed failed Thread gave = absurd gave
+text_failed failed (Refused fault) gave = gave
+
+pub lanes_failed : (failed : Bool) (fault : RunFault SinkFault) → IsOfLanes fault → failed ≡ false → HasFailedBy failed fault
+lanes_failed failed Memory of stands = stands
+lanes_failed failed LaneLost of stands = stands
+lanes_failed failed Thread of stands = stands
+lanes_failed failed (Refused fault) of stands = absurd of

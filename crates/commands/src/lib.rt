@@ -15,7 +15,6 @@ pub use command_line::{
     Console, ErrorConsole, Fault, FileOpener, KeepsReason, Meter, NamedFiles, OutputSink, Progress,
     Reason, Refused, SharedTerminal, SystemFiles, if_open, is_input, place_holder, write_fault,
 };
-pub use printing::TextFault;
 pub use process::run;
 pub use program::command;
 pub use text::write_batch;

@@ -3,7 +3,7 @@
 
 use embedding::MAX_DARTS;
 use faces::Plane;
-use ortho_rep::{ShapeFault, best_shape_keeping, certify_keeping, is_shape, least_shape_keeping};
+use ortho_rep::{SolveFault, best_shape_keeping, certify_keeping, is_shape, least_shape_keeping};
 use std::alloc::Global;
 use std::process::Abort;
 use test_inputs::{Case, L, ONE_BEND, R, plane_in, prices_in, shape_in};
@@ -26,7 +26,7 @@ const ALL: [bool; MAX_DARTS] = [true; MAX_DARTS];
 type Figures = (u32, (bool, bool));
 
 /// The figures of a least shape that keeps the edges of marked darts straight.
-fn figures_keeping(alloc: Global, plane: &Plane, straight: &[bool]) -> Result<Figures, ShapeFault> {
+fn figures_keeping(alloc: Global, plane: &Plane, straight: &[bool]) -> Result<Figures, SolveFault> {
     let (shape, prices) = least_shape_keeping(alloc, plane, straight)?;
     let proved = certify_keeping(plane, straight, &shape, &prices);
     Ok((shape.bends(), (is_shape(plane, &shape), proved)))
@@ -41,7 +41,10 @@ fn expect_bends(
     bends: Option<u32>,
 ) {
     let plane = plane_in(alloc, record).expect(rt, "a plane");
-    let want = bends.map_or(Err(ShapeFault::NoShape), |bends| Ok((bends, (true, true))));
+    let want = bends.map_or(
+        Err(SolveFault::Infeasible),
+        |bends| Ok((bends, (true, true))),
+    );
     same!(rt, figures_keeping(alloc, &plane, straight), want);
 }
 
@@ -106,7 +109,7 @@ fn best_keeping(
     plane: &mut Plane,
     straight: &[bool],
     barred: &[bool],
-) -> Result<Best, ShapeFault> {
+) -> Result<Best, SolveFault> {
     let (shape, prices) = best_shape_keeping(alloc, plane, straight, barred)?;
     let proved = certify_keeping(plane, straight, &shape, &prices);
     let tests = (is_shape(plane, &shape), proved);
@@ -145,7 +148,7 @@ const BEST_OF_AN_ORACLE: [(Asked, Option<(u32, u16)>); 16] = [
 fn best_faces_of_an_oracle(rt: HostRuntime) {
     for ((record, straight, barred), found) in BEST_OF_AN_ORACLE {
         let mut plane = plane_in(rt.alloc(), record).expect(&rt, "a plane");
-        let want = found.map_or(Err(ShapeFault::NoShape), |(bends, face)| {
+        let want = found.map_or(Err(SolveFault::Infeasible), |(bends, face)| {
             Ok((bends, face, (true, true)))
         });
         let got = best_keeping(rt.alloc(), &mut plane, straight, barred);

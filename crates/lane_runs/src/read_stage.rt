@@ -87,18 +87,11 @@ impl<R: Wait, O: Opener, G: Gate, L: LaneKind> Shared<'_, R, O, G, L> {
     {
         let run = self.run;
         run.pauses.wait(run.rt, file);
-        let end = match read_file(run.opener, run.alloc, file, run.choice, buffer, gives) {
-            Ok(end) => end,
-            Err(gone) => return Err(gone),
-        };
-        let Ok(()) = gives.give_all() else {
-            return Err(Gone);
-        };
+        let end = read_file(run.opener, run.alloc, file, run.choice, buffer, gives)?;
+        gives.give_all()?;
         let mark = end.mark;
         let known = self.kind.end(file, end);
-        let Ok(()) = gives.giver.give(run.rt, Message::End(file, mark, known)) else {
-            return Err(Gone);
-        };
+        gives.giver.give(run.rt, Message::End(file, mark, known))?;
         Ok(())
     }
 }

@@ -54,26 +54,17 @@ impl<R: Wait, G: Gate, L: LaneKind> Keep for RecordGiver<'_, R, G, L> {
         self.gate.pass(self.lane, Stage::Read, ordinal);
         self.bytes = self.bytes.saturating_add(rec.bytes().len());
         let item = self.kind.framed(file, ordinal, rec, choice);
-        match self.filling.add(self.rt, &mut self.giver, item) {
-            Ok(()) => {}
-            Err(gone) => return Err(gone),
-        }
+        self.filling.add(self.rt, &mut self.giver, item)?;
         if self.filling.items.len() < self.most && self.bytes < MOST_BYTES {
             return Ok(());
         }
         self.bytes = 0;
-        match self.filling.give(self.rt, &mut self.giver) {
-            Ok(()) => Ok(()),
-            Err(gone) => Err(gone),
-        }
+        self.filling.give(self.rt, &mut self.giver)
     }
 
     fn pass_on(&mut self, file: u32) -> Result<(), Gone> {
         self.bytes = 0;
-        match self.filling.give(self.rt, &mut self.giver) {
-            Ok(()) => {}
-            Err(gone) => return Err(gone),
-        }
+        self.filling.give(self.rt, &mut self.giver)?;
         self.pauses.wait(self.rt, file);
         Ok(())
     }
@@ -94,9 +85,6 @@ impl<R: Wait, G: Gate, L: LaneKind> RecordGiver<'_, R, G, L> {
         ensures same { GivesToSame self.old.giver self.new.giver }
     {
         self.bytes = 0;
-        match self.filling.give(self.rt, &mut self.giver) {
-            Ok(()) => Ok(()),
-            Err(gone) => Err(gone),
-        }
+        self.filling.give(self.rt, &mut self.giver)
     }
 }

@@ -1,6 +1,5 @@
-use Rattle.std.proofs.Common.{vec_len, arith}
+use Rattle.std.proofs.Common.{vec_len, arith, inr}
 use Rattle.lane_runs.proofs.RunningLanes.{numbered_weaker, running_still, idle_still}
-use Rattle.lane_runs.proofs.Ending.{ended_so}
 use Rattle.lane_runs.proofs.shared.Shared.finish_lanes.Goals as goal
 
 pub join_lanes-requires-clause-running : goal.join_lanes-requires-clause-running
@@ -14,4 +13,4 @@ pub join_lanes-requires-clause-stopped : goal.join_lanes-requires-clause-stopped
 join_lanes-requires-clause-stopped g c = λ κs within lane below. c.in-Ok.ensures.stopped lane (omega (arith, below, c.len-lanes.ensures, c.requires.lanes))
 
 pub returns-in-Err-clause-failed : goal.returns-in-Err-clause-failed
-returns-in-Err-clause-failed g c = ended_so _ _ _ _ c.from.ensures c.in-Ok.ensures.told
+returns-in-Err-clause-failed g c = inr (c.in-Err-join_lanes.ensures.of_lanes, _, c.in-Ok.ensures.told)
