@@ -95,17 +95,17 @@ no_write failed answer fault is memory stands =
 -- the text was not written, for this reason
 pub as_written : (failed : Bool) (answer : Result ℕ Fault) (fault : Fault) (reason : WriteFault) → answer ≡ Err fault → fault ≡ Fault.Write reason
     → (reason ≡ write.Write) ↔ (failed ≡ true) → IfErr answer (λ f. (f ≡ Fault.Write write.Write) ↔ (failed ≡ true))
-as_written failed answer fault reason is as told =
+as_written failed answer fault reason is made told =
     subst (λ a. IfErr a (λ f. (f ≡ Fault.Write write.Write) ↔ (failed ≡ true))) (sym is)
-    ((λ written. told.0 (cc)), (λ failure. as ∙ ap Fault.Write (told.1 failure)))
+    ((λ written. told.0 (cc)), (λ failure. made ∙ ap Fault.Write (told.1 failure)))
 
 -- lanes failed, and so this many files that were asked for well were not all written
 module _ {S : Type 0} (choice : Choice) (meaning : ℕ → Meaning) (form : Form) (files lanes : ℕ) (taken : S → Option (List ℕ)) (fails : S → Bool) (old new : S) where
   pub streamed_fault : (answer : Result ℕ Fault) (fault : Fault) (of : RunFault SinkFault) → answer ≡ Err fault → fault ≡ fault_of of
       → (MAX_FILES < files → ⊥) → (((lanes ≡ 0) ⊎ (LANES < lanes)) → ⊥) → HasFailedBy (fails new) of → ∥ IsBegun choice meaning form files (taken old) (taken new) ∥₁
       → IsStreamed choice meaning form files lanes taken fails old new answer
-  streamed_fault answer fault of is as few good has begun =
-      subst (IsStreamed choice meaning form files lanes taken fails old new) (sym (is ∙ ap Err as)) (record {
+  streamed_fault answer fault of is made few good has begun =
+      subst (IsStreamed choice meaning form files lanes taken fails old new) (sym (is ∙ ap Err made)) (record {
         written = tt;
         status = tt;
         begun = begun;
