@@ -201,7 +201,7 @@ def is_beginning(command: Command, out: bytes, files: list[File], scarce: bool =
 
 
 def is_fault(ran: Ran, status: int, text: str | None) -> None:
-    """This status with nothing on standard output, and this text on standard error, or any where it is None."""
+    """This status with nothing on standard output, and this text on standard error (any text if it is None)."""
     if ran.status != status or ran.out or (not ran.err if text is None else ran.err != text):
         raise Wrong(f"status {ran.status}, {len(ran.out)} bytes of output, {ran.err[:200]!r}; not status {status}, "
                     f"{'a text' if text is None else repr(text)}")
@@ -266,7 +266,7 @@ def waiting_bytes(pipe: int) -> int:
 
 
 def is_stopped(process: int) -> bool:
-    """Whether each thread of a process stands still."""
+    """Whether all threads of a process are idle."""
     states = []
     for task in os.listdir(f"/proc/{process}/task"):
         with contextlib.suppress(OSError), open(f"/proc/{process}/task/{task}/stat", encoding="ascii") as line:

@@ -239,7 +239,7 @@ def feeding(machine: Machine, command: Command, path: str, *more: str) -> Iterat
 
 
 def begun(command: Command, records: list[bytes]) -> list[Event]:
-    """What a report tells of a file with these records that has not ended."""
+    """What a report contains of a file with these records that has not ended."""
     return expected_events(command, [File(records, "complete")])[:-1]
 
 
@@ -318,7 +318,7 @@ def tells_nothing(machine: Machine, command: Command) -> None:
 
 
 def tells_on_a_terminal(machine: Machine, command: Command, wanted: bool) -> None:
-    """On a terminal the line is written over, and ended at the end of the run; it stands there only if wanted."""
+    """On a terminal the line is overwritten, and ended at the end of the run; it is shown only if requested."""
     ran, shown = on_a_terminal(machine, command, 100, "stderr")
     is_whole(command, ran, [File([EDGE] * 100, "complete")])
     if wanted:
@@ -330,7 +330,7 @@ def tells_on_a_terminal(machine: Machine, command: Command, wanted: bool) -> Non
 
 
 def shares_a_terminal(machine: Machine, command: Command) -> None:
-    """On a terminal to which the report goes too, each of its lines stands whole, and then the last of progress."""
+    """On a terminal that also gets the report, each line of the report is complete, and the last line of progress follows."""
     ran, shown = on_a_terminal(machine, command, 200, "stdout", "stderr")
     *report, last = screen_of(shown)
     text = "".join(line + "\n" for line in report).encode()
@@ -361,7 +361,7 @@ def reads_all(master: int, parts: list[bytes]) -> None:
 
 
 def screen_of(shown: str) -> list[str]:
-    """The lines that stand on a screen after this text, with the cursor's return and the end of a line cleared."""
+    """The lines on a screen after this text, which returns the cursor and clears to the end of the line."""
     lines, column = [""], 0
     for word in re.findall(r"\x1b\[K|\r|\n|[^\x1b\r\n]+", shown):
         if word == "\n":

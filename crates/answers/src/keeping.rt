@@ -1,7 +1,7 @@
 //! The answer to a record whose layout is to keep conditions.
 
 ghost use Rattle.std.specs.Prelude.{IfOk, IfErr};
-ghost use Rattle.entries.specs.Drawn.{IsDrawingOf};
+ghost use Rattle.answers.specs.Drawings.{IsDrawing};
 ghost use Rattle.answers.specs.Kept.{IsKeptPlane, IsUnkept, AreKeptStraight};
 ghost use Rattle.answers.specs.Steps.{IsRefused};
 
@@ -38,7 +38,7 @@ pub fn answer_keeping(
     drawing_kind: DrawingKind,
 ) -> Result<Result<KeptLayout, KeepFault>, ReadFault>
     ensures kept { IfOk result (λ made. IfOk made (λ laid. IsKeptPlane conditions.now choice rec.now laid.kept)) }
-    ensures drawn { IfOk result (λ made. IfOk made (λ laid. IfOk laid.drawing (IsDrawingOf laid.kept.plane laid.kept.shape))) }
+    ensures drawn { IfOk result (λ made. IfOk made (λ laid. IfOk laid.drawing (IsDrawing laid.kept.plane laid.kept.shape))) }
     ensures straight { IfOk result (λ made. IfOk made (λ laid. IfOk laid.drawing (AreKeptStraight conditions.now laid.kept.plane))) }
     ensures unkept { IfOk result (λ made. IfErr made (IsUnkept conditions.now choice rec.now)) }
     ensures refused { IfErr result (IsRefused rec.now) }

@@ -1,12 +1,11 @@
 //! Records that are answered one after another on the caller's thread, in memory that is kept.
 
 ghost use Rattle.std.specs.Prelude.{◌≡◌, IfOk, IfErr};
-ghost use Rattle.drawing_check.specs.Draws.{Draws};
-ghost use Rattle.drawing_check.specs.Regions.{HasRegions};
 ghost use Rattle.entries.specs.declared.cause.Cause.TheVariants.{Wide};
-ghost use Rattle.entries.specs.Drawn.{HasPoints, IsCause};
+ghost use Rattle.entries.specs.Drawn.{IsCause};
+ghost use Rattle.answers.specs.Drawings.{IsDrawing};
 ghost use Rattle.answers.specs.Kept.{IsKeptPlane, IsUnkept, AreDrawnStraight};
-ghost use Rattle.entries.specs.Lengths.{IsNear, IsNoLonger, IsQuick};
+ghost use Rattle.entries.specs.Lengths.{IsQuick};
 ghost use Rattle.answers.specs.Steps.{IsRefused, IsShaped};
 
 use crate::drawing::{DrawScratch, draw, drawing_of, least_points};
@@ -76,13 +75,9 @@ impl RecordScratch {
         shaped_plane: &ShapedPlane,
         drawing_kind: DrawingKind,
     ) -> Result<Drawing, AllocError>
-        ensures points { IfOk result (HasPoints shaped_plane.now.plane) }
-        ensures draws { IfOk result (Draws shaped_plane.now.plane shaped_plane.now.shape) }
-        ensures regions { IfOk result (HasRegions shaped_plane.now.plane) }
+        ensures drawn { IfOk result (IsDrawing shaped_plane.now.plane shaped_plane.now.shape) }
         ensures quick { drawing_kind ≡ DrawingKind.Quick
             → IfOk result (IsQuick shaped_plane.now.plane shaped_plane.now.shape) }
-        ensures no_longer { IfOk result (IsNoLonger shaped_plane.now.plane shaped_plane.now.shape) }
-        ensures near { IfOk result (IsNear shaped_plane.now.plane shaped_plane.now.shape) }
     {
         drawing_of(alloc, &mut self.drawings, shaped_plane, drawing_kind)
     }
@@ -97,12 +92,8 @@ impl RecordScratch {
         alloc: Global,
         shaped_plane: &ShapedPlane,
     ) -> Result<Points, AllocError>
-        ensures points { IfOk result (HasPoints shaped_plane.now.plane) }
-        ensures draws { IfOk result (Draws shaped_plane.now.plane shaped_plane.now.shape) }
-        ensures regions { IfOk result (HasRegions shaped_plane.now.plane) }
+        ensures drawn { IfOk result (IsDrawing shaped_plane.now.plane shaped_plane.now.shape) }
         ensures quick { IfOk result (IsQuick shaped_plane.now.plane shaped_plane.now.shape) }
-        ensures no_longer { IfOk result (IsNoLonger shaped_plane.now.plane shaped_plane.now.shape) }
-        ensures near { IfOk result (IsNear shaped_plane.now.plane shaped_plane.now.shape) }
     {
         least_points(
             alloc,
@@ -152,14 +143,10 @@ impl RecordScratch {
         kept: &KeptPlane,
         drawing_kind: DrawingKind,
     ) -> Result<Drawing, CompactFault>
-        ensures points { IfOk result (HasPoints kept.now.plane) }
-        ensures draws { IfOk result (Draws kept.now.plane kept.now.shape) }
-        ensures regions { IfOk result (HasRegions kept.now.plane) }
+        ensures drawn { IfOk result (IsDrawing kept.now.plane kept.now.shape) }
         ensures straight { IfOk result (AreDrawnStraight kept.now.plane kept.now.shape) }
         ensures quick { drawing_kind ≡ DrawingKind.Quick
             → IfOk result (IsQuick kept.now.plane kept.now.shape) }
-        ensures no_longer { IfOk result (IsNoLonger kept.now.plane kept.now.shape) }
-        ensures near { IfOk result (IsNear kept.now.plane kept.now.shape) }
         ensures wide { IfErr result (λ fault. fault ≡ CompactFault.Wide → IsCause kept.now.plane kept.now.shape Wide) }
     {
         // Only the proof needs this: `graph` says that the plane is one.

@@ -117,6 +117,9 @@ pub fn find_points(
 ) -> PointsFound
     ensures answers { (choice : Choice) (bytes : List ℕ) → IsShaped choice bytes shaped_plane → Answers choice bytes (answer_in result) }
     ensures same { IsFoundFor shaped_plane result }
+    ensures quick { drawing_kind ≡ DrawingKind.Quick → IfDrawn IsQuick (answer_in result) }
+    ensures no_longer { IfDrawn IsNoLonger (answer_in result) }
+    ensures near { IfDrawn IsNear (answer_in result) }
 {
     let shaped_plane = shaped_plane?;
     match points_of(alloc, scratch, &shaped_plane, drawing_kind) {

@@ -48,6 +48,7 @@ fn shows_refused_graphs_and_ends(rt: HostRuntime) {
     same!(&rt, lines_of(&rt, rt.alloc(), &[]).len(), 0);
 }
 
+/// The JSON line of a single edge begins and ends as in the description.
 #[test]
 fn shows_a_single_edge(rt: HostRuntime) {
     let text = lines_of(&rt, rt.alloc(), &[EDGE]);

@@ -61,6 +61,7 @@ fn check_lanes<R: AllocGlobal + Threads + Wait + Sync + Abort>(
     assert!(rt; found.as_slice() == report, "{lanes}");
 }
 
+/// The report of 64 files is the same on one thread and over any number of lanes.
 #[test]
 fn reports_64_files_the_same_over_lanes(rt: HostRuntime) {
     let opener = triangles(rt.alloc(), 64).expect(&rt, "memory");
@@ -128,6 +129,7 @@ fn json_lines_are_those_of_books(rt: HostRuntime) {
     }
 }
 
+/// The report of 256 files is the same on one thread and over eight lanes.
 #[test]
 fn reports_256_files_the_same_over_eight_lanes(rt: HostRuntime) {
     let opener = triangles(rt.alloc(), 256).expect(&rt, "memory");

@@ -77,6 +77,7 @@ fn check_plain<R: AllocGlobal + Abort>(rt: &R, files: &[&[u8]], choice: Choice, 
     check_report(rt, &batch, report.as_bytes());
 }
 
+/// The report is the same on one thread and over any number of lanes.
 #[test]
 fn reports_the_same_over_lanes(rt: HostRuntime) {
     for lanes in 1..=MAX_LANES {
@@ -178,6 +179,7 @@ fn check_counts<R: AllocGlobal + Threads + Wait + Sync + Abort>(
     }
 }
 
+/// Each stage passes the gate once for each record.
 #[test]
 fn each_stage_passes_the_gate_once_a_record(rt: HostRuntime) {
     check_counts(&rt, &THREE_FILES, OF_THREE, 3);
@@ -212,6 +214,7 @@ fn refuses_bad_numbers(rt: HostRuntime) {
     same!(&rt, fault_of(&rt, 256, 0), Some(BatchFault::BadLanes));
 }
 
+/// The report of no files is empty.
 #[test]
 fn no_files_have_an_empty_report(rt: HostRuntime) {
     for lanes in 1..=MAX_LANES {

@@ -88,6 +88,7 @@ fn tells_sizes_and_rules(rt: HostRuntime) {
     }
 }
 
+/// A cycle of 255 vertices is drawn without bends.
 #[test]
 fn draws_a_cycle_of_most_vertices(rt: HostRuntime) {
     let bytes = longest_cycle(rt.alloc()).expect(&rt, "memory");
@@ -153,6 +154,7 @@ fn books_of_run(alloc: Global, files: u32) -> Result<u32, BatchFault> {
     Ok(batch.files())
 }
 
+/// A run takes 256 files, and refuses 257.
 #[test]
 fn takes_at_most_256_files(rt: HostRuntime) {
     same!(
@@ -163,6 +165,7 @@ fn takes_at_most_256_files(rt: HostRuntime) {
     same!(&rt, books_of_run(rt.alloc(), 256), Ok(256));
 }
 
+/// A file that does not open has the mark `io`.
 #[test]
 fn marks_a_file_that_does_not_open(rt: HostRuntime) {
     let opener = opener_of(rt.alloc(), &[HEADER], 1).expect(&rt, "memory");

@@ -9,7 +9,7 @@ use crate::answering::Answering;
 use common::Choice;
 use entries::{Batch, Entry, MAX_FILES, books_of};
 use lane_runs::{Run, run_lanes};
-use lanes::{Drafts, Gate, Opener, RunFault};
+use lanes::{Drafts, Gate, Opener, Pauses, RunFault};
 use ruled_lanes::LANES;
 use std::alloc::Global;
 use std::sync::Wait;
@@ -67,10 +67,12 @@ pub fn run_batch<R: Threads + Wait + Sync, O: Opener, G: Gate>(
     let Ok(drafts) = Drafts::<Entry>::new(alloc, files) else {
         return Err(BatchFault::Memory);
     };
+    let pauses = Pauses::none();
     let run = Run {
         rt,
         alloc,
         opener,
+        pauses: &pauses,
         gate,
         files,
         lanes,

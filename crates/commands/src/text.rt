@@ -13,7 +13,7 @@ use command_line::{Fault, FileNotes};
 use common::Choice;
 use entries::MAX_FILES;
 use lane_runs::{LaneKind, Run, run_lanes};
-use lanes::{Consumer, Gate, Opener, Pauses, PausingOpener, RunFault};
+use lanes::{Consumer, Gate, Opener, Pauses, RunFault};
 use printing::{Lines, Meant, Pace, Texts};
 use reports::Style;
 use ruled_lanes::LANES;
@@ -110,15 +110,11 @@ impl<R: Threads + Wait + Sync, O: Opener, G: Gate> TextRun<'_, R, O, G> {
             return Err(Fault::Run(BatchFault::BadLanes));
         }
         let pauses = Pauses::none();
-        let pausing = PausingOpener {
-            rt: self.rt,
-            opener: self.opener,
-            pauses: &pauses,
-        };
         let run = Run {
             rt: self.rt,
             alloc: self.alloc,
-            opener: &pausing,
+            opener: self.opener,
+            pauses: &pauses,
             gate: self.gate,
             files: self.files,
             lanes: self.lanes,

@@ -1,9 +1,8 @@
 //! Graphs through the calls of each layer; a call that runs out of memory is made again. All answers of the calls are
 //! printed, so that runs can be compared.
 
-ghost use Rattle.std.specs.Prelude.{◌≡◌, ◌*◌, length};
-ghost use Rattle.faces.specs.Planes.{darts, vertices};
 ghost use Rattle.ortho_rep.specs.Representation.{IsShape};
+ghost use Rattle.drawing_check.specs.Draws.{HasPoints};
 
 use crate::files::read_file;
 use crate::shapes::test_shape;
@@ -206,8 +205,7 @@ fn drawing_again<R: Eprint + AllocGlobal>(
     points: Points,
 ) -> Result<Drawing>
     requires shape { IsShape plane.now shape.now }
-    requires vertices { length points.vertices ≡ vertices plane.now }
-    requires corners { 2 * length points.corners ≡ darts plane.now }
+    requires points { HasPoints plane.now points }
 {
     match check(rt.alloc(), plane, shape, points) {
         Ok(drawing) => Ok(drawing),
@@ -222,8 +220,7 @@ fn drawing_again<R: Eprint + AllocGlobal>(
 /// The drawing of points that must draw the shape.
 fn drawn(alloc: Global, plane: &Plane, shape: &Shape, points: Points) -> Result<Drawing>
     requires shape { IsShape plane.now shape.now }
-    requires vertices { length points.vertices ≡ vertices plane.now }
-    requires corners { 2 * length points.corners ≡ darts plane.now }
+    requires points { HasPoints plane.now points }
 {
     match check(alloc, plane, shape, points) {
         Ok(drawing) => Ok(drawing),

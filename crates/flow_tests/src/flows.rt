@@ -270,6 +270,7 @@ fn expect_random(
     same!(rt, (count, found, slow), (count, due, expected));
 }
 
+/// The least costs of random networks are those that other solvers found.
 #[test]
 fn random_networks_cost_what_other_solvers_found(rt: HostRuntime) {
     let mut random = Random { state: 20_261_122 };

@@ -6,7 +6,7 @@ ghost use Rattle.lanes.specs.Notes.{notes, notes_of_items};
 
 use crate::lane_kind::LaneKind;
 use common::Choice;
-use lanes::{Filling, Gate, Gone, Keep, Message, Stage};
+use lanes::{Filling, Gate, Gone, Keep, Message, Pauses, Stage};
 use planar_code::Record;
 use ruled_lanes::Giver;
 use std::alloc::Global;
@@ -17,12 +17,13 @@ const MOST_BYTES: usize = 4096;
 
 /// A `Keep` that calls the gate for each record, and sends the records in messages of several.
 ///
-/// No record waits for the next read of its file.
+/// No record waits for the next read of its file. Before that it blocks as long as the file is paused.
 #[derive(Drop)]
 pub struct RecordGiver<'s, R, G, L: LaneKind> {
     pub rt: &'s R,
     pub gate: &'s G,
     pub kind: &'s L,
+    pub pauses: &'s Pauses,
     pub lane: u32,
     pub giver: Giver<Message<L::Framed, L::End>>,
     /// The records of the next message.
@@ -61,9 +62,11 @@ impl<R: Wait, G: Gate, L: LaneKind> Keep for RecordGiver<'_, R, G, L> {
         self.filling.give(self.rt, &mut self.giver)
     }
 
-    fn pass_on(&mut self) -> Result<(), Gone> {
+    fn pass_on(&mut self, file: u32) -> Result<(), Gone> {
         self.bytes = 0;
-        self.filling.give(self.rt, &mut self.giver)
+        self.filling.give(self.rt, &mut self.giver)?;
+        self.pauses.wait(self.rt, file);
+        Ok(())
     }
 
     ghost accepts_on = { λ _ _ _ _ _ _ accepts. accepts };

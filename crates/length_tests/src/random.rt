@@ -146,6 +146,7 @@ fn hundred(lent: &mut Lent, first: u64) -> Result<u32, AllocError> {
     Ok(total)
 }
 
+/// The least lengths of small random drawings are those that LEMON found.
 #[test]
 fn random_drawings_are_as_short_as_by_lemon(rt: HostRuntime) {
     let mut lent = Lent::empty(rt.alloc());
@@ -163,6 +164,7 @@ fn large(lent: &mut Lent, count: u16) -> Result<u32, AllocError> {
     lent.least_length()
 }
 
+/// The least lengths of large random drawings are those that LEMON found.
 #[test]
 fn large_drawings_are_as_short_as_by_lemon(rt: HostRuntime) {
     let mut lent = Lent::empty(rt.alloc());

@@ -62,6 +62,7 @@ fn points_come_in_order(rt: HostRuntime) {
     assert!(rt; said == Ok(true));
 }
 
+/// A line without points is refused with the reason.
 #[test]
 fn lines_without_points_are_refused(rt: HostRuntime) {
     for (line, fault) in REFUSED {

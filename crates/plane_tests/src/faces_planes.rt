@@ -27,6 +27,7 @@ fn counts_of(alloc: Global, bytes: &[u8]) -> Option<(u8, u16, u16, u16, u16)> {
     Some(counts(&plane))
 }
 
+/// Known planes have their numbers of vertices, edges and faces, and their outer face.
 #[test]
 fn known_planes_have_their_counts(rt: HostRuntime) {
     let known = [

@@ -109,6 +109,7 @@ const FILES: [&[u8]; 17] = [
     &[2, 2, 0, 1, 0, 3, 2, 3, 0, 3, 1, 0, 1, 2, 0],
 ];
 
+/// A file that is cut after any byte and fed in two pieces has the records and the ending of the plain reading.
 #[test]
 fn files_are_cut_anywhere(rt: HostRuntime) {
     for bytes in FILES {

@@ -61,6 +61,7 @@ const ENDINGS: [(&[u8], &str); 7] = [
     ),
 ];
 
+/// The report does not depend on the size of the pieces read or on the capacity of the link.
 #[test]
 fn finds_the_same_in_pieces_of_every_size(rt: HostRuntime) {
     for (bytes, report) in ENDINGS {
@@ -90,6 +91,7 @@ fn found_before<R: AllocGlobal + Threads + Wait + Sync>(
     Some((count, found.mark(), reads.load(Ordering::SeqCst)))
 }
 
+/// The records that were read before a failing read are kept.
 #[test]
 fn keeps_what_came_before_a_failing_read(rt: HostRuntime) {
     for fails_at in 0..26u32 {

@@ -74,6 +74,7 @@ where
     }
 }
 
+/// Every combination of options is taken, with 1, 21 and 256 files.
 #[test]
 fn takes_each_combination_of_options(rt: HostRuntime) {
     make_file(&rt, "all.pc", &[HEADER, EDGE]);

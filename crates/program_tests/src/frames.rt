@@ -43,6 +43,7 @@ const FILES: [(&[&[u8]], &str, u8); 10] = [
     (&[HEADER, &[255], &[1; 255]], "end oversize records=0\n", 3),
 ];
 
+/// The report has a line for each record, and one for the end of the file.
 #[test]
 fn reports_records_and_the_ending(rt: HostRuntime) {
     for (parts, report, status) in FILES {
@@ -66,6 +67,7 @@ fn expect_end(rt: &impl Abort, ran: &Ran<Vec<u8>>, end: &[u8], status: u8) {
     same!(rt, (is_end, ran.status), (true, status));
 }
 
+/// A file may have a million records, and reading stops at a byte after them.
 #[test]
 fn stops_after_a_million_records(rt: HostRuntime) {
     let bytes = million_records(rt.alloc()).expect(&rt, "memory");
@@ -131,6 +133,7 @@ const ONE_EDGE: Case = Case {
     may_begin: false,
 };
 
+/// A failed write of the report leaves a beginning of it, and the fault is printed.
 #[test]
 fn names_a_failed_write(rt: HostRuntime) {
     let words = words_for(&rt, &ONE_EDGE).expect(&rt, "a file");

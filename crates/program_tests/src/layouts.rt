@@ -3,7 +3,7 @@
 
 use crate::shared::{
     Case, NoConsole, Ran, Row, check_failed_write, check_rows, check_said, check_wants,
-    expect_report, holds, make_file, no_input, run, run_into, words_for,
+    expect_report, holds, make_file, run, run_into, words_for,
 };
 use std::alloc::{AllocError, Global};
 use std::fs;
@@ -103,6 +103,7 @@ const BODIES: [(&[u8], &str, u8); 3] = [
     ),
 ];
 
+/// The report has a line for each graph, and one for the end of the file.
 #[test]
 fn reports_each_graph_and_the_ending(rt: HostRuntime) {
     for (record, said) in RECORDS {
@@ -132,6 +133,7 @@ fn marks_lists_that_are_too_long(rt: HostRuntime) {
     check_body(&rt, &long, b"file 1\nend oversize graphs=0\n", 3);
 }
 
+/// A cycle of 255 vertices is drawn without bends.
 #[test]
 fn reports_a_cycle_of_most_vertices(rt: HostRuntime) {
     let body = longest_cycle(rt.alloc()).expect(&rt, "memory");
@@ -141,6 +143,7 @@ fn reports_a_cycle_of_most_vertices(rt: HostRuntime) {
 /// The report of a file that could not be read.
 pub const UNREAD: &str = "file 1\nend io graphs=0\n";
 
+/// A folder and a missing file have the mark `io`.
 #[test]
 fn marks_files_that_cannot_be_read(rt: HostRuntime) {
     fs::create_dir_all(&rt, "layout_folder").expect(&rt, "a folder");
@@ -379,11 +382,11 @@ fn ends_where_the_output_refuses(rt: HostRuntime) {
     let words = words_for(&rt, &ONE_EDGE).expect(&rt, "a file");
     let out = fs::open(&rt, "case.pc").expect(&rt, "a file");
     let err = fs::open(&rt, "case.pc").expect(&rt, "a file");
-    let input = no_input(rt.alloc());
-    let ran = run_into(&rt, words.as_slice(), &input, &NoConsole, out, err);
+    let ran = run_into(&rt, words.as_slice(), None, &NoConsole, out, err);
     same!(&rt, ran.status, 1);
 }
 
+/// A failed write of the report leaves a beginning of it, and the fault is printed.
 #[test]
 fn names_a_failed_write(rt: HostRuntime) {
     let words = words_for(&rt, &ONE_EDGE).expect(&rt, "a file");

@@ -6,6 +6,7 @@ use test_tools::records::{EDGE, HEADER, TRIANGLE};
 
 const VERSION: &str = "planarbend 1.0.0\nproved with rattle-kit-13 logic dac8208d650f15bf\n";
 
+/// The option `--version` prints the version if it comes first.
 #[test]
 fn prints_the_version(rt: HostRuntime) {
     check_rows(&rt, &[("--version", VERSION, 0)]);

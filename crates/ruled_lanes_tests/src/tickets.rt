@@ -94,11 +94,13 @@ fn deals<R: Abort + AllocGlobal + Threads + Sync>(rt: &R, lanes: u32, word: u32)
     same!(rt, sum.load(Ordering::SeqCst), 32_640);
 }
 
+/// Four threads draw each number once.
 #[test]
 fn four_threads_draw_each_number_once(rt: HostRuntime) {
     deals(&rt, 4, 260);
 }
 
+/// Eight threads draw each number once.
 #[test]
 fn eight_threads_draw_each_number_once(rt: HostRuntime) {
     deals(&rt, 8, 264);

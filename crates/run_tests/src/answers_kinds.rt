@@ -131,6 +131,7 @@ const TREE: [u8; 29] = [
     10, 2, 3, 4, 0, 1, 5, 6, 0, 1, 7, 8, 0, 1, 9, 10, 0, 2, 0, 2, 0, 3, 0, 3, 0, 4, 0, 4, 0,
 ];
 
+/// The short drawing of a tree is shorter than the quick one.
 #[test]
 fn short_drawings_are_shorter(rt: HostRuntime) {
     check(&rt, rt.alloc(), &TREE, 18, true);

@@ -65,7 +65,7 @@ impl Keep for Shelf {
         Ok(())
     }
 
-    fn pass_on(&mut self) -> Result<(), AllocError> {
+    fn pass_on(&mut self, _file: u32) -> Result<(), AllocError> {
         Ok(())
     }
 }
@@ -137,6 +137,7 @@ const ENDS: [(u32, Mark, u32); 4] = [
     (3, Mark::Io, 0),
 ];
 
+/// Each file has its mark, and all its records are kept.
 #[test]
 fn keeps_the_records_of_each_file(rt: HostRuntime) {
     let files = files(rt.alloc()).expect(&rt, "memory");

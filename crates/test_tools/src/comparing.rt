@@ -13,7 +13,7 @@ pub fn compared<T: PartialEq + Drop>(got: T, want: T) -> Result<(), (T, T)>
     }
 }
 
-/// Sees that two values are equal: `same!(&rt, got, want)`. A failure names the line of this call, and shows both. (An
+/// Checks that two values are equal: `same!(&rt, got, want)`. A failure names the line of this call, and shows both. (An
 /// `assert_eq!` in each place would make the proofs of tests several times as long. No library may have a function that
 /// takes a handle with `Abort`.)
 #[macro_export]

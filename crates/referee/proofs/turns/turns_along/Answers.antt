@@ -6,7 +6,7 @@ use Rattle.ortho_rep.specs.declared.turn.Turn.{Turn}
 use Rattle.ortho_rep.specs.declared.turn.Turn.TheVariants.{Left}
 use Rattle.drawing_check.specs.Paths.{point_of}
 use Rattle.drawing_check.specs.Draws.{direction_between, direction_of, turned}
-use Rattle.referee.specs.Routes.{path_of}
+use Rattle.drawing_check.specs.Routes.{path_of}
 use Rattle.referee.proofs.turns.turns_along.Goals as goal
 
 -- the direction after corner k
