@@ -1,10 +1,10 @@
 #!/usr/bin/env python3
 """Makes the library for C in out/: libplanarbend.a, libplanarbend.so.1 with the link libplanarbend.so, and planarbend.pc, by
-which pkg-config finds them here. Both libraries are the crate planarbend_c, which it proves over the libraries that
-build.py has proved, and c/planarbend.c. They export the names that c/planarbend.map lists and no others. It needs a C
-compiler (CC, or cc) and binutils.
+which pkg-config finds them here. Both libraries consist of the crate planarbend_c, which this script proves over the
+libraries that build.py has proved, and of c/planarbend.c. They export the names in c/planarbend.map and no others. Needs a
+C compiler (CC, or cc) and binutils.
 
-`planarbend --build` runs it at last. With an archive as its one word it takes that in place of the proved crate.
+`planarbend --build` runs it last. With one argument, an archive, it uses that instead of the proved crate.
 """
 import os
 import re

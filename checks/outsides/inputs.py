@@ -134,7 +134,7 @@ def in_pieces(machine: Machine, command: Command, text: bytes, records: list[byt
 
 
 def names_of_each_length(machine: Machine, command: Command) -> None:
-    """A file with a name of each length from 1 to 255 bytes holds as many records as its name has bytes."""
+    """Files with names of 1 to 255 bytes, each with as many records as its name has bytes."""
     for length in range(1, 256):
         name = "n" * length
         path = machine.file(HEADER + EDGE * length, os.path.join(machine.folder, name))
@@ -169,7 +169,7 @@ def check_streams(machine: Machine) -> None:
 
 
 def named_pipes(machine: Machine, command: Command) -> None:
-    """Pipes with a name, which are slow, are cut, stop, or give nothing."""
+    """FIFOs that are slow, end early, stop, or give nothing."""
     for name, text, pause in [("byte by byte", TWO, PAUSE), ("cut in a record", TWO[:-3], 0)]:
         with machine.case(command, f"a FIFO, {name}"):
             is_whole(command, slowly(machine, command, text, pause), [split(text)])
@@ -249,7 +249,7 @@ def input_is_a_file(machine: Machine, command: Command, before: str) -> None:
 
 
 def input_is_a_folder(machine: Machine, command: Command) -> None:
-    """Standard input that opens, and that no read reads."""
+    """Standard input that opens, and every read of which fails."""
     with machine.case(command, "- is a directory"), contextlib.ExitStack() as opened:
         folder = os.open(machine.room, os.O_RDONLY)
         opened.callback(os.close, folder)
@@ -374,7 +374,7 @@ def unreadable(machine: Machine) -> list[tuple[str, str, str]]:
 
 
 def fails_in_the_middle(machine: Machine, command: Command) -> None:
-    """A read that fails after two records: the other end of a terminal is gone."""
+    """A read that fails after two records: the other end of a terminal was closed."""
     with machine.case(command, "what is said of a read that fails in the middle"):
         master, terminal = pty.openpty()
         with os.fdopen(master, "rb", buffering=0) as given:
@@ -386,8 +386,8 @@ def fails_in_the_middle(machine: Machine, command: Command) -> None:
 
 
 def misfits() -> list[tuple[str, bytes, str | None]]:
-    """Files that are no planar_code in the one-byte form, as the programs write them that make such files, and what is
-    said of them; and a file of which nothing is said."""
+    """Files that are not planar_code in the one-byte form, as other programs write them, with the message about each;
+    and a file without a message."""
     two_bytes = "two-byte form: at most 255 vertices here"
     cases: list[tuple[str, bytes, str | None]] = [
         ("gzip", gzip.compress(TWO), "gzip-compressed: use zcat"),
@@ -408,7 +408,7 @@ def misfits() -> list[tuple[str, bytes, str | None]]:
 
 
 def tells_in_order(machine: Machine, command: Command) -> None:
-    """A line for each file that could not be read, in the order of the files; a name may come twice."""
+    """A line for each file that could not be read, in the order of the files; a name may occur twice."""
     with machine.case(command, "what is said of several files"):
         missing = machine.path()
         paths = [missing, machine.two, machine.room, "-", missing]

