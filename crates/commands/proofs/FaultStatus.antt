@@ -1,7 +1,8 @@
 -- The status of what was refused or failed.
-use Rattle.std.proofs.Common.{rules, ◌≡◌, ◌⊎◌, ◌↔◌, ℕ, Bool, true, false, arith, inl, inr, refl, sym, ◌∙◌, true≢false}
+use Rattle.std.proofs.Common.{rules, ◌≡◌, ◌⊎◌, ◌↔◌, ℕ, Bool, true, false, Result, Err, IfErr, arith, inl, inr, refl, ap, subst, sym, ◌∙◌, true≢false}
 use Rattle.streams.specs.declared.faults.BatchFault.TheVariants.{TooManyFiles, BadLanes}
 use Rattle.streams.specs.declared.faults.BatchFault.TheVariants as batch
+use Rattle.streams.specs.declared.faults.WriteFault.{WriteFault}
 use Rattle.streams.specs.declared.faults.WriteFault.TheVariants as write
 use Rattle.streams.specs.declared.output.SinkFault.{SinkFault}
 use Rattle.lanes.specs.declared.fault.RunFault.{RunFault}
@@ -75,3 +76,16 @@ lanes_failed failed Memory of stands = stands
 lanes_failed failed LaneLost of stands = stands
 lanes_failed failed Thread of stands = stands
 lanes_failed failed (Refused fault) of stands = absurd of
+
+-- memory ran out, and the output has not failed
+pub no_write : (failed : Bool) (answer : Result ℕ Fault) (fault : Fault) → answer ≡ Err fault → fault ≡ Fault.Memory → failed ≡ false
+    → IfErr answer (λ f. (f ≡ Fault.Write write.Write) ↔ (failed ≡ true))
+no_write failed answer fault is memory stands =
+    subst (λ a. IfErr a (λ f. (f ≡ Fault.Write write.Write) ↔ (failed ≡ true))) (sym is) ((λ written. (cc)), (λ failure. (cc)))
+
+-- the text was not written, for this reason
+pub as_written : (failed : Bool) (answer : Result ℕ Fault) (fault : Fault) (reason : WriteFault) → answer ≡ Err fault → fault ≡ Fault.Write reason
+    → (reason ≡ write.Write) ↔ (failed ≡ true) → IfErr answer (λ f. (f ≡ Fault.Write write.Write) ↔ (failed ≡ true))
+as_written failed answer fault reason is as told =
+    subst (λ a. IfErr a (λ f. (f ≡ Fault.Write write.Write) ↔ (failed ≡ true))) (sym is)
+    ((λ written. told.0 (cc)), (λ failure. as ∙ ap Fault.Write (told.1 failure)))
