@@ -1,5 +1,5 @@
 -- The status of what was refused or failed.
-use Rattle.std.proofs.Common.{rules, ◌≡◌, ◌⊎◌, ◌↔◌, ℕ, Bool, true, false, Result, Err, IfErr, arith, inl, inr, refl, ap, subst, sym, ◌∙◌, true≢false}
+use Rattle.std.proofs.Common.{rules, ◌≡◌, ◌<◌, ◌⊎◌, ◌↔◌, ℕ, Bool, true, false, List, Option, Result, Err, IfErr, arith, inl, inr, refl, ap, subst, sym, ◌∙◌, true≢false}
 use Rattle.streams.specs.declared.faults.BatchFault.TheVariants.{TooManyFiles, BadLanes}
 use Rattle.streams.specs.declared.faults.BatchFault.TheVariants as batch
 use Rattle.streams.specs.declared.faults.WriteFault.{WriteFault}
@@ -8,11 +8,20 @@ use Rattle.streams.specs.declared.output.SinkFault.{SinkFault}
 use Rattle.lanes.specs.declared.fault.RunFault.{RunFault}
 use Rattle.lanes.specs.declared.fault.RunFault.TheVariants.{Memory, LaneLost, Thread, Refused}
 use Rattle.lanes.specs.Faults.{IsOfLanes}
+use Rattle.common.specs.declared.choice.Choice.{Choice}
+use Rattle.lanes.specs.Opening.{Meaning}
+use Rattle.reports.specs.declared.form.Form.{Form}
+use Rattle.ruled_lanes.specs.declared.limits.TheConstants.{LANES}
+use Rattle.entries.specs.declared.limits.TheConstants.{MAX_FILES}
+use Rattle.printing.specs.Whole.{IsBegun}
 use Rattle.printing.specs.Written.{GivesUp}
 use Rattle.command_line.specs.declared.faults.Fault.{Fault}
 use Rattle.command_line.specs.Faults.{fault_of}
 use Rattle.command_line.specs.Refusals.{IsMisuse}
-use Rattle.commands.specs.TextRuns.{HasFailedBy, IsOfTextRun}
+use Rattle.commands.specs.TextRuns.{HasFailedBy, IsOfTextRun, IsStreamed}
+
+err_same : (a b : Fault) (answer : Result ℕ Fault) → answer ≡ Err a → answer ≡ Err b → a ≡ b
+err_same a b answer is same = cc
 
 not_one : (status : ℕ) → (status ≡ 0) ⊎ (status ≡ 3) → status ≡ 1 → ⊥
 not_one status (inl is) one = omega (arith, is, one)
@@ -89,3 +98,20 @@ pub as_written : (failed : Bool) (answer : Result ℕ Fault) (fault : Fault) (re
 as_written failed answer fault reason is as told =
     subst (λ a. IfErr a (λ f. (f ≡ Fault.Write write.Write) ↔ (failed ≡ true))) (sym is)
     ((λ written. told.0 (cc)), (λ failure. as ∙ ap Fault.Write (told.1 failure)))
+
+-- lanes failed, and so this many files that were asked for well were not all written
+module _ {S : Type 0} (choice : Choice) (meaning : ℕ → Meaning) (form : Form) (files lanes : ℕ) (taken : S → Option (List ℕ)) (fails : S → Bool) (old new : S) where
+  pub streamed_fault : (answer : Result ℕ Fault) (fault : Fault) (of : RunFault SinkFault) → answer ≡ Err fault → fault ≡ fault_of of
+      → (MAX_FILES < files → ⊥) → (((lanes ≡ 0) ⊎ (LANES < lanes)) → ⊥) → HasFailedBy (fails new) of → ∥ IsBegun choice meaning form files (taken old) (taken new) ∥₁
+      → IsStreamed choice meaning form files lanes taken fails old new answer
+  streamed_fault answer fault of is as few good has begun =
+      subst (IsStreamed choice meaning form files lanes taken fails old new) (sym (is ∙ ap Err as)) (record {
+        written = tt;
+        status = tt;
+        begun = begun;
+        too_many = (λ many. absurd (few many), λ same. absurd (asked_well of (subst IsMisuse (sym (err_same _ _ _ refl same)) tt)));
+        bad_lanes = (λ bad. absurd (good bad.0), λ same. absurd (asked_well of (subst IsMisuse (sym (err_same _ _ _ refl same)) tt)));
+        refused = λ misuse. absurd (asked_well of misuse);
+        failed = (λ same. write_failed (fails new) of has (err_same _ _ _ refl same), λ failure. ap Err (failed_write (fails new) of has failure));
+        only = of_text_run of;
+      })

@@ -44,17 +44,17 @@ use streams::{BatchFault, Sink, SinkFault};
 /// each case what was written is a prefix of this: the text of books of the first files, of which any may end `memory`,
 /// and the lines of the next file so far, which has no last line. If no bytes of a file are known, as of a real one,
 /// records and mark are those of some bytes.
-pub fn write_batch<R: Threads + Wait + Sync, O: Opener, G: Gate, S: Sink>(
-    rt: &R,
+pub fn write_batch<'r, R: Threads + Wait + Sync, O: Opener, G: Gate, S: Sink>(
+    rt: &'r R,
     alloc: Global,
-    opener: &O,
+    opener: &'r O,
     files: u32,
     lanes: u32,
     capacity: u32,
     waiting: usize,
     choice: Choice,
     style: Style,
-    gate: &G,
+    gate: &'r G,
     sink: &mut S,
 ) -> Result<u8, Fault>
     requires least { 1 ≤ capacity }
