@@ -1,5 +1,5 @@
 -- What holds on the way of a walk.
-use Rattle.std.proofs.Common.{◌≡◌, ◌≢◌, ◌⊎◌, ℕ, suc, ◌+◌, ◌<◌, ◌≤◌, ◌∙◌, List, [], ◌∷◌, ◌++◌, Bool, true, false, length, get_or, set, append_assoc, arith, subst, sym, ap, inl, inr, get_or-set_same, get_or-set_other, append-nil}
+use Rattle.std.proofs.Common.{◌≡◌, ◌≢◌, ◌⊎◌, ℕ, suc, ◌+◌, ◌<◌, ◌≤◌, ◌∙◌, List, [], ◌∷◌, ◌++◌, Bool, true, false, length, get_or, set, append_assoc, arith, subst, sym, ap, refl, inl, inr, get_or-set_same, get_or-set_other, append-nil}
 use Rattle.std.proofs.Math.ListN.{length-set}
 use Rattle.std.proofs.lemmas.Bool.{cases_eq}
 use Rattle.dissect.specs.DartMaps.{DartMap, IsTied}
@@ -55,6 +55,17 @@ pub record IsWalking (w : DartMap) (start : ℕ) (before after : List Bool) (oth
   pub passed : (a : ℕ) → In a (darts_walked w start k) → IsFlagged after a
   pub only : (a : ℕ) → IsFlagged after a → IsFlagged before a ⊎ In a (darts_walked w start k)
   pub size : length after ≡ length before
+
+pub walk_begins : (w : DartMap) (start : ℕ) (flags : List Bool) (others : List ℕ) → IsWalking w start flags flags others others 0 start
+walk_begins w start flags others = record {
+  here = refl;
+  away = λ j some most. absurd (omega arith);
+  corners = sym (append-nil others);
+  kept = λ a h. h;
+  passed = λ a h. absurd h;
+  only = λ a h. inl h;
+  size = refl;
+}
 
 -- one more step, before it is known whether it is back
 pub record IsStepped (w : DartMap) (start : ℕ) (before after : List Bool) (others listed : List ℕ) (k dart : ℕ) : Type 0 where

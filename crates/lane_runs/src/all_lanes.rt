@@ -111,8 +111,10 @@ impl<'s, R: Threads + Wait + Sync, O: Opener, G: Gate, L: LaneKind + 's> Shared<
             idle,
             gatherer,
         } = fan;
-        let running = self.start_lanes(scope, seats, givers)?;
-        self.finish_lanes(gatherer, running, idle, consumer)
+        match self.start_lanes(scope, seats, givers) {
+            Ok(running) => self.finish_lanes(gatherer, running, idle, consumer),
+            Err(fault) => Err(fault),
+        }
     }
 
     /// Starts a lane for each seat, with the givers in order.
@@ -134,12 +136,15 @@ impl<'s, R: Threads + Wait + Sync, O: Opener, G: Gate, L: LaneKind + 's> Shared<
         ensures tickets { IfOk result (λ running. All (λ r. r.promise.tickets.value ≡ self.now.tickets.now) running.items) }
         ensures of_lanes { IfErr result IsOfLanes }
     {
-        let mut running = Vec::with_capacity(self.run.alloc, seats.len())?;
+        let Ok(mut running) = Vec::with_capacity(self.run.alloc, seats.len()) else {
+            return Err(RunFault::Memory);
+        };
         for giver in givers {
             let Some(seat) = seats.pop() else {
                 unreachable!()
             };
-            running.push_reserved(self.start_lane(scope, Lane { seat, giver })?);
+            let started = self.start_lane(scope, Lane { seat, giver })?;
+            running.push_reserved(started);
         }
         Ok(running)
     }

@@ -33,8 +33,10 @@ fn join_lane<E: Numbered, M: Drop + Send, F: Drop, R: Threads, O: Opener>(
     let Ok(()) = stop else {
         return Err(RunFault::LaneLost);
     };
-    let seat = seat?;
-    Ok(Lane { seat, giver })
+    match seat {
+        Ok(seat) => Ok(Lane { seat, giver }),
+        Err(fault) => Err(fault),
+    }
 }
 
 impl<R: Threads + Wait + Sync, O: Opener, G: Gate, L> Shared<'_, R, O, G, L> {
@@ -59,10 +61,15 @@ impl<R: Threads + Wait + Sync, O: Opener, G: Gate, L> Shared<'_, R, O, G, L> {
             → HasFile self.now.run.now.choice (O.meaning self.now.run.now.opener.now file) file (notes E.about (untagged (gathered gatherer)))) }
         ensures of_lanes { IfErr result IsOfLanes }
     {
-        let mut seats = Vec::with_capacity(self.run.alloc, running.len())?;
-        givers.reserve(running.len())?;
+        let Ok(mut seats) = Vec::with_capacity(self.run.alloc, running.len()) else {
+            return Err(RunFault::Memory);
+        };
+        let Ok(()) = givers.reserve(running.len()) else {
+            return Err(RunFault::Memory);
+        };
         for handle in running {
-            let Lane { seat, giver } = join_lane(self.run.rt, handle)?;
+            let lane = join_lane(self.run.rt, handle)?;
+            let Lane { seat, giver } = lane;
             seats.push_reserved(seat);
             givers.push_reserved(giver);
         }

@@ -69,12 +69,15 @@ impl<'s, R: Threads + Wait + Sync, O: Opener, G: Gate, L: LaneKind + 's> Shared<
     {
         let run = self.run;
         let lane = giver.lane();
+        let Ok(stages) = new_stages(self.kind, run.alloc, run.capacity, lane, seat) else {
+            return Err(RunFault::Memory);
+        };
         let Stages {
             read,
             embed,
             shape,
             draw: LastStage { scratch, taker },
-        } = new_stages(self.kind, run.alloc, run.capacity, lane, seat)?;
+        } = stages;
         let Some(started) = self.start_stages(scope, read, embed, shape) else {
             return Err(RunFault::Thread);
         };
@@ -110,9 +113,15 @@ impl<'s, R: Threads + Wait + Sync, O: Opener, G: Gate, L: LaneKind + 's> Shared<
         let run = self.run;
         let lane = read.lane;
         // The first stage comes last: a lane that could not be started has drawn no file.
-        let embed = start_stage(scope, run.rt, run.alloc, run.gate, lane, embed)?;
-        let shape = start_stage(scope, run.rt, run.alloc, run.gate, lane, shape)?;
-        let read = self.start_read(scope, read)?;
+        let Some(embed) = start_stage(scope, run.rt, run.alloc, run.gate, lane, embed) else {
+            return None;
+        };
+        let Some(shape) = start_stage(scope, run.rt, run.alloc, run.gate, lane, shape) else {
+            return None;
+        };
+        let Some(read) = self.start_read(scope, read) else {
+            return None;
+        };
         Some(StartedStages { read, embed, shape })
     }
 }
@@ -145,7 +154,10 @@ impl<L: LaneKind, O: Opener> StartedStages<L, O> {
         let read = read.join(rt);
         let embed = embed.join(rt);
         let shape = shape.join(rt);
-        let ((read, seat), embed, shape, draw) = all_of(read, embed, shape, drew)?;
+        let Some((ends, embed, shape, draw)) = all_of(read, embed, shape, drew) else {
+            return None;
+        };
+        let (read, seat) = ends;
         settle_lane::<L, _>(rt, read, embed, shape, draw);
         Some(seat)
     }
@@ -163,5 +175,9 @@ fn all_of<A: Drop, B: Drop, C: Drop, D: Drop>(
     ensures third { IfSome result (λ all. third ≡ Some all.2) }
     ensures fourth { IfSome result (λ all. fourth ≡ Some all.3) }
 {
-    Some((first?, second?, third?, fourth?))
+    let Some(first) = first else { return None };
+    let Some(second) = second else { return None };
+    let Some(third) = third else { return None };
+    let Some(fourth) = fourth else { return None };
+    Some((first, second, third, fourth))
 }

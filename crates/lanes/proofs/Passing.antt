@@ -1,7 +1,7 @@
 -- More messages of a stage.
+use Rattle.std.specs.Prelude.{Result, Ok, Err, OnOk, OnErr}
 use Rattle.std.proofs.Common.{◌≡◌, ℕ, List, [], ◌∷◌, ◌++◌, refl, sym, ap, subst, ◌∙◌, append_assoc, append-nil}
 use Rattle.std.proofs.lemmas.List.{map-append}
-use Rattle.streams.specs.declared.frames.Mark.{Mark}
 use Rattle.lanes.specs.declared.message.Message.{Message}
 use Rattle.lanes.specs.Notes.{About, Note, Item, End, Stop, notes_of_items, notes_of, notes, GoOn}
 
@@ -54,3 +54,8 @@ module _ {A B : Type 0} where
 -- what is told goes on where what is added does
 pub going_told : (before after more : List Note) → after ≡ before ++ more → GoOn more → GoOn before → GoOn after
 going_told before after more is goes on = subst GoOn (sym is) (going_both before more on goes)
+
+-- so also if a message may have been refused
+pub going_anyhow : {R E : Type 0} (result : Result R E) (before after more : List Note) → OnOk result (after ≡ before ++ more) → OnErr result (after ≡ before) → GoOn more → GoOn before → GoOn after
+going_anyhow (Ok _) before after more is same goes on = going_told before after more is goes on
+going_anyhow (Err _) before after more is same goes on = subst GoOn (sym same) on

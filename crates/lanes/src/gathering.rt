@@ -107,16 +107,17 @@ pub fn gather<E: Numbered, M: Drop, C: Consumer<E, M>, R: Wait>(
     let mut stops = Vec::from_elem(alloc, false, lanes as usize)?;
     let mut patience = PATIENCE;
     for _ in rt.forever() {
-        match next_message(rt, &mut gatherer, consumer, &mut patience)? {
-            (_, Message::Item(item)) => consumer.item(item)?,
-            (_, Message::Items(batch)) => take_in(rt, batch, consumer)?,
-            (_, Message::End(file, mark, known)) => consumer.end(file, mark, known)?,
-            (lane, Message::Stop) => {
+        match next_message(rt, &mut gatherer, consumer, &mut patience) {
+            Ok((_, Message::Item(item))) => consumer.item(item)?,
+            Ok((_, Message::Items(batch))) => take_in(rt, batch, consumer)?,
+            Ok((_, Message::End(file, mark, known))) => consumer.end(file, mark, known)?,
+            Ok((lane, Message::Stop)) => {
                 set_stopped(&mut stops, lane);
                 if !stops.contains(&false) {
                     return Ok(gatherer);
                 }
             }
+            Err(fault) => return Err(fault),
         }
     }
     unreachable!()
