@@ -104,13 +104,24 @@ pub fn gather<E: Numbered, M: Drop, C: Consumer<E, M>, R: Wait>(
     ensures failed { IfErr result (HoldsOnFault (C.gave_up consumer.new) (C.holds consumer.new)) }
     ensures stays { C.stays consumer.old consumer.new }
 {
-    let mut stops = Vec::from_elem(alloc, false, lanes as usize)?;
+    let Ok(mut stops) = Vec::from_elem(alloc, false, lanes as usize) else {
+        return Err(RunFault::Memory);
+    };
     let mut patience = PATIENCE;
     for _ in rt.forever() {
         match next_message(rt, &mut gatherer, consumer, &mut patience) {
-            Ok((_, Message::Item(item))) => consumer.item(item)?,
-            Ok((_, Message::Items(batch))) => take_in(rt, batch, consumer)?,
-            Ok((_, Message::End(file, mark, known))) => consumer.end(file, mark, known)?,
+            Ok((_, Message::Item(item))) => match consumer.item(item) {
+                Ok(()) => {}
+                Err(fault) => return Err(fault),
+            },
+            Ok((_, Message::Items(batch))) => match take_in(rt, batch, consumer) {
+                Ok(()) => {}
+                Err(fault) => return Err(fault),
+            },
+            Ok((_, Message::End(file, mark, known))) => match consumer.end(file, mark, known) {
+                Ok(()) => {}
+                Err(fault) => return Err(fault),
+            },
             Ok((lane, Message::Stop)) => {
                 set_stopped(&mut stops, lane);
                 if !stops.contains(&false) {

@@ -5,8 +5,8 @@ use Rattle.lanes.specs.Fans.{AreStops}
 use Rattle.lanes.proofs.Stopping.{stops_more, stop_noted, all_stopped, told_more}
 use Rattle.lanes.proofs.gathering.gather.Goals as goal
 
-pub loop-preserved-in_ok-item : goal.loop-preserved-in_ok-item
-loop-preserved-in_ok-item g c =
+pub loop-preserved-in-Ok-item : goal.loop-preserved-in-Ok-item
+loop-preserved-in-Ok-item g c =
     let about = g.E.Numbered.about in
     record {
       lanes = c.loop.invariant.lanes;
@@ -14,12 +14,12 @@ loop-preserved-in_ok-item g c =
       stops = stops_more about _ _ _ _ c.in-Ok-default-Item.ensures.ok c.loop.invariant.stops;
       told = subst (g.C.Consumer.holds c.item.new.self)
           (sym (told_more about _ _ _ (Item (about c.in-Ok-default-Item.item) ∷ []) c.in-Ok-default-Item.ensures.ok (ap (notes_of about) c.in-Ok-default-Item.field-0-1-is)))
-          (c.in_ok-item.ensures.taken _ (c.in-Ok-default-Item.ensures.kept _ c.loop.invariant.told));
+          (c.in-Ok-item.ensures.taken _ (c.in-Ok-default-Item.ensures.kept _ c.loop.invariant.told));
       stays = g.met.C.Consumer.stays_on _ _ _ (g.met.C.Consumer.stays_on _ _ _ c.loop.invariant.stays c.next_message.ensures.stays) c.item.ensures.stays;
     }
 
-pub loop-preserved-in_ok-take_in : goal.loop-preserved-in_ok-take_in
-loop-preserved-in_ok-take_in g c =
+pub loop-preserved-in-Ok-take_in : goal.loop-preserved-in-Ok-take_in
+loop-preserved-in-Ok-take_in g c =
     let about = g.E.Numbered.about in
     record {
       lanes = c.loop.invariant.lanes;
@@ -27,12 +27,12 @@ loop-preserved-in_ok-take_in g c =
       stops = stops_more about _ _ _ _ c.in-Ok-default-Items.ensures.ok c.loop.invariant.stops;
       told = subst (g.C.Consumer.holds c.take_in.new.consumer)
           (sym (told_more about _ _ _ (notes_of_items about c.in-Ok-default-Items.batch.items.items) c.in-Ok-default-Items.ensures.ok (ap (notes_of about) c.in-Ok-default-Items.field-0-1-is)))
-          (c.in_ok-take_in.ensures.taken _ (c.in-Ok-default-Items.ensures.kept _ c.loop.invariant.told));
+          (c.in-Ok-take_in.ensures.taken _ (c.in-Ok-default-Items.ensures.kept _ c.loop.invariant.told));
       stays = g.met.C.Consumer.stays_on _ _ _ (g.met.C.Consumer.stays_on _ _ _ c.loop.invariant.stays c.next_message.ensures.stays) c.take_in.ensures.stays;
     }
 
-pub loop-preserved-in_ok-end : goal.loop-preserved-in_ok-end
-loop-preserved-in_ok-end g c =
+pub loop-preserved-in-Ok-end : goal.loop-preserved-in-Ok-end
+loop-preserved-in-Ok-end g c =
     let about = g.E.Numbered.about in
     record {
       lanes = c.loop.invariant.lanes;
@@ -40,7 +40,7 @@ loop-preserved-in_ok-end g c =
       stops = stops_more about _ _ _ _ c.in-Ok-default-End.ensures.ok c.loop.invariant.stops;
       told = subst (g.C.Consumer.holds c.end.new.self)
           (sym (told_more about _ _ _ (End c.in-Ok-default-End.file c.in-Ok-default-End.mark ∷ []) c.in-Ok-default-End.ensures.ok (ap (notes_of about) c.in-Ok-default-End.field-0-1-is)))
-          (c.in_ok-end.ensures.taken _ (c.in-Ok-default-End.ensures.kept _ c.loop.invariant.told));
+          (c.in-Ok-end.ensures.taken _ (c.in-Ok-default-End.ensures.kept _ c.loop.invariant.told));
       stays = g.met.C.Consumer.stays_on _ _ _ (g.met.C.Consumer.stays_on _ _ _ c.loop.invariant.stays c.next_message.ensures.stays) c.end.ensures.stays;
     }
 

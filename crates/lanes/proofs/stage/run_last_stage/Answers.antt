@@ -40,3 +40,12 @@ loop-preserved g c =
       none = c.loop.invariant.none;
       going = going_told (g.O.Outlet.told c.loop.to) (g.O.Outlet.told c.tell-in-Ok-End.new.self) (End c.in-Ok-End.file c.in-Ok-End.mark ∷ []) c.in-Ok-tell.ensures.more tt c.loop.invariant.going;
     }
+
+pub returns-in-Err-tell-clause-stays : goal.returns-in-Err-tell-clause-stays
+returns-in-Err-tell-clause-stays g c = g.met.O.Outlet.stays_on _ _ _ c.loop.invariant.stays c.tell.ensures.stays
+
+pub returns-in-Err-pass_on-clause-stays : goal.returns-in-Err-pass_on-clause-stays
+returns-in-Err-pass_on-clause-stays g c = g.met.O.Outlet.stays_on _ _ _ c.loop.invariant.stays c.pass_on.ensures.stays
+
+pub returns-in-Err-tell-2-clause-stays : goal.returns-in-Err-tell-2-clause-stays
+returns-in-Err-tell-2-clause-stays g c = g.met.O.Outlet.stays_on _ _ _ c.loop.invariant.stays c.tell-in-Ok-End.ensures.stays
