@@ -222,8 +222,8 @@ def check_input(machine: Machine) -> None:
         machine.whole(command, "- between files", others, [two, one, two, one], given=HEADER + LONE)
         machine.whole(command, "- is closed, between files", others, [two, IO, two, one], preexec_fn=closing(0))
     for command in (Command(["layout", "--lanes", "2"]), Command(["layout", "--lanes", "2", "--json"])):
-        with machine.case(command, "- is closed, while an open file has its number"):
-            is_whole(command, numbered_as_input(machine, command), [two, two, IO])
+        with machine.case(command, "- is closed, and no file gets its number"):
+            is_whole(command, beside_closed_input(machine, command), [two, two, IO])
 
 
 def input_is_a_pipe(machine: Machine, command: Command) -> None:
@@ -256,19 +256,19 @@ def input_is_a_folder(machine: Machine, command: Command) -> None:
         is_whole(command, machine.run([*command.words, "-"], stdin=folder), [IO])
 
 
-def numbered_as_input(machine: Machine, command: Command) -> Ran:
-    """A run of two lanes without standard input over two FIFOs and `-`. One of the FIFOs gets the descriptor of
-    standard input, and ends after `-` was tried."""
+def beside_closed_input(machine: Machine, command: Command) -> Ran:
+    """A run of two lanes over two FIFOs and `-`, while standard input is closed: a folder has its number. `-` is opened
+    once a FIFO has ended."""
     paths = [machine.fifo(), machine.fifo()]
     with both_ends(paths[0]) as one, both_ends(paths[1]) as other, \
             machine.started([*command.words, *paths, "-"], preexec_fn=closing(0)) as child:
         wait_for(lambda: child.poll() is not None or all(place_in(child.pid, path) >= 0 for path in paths), "two files")
-        first = os.path.realpath(f"/proc/{child.pid}/fd/0")
-        for path, writer in sorted([(paths[0], one), (paths[1], other)], key=lambda pair: pair[0] == first):
+        if (first := os.path.realpath(f"/proc/{child.pid}/fd/0")) != "/":
+            raise Wrong(f"{first} has the number of standard input")
+        for path, writer in zip(paths, (one, other)):
             writer.write(TWO)
             writer.close()
             wait_for(lambda: child.poll() is not None or place_in(child.pid, path) < 0, "the end of a file")
-            time.sleep(0.1)
         return machine.ended(child)
 
 
@@ -343,6 +343,7 @@ def check_reasons(machine: Machine) -> None:
         for name, path, reason in files:
             tells(machine, command, name, path, IO, reason, **(AS_NOBODY if reason == "Permission denied" else {}))
         tells(machine, command, "- is closed", "-", IO, CLOSED, preexec_fn=closing(0))
+        tells(machine, command, "/dev/stdin, closed", "/dev/stdin", IO, FOLDER, preexec_fn=closing(0))
         with open("/dev/null", "wb") as null:
             tells(machine, command, "- is open for writing only", "-", IO, CLOSED, stdin=null)
         fails_in_the_middle(machine, command)

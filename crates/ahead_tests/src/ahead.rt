@@ -7,7 +7,7 @@ ghost use Rattle.lanes.specs.Opening.{Silent};
 use collector::{
     Choice, DrawingKind, Form, Gate, IoSink, OpenFault, Opener, Stage, Style, Tap, TapFault,
 };
-use commands::{TextFault, write_batch};
+use commands::{Fault, write_batch};
 use std::alloc::Global;
 use std::io::Write;
 use std::process::Abort;
@@ -184,7 +184,7 @@ fn run<R: AllocGlobal + Threads + Wait + Sync>(
     rt: &R,
     seen: &Seen,
     form: Form,
-) -> (Result<u8, TextFault>, Vec<u8>) {
+) -> (Result<u8, Fault>, Vec<u8>) {
     let alloc = rt.alloc();
     let text = Vec::new(alloc);
     let mut sink = IoSink::new(Held { seen, text });

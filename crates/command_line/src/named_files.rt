@@ -1,14 +1,15 @@
 //! Files by their names.
-ghost use Rattle.std.specs.Prelude.{◌≡◌, ℕ, List};
+ghost use Rattle.std.specs.Prelude.{ℕ, List, IfOk};
 ghost use Rattle.lanes.specs.Opening.{Meaning, Opens, Silent};
-ghost use Rattle.command_line.specs.Naming.{meaning_in};
+ghost use Rattle.command_line.specs.Naming.{is_input};
 ghost use Rattle.command_line.specs.Refused.{by_fault};
 
 use crate::read_tap::ReadTap;
 use crate::reason::{KeepsReason, Reason};
-use crate::source::{NamedSource, open_fault};
+use crate::source::open_fault;
 use crate::standard_input::is_input;
-use lanes::{OpenFault, Opener};
+use either::{Either, Left, Right};
+use lanes::OpenFault;
 use std::alloc::Global;
 use std::fs;
 use std::io::Read;
@@ -41,65 +42,44 @@ pub trait NamedFiles: Sync {
         ensures { Opens Self.Source.to_come Self.Source.fails (meaning self.now name.now) (by_fault result) };
 }
 
-/// The files of the system. Nothing is known of their bytes.
+/// The files of the system, and under the name `-` standard input. Nothing is known of their bytes.
 #[derive(Drop)]
-pub struct SystemFiles<'r, R> {
+pub struct SystemFiles<'r, R, I> {
     pub rt: &'r R,
+    /// Standard input, if it was open when the program began.
+    pub input: Option<I>,
 }
 
-impl<R: Files + Sync> NamedFiles for SystemFiles<'_, R>
+impl<R: Files + Sync, I: Read + Copy + Send + Sync> NamedFiles for SystemFiles<'_, R, I>
 where
     R::File: Send,
     R::Dir: Send,
 {
-    type Source = ReadTap<R::File>;
+    ghost use Rattle.command_line.specs.Readers.{reader_of, IsReaderOf};
+
+    type Source = ReadTap<Either<R::File, I>>;
 
     ghost meaning = { λ _ _. Silent };
 
-    fn open(&self, _alloc: Global, name: &str) -> Result<ReadTap<R::File>, Refused> {
+    // The contract of all named files, and that standard input is read exactly for its name.
+    fn open(&self, _alloc: Global, name: &str) -> Result<ReadTap<Either<R::File, I>>, Refused>
+        ensures reader { IfOk result (λ source. IsReaderOf (is_input name.now) self.now.input (reader_of source)) }
+    {
+        if is_input(name) {
+            return match self.input {
+                Some(input) => Ok(ReadTap::new(Right(input))),
+                None => Err(Refused {
+                    fault: OpenFault::Io,
+                    reason: CLOSED,
+                }),
+            };
+        }
         match fs::open(self.rt, name) {
-            Ok(file) => Ok(ReadTap::new(file)),
+            Ok(file) => Ok(ReadTap::new(Left(file))),
             Err(error) => Err(Refused {
                 fault: open_fault(error.kind()),
                 reason: Reason::of(error),
             }),
-        }
-    }
-}
-
-/// Files by name, and under the name `-` standard input, which is file 0 of `input`.
-#[derive(Drop)]
-pub struct FilesAndInput<'r, N, I> {
-    pub files: &'r N,
-    pub input: &'r I,
-}
-
-impl<N: NamedFiles, I: Opener> NamedFiles for FilesAndInput<'_, N, I>
-where
-    I::Source: KeepsReason,
-{
-    type Source = NamedSource<N::Source, I::Source>;
-
-    ghost meaning = { λ f name. meaning_in (I.meaning f.input.now 0) (N.meaning f.files.now) name };
-
-    fn open(
-        &self,
-        alloc: Global,
-        name: &str,
-    ) -> Result<NamedSource<N::Source, I::Source>, Refused> {
-        if is_input(name) {
-            match self.input.open(alloc, 0) {
-                Ok(input) => Ok(NamedSource::Input(input)),
-                Err(fault) => Err(Refused {
-                    fault,
-                    reason: CLOSED,
-                }),
-            }
-        } else {
-            match self.files.open(alloc, name) {
-                Ok(file) => Ok(NamedSource::File(file)),
-                Err(refused) => Err(refused),
-            }
         }
     }
 }

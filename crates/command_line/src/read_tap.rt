@@ -24,10 +24,10 @@ impl<R> KeepsReason for ReadTap<R> {
 }
 
 impl<R: Read> ReadTap<R> {
-    ghost use Rattle.command_line.specs.Readers.{remaining_in};
+    ghost use Rattle.command_line.specs.Readers.{reader_of};
 
     pub(crate) fn new(reader: R) -> ReadTap<R>
-        ensures { remaining_in R.remaining result ≡ R.remaining reader }
+        ensures { reader_of result ≡ reader }
     {
         ReadTap {
             reader,

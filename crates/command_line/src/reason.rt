@@ -4,7 +4,7 @@ use crate::fault_line::ShortLine;
 use std::fmt::{Display, Formatter, Write};
 use std::io::Error;
 use std::{fmt, io};
-use streams::{IoSink, MemTap};
+use streams::IoSink;
 
 /// The system's error code for a failed call, if it gave one. It is displayed as the system's message.
 #[derive(Clone, Copy, Debug, PartialEq, Eq)]
@@ -41,13 +41,6 @@ impl Display for Reason {
             Some((front, _)) => f.write_str(front),
             None => f.write_str(line.as_str()),
         }
-    }
-}
-
-// Bytes in memory never fail.
-impl KeepsReason for MemTap {
-    fn reason(&self) -> Reason {
-        Reason::UNKNOWN
     }
 }
 

@@ -1,6 +1,6 @@
 //! Files as sources of a run.
-ghost use Rattle.std.specs.Prelude.{◌≡◌, ◌↔◌, IfOk, IfErr};
-ghost use Rattle.command_line.specs.Sources.{named_to_come, named_fails, noted_to_come, noted_fails, opened_to_come, opened_fails, IsKnownAs};
+ghost use Rattle.std.specs.Prelude.{◌≡◌, ◌↔◌, Some, [], true, IfOk, IfErr};
+ghost use Rattle.command_line.specs.Sources.{noted_to_come, noted_fails, IsKnownAs};
 
 use crate::faults::Fault;
 use crate::file_notes::FileNote;
@@ -11,54 +11,39 @@ use std::alloc::Global;
 use std::io::ErrorKind;
 use streams::{Tap, TapFault};
 
-/// The source of a name: a file, or standard input.
-#[derive(Drop)]
-pub enum NamedSource<F, I> {
-    /// The file with this name.
-    File(F),
-    /// Standard input.
-    Input(I),
-}
-
-impl<F: Tap, I: Tap> Tap for NamedSource<F, I> {
-    ghost to_come = { named_to_come F.to_come I.to_come };
-
-    ghost fails = { named_fails F.fails I.fails };
-
-    fn read(&mut self, buf: &mut [u8]) -> Result<usize, TapFault> {
-        match self {
-            NamedSource::File(file) => file.read(buf),
-            NamedSource::Input(input) => input.read(buf),
-        }
-    }
-}
-
-impl<F: KeepsReason, I: KeepsReason> KeepsReason for NamedSource<F, I> {
-    fn reason(&self) -> Reason {
-        match self {
-            NamedSource::File(file) => file.reason(),
-            NamedSource::Input(input) => input.reason(),
-        }
-    }
-}
-
-/// A source whose first bytes and whose failure are noted.
+/// A source whose first bytes and whose failure are noted. If the file could not be opened, every read fails.
 #[derive(Drop)]
 pub struct NotedSource<'r, F> {
-    source: F,
+    /// The open file.
+    source: Option<F>,
     note: Option<&'r FileNote>,
     /// The number of bytes read of it.
     place: usize,
 }
 
 impl<'r, F: Tap> NotedSource<'r, F> {
-    /// A source of which nothing was read yet, and its note, if it has one.
+    /// An open file of which nothing was read yet, and its note, if it has one.
     pub(crate) fn new(source: F, note: Option<&'r FileNote>) -> NotedSource<'r, F>
         ensures to_come { noted_to_come F.to_come result ≡ F.to_come source }
         ensures fails { noted_fails F.fails result ≡ F.fails source }
     {
         NotedSource {
-            source,
+            source: Some(source),
+            note,
+            place: 0,
+        }
+    }
+
+    /// A file that could not be opened for this reason, which is noted.
+    fn unopened(reason: Reason, note: Option<&'r FileNote>) -> NotedSource<'r, F>
+        ensures to_come { noted_to_come F.to_come result ≡ Some [] }
+        ensures fails { noted_fails F.fails result ≡ true }
+    {
+        if let Some(note) = note {
+            note.fail(reason);
+        }
+        NotedSource {
+            source: None,
             note,
             place: 0,
         }
@@ -71,42 +56,24 @@ impl<F: Tap + KeepsReason> Tap for NotedSource<'_, F> {
     ghost fails = { noted_fails F.fails };
 
     fn read(&mut self, buf: &mut [u8]) -> Result<usize, TapFault> {
-        match self.source.read(buf) {
+        let note = self.note;
+        let Some(source) = &mut self.source else {
+            return Err(TapFault);
+        };
+        match source.read(buf) {
             Ok(count) => {
-                if let Some(note) = self.note {
+                if let Some(note) = note {
                     note.begin(self.place, &buf[..count]);
                 }
                 self.place = self.place.saturating_add(count);
                 Ok(count)
             }
             Err(fault) => {
-                if let Some(note) = self.note {
-                    note.fail(self.source.reason());
+                if let Some(note) = note {
+                    note.fail(source.reason());
                 }
                 Err(fault)
             }
-        }
-    }
-}
-
-/// A file that is open, or that could not be opened, in which case every read fails.
-#[derive(Drop)]
-pub enum FileSource<F> {
-    /// An open file.
-    Open(F),
-    /// A file that could not be opened.
-    Unopened,
-}
-
-impl<F: Tap> Tap for FileSource<F> {
-    ghost to_come = { opened_to_come F.to_come };
-
-    ghost fails = { opened_fails F.fails };
-
-    fn read(&mut self, buf: &mut [u8]) -> Result<usize, TapFault> {
-        match self {
-            FileSource::Open(file) => file.read(buf),
-            FileSource::Unopened => Err(TapFault),
         }
     }
 }
@@ -121,12 +88,12 @@ pub fn open_source<'r, N: NamedFiles>(
     alloc: Global,
     name: &str,
     note: Option<&'r FileNote>,
-) -> Result<FileSource<NotedSource<'r, N::Source>>, Fault>
-    ensures known { IfOk result (IsKnownAs (noted_to_come N.Source.to_come) (noted_fails N.Source.fails) (N.meaning files.now name.now)) }
+) -> Result<NotedSource<'r, N::Source>, Fault>
+    ensures known { IfOk result (IsKnownAs N.Source.to_come N.Source.fails (N.meaning files.now name.now)) }
     ensures memory { IfErr result (λ fault. fault ≡ Fault.Memory) }
 {
     match files.open(alloc, name) {
-        Ok(file) => Ok(FileSource::Open(NotedSource::new(file, note))),
+        Ok(file) => Ok(NotedSource::new(file, note)),
         Err(
             Refused {
                 fault: OpenFault::Memory,
@@ -138,12 +105,7 @@ pub fn open_source<'r, N: NamedFiles>(
                 fault: OpenFault::Io,
                 reason,
             },
-        ) => {
-            if let Some(note) = note {
-                note.fail(reason);
-            }
-            Ok(FileSource::Unopened)
-        }
+        ) => Ok(NotedSource::unopened(reason, note)),
     }
 }
 

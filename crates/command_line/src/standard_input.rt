@@ -1,14 +1,10 @@
-//! Standard input as a source of a run.
-ghost use Rattle.std.specs.Prelude.{◌≡◌, IfOk};
-ghost use Rattle.lanes.specs.Opening.{Opens, Silent};
+//! Standard input by its name, and standard streams that are closed.
+ghost use Rattle.std.specs.Prelude.{◌≡◌};
 ghost use Rattle.command_line.specs.Naming.{is_input};
 
-use crate::read_tap::ReadTap;
-use lanes::{OpenFault, Opener};
-use std::alloc::Global;
-use std::io::Read;
+use std::fs;
 use std::os::fd::AsFd;
-use streams::Tap;
+use std::rt::Files;
 
 /// The file name that means standard input.
 pub const INPUT: &str = "-";
@@ -20,42 +16,21 @@ pub fn is_input(name: &str) -> bool
     name == INPUT
 }
 
-/// An opener whose only file is standard input. Nothing is known of its bytes.
-#[derive(Drop)]
-pub struct StandardInput<I> {
-    input: I,
-    is_open: bool,
-}
-
-impl<I: AsFd + Copy> StandardInput<I> {
-    /// Standard input, open or closed as it is now; to be called before any file is opened.
-    ///
-    /// If it is closed it stays closed, even after a file that was opened has got its file descriptor.
-    pub fn new(input: I) -> StandardInput<I> {
-        StandardInput {
-            input,
-            is_open: input.as_fd().try_clone_to_owned().is_ok(),
-        }
+/// This standard stream, or `None` if it is closed now; to be called before any file is opened.
+pub fn if_open<F: AsFd + Copy>(stream: F) -> Option<F> {
+    match stream.as_fd().try_clone_to_owned() {
+        Ok(_) => Some(stream),
+        Err(_) => None,
     }
 }
 
-impl<I: Read + Copy + Send + Sync> Opener for StandardInput<I> {
-    ghost use Rattle.command_line.specs.Readers.{input_remaining_in, remaining_in};
-
-    type Source = ReadTap<I>;
-
-    ghost meaning = { λ _ _. Silent };
-
-    // The contract of every opener, and that the source has all bytes that standard input has.
-    fn open(&self, _alloc: Global, file: u32) -> Result<ReadTap<I>, OpenFault>
-        ensures opens { Opens ⟦<ReadTap<I> as Tap>⟧.to_come ⟦<ReadTap<I> as Tap>⟧.fails
-            (⟦<StandardInput<I> as Opener>⟧.meaning self.now file) result }
-        ensures whole { IfOk result (λ source. remaining_in I.remaining source ≡ input_remaining_in I.remaining self.now) }
-    {
-        if self.is_open {
-            Ok(ReadTap::new(self.input))
-        } else {
-            Err(OpenFault::Io)
-        }
+/// A folder in place of this standard stream if it is closed, and otherwise nothing.
+///
+/// It has the stream's file descriptor, if the standard streams with lower ones are open or have a folder too; no file
+/// can then get it by chance, as long as the folder is held. Every read and write of a folder fails.
+pub fn place_holder<R: Files, F: AsFd + Copy>(rt: &R, stream: F) -> Option<R::File> {
+    match stream.as_fd().try_clone_to_owned() {
+        Ok(_) => None,
+        Err(_) => fs::open(rt, "/").ok(),
     }
 }

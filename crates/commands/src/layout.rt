@@ -6,12 +6,11 @@ ghost use Rattle.entries.specs.declared.limits.TheConstants.{MAX_FILES};
 ghost use Rattle.command_line.specs.Naming.{meanings_in};
 ghost use Rattle.commands.specs.Statuses.{IsTextOfBooks, IsBegunTextOfBooks};
 
-use crate::text::write_watched;
+use crate::text::TextRun;
 use command_line::{Console, Fault, FileNotes, FileOpener, LayoutRequest, Meter, NamedFiles};
-use printing::TextFault;
 use std::sync::Wait;
 use std::thread::Threads;
-use streams::{BatchFault, MAX_CAPACITY, Sink, WriteFault};
+use streams::{BatchFault, MAX_CAPACITY, Sink};
 
 /// The maximum number of messages that wait between two threads of a run.
 pub const CAPACITY: u32 = MAX_CAPACITY;
@@ -68,22 +67,18 @@ pub fn layout<
     let Ok(count) = u32::try_from(names.len()) else {
         return Err(Fault::Run(BatchFault::TooManyFiles));
     };
-    match write_watched(
+    let run = TextRun {
         rt,
-        rt.alloc(),
-        &opener,
-        count,
-        asked.lanes,
-        CAPACITY,
-        (asked.waiting as usize).saturating_mul(MEGABYTE),
-        asked.choice,
-        asked.style,
-        meter,
-        Some(notes),
-        out,
-    ) {
-        Ok(status) => Ok(status),
-        Err(TextFault::Run(fault)) => Err(Fault::Run(fault)),
-        Err(TextFault::Write) => Err(Fault::Write(WriteFault::Write)),
-    }
+        alloc: rt.alloc(),
+        opener: &opener,
+        gate: meter,
+        files: count,
+        lanes: asked.lanes,
+        capacity: CAPACITY,
+        choice: asked.choice,
+        waiting: (asked.waiting as usize).saturating_mul(MEGABYTE),
+        style: asked.style,
+        notes: Some(notes),
+    };
+    run.write(out)
 }

@@ -12,11 +12,9 @@ mod version;
 mod worded;
 
 pub use command_line::{
-    Console, ErrorConsole, Fault, FileNotes, FileOpener, FileSource, FilesAndInput, INPUT,
-    KeepsReason, Meter, NamedFiles, NamedSource, OutputSink, Progress, ReadTap, Reason,
-    SharedTerminal, StandardInput, SystemFiles, is_input, open_fault, write_fault,
+    Console, ErrorConsole, Fault, FileOpener, KeepsReason, Meter, NamedFiles, OutputSink, Progress,
+    Reason, Refused, SharedTerminal, SystemFiles, if_open, is_input, place_holder, write_fault,
 };
-pub use printing::TextFault;
 pub use process::run;
 pub use program::command;
 pub use text::write_batch;

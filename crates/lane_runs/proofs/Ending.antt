@@ -1,5 +1,5 @@
 -- How a run ends: beside its consumer, which holds what it held, or with its seats.
-use Rattle.std.proofs.Common.{◌≡◌, ℕ, List, All, true, Result, Ok, Err, Vec, vec_len, IfOk, IfErr, ◌∙◌}
+use Rattle.std.proofs.Common.{◌≡◌, ℕ, List, All, true, Result, Ok, Err, Vec, vec_len, IfOk, IfErr, inr, ◌∙◌}
 use Rattle.std.specs.declared.alloc.Global.{Global}
 use Rattle.common.specs.declared.choice.Choice.{Choice}
 use Rattle.ruled_lanes.specs.declared.dealing.Tickets.{Tickets}
@@ -9,20 +9,18 @@ use Rattle.ruled_lanes.specs.TicketSeats.{all_drawn, has_ended, IsSeatOf}
 use Rattle.lanes.specs.Opening.{Meaning}
 use Rattle.lanes.specs.Files.{HasFile}
 use Rattle.lanes.specs.Notes.{Note}
-use Rattle.lane_runs.specs.declared.fault.RunFault.{RunFault}
-use Rattle.lane_runs.specs.declared.fault.RunFault.TheVariants.{Memory, LaneLost, Thread, Refused}
-use Rattle.lane_runs.specs.Faults.{IsOfLanes, HoldsOnRunFault}
+use Rattle.lanes.specs.declared.fault.RunFault.{RunFault}
+use Rattle.lanes.specs.Faults.{IsOfLanes, HoldsOnFault}
 use Rattle.lane_runs.specs.Running.{LeavesConsumer}
 
-pub ended_so : {F : Type 0} (gave_up : F → Type 0) (holds : List Note → Type 0) (fault : RunFault F) (ns : List Note) → IsOfLanes fault → holds ns → HoldsOnRunFault gave_up holds fault
-ended_so gave_up holds (Refused refusal) ns is has = absurd is
-ended_so gave_up holds Memory ns is has = (ns, has)
-ended_so gave_up holds LaneLost ns is has = (ns, has)
-ended_so gave_up holds Thread ns is has = (ns, has)
+-- a consumer that holds notes if the lanes fail
+pub held_on : {F T : Type 0} (gave_up : RunFault F → Type 0) (holds : List Note → Type 0) (result : Result T (RunFault F)) (ns : List Note) → holds ns → IfErr result IsOfLanes → IfErr result (HoldsOnFault gave_up holds)
+held_on gave_up holds (Ok _) ns has of = tt
+held_on gave_up holds (Err fault) ns has of = inr (of, (ns, has))
 
-pub all_ended : {C F : Type 0} (holds : C → List Note → Type 0) (gave_up : C → F → Type 0) (choice : Choice) (meaning : ℕ → Meaning) (tickets : Tickets) (lanes count : ℕ) (consumer : C) (result : Result (Vec Seat Global) (RunFault F))
+pub all_ended : {C F : Type 0} (holds : C → List Note → Type 0) (gave_up : C → RunFault F → Type 0) (choice : Choice) (meaning : ℕ → Meaning) (tickets : Tickets) (lanes count : ℕ) (consumer : C) (result : Result (Vec Seat Global) (RunFault F))
     → lanes ≡ count → IfOk result (λ seats. vec_len seats ≡ lanes) → IfOk result (λ seats. All (λ s. IsSeatOf tickets s × (has_ended s ≡ true)) seats.items)
     → IfOk result (λ seats. (ns : List Note) × holds consumer ns × ((file : ℕ) → times file (all_drawn seats.items) ≡ 1 → HasFile choice (meaning file) file ns))
-    → IfErr result (HoldsOnRunFault (gave_up consumer) (holds consumer)) → LeavesConsumer holds gave_up choice meaning tickets count consumer result
+    → IfErr result (HoldsOnFault (gave_up consumer) (holds consumer)) → LeavesConsumer holds gave_up choice meaning tickets count consumer result
 all_ended holds gave_up choice meaning tickets lanes count consumer (Ok seats) same many are told ended = (many ∙ same, are, told)
 all_ended holds gave_up choice meaning tickets lanes count consumer (Err fault) same many are told ended = ended

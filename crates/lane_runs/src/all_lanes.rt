@@ -6,17 +6,16 @@ ghost use Rattle.lanes.specs.Notes.{Note};
 ghost use Rattle.lanes.specs.Files.{AreToldWhole};
 ghost use Rattle.lane_runs.specs.Lanes.{StartsLane};
 ghost use Rattle.lane_runs.specs.Running.{StartsRun, LeavesRun};
-ghost use Rattle.lane_runs.specs.Faults.{HoldsOnRunFault};
+ghost use Rattle.lanes.specs.Faults.{IsOfLanes, HoldsOnFault};
 ghost use Rattle.lane_runs.specs.Accepting.{AcceptsFiles, AcceptsAll};
 
-use crate::fault::{LaneFault, RunFault};
 use crate::lane::Lane;
 use crate::lane_kind::LaneKind;
 use crate::new_fan::{Fan, new_fan};
 use crate::run::Run;
 use crate::running::{LanePromise, LaneReturn, Running};
 use crate::shared::Shared;
-use lanes::{Consumer, Gate, Message, Opener};
+use lanes::{Consumer, Gate, Message, Opener, RunFault};
 use ruled_lanes::{LaneGiver, Seat, Tickets};
 use std::snapshot::Snapshot;
 use std::sync::Wait;
@@ -32,7 +31,7 @@ use std::thread::{Scope, Threads};
 /// # Errors
 ///
 /// `Memory`: no memory for links, the fan, tickets, buffers, or the lists of lanes. `LaneLost`: an end of a link or of
-/// the fan was gone. `Thread`: a thread could not be started. `Refused`: the consumer refused a message.
+/// the fan was gone. `Thread`: a thread could not be started. Otherwise the fault is the consumer's.
 pub fn run_lanes<
     L: LaneKind,
     C: Consumer<L::Entry, L::End>,
@@ -44,7 +43,7 @@ pub fn run_lanes<
     requires accepts { AcceptsFiles L.accepts L.ends (O.meaning run.now.opener.now) }
     ensures told { IfOk result.1 (λ _. (ns : List Note) × C.holds result.0 ns
         × AreToldWhole run.now.choice (O.meaning run.now.opener.now) run.now.files ns) }
-    ensures failed { IfErr result.1 (HoldsOnRunFault (C.gave_up result.0) (C.holds result.0)) }
+    ensures failed { IfErr result.1 (HoldsOnFault (C.gave_up result.0) (C.holds result.0)) }
     ensures stays { C.stays consumer result.0 }
 {
     let Ok((tickets, seats)) = Tickets::new(run.alloc, run.files, run.lanes) else {
@@ -114,17 +113,17 @@ impl<'s, R: Threads + Wait + Sync, O: Opener, G: Gate, L: LaneKind + 's> Shared<
         } = fan;
         match self.start_lanes(scope, seats, givers) {
             Ok(running) => self.finish_lanes(gatherer, running, idle, consumer),
-            Err(fault) => Err(RunFault::from(fault)),
+            Err(fault) => Err(fault),
         }
     }
 
     /// Starts a lane for each seat, with the givers in order.
-    fn start_lanes<'e>(
+    fn start_lanes<'e, F: Drop + Send + 'static>(
         &'s self,
         scope: &'s Scope<'s, &'e ()>,
         mut seats: Vec<Seat>,
         givers: Vec<LaneGiver<Message<L::Entry, L::End>>>,
-    ) -> Result<Vec<Running<L::Entry, L::End, O>>, LaneFault>
+    ) -> Result<Vec<Running<L::Entry, L::End, O, F>>, RunFault<F>>
         requires each { vec_len givers ≡ vec_len seats }
         requires seats { All (IsSeatOf self.now.tickets.now) seats.items }
         requires unused { All IsUnused seats.items }
@@ -135,34 +134,34 @@ impl<'s, R: Threads + Wait + Sync, O: Opener, G: Gate, L: LaneKind + 's> Shared<
         ensures choice { IfOk result (λ running. All (λ r. r.promise.choice ≡ self.now.run.now.choice) running.items) }
         ensures opener { IfOk result (λ running. All (λ r. r.promise.opener.value ≡ self.now.run.now.opener.now) running.items) }
         ensures tickets { IfOk result (λ running. All (λ r. r.promise.tickets.value ≡ self.now.tickets.now) running.items) }
+        ensures of_lanes { IfErr result IsOfLanes }
     {
         let Ok(mut running) = Vec::with_capacity(self.run.alloc, seats.len()) else {
-            return Err(LaneFault::Memory);
+            return Err(RunFault::Memory);
         };
         for giver in givers {
             let Some(seat) = seats.pop() else {
                 unreachable!()
             };
-            match self.start_lane(scope, Lane { seat, giver }) {
-                Ok(started) => running.push_reserved(started),
-                Err(fault) => return Err(fault),
-            }
+            let started = self.start_lane(scope, Lane { seat, giver })?;
+            running.push_reserved(started);
         }
         Ok(running)
     }
 
     /// Starts a lane in a thread of its own.
-    fn start_lane<'e>(
+    fn start_lane<'e, F: Drop + Send + 'static>(
         &'s self,
         scope: &'s Scope<'s, &'e ()>,
         lane: Lane<L::Entry, L::End>,
-    ) -> Result<Running<L::Entry, L::End, O>, LaneFault>
+    ) -> Result<Running<L::Entry, L::End, O, F>, RunFault<F>>
         requires ready { StartsLane self.now.tickets.now lane.seat lane.giver }
         requires accepts { AcceptsAll L.accepts L.ends (O.meaning self.now.run.now.opener.now) }
         ensures choice { IfOk result (λ r. r.promise.choice ≡ self.now.run.now.choice) }
         ensures opener { IfOk result (λ r. r.promise.opener.value ≡ self.now.run.now.opener.now) }
         ensures tickets { IfOk result (λ r. r.promise.tickets.value ≡ self.now.tickets.now) }
         ensures giver { IfOk result (λ r. r.promise.giver.value ≡ lane.giver) }
+        ensures of_lanes { IfErr result IsOfLanes }
     {
         let promise = LanePromise {
             choice: self.run.choice,
@@ -172,13 +171,13 @@ impl<'s, R: Threads + Wait + Sync, O: Opener, G: Gate, L: LaneKind + 's> Shared<
         };
         match scope.spawn_with(
             promise,
-            move || -> LaneReturn<L::Entry, L::End>
+            move || -> LaneReturn<L::Entry, L::End, F>
                 requires { StartsLane self.now.tickets.now lane.seat lane.giver
                     × AcceptsAll L.accepts L.ends (O.meaning self.now.run.now.opener.now) }
             { self.run_lane(scope, lane) },
         ) {
             Ok(handle) => Ok(handle),
-            Err(_) => Err(LaneFault::Thread),
+            Err(_) => Err(RunFault::Thread),
         }
     }
 }

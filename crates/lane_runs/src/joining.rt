@@ -9,31 +9,30 @@ ghost use Rattle.lanes.specs.Files.{HasFile};
 ghost use Rattle.lanes.specs.Fans.{untagged, HaveStopped};
 ghost use Rattle.lane_runs.specs.Lanes.{TellsSeat};
 ghost use Rattle.lane_runs.specs.Running.{AreNumbered, IsIdle, IsRunning};
-ghost use Rattle.lane_runs.specs.Faults.{HoldsOnRunFault};
+ghost use Rattle.lanes.specs.Faults.{IsOfLanes, HoldsOnFault};
 
-use crate::fault::{LaneFault, RunFault};
 use crate::lane::Lane;
 use crate::running::{LaneReturn, Running};
 use crate::shared::Shared;
-use lanes::{Consumer, Gate, GatherFault, Message, Numbered, Opener, gather};
+use lanes::{Consumer, Gate, Message, Numbered, Opener, RunFault, gather};
 use ruled_lanes::{Gatherer, LaneGiver, Seat};
 use std::sync::Wait;
 use std::thread::Threads;
 
 /// Joins the thread of a lane. Returns its seat and its end of the fan, if it gave its stop and lost nothing.
-fn join_lane<E: Numbered, M: Drop + Send, R: Threads, O: Opener>(
+fn join_lane<E: Numbered, M: Drop + Send, F: Drop, R: Threads, O: Opener>(
     rt: &R,
-    handle: Running<E, M, O>,
-) -> Result<Lane<E, M>, LaneFault>
+    handle: Running<E, M, O, F>,
+) -> Result<Lane<E, M>, RunFault<F>>
     ensures to_same { IfOk result (λ lane. GivesToSameLane handle.promise.giver.value lane.giver) }
     ensures tells { IfOk result (λ lane. TellsSeat E.about handle.promise.choice (O.meaning handle.promise.opener.value) handle.promise.tickets.value
         lane.seat (given_at lane.giver)) }
+    ensures of_lanes { IfErr result IsOfLanes }
 {
     let LaneReturn { giver, stop, seat } = handle.join(rt);
-    match stop {
-        Ok(()) => {}
-        Err(_) => return Err(LaneFault::LaneLost),
-    }
+    let Ok(()) = stop else {
+        return Err(RunFault::LaneLost);
+    };
     match seat {
         Ok(seat) => Ok(Lane { seat, giver }),
         Err(fault) => Err(fault),
@@ -44,12 +43,12 @@ impl<R: Threads + Wait + Sync, O: Opener, G: Gate, L> Shared<'_, R, O, G, L> {
     /// Joins the threads of the lanes and settles the fan with the givers of all lanes, also of those that do not run.
     /// This proves that the messages taken of each lane are all that it gave, and that all messages of a file drawn by
     /// one seat arrived. Returns the seats.
-    fn join_lanes<E: Numbered, M: Drop + Send>(
+    fn join_lanes<E: Numbered, M: Drop + Send, F: Drop>(
         &self,
         gatherer: Gatherer<Message<E, M>>,
-        running: Vec<Running<E, M, O>>,
+        running: Vec<Running<E, M, O, F>>,
         mut givers: Vec<LaneGiver<Message<E, M>>>,
-    ) -> Result<Vec<Seat>, LaneFault>
+    ) -> Result<Vec<Seat>, RunFault<F>>
         requires some { 1 ≤ vec_len running }
         requires lanes { vec_len running + vec_len givers ≡ LANES }
         requires running { AreNumbered (λ lane r. IsRunning gatherer self.now.run.now.choice self.now.run.now.opener.now self.now.tickets.now lane
@@ -60,22 +59,19 @@ impl<R: Threads + Wait + Sync, O: Opener, G: Gate, L> Shared<'_, R, O, G, L> {
         ensures seats { IfOk result (λ seats. All (λ s. IsSeatOf self.now.tickets.now s × (has_ended s ≡ true)) seats.items) }
         ensures told { IfOk result (λ seats. (file : ℕ) → times file (all_drawn seats.items) ≡ 1
             → HasFile self.now.run.now.choice (O.meaning self.now.run.now.opener.now file) file (notes E.about (untagged (gathered gatherer)))) }
+        ensures of_lanes { IfErr result IsOfLanes }
     {
         let Ok(mut seats) = Vec::with_capacity(self.run.alloc, running.len()) else {
-            return Err(LaneFault::Memory);
+            return Err(RunFault::Memory);
         };
         let Ok(()) = givers.reserve(running.len()) else {
-            return Err(LaneFault::Memory);
+            return Err(RunFault::Memory);
         };
         for handle in running {
-            match join_lane(self.run.rt, handle) {
-                Ok(lane) => {
-                    let Lane { seat, giver } = lane;
-                    seats.push_reserved(seat);
-                    givers.push_reserved(giver);
-                }
-                Err(fault) => return Err(fault),
-            }
+            let lane = join_lane(self.run.rt, handle)?;
+            let Lane { seat, giver } = lane;
+            seats.push_reserved(seat);
+            givers.push_reserved(giver);
         }
         gatherer.settle(self.run.rt, givers);
         Ok(seats)
@@ -87,7 +83,7 @@ impl<R: Threads + Wait + Sync, O: Opener, G: Gate, L> Shared<'_, R, O, G, L> {
     pub fn finish_lanes<E: Numbered, M: Drop + Send, C: Consumer<E, M>>(
         &self,
         gatherer: Gatherer<Message<E, M>>,
-        running: Vec<Running<E, M, O>>,
+        running: Vec<Running<E, M, O, C::Refusal>>,
         idle: Vec<LaneGiver<Message<E, M>>>,
         consumer: &mut C,
     ) -> Result<Vec<Seat>, RunFault<C::Refusal>>
@@ -102,19 +98,11 @@ impl<R: Threads + Wait + Sync, O: Opener, G: Gate, L> Shared<'_, R, O, G, L> {
         ensures seats { IfOk result (λ seats. All (λ s. IsSeatOf self.now.tickets.now s × (has_ended s ≡ true)) seats.items) }
         ensures told { IfOk result (λ seats. (ns : List Note) × C.holds consumer.new ns
             × ((file : ℕ) → times file (all_drawn seats.items) ≡ 1 → HasFile self.now.run.now.choice (O.meaning self.now.run.now.opener.now file) file ns)) }
-        ensures failed { IfErr result (HoldsOnRunFault (C.gave_up consumer.new) (C.holds consumer.new)) }
+        ensures failed { IfErr result (HoldsOnFault (C.gave_up consumer.new) (C.holds consumer.new)) }
         ensures stays { C.stays consumer.old consumer.new }
     {
         let lanes = running.len() as u32;
-        let gatherer = match gather(self.run.rt, self.run.alloc, gatherer, lanes, consumer) {
-            Ok(gatherer) => gatherer,
-            Err(GatherFault::Memory) => return Err(RunFault::Memory),
-            Err(GatherFault::LaneLost) => return Err(RunFault::LaneLost),
-            Err(GatherFault::Refused(refusal)) => return Err(RunFault::Refused(refusal)),
-        };
-        match self.join_lanes(gatherer, running, idle) {
-            Ok(seats) => Ok(seats),
-            Err(fault) => Err(RunFault::from(fault)),
-        }
+        let gatherer = gather(self.run.rt, self.run.alloc, gatherer, lanes, consumer)?;
+        self.join_lanes(gatherer, running, idle)
     }
 }

@@ -1,16 +1,16 @@
 //! One lane: a pipeline of four stages. The last one runs on the lane's own thread, which starts a thread for each
 //! other one.
-ghost use Rattle.std.specs.Prelude.{◌≡◌, ◌∷◌, ◌++◌, [], List, IfOk, IfSome, Some, vec_len};
+ghost use Rattle.std.specs.Prelude.{◌≡◌, ◌∷◌, ◌++◌, [], List, IfOk, IfErr, IfSome, Some, vec_len};
 ghost use Rattle.ruled_lanes.specs.LinkEnds.{given, taken, AreEnds};
 ghost use Rattle.ruled_lanes.specs.FanEnds.{given_at, GivesToSameLane};
 ghost use Rattle.lanes.specs.declared.message.Message.{Message as AnyMessage};
 ghost use Rattle.lanes.specs.declared.message.Message.TheVariants.{Stop};
 ghost use Rattle.lanes.specs.Notes.{notes, GoOn};
+ghost use Rattle.lanes.specs.Faults.{IsOfLanes};
 ghost use Rattle.lanes.specs.Stages.{IsHandedOn};
 ghost use Rattle.lane_runs.specs.Lanes.{TellsSeat, StartsToRead, StartsLane, LeavesLane};
 ghost use Rattle.lane_runs.specs.Accepting.{AcceptsAll};
 
-use crate::fault::LaneFault;
 use crate::lane_kind::LaneKind;
 use crate::links::settle_lane;
 use crate::read_stage::Reading;
@@ -18,7 +18,7 @@ use crate::running::LaneReturn;
 use crate::shared::Shared;
 use crate::stages::{LastStage, MiddleStage, Stages, new_stages};
 use crate::starting::{Started, StartedRead, start_stage};
-use lanes::{Gate, Message, Numbered, Opener, run_last_stage};
+use lanes::{Gate, Message, Numbered, Opener, RunFault, StageWork, run_last_stage};
 use ruled_lanes::{LaneGiver, Seat, Taker};
 use std::sync::Wait;
 use std::thread::{Scope, Threads};
@@ -35,11 +35,11 @@ impl<'s, R: Threads + Wait + Sync, O: Opener, G: Gate, L: LaneKind + 's> Shared<
     ///
     /// The result of the last stage for each record, and the end of each file, go to the giver, and after them one
     /// stop, whatever happened in the lane; the result of that last give is returned with the giver.
-    pub fn run_lane<'e>(
+    pub fn run_lane<'e, F: Drop>(
         &'s self,
         scope: &'s Scope<'s, &'e ()>,
         lane: Lane<L::Entry, L::End>,
-    ) -> LaneReturn<L::Entry, L::End>
+    ) -> LaneReturn<L::Entry, L::End, F>
         requires { StartsLane self.now.tickets.now lane.seat lane.giver
             × AcceptsAll L.accepts L.ends (O.meaning self.now.run.now.opener.now) }
         ensures { LeavesLane L.Entry.about self.now.run.now.choice (O.meaning self.now.run.now.opener.now) self.now.tickets.now
@@ -53,77 +53,76 @@ impl<'s, R: Threads + Wait + Sync, O: Opener, G: Gate, L: LaneKind + 's> Shared<
 
     /// Makes the stages of a lane, starts the first three and runs the last one; returns the lane's seat. It does not
     /// give the stop: that is left to the caller.
-    fn run_stages<'e>(
+    fn run_stages<'e, F: Drop>(
         &'s self,
         scope: &'s Scope<'s, &'e ()>,
         seat: Seat,
         giver: &mut LaneGiver<Message<L::Entry, L::End>>,
-    ) -> Result<Seat, LaneFault>
+    ) -> Result<Seat, RunFault<F>>
         requires { StartsLane self.now.tickets.now seat giver.old
             × AcceptsAll L.accepts L.ends (O.meaning self.now.run.now.opener.now) }
         ensures same { GivesToSameLane giver.old giver.new }
         ensures goes_on { GoOn (notes L.Entry.about (given_at giver.new)) }
         ensures told { IfOk result (λ after. TellsSeat L.Entry.about self.now.run.now.choice (O.meaning self.now.run.now.opener.now) self.now.tickets.now after
             (given_at giver.new ++ Stop ∷ [])) }
+        ensures of_lanes { IfErr result IsOfLanes }
     {
         let run = self.run;
         let lane = giver.lane();
         let Ok(stages) = new_stages(self.kind, run.alloc, run.capacity, lane, seat) else {
-            return Err(LaneFault::Memory);
+            return Err(RunFault::Memory);
         };
         let Stages {
             read,
             embed,
             shape,
-            draw,
+            draw: LastStage { scratch, taker },
         } = stages;
-        match self.start_stages(scope, read, embed, shape) {
-            Ok(started) => {
-                let LastStage { scratch, taker } = draw;
-                let drew = run_last_stage(run.rt, run.alloc, run.gate, scratch, taker, giver);
-                match started.join(run.rt, drew) {
-                    Some(seat) => Ok(seat),
-                    None => Err(LaneFault::LaneLost),
-                }
-            }
-            Err(fault) => Err(fault),
+        let Some(started) = self.start_stages(scope, read, embed, shape) else {
+            return Err(RunFault::Thread);
+        };
+        let work = StageWork { lane, scratch };
+        let drew = run_last_stage(run.rt, run.alloc, run.gate, work, taker, giver);
+        match started.join(run.rt, drew) {
+            Some(seat) => Ok(seat),
+            None => Err(RunFault::LaneLost),
         }
     }
 
-    /// Starts the first three stages of a lane, each in a thread of its own.
+    /// Starts the first three stages of a lane, each in a thread of its own; `None` if one could not be started.
     fn start_stages<'e>(
         &'s self,
         scope: &'s Scope<'s, &'e ()>,
         read: Reading<L::Framed, L::End>,
         embed: MiddleStage<L::Framed, L::End>,
         shape: MiddleStage<L::Embedded, L::End>,
-    ) -> Result<StartedStages<L, O>, LaneFault>
+    ) -> Option<StartedStages<L, O>>
         requires read { StartsToRead self.now.tickets.now read.seat (vec_len read.buffer) read.giver
             × AcceptsAll L.accepts L.ends (O.meaning self.now.run.now.opener.now) }
         requires embed { (taken embed.taker ≡ []) × (given embed.giver ≡ []) }
         requires shape { (taken shape.taker ≡ []) × (given shape.giver ≡ []) }
-        ensures choice { IfOk result (λ started. started.read.promise.choice ≡ self.now.run.now.choice) }
-        ensures opener { IfOk result (λ started. started.read.promise.opener.value ≡ self.now.run.now.opener.now) }
-        ensures tickets { IfOk result (λ started. started.read.promise.tickets.value ≡ self.now.tickets.now) }
-        ensures giver { IfOk result (λ started. started.read.promise.giver.value ≡ read.giver) }
-        ensures embed_taker { IfOk result (λ started. started.embed.promise.taker.value ≡ embed.taker) }
-        ensures embed_giver { IfOk result (λ started. started.embed.promise.giver.value ≡ embed.giver) }
-        ensures shape_taker { IfOk result (λ started. started.shape.promise.taker.value ≡ shape.taker) }
-        ensures shape_giver { IfOk result (λ started. started.shape.promise.giver.value ≡ shape.giver) }
+        ensures choice { IfSome result (λ started. started.read.promise.choice ≡ self.now.run.now.choice) }
+        ensures opener { IfSome result (λ started. started.read.promise.opener.value ≡ self.now.run.now.opener.now) }
+        ensures tickets { IfSome result (λ started. started.read.promise.tickets.value ≡ self.now.tickets.now) }
+        ensures giver { IfSome result (λ started. started.read.promise.giver.value ≡ read.giver) }
+        ensures embed_taker { IfSome result (λ started. started.embed.promise.taker.value ≡ embed.taker) }
+        ensures embed_giver { IfSome result (λ started. started.embed.promise.giver.value ≡ embed.giver) }
+        ensures shape_taker { IfSome result (λ started. started.shape.promise.taker.value ≡ shape.taker) }
+        ensures shape_giver { IfSome result (λ started. started.shape.promise.giver.value ≡ shape.giver) }
     {
         let run = self.run;
         let lane = read.lane;
         // The first stage comes last: a lane that could not be started has drawn no file.
-        let Ok(embed) = start_stage(scope, run.rt, run.alloc, run.gate, lane, embed) else {
-            return Err(LaneFault::Thread);
+        let Some(embed) = start_stage(scope, run.rt, run.alloc, run.gate, lane, embed) else {
+            return None;
         };
-        let Ok(shape) = start_stage(scope, run.rt, run.alloc, run.gate, lane, shape) else {
-            return Err(LaneFault::Thread);
+        let Some(shape) = start_stage(scope, run.rt, run.alloc, run.gate, lane, shape) else {
+            return None;
         };
-        let Ok(read) = self.start_read(scope, read) else {
-            return Err(LaneFault::Thread);
+        let Some(read) = self.start_read(scope, read) else {
+            return None;
         };
-        Ok(StartedStages { read, embed, shape })
+        Some(StartedStages { read, embed, shape })
     }
 }
 

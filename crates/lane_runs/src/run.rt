@@ -3,6 +3,7 @@ ghost use Rattle.std.specs.Prelude.{◌≤◌, ◌<◌};
 ghost use Rattle.ruled_lanes.specs.declared.limits.TheConstants.{LANES, MAX_CAPACITY, MAX_TICKETS};
 
 use common::Choice;
+use lanes::Pauses;
 use std::alloc::Global;
 
 /// The parameters of a run: runtime, opener, gate, numbers of files, lanes and messages, and choice of outer faces.
@@ -14,6 +15,8 @@ pub struct Run<'r, R, O, G> {
     pub alloc: Global,
     /// The opener of the files.
     pub opener: &'r O,
+    /// The pauses of the files' reading.
+    pub pauses: &'r Pauses,
     /// The gate that each stage passes once for each record.
     pub gate: &'r G,
     /// The number of files to read.

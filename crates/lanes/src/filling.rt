@@ -66,14 +66,8 @@ impl<T: Drop> Filling<T> {
             self.items.push_reserved(item);
             return Ok(());
         }
-        match self.give(rt, to) {
-            Ok(()) => {}
-            Err(gone) => return Err(gone),
-        }
-        match to.tell(rt, Message::Item(item)) {
-            Ok(()) => Ok(()),
-            Err(gone) => Err(gone),
-        }
+        self.give(rt, to)?;
+        to.tell(rt, Message::Item(item))
     }
 
     /// Sends the collected items in one message, if there are any.
@@ -87,13 +81,9 @@ impl<T: Drop> Filling<T> {
         ensures going { GoOn (O.told to.old) → GoOn (O.told to.new) }
         ensures stays { O.stays to.old to.new }
     {
-        let message = match self.next_message() {
-            Some(message) => message,
-            None => return Ok(()),
-        };
-        match to.tell(rt, message) {
-            Ok(()) => Ok(()),
-            Err(gone) => Err(gone),
+        match self.next_message() {
+            Some(message) => to.tell(rt, message),
+            None => Ok(()),
         }
     }
 

@@ -3,12 +3,12 @@ ghost use Rattle.std.specs.Prelude.{◌≡◌, ◌++◌, [], false, OnOk, OnErr,
 ghost use Rattle.printing.specs.Concatenated.{concatenated};
 ghost use Rattle.printing.specs.Written.{GoesOn, IsPartlyAdded, GivesUp};
 
-use crate::fault::TextFault;
 use crate::writing::put;
+use lanes::RunFault;
 use std::alloc::{AllocError, Global};
 use std::marker::Model;
 use std::mem;
-use streams::{Sink, TextBuffer};
+use streams::{Sink, SinkFault, TextBuffer};
 
 /// The minimum capacity of a chunk, in bytes.
 const CHUNK: usize = 16_384;
@@ -79,7 +79,7 @@ impl Chunks {
         &self,
         buffer: &mut TextBuffer,
         sink: &mut S,
-    ) -> Result<(), TextFault>
+    ) -> Result<(), RunFault<SinkFault>>
         requires { S.failed sink.old ≡ false }
         ensures put { OnOk result (GoesOn (S.taken sink.old) buffer.old (S.taken sink.new) buffer.new self.now) }
         ensures partial { OnErr result (IsPartlyAdded (S.taken sink.old) buffer.old (S.taken sink.new) self.now) }
@@ -96,7 +96,7 @@ fn put_each<S: Sink>(
     chunks: &[Vec<u8>],
     buffer: &mut TextBuffer,
     sink: &mut S,
-) -> Result<(), TextFault>
+) -> Result<(), RunFault<SinkFault>>
     requires { S.failed sink.old ≡ false }
     ensures put { OnOk result (GoesOn (S.taken sink.old) buffer.old (S.taken sink.new) buffer.new (concatenated chunks.now)) }
     ensures partial { OnErr result (IsPartlyAdded (S.taken sink.old) buffer.old (S.taken sink.new) (concatenated chunks.now)) }

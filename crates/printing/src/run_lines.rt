@@ -14,17 +14,17 @@ ghost use Rattle.printing.specs.Written.{IsPartialText, GivesUp};
 ghost use Rattle.printing.specs.Holding.{form_of, choice_of, files_of, IsFlushed, LinesWrite, LinesRemain, LinesHold, ArePartialLines, ArePartialLinesAt, AreLinesOf, StandAt};
 ghost use Rattle.printing.specs.Whole.{HaveFiles, IsAllWritten};
 
-use crate::fault::TextFault;
 use crate::lines::{lacking_text, preamble_line};
 use crate::meant::{KnownEnd, Meant};
 use crate::printed::Printed;
 use crate::waiting::{Waiting, count_one, keep_line, keep_mark, none_come, take_lines};
 use crate::writing::{put, put_end, put_preamble};
 use common::Choice;
+use lanes::RunFault;
 use planar_code::{Ending, MAX_RECORDS};
 use reports::Form;
 use std::alloc::{AllocError, Global};
-use streams::{BatchFault, Mark, Sink, SourceEnd, TextBuffer, WriteFault};
+use streams::{Mark, Sink, SinkFault, SourceEnd, TextBuffer, WriteFault};
 
 /// A reorder buffer for the lines of a run, which go to a sink file after file.
 ///
@@ -109,7 +109,7 @@ impl Lines {
         alloc: Global,
         sink: &mut S,
         printed: Printed<J>,
-    ) -> Result<(), TextFault>
+    ) -> Result<(), RunFault<SinkFault>>
         requires { S.failed sink.old ≡ false }
         ensures held { OnOk result ((start : Option (List ℕ)) (ns : List Note) → LinesHold J.meaning start (S.taken sink.old) self.old ns
             → LinesHold J.meaning start (S.taken sink.new) self.new (ns ++ Item (record { file = printed.file; ordinal = printed.ordinal; bytes = printed.rec.value; choice = printed.choice }) ∷ [])) }
@@ -130,7 +130,7 @@ impl Lines {
             meant: _,
         } = printed;
         if form != self.form || choice != self.choice || !self.is_next(file, ordinal) {
-            return Err(TextFault::Run(BatchFault::LaneLost));
+            return Err(RunFault::LaneLost);
         }
         match line {
             Some(line) => self.add(alloc, sink, file, line.as_slice()),
@@ -151,7 +151,7 @@ impl Lines {
         file: u32,
         mark: Mark,
         known: KnownEnd<J>,
-    ) -> Result<(), TextFault>
+    ) -> Result<(), RunFault<SinkFault>>
         requires { S.failed sink.old ≡ false }
         ensures held { OnOk result ((start : Option (List ℕ)) (ns : List Note) → LinesHold J.meaning start (S.taken sink.old) self.old ns
             → LinesHold J.meaning start (S.taken sink.new) self.new (ns ++ End file mark ∷ [])) }
@@ -162,10 +162,10 @@ impl Lines {
         ensures same { AreLinesOf self.old self.new }
     {
         if known.file != file || known.mark != mark {
-            return Err(TextFault::Run(BatchFault::LaneLost));
+            return Err(RunFault::LaneLost);
         }
         if !self.is_to_come(file) || !keep_mark(&mut self.waiting, file, known.count, mark) {
-            return Err(TextFault::Run(BatchFault::LaneLost));
+            return Err(RunFault::LaneLost);
         }
         self.flawless = is_flawless_with(self.flawless, mark);
         self.advance(alloc, sink)
@@ -183,7 +183,7 @@ impl Lines {
     /// # Errors
     ///
     /// `Write` exactly if the sink has then failed. There is no other error.
-    pub(crate) fn flush<S: Sink>(&mut self, sink: &mut S) -> Result<(), TextFault>
+    pub(crate) fn flush<S: Sink>(&mut self, sink: &mut S) -> Result<(), RunFault<SinkFault>>
         requires { S.failed sink.old ≡ false }
         ensures held { OnOk result ((meaning : ℕ → Meaning) (start : Option (List ℕ)) (ns : List Note)
             → LinesHold meaning start (S.taken sink.old) self.old ns → LinesHold meaning start (S.taken sink.new) self.new ns) }
@@ -196,7 +196,7 @@ impl Lines {
     {
         match self.buffer.flush(sink) {
             Ok(()) => Ok(()),
-            Err(_) => Err(TextFault::Write),
+            Err(_) => Err(RunFault::Refused(SinkFault)),
         }
     }
 
@@ -249,7 +249,7 @@ impl Lines {
         sink: &mut S,
         file: u32,
         line: &[u8],
-    ) -> Result<(), TextFault>
+    ) -> Result<(), RunFault<SinkFault>>
         requires stands { S.failed sink.old ≡ false }
         requires from { self.old.current ≤ file }
         requires below { file < length self.old.waiting.items }
@@ -279,7 +279,7 @@ impl Lines {
         sink: &mut S,
         file: u32,
         ordinal: u32,
-    ) -> Result<(), TextFault>
+    ) -> Result<(), RunFault<SinkFault>>
         requires stands { S.failed sink.old ≡ false }
         requires from { self.old.current ≤ file }
         requires below { file < length self.old.waiting.items }
@@ -301,12 +301,12 @@ impl Lines {
                 self.flawless = false;
                 self.add(alloc, sink, file, line.as_slice())
             }
-            Err(_) => Err(TextFault::Run(BatchFault::Memory)),
+            Err(_) => Err(RunFault::Memory),
         }
     }
 
     /// Ends the current file and moves on, as long as the current file has its mark.
-    fn advance<S: Sink>(&mut self, alloc: Global, sink: &mut S) -> Result<(), TextFault>
+    fn advance<S: Sink>(&mut self, alloc: Global, sink: &mut S) -> Result<(), RunFault<SinkFault>>
         requires { S.failed sink.old ≡ false }
         ensures written { OnOk result ((start : Option (List ℕ)) (came : ℕ → Came)
             → LinesWrite start (S.taken sink.old) self.old came → LinesWrite start (S.taken sink.new) self.new came) }
@@ -340,7 +340,12 @@ impl Lines {
     }
 
     /// Ends the current file with its mark and moves on to the next file.
-    fn leave<S: Sink>(&mut self, alloc: Global, sink: &mut S, mark: Mark) -> Result<(), TextFault>
+    fn leave<S: Sink>(
+        &mut self,
+        alloc: Global,
+        sink: &mut S,
+        mark: Mark,
+    ) -> Result<(), RunFault<SinkFault>>
         requires stands { S.failed sink.old ≡ false }
         requires below { self.old.current < length self.old.waiting.items }
         requires mark { (other : Waiting) → (slice_index_or self.old.waiting.items self.old.current other).mark ≡ Some mark }
@@ -355,7 +360,7 @@ impl Lines {
         ensures same { AreLinesOf self.old self.new }
     {
         let Some(next) = self.current.checked_add(1) else {
-            return Err(TextFault::Run(BatchFault::LaneLost));
+            return Err(RunFault::LaneLost);
         };
         let count = self.waiting[self.current as usize].count;
         let end = SourceEnd { count, mark };
@@ -369,7 +374,7 @@ impl Lines {
     }
 
     /// Writes what has arrived of the current file.
-    fn begin<S: Sink>(&mut self, alloc: Global, sink: &mut S) -> Result<(), TextFault>
+    fn begin<S: Sink>(&mut self, alloc: Global, sink: &mut S) -> Result<(), RunFault<SinkFault>>
         requires stands { S.failed sink.old ≡ false }
         requires below { self.old.current < length self.old.waiting.items }
         ensures begun { OnOk result ((start : Option (List ℕ)) (came : ℕ → Came)

@@ -3,18 +3,18 @@ ghost use Rattle.std.specs.Prelude.{◌≡◌, ◌+◌, false, OnOk, OnErr, IfEr
 ghost use Rattle.printing.specs.FormLines.{preamble_in, end_in};
 ghost use Rattle.printing.specs.Written.{GoesOn, IsPartlyAdded, GivesUp};
 
-use crate::fault::TextFault;
 use crate::lines::{end_text, preamble_line};
+use lanes::RunFault;
 use reports::{Form, push_line};
 use std::alloc::Global;
-use streams::{BatchFault, Sink, SourceEnd, TextBuffer};
+use streams::{Sink, SinkFault, SourceEnd, TextBuffer};
 
 /// Writes `text` to the sink through the buffer.
 pub(crate) fn put<S: Sink>(
     buffer: &mut TextBuffer,
     sink: &mut S,
     text: &[u8],
-) -> Result<(), TextFault>
+) -> Result<(), RunFault<SinkFault>>
     requires { S.failed sink.old ≡ false }
     ensures put { OnOk result (GoesOn (S.taken sink.old) buffer.old (S.taken sink.new) buffer.new text.now) }
     ensures partial { OnErr result (IsPartlyAdded (S.taken sink.old) buffer.old (S.taken sink.new) text.now) }
@@ -23,7 +23,7 @@ pub(crate) fn put<S: Sink>(
 {
     match push_line(buffer, sink, text) {
         Ok(()) => Ok(()),
-        Err(_) => Err(TextFault::Write),
+        Err(_) => Err(RunFault::Refused(SinkFault)),
     }
 }
 
@@ -33,7 +33,7 @@ pub(crate) fn put_preamble<S: Sink>(
     sink: &mut S,
     form: Form,
     file: u32,
-) -> Result<(), TextFault>
+) -> Result<(), RunFault<SinkFault>>
     requires { S.failed sink.old ≡ false }
     ensures put { OnOk result (GoesOn (S.taken sink.old) buffer.old (S.taken sink.new) buffer.new (preamble_in form (file + 1))) }
     ensures partial { OnErr result (IsPartlyAdded (S.taken sink.old) buffer.old (S.taken sink.new) (preamble_in form (file + 1))) }
@@ -51,7 +51,7 @@ pub(crate) fn put_end<S: Sink>(
     form: Form,
     file: u32,
     end: SourceEnd,
-) -> Result<(), TextFault>
+) -> Result<(), RunFault<SinkFault>>
     requires { S.failed sink.old ≡ false }
     ensures put { OnOk result (GoesOn (S.taken sink.old) buffer.old (S.taken sink.new) buffer.new (end_in form (file + 1) end.mark end.count)) }
     ensures partial { OnErr result (IsPartlyAdded (S.taken sink.old) buffer.old (S.taken sink.new) (end_in form (file + 1) end.mark end.count)) }
@@ -60,6 +60,6 @@ pub(crate) fn put_end<S: Sink>(
 {
     match end_text(alloc, form, file, end.mark, end.count) {
         Ok(text) => put(buffer, sink, text.as_slice()),
-        Err(_) => Err(TextFault::Run(BatchFault::Memory)),
+        Err(_) => Err(RunFault::Memory),
     }
 }

@@ -3,7 +3,7 @@
 
 use crate::shared::{
     Case, NoConsole, Ran, Row, check_failed_write, check_rows, check_said, check_wants,
-    expect_report, holds, make_file, no_input, run, run_into, words_for,
+    expect_report, holds, make_file, run, run_into, words_for,
 };
 use std::alloc::{AllocError, Global};
 use std::fs;
@@ -382,8 +382,7 @@ fn ends_where_the_output_refuses(rt: HostRuntime) {
     let words = words_for(&rt, &ONE_EDGE).expect(&rt, "a file");
     let out = fs::open(&rt, "case.pc").expect(&rt, "a file");
     let err = fs::open(&rt, "case.pc").expect(&rt, "a file");
-    let input = no_input(rt.alloc());
-    let ran = run_into(&rt, words.as_slice(), &input, &NoConsole, out, err);
+    let ran = run_into(&rt, words.as_slice(), None, &NoConsole, out, err);
     same!(&rt, ran.status, 1);
 }
 

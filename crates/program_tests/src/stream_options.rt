@@ -3,11 +3,10 @@
 
 use crate::layouts::{EDGELESS, UNREAD};
 use crate::shared::{
-    NoConsole, Ran, Row, check_rows, check_said, expect_report, make_file, run_on,
+    Input, NoConsole, Ran, Row, check_rows, check_said, expect_report, make_file, run_on,
 };
 use commands::{Console, Meter, Progress, is_input};
-use lanes::{Gate, MemOpener, Stage};
-use std::alloc::{AllocError, Global};
+use lanes::{Gate, Stage};
 use std::process::Abort;
 use std::rt::Files;
 use std::sync::Wait;
@@ -15,13 +14,6 @@ use std::sync::atomic::{AtomicU64, Ordering};
 use std::thread::Threads;
 use test_tools::records::{EDGE, HEADER, TRIANGLE};
 use test_tools::same;
-
-/// A standard input with these parts, of which a read returns at most 7 bytes.
-fn input_of(alloc: Global, parts: &[&[u8]]) -> Result<MemOpener, AllocError> {
-    let mut files = Vec::new(alloc);
-    files.push(parts.concat(alloc)?)?;
-    Ok(MemOpener::new(files, 7))
-}
 
 /// Runs the command line of each row on a standard input with these parts, and checks the report and the status.
 pub fn check_on<R: Files + AllocGlobal + Threads + Wait + Sync + Abort>(
@@ -34,8 +26,9 @@ where
     R::Dir: Send,
 {
     for (line, report, status) in rows {
-        let input = input_of(rt.alloc(), parts).expect(rt, "memory");
-        let ran = run_on(rt, line, &input, &NoConsole);
+        let bytes = parts.concat(rt.alloc()).expect(rt, "memory");
+        let input = Input { bytes: &bytes };
+        let ran = run_on(rt, line, Some(input), &NoConsole);
         expect_report(rt, &ran, report.as_bytes(), *status);
     }
 }
@@ -192,9 +185,10 @@ where
     R::Dir: Send,
 {
     let five = [HEADER, EDGE, EDGE, EDGE, EDGE, EDGE];
-    let input = input_of(rt.alloc(), &five).expect(rt, "memory");
+    let bytes = five.concat(rt.alloc()).expect(rt, "memory");
     let console = Ticking::new(terminal, 100, wanted);
-    expect_five(rt, &run_on(rt, line, &input, &console));
+    let input = Input { bytes: &bytes };
+    expect_five(rt, &run_on(rt, line, Some(input), &console));
     same!(rt, console.counts(), (wanted.len() as u64, 0));
 }
 

@@ -2,10 +2,11 @@
 
 use crate::reported::{QUICK, REPORT, SHORT, THREE, written};
 use collector::{BatchFault, MAX_LANES, OpenGate, Style};
-use commands::TextFault;
+use commands::Fault;
 use std::process::Abort;
 use std::sync::Wait;
 use std::thread::Threads;
+use streams::WriteFault;
 use test_tools::same;
 
 /// Checks that the writer took all of the report of three files, or the first `room` bytes before it failed.
@@ -20,7 +21,7 @@ fn check_writer<R: AllocGlobal + Threads + Wait + Sync + Abort>(
     let (ended, writer) = written(rt, &THREE, 3, lanes, style, &OpenGate, (room, most));
     same!(rt, writer.text(), &REPORT[..room.min(211)]);
     let due = if room < 211 {
-        Err(TextFault::Write)
+        Err(Fault::Write(WriteFault::Write))
     } else {
         Ok(3)
     };
@@ -56,7 +57,7 @@ fn bad_numbers_take_no_memory(rt: HostRuntime) {
     ];
     for (files, lanes, fault) in cases {
         let (ended, writer) = written(&rt, &THREE, files, lanes, SHORT, &OpenGate, (211, 211));
-        same!(&rt, ended, Err(TextFault::Run(fault)));
+        same!(&rt, ended, Err(Fault::Run(fault)));
         same!(&rt, writer.text().len(), 0);
     }
 }
@@ -102,8 +103,8 @@ fn names_want_of_memory(rt: HostRuntime) {
     let (ended, writer) = written(&rt, &THREE, 3, 2, SHORT, &OpenGate, (211, 211));
     let named = match ended {
         Ok(status) => status == 3,
-        Err(TextFault::Run(fault)) => fault == BatchFault::Memory || fault == BatchFault::Thread,
-        Err(TextFault::Write) => false,
+        Err(Fault::Run(fault)) => fault == BatchFault::Memory || fault == BatchFault::Thread,
+        Err(_) => false,
     };
     same!(&rt, (named, is_allowed(writer.text())), (true, true));
 }

@@ -65,7 +65,7 @@ impl Keep for Shelf {
         Ok(())
     }
 
-    fn pass_on(&mut self) -> Result<(), AllocError> {
+    fn pass_on(&mut self, _file: u32) -> Result<(), AllocError> {
         Ok(())
     }
 }

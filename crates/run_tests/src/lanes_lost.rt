@@ -6,10 +6,11 @@ ghost use Rattle.ruled_lanes.specs.FanEnds.{given_at, gathered};
 
 use answers::{Embedded, Entry, Framed, Shaped};
 use lanes::{
-    Drafts, GatherFault, Message, OpenGate, StageWork, Staged, gather, run_last_stage, run_stage,
+    Drafts, Message, OpenGate, RunFault, StageWork, Staged, gather, run_last_stage, run_stage,
 };
 use ruled_lanes::{Gatherer, LANES, LaneGiver, Memory, Taker, fan_in, link};
-use std::alloc::{AllocError, Global};
+use std::alloc::Global;
+use std::convert::Infallible;
 use std::process::Abort;
 use std::sync::Wait;
 use streams::Mark;
@@ -31,10 +32,10 @@ enum Ended {
     Lost,
 }
 
-fn end_of<T: Drop>(answer: Result<T, GatherFault<AllocError>>) -> Ended {
+fn end_of<T: Drop>(answer: Result<T, RunFault<Infallible>>) -> Ended {
     match answer {
         Ok(_) => Ended::Well,
-        Err(GatherFault::LaneLost) => Ended::Lost,
+        Err(RunFault::LaneLost) => Ended::Lost,
         Err(_) => Ended::NoMemory,
     }
 }
@@ -91,8 +92,11 @@ fn lose_the_stage_before<R: AllocGlobal + Wait + Abort>(
     requires { given_at giver.old ≡ [] }
 {
     let taker = left_alone::<Message<Shaped, ()>>(rt.alloc()).expect(rt, "memory");
-    let scratch = <Shaped as Staged>::scratch(rt.alloc());
-    let end = run_last_stage(rt, rt.alloc(), &OpenGate, scratch, taker, giver);
+    let work = StageWork {
+        lane: 0,
+        scratch: <Shaped as Staged>::scratch(rt.alloc()),
+    };
+    let end = run_last_stage(rt, rt.alloc(), &OpenGate, work, taker, giver);
     assert!(rt; end.is_none());
     assert!(rt; giver.give(rt, Message::Stop).is_ok());
 }

@@ -6,7 +6,7 @@ ghost use Rattle.lanes.specs.Opening.{Silent};
 use crate::printing_pauses::{AHEAD, tell_file};
 use crate::reported::QUICK;
 use collector::{Choice, IoSink, OpenFault, OpenGate, Opener, Tap, TapFault};
-use commands::{TextFault, write_batch};
+use commands::{Fault, write_batch};
 use std::alloc::{AllocError, Global};
 use std::sync::Wait;
 use std::sync::atomic::{AtomicBool, AtomicU32, AtomicU64, Ordering};
@@ -205,7 +205,7 @@ fn report(alloc: Global) -> Result<String, AllocError> {
 fn run<R: AllocGlobal + Threads + Wait + Sync>(
     rt: &R,
     seen: &Seen,
-) -> (Result<u8, TextFault>, Vec<u8>) {
+) -> (Result<u8, Fault>, Vec<u8>) {
     let opener = Held { rt, seen };
     let mut sink = IoSink::new(Vec::new(rt.alloc()));
     let (alloc, choice) = (rt.alloc(), Choice::First);

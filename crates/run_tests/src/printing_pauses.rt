@@ -7,7 +7,7 @@ use crate::reported::QUICK;
 use collector::{
     Choice, Gate, IoSink, MAX_LANES, OpenFault, OpenGate, Opener, Stage, Tap, TapFault,
 };
-use commands::{TextFault, write_batch};
+use commands::{Fault, write_batch};
 use std::alloc::{AllocError, Global};
 use std::fmt::Write;
 use std::process::Abort;
@@ -15,6 +15,7 @@ use std::sync::Wait;
 use std::sync::atomic::{AtomicBool, AtomicU32, Ordering};
 use std::thread;
 use std::thread::Threads;
+use streams::WriteFault;
 use test_tools::records::{EDGE, HEADER};
 use test_tools::{Narrow, same, wait_for_count};
 
@@ -112,7 +113,7 @@ fn run<R: AllocGlobal + Threads + Wait + Sync, G: Gate>(
     (files, lanes, awaited): (u32, u32, u32),
     most: usize,
     gate: &G,
-) -> (Result<u8, TextFault>, Vec<u8>, bool) {
+) -> (Result<u8, Fault>, Vec<u8>, bool) {
     let (reads_of_last, ran_out) = (AtomicU32::new(0), AtomicBool::new(false));
     let opener = Edges {
         files,
@@ -269,7 +270,7 @@ fn room_comes_where_a_file_ends(rt: HostRuntime) {
 fn ended_in_a_narrow_sink<R: AllocGlobal + Threads + Wait + Sync>(
     rt: &R,
     lanes: u32,
-) -> Result<u8, TextFault> {
+) -> Result<u8, Fault> {
     let (reads_of_last, ran_out) = (AtomicU32::new(0), AtomicBool::new(false));
     let opener = Edges {
         files: 8,
@@ -293,7 +294,7 @@ fn a_sink_may_fail_while_lanes_pause(rt: HostRuntime) {
         same!(
             &rt,
             ended_in_a_narrow_sink(&rt, lanes),
-            Err(TextFault::Write),
+            Err(Fault::Write(WriteFault::Write)),
         );
     }
 }

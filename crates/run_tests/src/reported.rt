@@ -4,7 +4,7 @@ ghost use Rattle.std.specs.Prelude.{false, None};
 ghost use Rattle.lanes.specs.Opening.{Silent};
 
 use collector::{Choice, DrawingKind, Form, Gate, IoSink, OpenFault, Opener, Style, Tap, TapFault};
-use commands::{TextFault, write_batch};
+use commands::{Fault, write_batch};
 use std::alloc::Global;
 use std::sync::Wait;
 use std::thread::Threads;
@@ -106,7 +106,7 @@ pub(crate) fn written<R: AllocGlobal + Threads + Wait + Sync, G: Gate>(
     style: Style,
     gate: &G,
     (room, most): (usize, usize),
-) -> (Result<u8, TextFault>, Narrow) {
+) -> (Result<u8, Fault>, Narrow) {
     let mut sink = IoSink::new(Narrow::new(room, most, true));
     let (alloc, choice) = (rt.alloc(), Choice::First);
     let ended = write_batch(
