@@ -1,5 +1,5 @@
 -- How a run ends: beside its consumer, which holds what it held, or with its seats.
-use Rattle.std.proofs.Common.{◌≡◌, ℕ, List, All, true, Result, Ok, Err, Vec, vec_len, IfOk, IfErr, inr, ◌∙◌}
+use Rattle.std.proofs.Common.{◌≡◌, ℕ, List, All, true, Result, Ok, Err, Vec, vec_len, IfOk, IfErr, ◌∙◌}
 use Rattle.std.specs.declared.alloc.Global.{Global}
 use Rattle.common.specs.declared.choice.Choice.{Choice}
 use Rattle.ruled_lanes.specs.declared.dealing.Tickets.{Tickets}
@@ -10,13 +10,8 @@ use Rattle.lanes.specs.Opening.{Meaning}
 use Rattle.lanes.specs.Files.{HasFile}
 use Rattle.lanes.specs.Notes.{Note}
 use Rattle.lanes.specs.declared.fault.RunFault.{RunFault}
-use Rattle.lanes.specs.Faults.{IsOfLanes, HoldsOnFault}
+use Rattle.lanes.specs.Faults.{HoldsOnFault}
 use Rattle.lane_runs.specs.Running.{LeavesConsumer}
-
--- a consumer that holds notes if the lanes fail
-pub held_on : {F T : Type 0} (gave_up : RunFault F → Type 0) (holds : List Note → Type 0) (result : Result T (RunFault F)) (ns : List Note) → holds ns → IfErr result IsOfLanes → IfErr result (HoldsOnFault gave_up holds)
-held_on gave_up holds (Ok _) ns has of = tt
-held_on gave_up holds (Err fault) ns has of = inr (of, (ns, has))
 
 pub all_ended : {C F : Type 0} (holds : C → List Note → Type 0) (gave_up : C → RunFault F → Type 0) (choice : Choice) (meaning : ℕ → Meaning) (tickets : Tickets) (lanes count : ℕ) (consumer : C) (result : Result (Vec Seat Global) (RunFault F))
     → lanes ≡ count → IfOk result (λ seats. vec_len seats ≡ lanes) → IfOk result (λ seats. All (λ s. IsSeatOf tickets s × (has_ended s ≡ true)) seats.items)

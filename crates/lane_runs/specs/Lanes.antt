@@ -18,8 +18,6 @@ use Rattle.lanes.specs.declared.message.Message.TheVariants.{Stop}
 use Rattle.lanes.specs.Notes.{About, Note, End, notes, GoOn, IsStopped}
 use Rattle.lanes.specs.Opening.{Meaning}
 use Rattle.lanes.specs.Keeping.{KeepsFile}
-use Rattle.lanes.specs.declared.fault.RunFault.{RunFault}
-use Rattle.lanes.specs.Faults.{IsOfLanes}
 use Rattle.lanes.specs.Files.{HasDrawn, TellsDrawn}
 
 module _ {A : Type 0} where
@@ -60,12 +58,11 @@ module _ {A M : Type 0} where
 
   -- a lane returns the end of the fan at its own number, where one stop came last, whatever happened in the lane, or
   -- none if a give of the stop was refused; and if it was not refused, its seat if nothing was lost
-  pub record LeavesLane {R F : Type 0} (about : A → About) (choice : Choice) (meaning : ℕ → Meaning) (tickets : Tickets) (giver after : LaneGiver (Message A M)) (stop : Result R (Closed (Message A M))) (seat : Result Seat (RunFault F)) : Type 0 where
+  pub record LeavesLane {R F : Type 0} (about : A → About) (choice : Choice) (meaning : ℕ → Meaning) (tickets : Tickets) (giver after : LaneGiver (Message A M)) (stop : Result R (Closed (Message A M))) (seat : Result Seat F) : Type 0 where
     pub to_same : GivesToSameLane giver after
     pub stopped : OnOk stop (IsStopped (notes about (given_at after)))
     pub refused : IfErr stop (λ closed. (handed_back closed ≡ Stop) × GoOn (notes about (given_at after)))
     pub tells : OnOk stop (IfOk seat (λ s. TellsSeat about choice meaning tickets s (given_at after)))
-    pub of_lanes : IfErr seat IsOfLanes
 
 -- so far the notes say all of the files that were drawn, and there was no stop
 pub record HasTold (choice : Choice) (meaning : ℕ → Meaning) (drawn : List ℕ) (ns : List Note) : Type 0 where

@@ -6,14 +6,14 @@ ghost use Rattle.lanes.specs.Notes.{Note};
 ghost use Rattle.lanes.specs.Files.{AreToldWhole};
 ghost use Rattle.lane_runs.specs.Lanes.{StartsLane};
 ghost use Rattle.lane_runs.specs.Running.{StartsRun, LeavesRun};
-ghost use Rattle.lanes.specs.Faults.{IsOfLanes, HoldsOnFault};
+ghost use Rattle.lanes.specs.Faults.{HoldsOnFault};
 ghost use Rattle.lane_runs.specs.Accepting.{AcceptsFiles, AcceptsAll};
 
 use crate::lane::Lane;
 use crate::lane_kind::LaneKind;
 use crate::new_fan::{Fan, new_fan};
 use crate::run::Run;
-use crate::running::{LanePromise, LaneReturn, Running};
+use crate::running::{LaneFault, LanePromise, LaneReturn, Running};
 use crate::shared::Shared;
 use lanes::{Consumer, Gate, Message, Opener, RunFault};
 use ruled_lanes::{LaneGiver, Seat, Tickets};
@@ -113,17 +113,17 @@ impl<'s, R: Threads + Wait + Sync, O: Opener, G: Gate, L: LaneKind + 's> Shared<
         } = fan;
         match self.start_lanes(scope, seats, givers) {
             Ok(running) => self.finish_lanes(gatherer, running, idle, consumer),
-            Err(fault) => Err(fault),
+            Err(fault) => Err(fault.of_run()),
         }
     }
 
     /// Starts a lane for each seat, with the givers in order.
-    fn start_lanes<'e, F: Drop + Send + 'static>(
+    fn start_lanes<'e>(
         &'s self,
         scope: &'s Scope<'s, &'e ()>,
         mut seats: Vec<Seat>,
         givers: Vec<LaneGiver<Message<L::Entry, L::End>>>,
-    ) -> Result<Vec<Running<L::Entry, L::End, O, F>>, RunFault<F>>
+    ) -> Result<Vec<Running<L::Entry, L::End, O>>, LaneFault>
         requires each { vec_len givers ≡ vec_len seats }
         requires seats { All (IsSeatOf self.now.tickets.now) seats.items }
         requires unused { All IsUnused seats.items }
@@ -134,10 +134,9 @@ impl<'s, R: Threads + Wait + Sync, O: Opener, G: Gate, L: LaneKind + 's> Shared<
         ensures choice { IfOk result (λ running. All (λ r. r.promise.choice ≡ self.now.run.now.choice) running.items) }
         ensures opener { IfOk result (λ running. All (λ r. r.promise.opener.value ≡ self.now.run.now.opener.now) running.items) }
         ensures tickets { IfOk result (λ running. All (λ r. r.promise.tickets.value ≡ self.now.tickets.now) running.items) }
-        ensures of_lanes { IfErr result IsOfLanes }
     {
         let Ok(mut running) = Vec::with_capacity(self.run.alloc, seats.len()) else {
-            return Err(RunFault::Memory);
+            return Err(LaneFault::Memory);
         };
         for giver in givers {
             let Some(seat) = seats.pop() else {
@@ -150,18 +149,17 @@ impl<'s, R: Threads + Wait + Sync, O: Opener, G: Gate, L: LaneKind + 's> Shared<
     }
 
     /// Starts a lane in a thread of its own.
-    fn start_lane<'e, F: Drop + Send + 'static>(
+    fn start_lane<'e>(
         &'s self,
         scope: &'s Scope<'s, &'e ()>,
         lane: Lane<L::Entry, L::End>,
-    ) -> Result<Running<L::Entry, L::End, O, F>, RunFault<F>>
+    ) -> Result<Running<L::Entry, L::End, O>, LaneFault>
         requires ready { StartsLane self.now.tickets.now lane.seat lane.giver }
         requires accepts { AcceptsAll L.accepts L.ends (O.meaning self.now.run.now.opener.now) }
         ensures choice { IfOk result (λ r. r.promise.choice ≡ self.now.run.now.choice) }
         ensures opener { IfOk result (λ r. r.promise.opener.value ≡ self.now.run.now.opener.now) }
         ensures tickets { IfOk result (λ r. r.promise.tickets.value ≡ self.now.tickets.now) }
         ensures giver { IfOk result (λ r. r.promise.giver.value ≡ lane.giver) }
-        ensures of_lanes { IfErr result IsOfLanes }
     {
         let promise = LanePromise {
             choice: self.run.choice,
@@ -171,13 +169,13 @@ impl<'s, R: Threads + Wait + Sync, O: Opener, G: Gate, L: LaneKind + 's> Shared<
         };
         match scope.spawn_with(
             promise,
-            move || -> LaneReturn<L::Entry, L::End, F>
+            move || -> LaneReturn<L::Entry, L::End>
                 requires { StartsLane self.now.tickets.now lane.seat lane.giver
                     × AcceptsAll L.accepts L.ends (O.meaning self.now.run.now.opener.now) }
             { self.run_lane(scope, lane) },
         ) {
             Ok(handle) => Ok(handle),
-            Err(_) => Err(RunFault::Thread),
+            Err(_) => Err(LaneFault::Thread),
         }
     }
 }

@@ -9,10 +9,10 @@ ghost use Rattle.lanes.specs.Files.{HasFile};
 ghost use Rattle.lanes.specs.Fans.{untagged, HaveStopped};
 ghost use Rattle.lane_runs.specs.Lanes.{TellsSeat};
 ghost use Rattle.lane_runs.specs.Running.{AreNumbered, IsIdle, IsRunning};
-ghost use Rattle.lanes.specs.Faults.{IsOfLanes, HoldsOnFault};
+ghost use Rattle.lanes.specs.Faults.{HoldsOnFault};
 
 use crate::lane::Lane;
-use crate::running::{LaneReturn, Running};
+use crate::running::{LaneFault, LaneReturn, Running};
 use crate::shared::Shared;
 use lanes::{Consumer, Gate, Message, Numbered, Opener, RunFault, gather};
 use ruled_lanes::{Gatherer, LaneGiver, Seat};
@@ -20,18 +20,17 @@ use std::sync::Wait;
 use std::thread::Threads;
 
 /// Joins the thread of a lane. Returns its seat and its end of the fan, if it gave its stop and lost nothing.
-fn join_lane<E: Numbered, M: Drop + Send, F: Drop, R: Threads, O: Opener>(
+fn join_lane<E: Numbered, M: Drop + Send, R: Threads, O: Opener>(
     rt: &R,
-    handle: Running<E, M, O, F>,
-) -> Result<Lane<E, M>, RunFault<F>>
+    handle: Running<E, M, O>,
+) -> Result<Lane<E, M>, LaneFault>
     ensures to_same { IfOk result (λ lane. GivesToSameLane handle.promise.giver.value lane.giver) }
     ensures tells { IfOk result (λ lane. TellsSeat E.about handle.promise.choice (O.meaning handle.promise.opener.value) handle.promise.tickets.value
         lane.seat (given_at lane.giver)) }
-    ensures of_lanes { IfErr result IsOfLanes }
 {
     let LaneReturn { giver, stop, seat } = handle.join(rt);
     let Ok(()) = stop else {
-        return Err(RunFault::LaneLost);
+        return Err(LaneFault::LaneLost);
     };
     match seat {
         Ok(seat) => Ok(Lane { seat, giver }),
@@ -43,12 +42,12 @@ impl<R: Threads + Wait + Sync, O: Opener, G: Gate, L> Shared<'_, R, O, G, L> {
     /// Joins the threads of the lanes and settles the fan with the givers of all lanes, also of those that do not run.
     /// This proves that the messages taken of each lane are all that it gave, and that all messages of a file drawn by
     /// one seat arrived. Returns the seats.
-    fn join_lanes<E: Numbered, M: Drop + Send, F: Drop>(
+    fn join_lanes<E: Numbered, M: Drop + Send>(
         &self,
         gatherer: Gatherer<Message<E, M>>,
-        running: Vec<Running<E, M, O, F>>,
+        running: Vec<Running<E, M, O>>,
         mut givers: Vec<LaneGiver<Message<E, M>>>,
-    ) -> Result<Vec<Seat>, RunFault<F>>
+    ) -> Result<Vec<Seat>, LaneFault>
         requires some { 1 ≤ vec_len running }
         requires lanes { vec_len running + vec_len givers ≡ LANES }
         requires running { AreNumbered (λ lane r. IsRunning gatherer self.now.run.now.choice self.now.run.now.opener.now self.now.tickets.now lane
@@ -59,13 +58,12 @@ impl<R: Threads + Wait + Sync, O: Opener, G: Gate, L> Shared<'_, R, O, G, L> {
         ensures seats { IfOk result (λ seats. All (λ s. IsSeatOf self.now.tickets.now s × (has_ended s ≡ true)) seats.items) }
         ensures told { IfOk result (λ seats. (file : ℕ) → times file (all_drawn seats.items) ≡ 1
             → HasFile self.now.run.now.choice (O.meaning self.now.run.now.opener.now file) file (notes E.about (untagged (gathered gatherer)))) }
-        ensures of_lanes { IfErr result IsOfLanes }
     {
         let Ok(mut seats) = Vec::with_capacity(self.run.alloc, running.len()) else {
-            return Err(RunFault::Memory);
+            return Err(LaneFault::Memory);
         };
         let Ok(()) = givers.reserve(running.len()) else {
-            return Err(RunFault::Memory);
+            return Err(LaneFault::Memory);
         };
         for handle in running {
             let lane = join_lane(self.run.rt, handle)?;
@@ -83,7 +81,7 @@ impl<R: Threads + Wait + Sync, O: Opener, G: Gate, L> Shared<'_, R, O, G, L> {
     pub fn finish_lanes<E: Numbered, M: Drop + Send, C: Consumer<E, M>>(
         &self,
         gatherer: Gatherer<Message<E, M>>,
-        running: Vec<Running<E, M, O, C::Refusal>>,
+        running: Vec<Running<E, M, O>>,
         idle: Vec<LaneGiver<Message<E, M>>>,
         consumer: &mut C,
     ) -> Result<Vec<Seat>, RunFault<C::Refusal>>
@@ -103,6 +101,9 @@ impl<R: Threads + Wait + Sync, O: Opener, G: Gate, L> Shared<'_, R, O, G, L> {
     {
         let lanes = running.len() as u32;
         let gatherer = gather(self.run.rt, self.run.alloc, gatherer, lanes, consumer)?;
-        self.join_lanes(gatherer, running, idle)
+        match self.join_lanes(gatherer, running, idle) {
+            Ok(seats) => Ok(seats),
+            Err(fault) => Err(fault.of_run()),
+        }
     }
 }

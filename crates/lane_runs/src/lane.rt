@@ -1,12 +1,11 @@
 //! One lane: a pipeline of four stages. The last one runs on the lane's own thread, which starts a thread for each
 //! other one.
-ghost use Rattle.std.specs.Prelude.{◌≡◌, ◌∷◌, ◌++◌, [], List, IfOk, IfErr, IfSome, Some, vec_len};
+ghost use Rattle.std.specs.Prelude.{◌≡◌, ◌∷◌, ◌++◌, [], List, IfOk, IfSome, Some, vec_len};
 ghost use Rattle.ruled_lanes.specs.LinkEnds.{given, taken, AreEnds};
 ghost use Rattle.ruled_lanes.specs.FanEnds.{given_at, GivesToSameLane};
 ghost use Rattle.lanes.specs.declared.message.Message.{Message as AnyMessage};
 ghost use Rattle.lanes.specs.declared.message.Message.TheVariants.{Stop};
 ghost use Rattle.lanes.specs.Notes.{notes, GoOn};
-ghost use Rattle.lanes.specs.Faults.{IsOfLanes};
 ghost use Rattle.lanes.specs.Stages.{IsHandedOn};
 ghost use Rattle.lane_runs.specs.Lanes.{TellsSeat, StartsToRead, StartsLane, LeavesLane};
 ghost use Rattle.lane_runs.specs.Accepting.{AcceptsAll};
@@ -14,11 +13,11 @@ ghost use Rattle.lane_runs.specs.Accepting.{AcceptsAll};
 use crate::lane_kind::LaneKind;
 use crate::links::settle_lane;
 use crate::read_stage::Reading;
-use crate::running::LaneReturn;
+use crate::running::{LaneFault, LaneReturn};
 use crate::shared::Shared;
 use crate::stages::{LastStage, MiddleStage, Stages, new_stages};
 use crate::starting::{Started, StartedRead, start_stage};
-use lanes::{Gate, Message, Numbered, Opener, RunFault, StageWork, run_last_stage};
+use lanes::{Gate, Message, Numbered, Opener, StageWork, run_last_stage};
 use ruled_lanes::{LaneGiver, Seat, Taker};
 use std::sync::Wait;
 use std::thread::{Scope, Threads};
@@ -35,11 +34,11 @@ impl<'s, R: Threads + Wait + Sync, O: Opener, G: Gate, L: LaneKind + 's> Shared<
     ///
     /// The result of the last stage for each record, and the end of each file, go to the giver, and after them one
     /// stop, whatever happened in the lane; the result of that last give is returned with the giver.
-    pub fn run_lane<'e, F: Drop>(
+    pub fn run_lane<'e>(
         &'s self,
         scope: &'s Scope<'s, &'e ()>,
         lane: Lane<L::Entry, L::End>,
-    ) -> LaneReturn<L::Entry, L::End, F>
+    ) -> LaneReturn<L::Entry, L::End>
         requires { StartsLane self.now.tickets.now lane.seat lane.giver
             × AcceptsAll L.accepts L.ends (O.meaning self.now.run.now.opener.now) }
         ensures { LeavesLane L.Entry.about self.now.run.now.choice (O.meaning self.now.run.now.opener.now) self.now.tickets.now
@@ -53,24 +52,23 @@ impl<'s, R: Threads + Wait + Sync, O: Opener, G: Gate, L: LaneKind + 's> Shared<
 
     /// Makes the stages of a lane, starts the first three and runs the last one; returns the lane's seat. It does not
     /// give the stop: that is left to the caller.
-    fn run_stages<'e, F: Drop>(
+    fn run_stages<'e>(
         &'s self,
         scope: &'s Scope<'s, &'e ()>,
         seat: Seat,
         giver: &mut LaneGiver<Message<L::Entry, L::End>>,
-    ) -> Result<Seat, RunFault<F>>
+    ) -> Result<Seat, LaneFault>
         requires { StartsLane self.now.tickets.now seat giver.old
             × AcceptsAll L.accepts L.ends (O.meaning self.now.run.now.opener.now) }
         ensures same { GivesToSameLane giver.old giver.new }
         ensures goes_on { GoOn (notes L.Entry.about (given_at giver.new)) }
         ensures told { IfOk result (λ after. TellsSeat L.Entry.about self.now.run.now.choice (O.meaning self.now.run.now.opener.now) self.now.tickets.now after
             (given_at giver.new ++ Stop ∷ [])) }
-        ensures of_lanes { IfErr result IsOfLanes }
     {
         let run = self.run;
         let lane = giver.lane();
         let Ok(stages) = new_stages(self.kind, run.alloc, run.capacity, lane, seat) else {
-            return Err(RunFault::Memory);
+            return Err(LaneFault::Memory);
         };
         let Stages {
             read,
@@ -79,13 +77,13 @@ impl<'s, R: Threads + Wait + Sync, O: Opener, G: Gate, L: LaneKind + 's> Shared<
             draw: LastStage { scratch, taker },
         } = stages;
         let Some(started) = self.start_stages(scope, read, embed, shape) else {
-            return Err(RunFault::Thread);
+            return Err(LaneFault::Thread);
         };
         let work = StageWork { lane, scratch };
         let drew = run_last_stage(run.rt, run.alloc, run.gate, work, taker, giver);
         match started.join(run.rt, drew) {
             Some(seat) => Ok(seat),
-            None => Err(RunFault::LaneLost),
+            None => Err(LaneFault::LaneLost),
         }
     }
 

@@ -13,7 +13,7 @@ use streams::Mark;
 /// same over any number of calls, what is known of it once it refused a message, and that nothing is buffered in it.
 pub trait Consumer<E: Numbered, M: Drop>: Drop {
     /// Its own reason to refuse a message, beside lack of memory and a message that no lane gives.
-    type Refusal: Drop + Send + 'static;
+    type Refusal: Drop;
 
     ghost holds: { Self → List Note → Type 0 };
 

@@ -1,6 +1,7 @@
 //! The reason why a run of lanes fails.
 
 use std::alloc::AllocError;
+use std::convert::Infallible;
 
 /// The reason why a run of lanes failed, or why a consumer refused one of their messages.
 #[derive(Clone, Copy, Debug, PartialEq, Eq, Drop)]
@@ -13,6 +14,21 @@ pub enum RunFault<F: Drop> {
     Thread,
     /// The consumer failed for a reason of its own.
     Refused(F),
+}
+
+impl RunFault<Infallible> {
+    ghost use Rattle.lanes.specs.Faults.{IsOfLanes};
+
+    /// The fault of a run whose consumer refused nothing.
+    pub fn of_run<F: Drop>(self) -> RunFault<F>
+        ensures { IsOfLanes result }
+    {
+        match self {
+            RunFault::Memory => RunFault::Memory,
+            RunFault::LaneLost => RunFault::LaneLost,
+            RunFault::Thread => RunFault::Thread,
+        }
+    }
 }
 
 impl<F: Drop> From<AllocError> for RunFault<F> {

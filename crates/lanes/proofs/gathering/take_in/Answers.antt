@@ -5,7 +5,7 @@ use Rattle.lanes.proofs.gathering.take_in.Goals as goal
 
 pub item-requires : goal.item-requires
 item-requires g c =
-    let inv = c.loop-item.invariant in (search rules, c.requires.0 ++ notes_of_items g.E.Numbered.about c.loop-item.yielded, inv.taken c.requires.0 c.requires.1)
+    let inv = c.loop-item.invariant in (c.requires.0 ++ notes_of_items g.E.Numbered.about c.loop-item.yielded, inv.taken c.requires.0 c.requires.1)
 
 pub loop-item-preserved : goal.loop-item-preserved
 loop-item-preserved g c =

@@ -1,7 +1,5 @@
-use Rattle.std.proofs.Common.{vec_len, arith}
-use Rattle.std.proofs.lemmas.Result.{IfOk-weaker}
+use Rattle.std.proofs.Common.{vec_len, arith, inr}
 use Rattle.lane_runs.proofs.RunningLanes.{numbered_weaker, running_still, idle_still}
-use Rattle.lane_runs.proofs.Ending.{held_on}
 use Rattle.lane_runs.proofs.shared.Shared.finish_lanes.Goals as goal
 
 pub join_lanes-requires-clause-running : goal.join_lanes-requires-clause-running
@@ -14,8 +12,5 @@ join_lanes-requires-clause-idle g c = λ κs within. idle_still c.args.gatherer 
 pub join_lanes-requires-clause-stopped : goal.join_lanes-requires-clause-stopped
 join_lanes-requires-clause-stopped g c = λ κs within lane below. c.in_ok-gatherer.ensures.stopped lane (omega (arith, below, c.len-lanes.ensures, c.requires.lanes))
 
-pub returns-clause-failed : goal.returns-clause-failed
-returns-clause-failed g c = held_on _ _ c.join_lanes.result _ c.in_ok-gatherer.ensures.told c.join_lanes.ensures.of_lanes
-
-pub returns-clause-told : goal.returns-clause-told
-returns-clause-told g c = IfOk-weaker c.join_lanes.result _ _ (λ seats whole. (_, c.in_ok-gatherer.ensures.told, whole)) c.join_lanes.ensures.told
+pub returns-in-Err-clause-failed : goal.returns-in-Err-clause-failed
+returns-in-Err-clause-failed g c = inr (c.of_run.ensures, (_, c.in_ok-gatherer.ensures.told))

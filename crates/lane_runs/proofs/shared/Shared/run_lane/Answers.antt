@@ -40,5 +40,4 @@ returns g c =
       tells = told_stopped before after stop c.run_stages-seat.result
           (λ s ms. TellsSeat about c.args.self.now.run.now.choice (g.O.Opener.meaning c.args.self.now.run.now.opener.now) c.args.self.now.tickets.now s ms)
           c.give-stop.ensures.ok c.run_stages-seat.ensures.told;
-      of_lanes = c.run_stages-seat.ensures.of_lanes;
     }
