@@ -15,7 +15,7 @@ use Rattle.printing.proofs.Ordering.{begun_left_off, begun_none}
 pub ended_with : {F Q : Type 0} (gave_up : RunFault F → Type 0) (holds : List Note → Type 0) (fault : RunFault F) → (gave_up fault → Q) → (IsOfLanes fault → (ns : List Note) → holds ns → Q)
     → HoldsOnFault gave_up holds fault → Q
 ended_with gave_up holds fault given held (inl gave) = given gave
-ended_with gave_up holds fault given held (inr (of, ns, has)) = held of ns has
+ended_with gave_up holds fault given held (inr (of, told)) = held of told.0 told.1
 
 -- lines of this many files in this form, under this choice
 pub begun_lines : (choice : Choice) (meaning : ℕ → Meaning) (form : Form) (files : ℕ) (start now : Option (List ℕ)) (lines : Lines) → choice_of lines ≡ choice → form_of lines ≡ form → files_of lines ≡ files

@@ -35,12 +35,12 @@ module _ (meaning : List (Bor (List ℕ)) → ℕ → Meaning) (choice : Choice)
       (subst (λ xs. OnErr answer (IsBegunTextOfBooks choice form (meaning xs) files old new)) same is)
 
 not_true : (b : Bool) → (b ≡ true → ⊥) → b ≡ false
-not_true true no = absurd (no refl)
-not_true false no = refl
+not_true true never = absurd (never refl)
+not_true false never = refl
 
 either_else : (status : ℕ) → (status ≡ 0) ⊎ (status ≡ 3) → status ≢ 0 → status ≡ 3
-either_else status (inl is) no = absurd (no is)
-either_else status (inr is) no = is
+either_else status (inl is) never = absurd (never is)
+either_else status (inr is) never = is
 
 -- what a run leaves in a sink: the whole text, or why its request is refused
 module _ {S : Type 0} (choice : Choice) (meaning : ℕ → Meaning) (form : Form) (files lanes : ℕ) (taken : S → Option (List ℕ)) (fails : S → Bool) (old new : S) where
@@ -50,7 +50,7 @@ module _ {S : Type 0} (choice : Choice) (meaning : ℕ → Meaning) (form : Form
     books = is.written.books;
     of_files = is.written.of_files;
     text = is.written.text;
-    written = not_true (fails new) (λ failed. let no = is.failed.1 failed in cc);
+    written = not_true (fails new) (λ failed. let other = is.failed.1 failed in cc);
     flawless = (is.written.flawless.1, is.written.flawless.0);
     other = either_else status is.status;
   }

@@ -4,8 +4,8 @@ use Rattle.printing.proofs.Ordering.{begun_none}
 use Rattle.commands.proofs.FaultStatus.{streamed_fault}
 use Rattle.commands.proofs.text.TextRun.write.Goals as goal
 
-pub returns-then-files-gt-MAX_FILES : goal.returns-then-files-gt-MAX_FILES
-returns-then-files-gt-MAX_FILES g c =
+pub returns-then-self-gt-MAX_FILES : goal.returns-then-self-gt-MAX_FILES
+returns-then-self-gt-MAX_FILES g c =
     let run = c.args.self.now in
     record {
       written = tt;
@@ -18,8 +18,8 @@ returns-then-files-gt-MAX_FILES g c =
       only = tt;
     }
 
-pub returns-then-lanes-eq0 : goal.returns-then-lanes-eq0
-returns-then-lanes-eq0 g c =
+pub returns-then-self-eq0 : goal.returns-then-self-eq0
+returns-then-self-eq0 g c =
     let run = c.args.self.now in
     record {
       written = tt;
