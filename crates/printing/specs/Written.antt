@@ -1,5 +1,5 @@
 -- What has been written of what has arrived, and what is buffered.
-use Rattle.std.specs.Prelude.{◌≡◌, ℕ, zero, suc, ◌+◌, ◌<◌, ◌≤◌, ◌⊎◌, Bool, true, false, List, [], ◌++◌, length, Option, None, Some, slice_index_or, ⊤}
+use Rattle.std.specs.Prelude.{◌≡◌, ℕ, zero, suc, ◌+◌, ◌<◌, ◌≤◌, ◌⊎◌, Bool, true, false, List, [], ◌++◌, length, Option, None, Some, slice_index_or, ⊤, Result, OnOk, IfErr}
 use Rattle.streams.specs.declared.frames.Mark.{Mark}
 use Rattle.streams.specs.Sink.{AppendsPrefix, IsInTransit}
 use Rattle.reports.specs.declared.form.Form.{Form}
@@ -17,6 +17,11 @@ GivesUp failed (Refused fault) = failed ≡ true
 GivesUp failed Memory = failed ≡ false
 GivesUp failed LaneLost = failed ≡ false
 GivesUp failed Thread = ⊥
+
+-- the sink has not failed where all went well, and otherwise exactly if the message was refused for that
+pub record Stands {A : Type 0} (failed : Bool) (result : Result A TextFault) : Type 0 where
+  pub stands : OnOk result (failed ≡ false)
+  pub gave_up : IfErr result (GivesUp failed)
 
 -- whatever text was in transit, it is now in transit followed by `more`
 abbrev pub GoesOn : Option (List ℕ) → List ℕ → Option (List ℕ) → List ℕ → List ℕ → Type 0

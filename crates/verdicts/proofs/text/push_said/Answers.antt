@@ -23,6 +23,5 @@ three_pushed old first second third a b c word said one two three same is =
 
 pub returns-in_default-clause-text : goal.returns-in_default-clause-text
 returns-in_default-clause-text c =
-    let same : c.as_bytes-in_default.result.now ≡ word_of c.args.verdict = cc (c.as_bytes-in_default.ensures.value, c.word_of-in_default.ensures.word) in
-    three_pushed _ _ _ _ _ _ _ (word_of c.args.verdict) _ c.push-in_default.ensures c.push-in_default-2.ensures c.push-in_default-3.ensures same
+    three_pushed _ _ _ _ _ _ _ (word_of c.args.verdict) _ c.push-in_default.ensures c.push_word-in_default.ensures.text c.push-in_default-2.ensures refl
     (said_not_ok c.args.json c.args.verdict c.if-not-json.false c.in_default.not-Ok)
