@@ -17,8 +17,8 @@ use std::sync::atomic::{AtomicBool, AtomicU32, Ordering};
 use std::thread::Threads;
 use test_tools::{same, wait_for_count};
 
-/// What was seen of a run: how often each stage passed the gate, and how many lines the sink got; whether one part waited
-/// too long for another; and whether something came too early or was done once more.
+/// What was seen of a run: how often each stage passed the gate, and how many lines the sink got; whether one part
+/// waited too long for another; and whether something came too early or was done once more.
 #[derive(Drop)]
 struct Seen {
     read: AtomicU32,
@@ -232,8 +232,8 @@ fn check<R: AllocGlobal + Threads + Wait + Sync + Abort>(
     same!(rt, found, lines);
 }
 
-/// Lines leave while their file is read, each stage passes the gate before it hands a record on, and each part is as far
-/// ahead as there is room: while lines leave, the fan has room for 64 more, and the last stage has one.
+/// Lines leave while their file is read, each stage passes the gate before it hands a record on, and each part is as
+/// far ahead as there is room: while lines leave, the fan has room for 64 more, and the last stage has one.
 #[test]
 fn gate_sees_lines_leave(rt: HostRuntime) {
     let report = Seen::nothing(true);
