@@ -27,7 +27,7 @@ const MEGABYTE: usize = 1_000_000;
 /// # Errors
 ///
 /// `TooManyFiles` exactly if there are more than `MAX_FILES` files, and `BadLanes` exactly if there are no more than
-/// that and no lanes or more than `MAX_LANES`; nothing is then written. Otherwise the fault of a run or of the writing;
+/// that and no lanes or more than `LANES`; nothing is then written. Otherwise the fault of a run or of the writing;
 /// then a prefix of the text is written: that of books of the first files, of which any may end `memory`, and the lines
 /// of the next one, which has no last line. If no bytes of a file are known, as of a real one, they are those of some
 /// bytes.

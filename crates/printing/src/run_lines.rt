@@ -102,7 +102,7 @@ impl Lines {
     ///
     /// # Errors
     ///
-    /// `Write` exactly if the sink has then failed; `Memory` if there was no memory for a line that has to be buffered
+    /// `Refused` exactly if the sink has then failed; `Memory` if there was no memory for a line that has to be buffered
     /// or that reports a lack of memory; `LaneLost` if no lane gives such a message.
     pub(crate) fn line<S: Sink, J: Meant>(
         &mut self,
@@ -141,7 +141,7 @@ impl Lines {
     ///
     /// # Errors
     ///
-    /// `Write` exactly if the sink has then failed; `Memory` if there was no memory for a line; `LaneLost` if no lane
+    /// `Refused` exactly if the sink has then failed; `Memory` if there was no memory for a line; `LaneLost` if no lane
     /// gives such a message.
     pub(crate) fn end<S: Sink, J: Meant>(
         &mut self,
@@ -180,7 +180,7 @@ impl Lines {
     ///
     /// # Errors
     ///
-    /// `Write` exactly if the sink has then failed. There is no other error.
+    /// `Refused` exactly if the sink has then failed. There is no other error.
     pub(crate) fn flush<S: Sink>(&mut self, sink: &mut S) -> Result<(), RunFault<SinkFault>>
         requires { S.failed sink.old ≡ false }
         ensures held { OnOk result ((meaning : ℕ → Meaning) (start : Option (List ℕ)) (ns : List Note)
