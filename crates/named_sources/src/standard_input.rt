@@ -1,6 +1,6 @@
 //! Standard input by its name, and standard streams that are closed.
 ghost use Rattle.std.specs.Prelude.{◌≡◌};
-ghost use Rattle.command_line.specs.Naming.{is_input};
+ghost use Rattle.named_sources.specs.Naming.{is_input};
 
 use std::fs;
 use std::os::fd::AsFd;
