@@ -23,11 +23,7 @@ fn is_open<F: AsFd>(stream: &F) -> bool {
 
 /// This standard stream, or `None` if it is closed now; to be called before any file is opened.
 pub fn if_open<F: AsFd + Copy>(stream: F) -> Option<F> {
-    if is_open(&stream) {
-        Some(stream)
-    } else {
-        None
-    }
+    is_open(&stream).then_some(stream)
 }
 
 /// A folder in place of this standard stream if it is closed, and otherwise nothing.
