@@ -19,7 +19,7 @@ use Rattle.reports.specs.FlawlessBooks.{IsFlawlessBook}
 use Rattle.checking.specs.Runs.{IsTextOfVerdicts, IsBegunTextOfVerdicts}
 use Rattle.checking.specs.declared.run.Asked.{Asked}
 use Rattle.commands.specs.TextRuns.{IsBegun}
-use Rattle.command_line.specs.Naming.{meanings_in}
+use Rattle.named_sources.specs.Naming.{meanings_in}
 use Rattle.command_line.specs.Requests.{IsAskedBy, AsksCheck, asks_in}
 use Rattle.command_line.specs.declared.reading.Keyword.{Keyword}
 use Rattle.entries.specs.declared.limits.TheConstants.{MAX_FILES}

@@ -5,7 +5,8 @@ ghost use Rattle.command_line.specs.Refusals.{IsMisuse};
 ghost use Rattle.commands.specs.Statuses.{IsTextOfChecked, IsBegunTextOfChecked, is_json};
 
 use checking::{Asked, check_files};
-use command_line::{CheckRequest, Fault, FileNotes, NamedFiles, open_source};
+use command_line::{CheckRequest, Fault};
+use named_sources::{FileNotes, NamedFiles, open_source};
 use reports::Form;
 use std::alloc::AllocError;
 use std::sync::Wait;

@@ -3,11 +3,12 @@ ghost use Rattle.std.specs.Prelude.{◌≡◌, ◌<◌, ◌≤◌, ◌⊎◌, �
 ghost use Rattle.command_line.specs.Refusals.{IsMisuse};
 ghost use Rattle.ruled_lanes.specs.declared.limits.TheConstants.{LANES};
 ghost use Rattle.entries.specs.declared.limits.TheConstants.{MAX_FILES};
-ghost use Rattle.command_line.specs.Naming.{meanings_in};
+ghost use Rattle.named_sources.specs.Naming.{meanings_in};
 ghost use Rattle.commands.specs.Statuses.{IsTextOfBooks, IsBegunTextOfBooks};
 
 use crate::text::TextRun;
-use command_line::{Console, Fault, FileNotes, FileOpener, LayoutRequest, Meter, NamedFiles};
+use command_line::{Console, Fault, LayoutRequest, Meter};
+use named_sources::{FileNotes, FileOpener, NamedFiles};
 use std::sync::Wait;
 use std::thread::Threads;
 use streams::{BatchFault, MAX_CAPACITY, Sink};

@@ -12,8 +12,11 @@ mod version;
 mod worded;
 
 pub use command_line::{
-    Console, ErrorConsole, Fault, FileOpener, KeepsReason, Meter, NamedFiles, OutputSink, Progress,
-    Reason, Refused, SharedTerminal, SystemFiles, if_open, is_input, place_holder, write_fault,
+    Console, ErrorConsole, Fault, Meter, Progress, SharedTerminal, write_fault,
+};
+pub use named_sources::{
+    FileOpener, KeepsReason, NamedFiles, OutputSink, Reason, Refused, SystemFiles, if_open,
+    is_input, place_holder,
 };
 pub use process::run;
 pub use program::command;

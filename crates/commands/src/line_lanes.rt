@@ -8,10 +8,10 @@ use crate::worded::Worded;
 use answers::{
     DrawScratch, EmbedScratch, Embedded, Framed, ShapeScratch, Shaped, StageScratch, Task,
 };
-use command_line::FileNotes;
 use common::{Choice, DrawingKind};
 use lane_runs::{LaneKind, LaneScratch};
 use lanes::Numbered;
+use named_sources::FileNotes;
 use planar_code::Record;
 use printing::{KnownEnd, Meant, Printed, known_end};
 use reports::{Form, Style};

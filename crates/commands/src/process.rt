@@ -5,7 +5,8 @@ ghost use Rattle.std.specs.declared.alloc.Global.{Global};
 ghost use Rattle.commands.specs.Statuses.{IsOutcome};
 
 use crate::program::command;
-use command_line::{Console, Fault, KeepsReason, NamedFiles, Reason, write_fault};
+use command_line::{Console, Fault, write_fault};
+use named_sources::{KeepsReason, NamedFiles, Reason};
 use std::alloc::{AllocError, Global};
 use std::env::{Env, FillError};
 use std::process::ExitCode;

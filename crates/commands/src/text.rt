@@ -9,11 +9,12 @@ ghost use Rattle.printing.specs.Whole.{IsAllWritten, IsBegun};
 ghost use Rattle.commands.specs.TextRuns.{HasFailedBy, IsStreamed};
 
 use crate::line_lanes::LineLanes;
-use command_line::{Fault, FileNotes};
+use command_line::Fault;
 use common::Choice;
 use entries::MAX_FILES;
 use lane_runs::{LaneKind, Run, run_lanes};
 use lanes::{Consumer, Gate, Opener, Pauses, RunFault};
+use named_sources::FileNotes;
 use printing::{Lines, Meant, Pace, Texts};
 use reports::Style;
 use ruled_lanes::LANES;

@@ -113,7 +113,7 @@ impl<'s, R: Threads + Wait + Sync, O: Opener, G: Gate, L: LaneKind + 's> Shared<
         } = fan;
         match self.start_lanes(scope, seats, givers) {
             Ok(running) => self.finish_lanes(gatherer, running, idle, consumer),
-            Err(fault) => Err(fault.of_run()),
+            Err(fault) => Err(fault.of_any_consumer()),
         }
     }
 

@@ -103,7 +103,7 @@ impl<R: Threads + Wait + Sync, O: Opener, G: Gate, L> Shared<'_, R, O, G, L> {
         let gatherer = gather(self.run.rt, self.run.alloc, gatherer, lanes, consumer)?;
         match self.join_lanes(gatherer, running, idle) {
             Ok(seats) => Ok(seats),
-            Err(fault) => Err(fault.of_run()),
+            Err(fault) => Err(fault.of_any_consumer()),
         }
     }
 }

@@ -17,7 +17,7 @@ use crate::running::{LaneFault, LaneReturn};
 use crate::shared::Shared;
 use crate::stages::{LastStage, MiddleStage, Stages, new_stages};
 use crate::starting::{Started, StartedRead, start_stage};
-use lanes::{Gate, Message, Numbered, Opener, StageWork, run_last_stage};
+use lanes::{Gate, Message, Numbered, Opener, StageWork, run_until_stop};
 use ruled_lanes::{LaneGiver, Seat, Taker};
 use std::sync::Wait;
 use std::thread::{Scope, Threads};
@@ -80,7 +80,7 @@ impl<'s, R: Threads + Wait + Sync, O: Opener, G: Gate, L: LaneKind + 's> Shared<
             return Err(LaneFault::Thread);
         };
         let work = StageWork { lane, scratch };
-        let drew = run_last_stage(run.rt, run.alloc, run.gate, work, taker, giver);
+        let drew = run_until_stop(run.rt, run.alloc, run.gate, work, taker, giver);
         match started.join(run.rt, drew) {
             Some(seat) => Ok(seat),
             None => Err(LaneFault::LaneLost),

@@ -19,8 +19,8 @@ pub enum RunFault<F: Drop> {
 impl RunFault<Infallible> {
     ghost use Rattle.lanes.specs.Faults.{IsOfLanes};
 
-    /// The fault of a run whose consumer refused nothing.
-    pub fn of_run<F: Drop>(self) -> RunFault<F>
+    /// This fault, as that of a run with any consumer.
+    pub fn of_any_consumer<F: Drop>(self) -> RunFault<F>
         ensures { IsOfLanes result }
     {
         match self {

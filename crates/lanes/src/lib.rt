@@ -39,4 +39,4 @@ pub use outlet::{Gone, Outlet};
 pub use pauses::Pauses;
 pub use reading::read_file;
 pub use return_queue::ReturnQueue;
-pub use stage::{StageWork, run_last_stage, run_stage};
+pub use stage::{StageWork, run_stage, run_until_stop};

@@ -23,7 +23,7 @@ pub struct StageWork<A: Staged> {
 
 /// Runs a middle stage of a lane until the stop; returns both its ends, or `None` if another end was gone.
 ///
-/// It gives all that `run_last_stage` gives, and then the stop.
+/// It gives all that `run_until_stop` gives, and then the stop.
 pub fn run_stage<A: Staged, M: Drop, R: Wait, G: Gate>(
     rt: &R,
     alloc: Global,
@@ -36,7 +36,7 @@ pub fn run_stage<A: Staged, M: Drop, R: Wait, G: Gate>(
     requires none_given { given giver ≡ [] }
     ensures { IfSome result (λ ends. HandedOnAll A.about A.Next.about taker giver ends.0 ends.1) }
 {
-    let taker = run_last_stage(rt, alloc, gate, work, taker, &mut giver)?;
+    let taker = run_until_stop(rt, alloc, gate, work, taker, &mut giver)?;
     match giver.tell(rt, Message::Stop) {
         Ok(()) => Some((taker, giver)),
         Err(_) => None,
@@ -49,7 +49,7 @@ pub fn run_stage<A: Staged, M: Drop, R: Wait, G: Gate>(
 /// records of a message are given once the work is done on all of them. It does not give the stop: that is left to the
 /// caller. Before it works on a record it passes the gate and exchanges lists with other stages; all records use one
 /// scratch. `None` if the other end of its link or of its outlet was gone.
-pub fn run_last_stage<A: Staged, M: Drop, R: Wait, G: Gate, O: Outlet<A::Next, M>>(
+pub fn run_until_stop<A: Staged, M: Drop, R: Wait, G: Gate, O: Outlet<A::Next, M>>(
     rt: &R,
     alloc: Global,
     gate: &G,

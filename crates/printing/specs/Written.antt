@@ -19,7 +19,7 @@ GivesUp failed LaneLost = failed ≡ false
 GivesUp failed Thread = ⊥
 
 -- the sink has not failed where all went well, and otherwise exactly if the message was refused for that
-pub record Stands {A : Type 0} (failed : Bool) (result : Result A (RunFault SinkFault)) : Type 0 where
+pub record TellsFailure {A : Type 0} (failed : Bool) (result : Result A (RunFault SinkFault)) : Type 0 where
   pub stands : OnOk result (failed ≡ false)
   pub gave_up : IfErr result (GivesUp failed)
 

@@ -1,7 +1,7 @@
 //! Text that grows without being moved, in chunks.
 ghost use Rattle.std.specs.Prelude.{◌≡◌, ◌++◌, [], false, OnOk, OnErr};
 ghost use Rattle.printing.specs.Concatenated.{concatenated};
-ghost use Rattle.printing.specs.Written.{GoesOn, IsPartlyAdded, Stands};
+ghost use Rattle.printing.specs.Written.{GoesOn, IsPartlyAdded, TellsFailure};
 
 use crate::writing::put;
 use lanes::RunFault;
@@ -83,7 +83,7 @@ impl Chunks {
         requires { S.failed sink.old ≡ false }
         ensures put { OnOk result (GoesOn (S.taken sink.old) buffer.old (S.taken sink.new) buffer.new self.now) }
         ensures partial { OnErr result (IsPartlyAdded (S.taken sink.old) buffer.old (S.taken sink.new) self.now) }
-        ensures stands { Stands (S.failed sink.new) result }
+        ensures stands { TellsFailure (S.failed sink.new) result }
     {
         put_each(self.full.as_slice(), buffer, sink)?;
         put(buffer, sink, self.last.as_slice())
@@ -99,7 +99,7 @@ fn put_each<S: Sink>(
     requires { S.failed sink.old ≡ false }
     ensures put { OnOk result (GoesOn (S.taken sink.old) buffer.old (S.taken sink.new) buffer.new (concatenated chunks.now)) }
     ensures partial { OnErr result (IsPartlyAdded (S.taken sink.old) buffer.old (S.taken sink.new) (concatenated chunks.now)) }
-    ensures stands { Stands (S.failed sink.new) result }
+    ensures stands { TellsFailure (S.failed sink.new) result }
 {
     for chunk in chunks {
         put(buffer, sink, chunk.as_slice())?;

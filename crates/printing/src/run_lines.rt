@@ -10,7 +10,7 @@ ghost use Rattle.printing.specs.FormLines.{line_in};
 ghost use Rattle.printing.specs.declared.waiting.Waiting.{Waiting};
 ghost use Rattle.printing.specs.Came.{Came, HasEntryMore};
 ghost use Rattle.printing.specs.Orders.{IsNext};
-ghost use Rattle.printing.specs.Written.{IsPartialText, Stands};
+ghost use Rattle.printing.specs.Written.{IsPartialText, TellsFailure};
 ghost use Rattle.printing.specs.Holding.{form_of, choice_of, files_of, IsFlushed, LinesWrite, LinesRemain, LinesHold, ArePartialLines, ArePartialLinesAt, AreLinesOf, StandAt};
 ghost use Rattle.printing.specs.Whole.{HaveFiles, IsAllWritten};
 
@@ -115,7 +115,7 @@ impl Lines {
             → LinesHold J.meaning start (S.taken sink.new) self.new (ns ++ Item (record { file = printed.file; ordinal = printed.ordinal; bytes = printed.rec.value; choice = printed.choice }) ∷ [])) }
         ensures partial { OnErr result ((start : Option (List ℕ)) (ns : List Note) → LinesHold J.meaning start (S.taken sink.old) self.old ns
             → ArePartialLinesAt J.meaning start (S.taken sink.new) self.new ns (Item (record { file = printed.file; ordinal = printed.ordinal; bytes = printed.rec.value; choice = printed.choice }))) }
-        ensures stands { Stands (S.failed sink.new) result }
+        ensures stands { TellsFailure (S.failed sink.new) result }
         ensures same { AreLinesOf self.old self.new }
     {
         let Printed {
@@ -156,7 +156,7 @@ impl Lines {
             → LinesHold J.meaning start (S.taken sink.new) self.new (ns ++ End file mark ∷ [])) }
         ensures partial { OnErr result ((start : Option (List ℕ)) (ns : List Note) → LinesHold J.meaning start (S.taken sink.old) self.old ns
             → ArePartialLinesAt J.meaning start (S.taken sink.new) self.new ns (End file mark)) }
-        ensures stands { Stands (S.failed sink.new) result }
+        ensures stands { TellsFailure (S.failed sink.new) result }
         ensures same { AreLinesOf self.old self.new }
     {
         if known.file != file || known.mark != mark {
@@ -188,7 +188,7 @@ impl Lines {
         ensures partial { OnErr result ((meaning : ℕ → Meaning) (start : Option (List ℕ)) (ns : List Note)
             → LinesHold meaning start (S.taken sink.old) self.old ns → ArePartialLines meaning start (S.taken sink.new) self.new ns) }
         ensures flushed { OnOk result (IsFlushed self.new) }
-        ensures stands { Stands (S.failed sink.new) result }
+        ensures stands { TellsFailure (S.failed sink.new) result }
         ensures same { AreLinesOf self.old self.new }
     {
         match self.buffer.flush(sink) {
@@ -256,7 +256,7 @@ impl Lines {
         ensures partial { OnErr result ((start : Option (List ℕ)) (before after : ℕ → Came) (entry : Entry)
             → line_in self.old.form entry ≡ line.now → HasEntryMore file entry before after → LinesWrite start (S.taken sink.old) self.old before
             → IsPartialText self.old.form start (S.taken sink.new) (files_of self.old) before ⊎ IsPartialText self.old.form start (S.taken sink.new) (files_of self.old) after) }
-        ensures stands { Stands (S.failed sink.new) result }
+        ensures stands { TellsFailure (S.failed sink.new) result }
         ensures same { StandAt self.old self.new }
     {
         count_one(&mut self.waiting, file)?;
@@ -286,7 +286,7 @@ impl Lines {
             → entry.file ≡ file → entry.ordinal ≡ ordinal → entry.answer ≡ Answer.NoMemory → HasEntryMore file entry before after
             → LinesWrite start (S.taken sink.old) self.old before
             → IsPartialText self.old.form start (S.taken sink.new) (files_of self.old) before ⊎ IsPartialText self.old.form start (S.taken sink.new) (files_of self.old) after) }
-        ensures stands { Stands (S.failed sink.new) result }
+        ensures stands { TellsFailure (S.failed sink.new) result }
         ensures current { self.new.current ≡ self.old.current }
         ensures lacking { OnOk result (self.new.flawless ≡ false) }
         ensures same { AreLinesOf self.old self.new }
@@ -309,7 +309,7 @@ impl Lines {
             → LinesWrite start (S.taken sink.old) self.old came → IsPartialText self.old.form start (S.taken sink.new) (files_of self.old) came) }
         ensures unended { OnOk result ((other : Waiting) → self.new.current < length self.new.waiting.items
             → (slice_index_or self.new.waiting.items self.new.current other).mark ≡ None) }
-        ensures stands { Stands (S.failed sink.new) result }
+        ensures stands { TellsFailure (S.failed sink.new) result }
         ensures flawless { self.new.flawless ≡ self.old.flawless }
         ensures same { AreLinesOf self.old self.new }
     {
@@ -347,7 +347,7 @@ impl Lines {
             → LinesWrite start (S.taken sink.old) self.old came → LinesWrite start (S.taken sink.new) self.new came) }
         ensures partial { OnErr result ((start : Option (List ℕ)) (came : ℕ → Came)
             → LinesWrite start (S.taken sink.old) self.old came → IsPartialText self.old.form start (S.taken sink.new) (files_of self.old) came) }
-        ensures stands { Stands (S.failed sink.new) result }
+        ensures stands { TellsFailure (S.failed sink.new) result }
         ensures current { OnOk result (self.new.current ≡ self.old.current + 1) }
         ensures flawless { self.new.flawless ≡ self.old.flawless }
         ensures same { AreLinesOf self.old self.new }
@@ -374,7 +374,7 @@ impl Lines {
             → LinesRemain start (S.taken sink.old) self.old came → LinesWrite start (S.taken sink.new) self.new came) }
         ensures partial { OnErr result ((start : Option (List ℕ)) (came : ℕ → Came)
             → LinesRemain start (S.taken sink.old) self.old came → IsPartialText self.old.form start (S.taken sink.new) (files_of self.old) came) }
-        ensures stands { Stands (S.failed sink.new) result }
+        ensures stands { TellsFailure (S.failed sink.new) result }
         ensures same { StandAt self.old self.new }
     {
         put_preamble(&mut self.buffer, sink, self.form, self.current)?;

@@ -1,7 +1,7 @@
 //! Writing text to a sink through a buffer.
 ghost use Rattle.std.specs.Prelude.{◌≡◌, ◌+◌, false, OnOk, OnErr};
 ghost use Rattle.printing.specs.FormLines.{preamble_in, end_in};
-ghost use Rattle.printing.specs.Written.{GoesOn, IsPartlyAdded, Stands};
+ghost use Rattle.printing.specs.Written.{GoesOn, IsPartlyAdded, TellsFailure};
 
 use crate::lines::{end_text, preamble_line};
 use lanes::RunFault;
@@ -18,7 +18,7 @@ pub(crate) fn put<S: Sink>(
     requires { S.failed sink.old ≡ false }
     ensures put { OnOk result (GoesOn (S.taken sink.old) buffer.old (S.taken sink.new) buffer.new text.now) }
     ensures partial { OnErr result (IsPartlyAdded (S.taken sink.old) buffer.old (S.taken sink.new) text.now) }
-    ensures stands { Stands (S.failed sink.new) result }
+    ensures stands { TellsFailure (S.failed sink.new) result }
 {
     match push_line(buffer, sink, text) {
         Ok(()) => Ok(()),
@@ -36,7 +36,7 @@ pub(crate) fn put_preamble<S: Sink>(
     requires { S.failed sink.old ≡ false }
     ensures put { OnOk result (GoesOn (S.taken sink.old) buffer.old (S.taken sink.new) buffer.new (preamble_in form (file + 1))) }
     ensures partial { OnErr result (IsPartlyAdded (S.taken sink.old) buffer.old (S.taken sink.new) (preamble_in form (file + 1))) }
-    ensures stands { Stands (S.failed sink.new) result }
+    ensures stands { TellsFailure (S.failed sink.new) result }
 {
     put(buffer, sink, preamble_line(form, file).as_slice())
 }
@@ -53,7 +53,7 @@ pub(crate) fn put_end<S: Sink>(
     requires { S.failed sink.old ≡ false }
     ensures put { OnOk result (GoesOn (S.taken sink.old) buffer.old (S.taken sink.new) buffer.new (end_in form (file + 1) end.mark end.count)) }
     ensures partial { OnErr result (IsPartlyAdded (S.taken sink.old) buffer.old (S.taken sink.new) (end_in form (file + 1) end.mark end.count)) }
-    ensures stands { Stands (S.failed sink.new) result }
+    ensures stands { TellsFailure (S.failed sink.new) result }
 {
     match end_text(alloc, form, file, end.mark, end.count) {
         Ok(text) => put(buffer, sink, text.as_slice()),

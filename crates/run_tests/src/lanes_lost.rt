@@ -6,7 +6,7 @@ ghost use Rattle.ruled_lanes.specs.FanEnds.{given_at, gathered};
 
 use answers::{Embedded, Entry, Framed, Shaped};
 use lanes::{
-    Drafts, Message, OpenGate, RunFault, StageWork, Staged, gather, run_last_stage, run_stage,
+    Drafts, Message, OpenGate, RunFault, StageWork, Staged, gather, run_stage, run_until_stop,
 };
 use ruled_lanes::{Gatherer, LANES, LaneGiver, Memory, Taker, fan_in, link};
 use std::alloc::Global;
@@ -96,7 +96,7 @@ fn lose_the_stage_before<R: AllocGlobal + Wait + Abort>(
         lane: 0,
         scratch: <Shaped as Staged>::scratch(rt.alloc()),
     };
-    let end = run_last_stage(rt, rt.alloc(), &OpenGate, work, taker, giver);
+    let end = run_until_stop(rt, rt.alloc(), &OpenGate, work, taker, giver);
     assert!(rt; end.is_none());
     assert!(rt; giver.give(rt, Message::Stop).is_ok());
 }

@@ -1,4 +1,4 @@
-use Rattle.std.proofs.Common.{ap, inr, ◌∙◌}
+use Rattle.std.proofs.Common.{ap, inr}
 use Rattle.std.proofs.lemmas.Result.{err_from_is_err_and}
 use Rattle.commands.proofs.FaultStatus.{no_write, as_written}
 use Rattle.commands.proofs.ReportBegun.{on_err}
@@ -25,12 +25,12 @@ returns-in_err-notes-clause-write g c =
 pub returns-in_err-graphs-clause-write : goal.returns-in_err-graphs-clause-write
 returns-in_err-graphs-clause-write g c =
     let p = err_from_is_err_and c.from_residual-in_err-graphs.result c.from_residual-in_err-graphs.ensures.1 in
-    no_write _ _ _ p.1 (p.2 ∙ c.in_err-graphs.ensures.memory) c.requires.out_is_intact
+    no_write _ _ _ p.1 p.2 c.requires.out_is_intact
 
 pub returns-in_err-lines-clause-write : goal.returns-in_err-lines-clause-write
 returns-in_err-lines-clause-write g c =
     let p = err_from_is_err_and c.from_residual-in_err-lines.result c.from_residual-in_err-lines.ensures.1 in
-    no_write _ _ _ p.1 (p.2 ∙ c.in_err-lines.ensures.memory) c.requires.out_is_intact
+    no_write _ _ _ p.1 p.2 c.requires.out_is_intact
 
 pub returns-in_err-checked-clause-write : goal.returns-in_err-checked-clause-write
 returns-in_err-checked-clause-write g c =

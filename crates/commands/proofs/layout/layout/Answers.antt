@@ -3,7 +3,7 @@ use Rattle.streams.specs.declared.faults.BatchFault.TheVariants.{TooManyFiles, B
 use Rattle.ruled_lanes.specs.declared.limits.TheConstants.{LANES}
 use Rattle.entries.specs.declared.limits.TheConstants.{MAX_FILES}
 use Rattle.command_line.specs.declared.faults.Fault.{Fault}
-use Rattle.command_line.specs.Naming.{meanings_in}
+use Rattle.named_sources.specs.Naming.{meanings_in}
 use Rattle.command_line.specs.Refusals.{IsMisuse}
 use Rattle.commands.proofs.Begun.{begun_by_nothing}
 use Rattle.commands.proofs.Layouts.{begun_if, laid_out_if, told_whole, refusable_if}

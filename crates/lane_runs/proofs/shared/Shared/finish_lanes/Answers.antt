@@ -13,4 +13,4 @@ pub join_lanes-requires-clause-stopped : goal.join_lanes-requires-clause-stopped
 join_lanes-requires-clause-stopped g c = λ κs within lane below. c.in_ok-gatherer.ensures.stopped lane (omega (arith, below, c.len-lanes.ensures, c.requires.lanes))
 
 pub returns-in-Err-clause-failed : goal.returns-in-Err-clause-failed
-returns-in-Err-clause-failed g c = inr (c.of_run.ensures, (_, c.in_ok-gatherer.ensures.told))
+returns-in-Err-clause-failed g c = inr (c.of_any_consumer.ensures, (_, c.in_ok-gatherer.ensures.told))

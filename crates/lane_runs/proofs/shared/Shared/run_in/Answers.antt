@@ -26,6 +26,6 @@ returns-in-Ok g c = record {
 
 pub returns-in-Err : goal.returns-in-Err
 returns-in-Err g c = record {
-  ended = inr (c.of_run.ensures, ([], c.requires.0.empty));
+  ended = inr (c.of_any_consumer.ensures, ([], c.requires.0.empty));
   stays = g.met.C.Consumer.stays_itself _;
 }

@@ -18,8 +18,8 @@ handed : {T A B M : Type 0} (about : A → About) (next_about : B → About) (to
 handed about next_about took gave (Some t) on is = record { same = notes-after next_about gave _ Stop refl ∙ sym is; stopped = (notes next_about gave, is, on) }
 handed about next_about took gave None on is = tt
 
-pub run_last_stage-drew-requires-clause-none_told : goal.run_last_stage-drew-requires-clause-none_told
-run_last_stage-drew-requires-clause-none_told g c = λ κs within. ap (notes g.L.Entry.Numbered.about) c.requires.0.none_given
+pub run_until_stop-drew-requires-clause-none_told : goal.run_until_stop-drew-requires-clause-none_told
+run_until_stop-drew-requires-clause-none_told g c = λ κs within. ap (notes g.L.Entry.Numbered.about) c.requires.0.none_given
 
 pub returns-in-Some-join-clause-told : goal.returns-in-Some-join-clause-told
 returns-in-Some-join-clause-told g c =
@@ -28,9 +28,9 @@ returns-in-Some-join-clause-told g c =
     let run = c.args.self.now.run.now in
     let started = c.in-Some in
     let promise = started.started.read.promise in
-    let giver = c.run_last_stage-drew.new.to in
+    let giver = c.run_until_stop-drew.new.to in
     let gave = given_at giver ++ Stop ∷ [] in
-    let told = handed g.L.Shaped.Numbered.about about taken (given_at giver) c.run_last_stage-drew.result c.run_last_stage-drew.ensures.goes_on c.run_last_stage-drew.ensures.told in
+    let told = handed g.L.Shaped.Numbered.about about taken (given_at giver) c.run_until_stop-drew.result c.run_until_stop-drew.ensures.goes_on c.run_until_stop-drew.ensures.told in
     subst (λ t. TellsSeat about run.choice (meaning run.opener.now) t c.in-Some-join.seat gave) started.ensures.tickets
     (subst (λ o. TellsSeat about run.choice (meaning o) promise.tickets.value c.in-Some-join.seat gave) started.ensures.opener
     (subst (λ x. TellsSeat about x (meaning promise.opener.value) promise.tickets.value c.in-Some-join.seat gave) started.ensures.choice

@@ -1,6 +1,6 @@
 //! The reasons why the system refuses a call.
 
-use crate::fault_line::ShortLine;
+use crate::short_line::ShortLine;
 use std::fmt::{Display, Formatter, Write};
 use std::io::Error;
 use std::{fmt, io};
@@ -15,11 +15,6 @@ pub struct Reason {
 impl Reason {
     /// An unknown reason.
     pub const UNKNOWN: Reason = Reason { code: None };
-
-    /// Whether the reader of a pipe has closed it (`EPIPE`).
-    pub(crate) fn is_broken_pipe(self) -> bool {
-        self.code == Some(32)
-    }
 
     /// The reason that a system error carries.
     pub fn of(error: Error) -> Reason {

@@ -1,8 +1,8 @@
 //! Files by their names.
 ghost use Rattle.std.specs.Prelude.{ℕ, List, IfOk};
 ghost use Rattle.lanes.specs.Opening.{Meaning, Opens, Silent};
-ghost use Rattle.command_line.specs.Naming.{is_input};
-ghost use Rattle.command_line.specs.Refused.{by_fault};
+ghost use Rattle.named_sources.specs.Naming.{is_input};
+ghost use Rattle.named_sources.specs.Refused.{by_fault};
 
 use crate::read_tap::ReadTap;
 use crate::reason::{KeepsReason, Reason};
@@ -55,7 +55,7 @@ where
     R::File: Send,
     R::Dir: Send,
 {
-    ghost use Rattle.command_line.specs.Readers.{reader_of, IsReaderOf};
+    ghost use Rattle.named_sources.specs.Readers.{reader_of, IsReaderOf};
 
     type Source = ReadTap<Either<R::File, I>>;
 

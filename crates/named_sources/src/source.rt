@@ -1,13 +1,12 @@
 //! Files as sources of a run.
-ghost use Rattle.std.specs.Prelude.{◌≡◌, ◌↔◌, Some, [], true, IfOk, IfErr};
-ghost use Rattle.command_line.specs.Sources.{noted_to_come, noted_fails, IsKnownAs};
+ghost use Rattle.std.specs.Prelude.{◌≡◌, ◌↔◌, Some, [], true, IfOk};
+ghost use Rattle.named_sources.specs.Sources.{noted_to_come, noted_fails, IsKnownAs};
 
-use crate::faults::Fault;
 use crate::file_notes::FileNote;
 use crate::named_files::{NamedFiles, Refused};
 use crate::reason::{KeepsReason, Reason};
 use lanes::OpenFault;
-use std::alloc::Global;
+use std::alloc::{AllocError, Global};
 use std::io::ErrorKind;
 use streams::{Tap, TapFault};
 
@@ -82,15 +81,14 @@ impl<F: Tap + KeepsReason> Tap for NotedSource<'_, F> {
 ///
 /// # Errors
 ///
-/// `Memory` if memory ran out while it was opened. There is no other error.
+/// `AllocError` if memory ran out while it was opened. There is no other error.
 pub fn open_source<'r, N: NamedFiles>(
     files: &N,
     alloc: Global,
     name: &str,
     note: Option<&'r FileNote>,
-) -> Result<NotedSource<'r, N::Source>, Fault>
+) -> Result<NotedSource<'r, N::Source>, AllocError>
     ensures known { IfOk result (IsKnownAs N.Source.to_come N.Source.fails (N.meaning files.now name.now)) }
-    ensures memory { IfErr result (λ fault. fault ≡ Fault.Memory) }
 {
     match files.open(alloc, name) {
         Ok(file) => Ok(NotedSource::new(file, note)),
@@ -99,7 +97,7 @@ pub fn open_source<'r, N: NamedFiles>(
                 fault: OpenFault::Memory,
                 ..
             },
-        ) => Err(Fault::Memory),
+        ) => Err(AllocError),
         Err(
             Refused {
                 fault: OpenFault::Io,

@@ -1,6 +1,6 @@
 //! Files, numbered by their places in a list of names.
 ghost use Rattle.std.specs.Prelude.{◌≡◌, slice_get};
-ghost use Rattle.command_line.specs.Naming.{meanings_in};
+ghost use Rattle.named_sources.specs.Naming.{meanings_in};
 
 use crate::file_notes::FileNotes;
 use crate::named_files::NamedFiles;

@@ -1,7 +1,7 @@
 -- What is known of a source of a run.
 use Rattle.std.specs.Prelude.{◌≡◌, ℕ, Bool, true, List, [], Option, None, Some}
 use Rattle.lanes.specs.Opening as opening
-use Rattle.command_line.specs.declared.source.NotedSource.{NotedSource}
+use Rattle.named_sources.specs.declared.source.NotedSource.{NotedSource}
 
 module _ {F : Type 0} where
   -- the bytes of a file that are to come, if it was opened; a file that was not has none

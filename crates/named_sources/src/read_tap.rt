@@ -24,7 +24,7 @@ impl<R> KeepsReason for ReadTap<R> {
 }
 
 impl<R: Read> ReadTap<R> {
-    ghost use Rattle.command_line.specs.Readers.{reader_of};
+    ghost use Rattle.named_sources.specs.Readers.{reader_of};
 
     pub(crate) fn new(reader: R) -> ReadTap<R>
         ensures { reader_of result ≡ reader }
@@ -37,7 +37,7 @@ impl<R: Read> ReadTap<R> {
 }
 
 impl<R: Read + Drop> Tap for ReadTap<R> {
-    ghost use Rattle.command_line.specs.Readers.{remaining_in};
+    ghost use Rattle.named_sources.specs.Readers.{remaining_in};
 
     ghost to_come = { λ _. None };
 

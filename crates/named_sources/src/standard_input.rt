@@ -1,6 +1,6 @@
 //! Standard input by its name, and standard streams that are closed.
 ghost use Rattle.std.specs.Prelude.{◌≡◌};
-ghost use Rattle.command_line.specs.Naming.{is_input};
+ghost use Rattle.named_sources.specs.Naming.{is_input};
 
 use std::fs;
 use std::os::fd::AsFd;
@@ -16,12 +16,14 @@ pub fn is_input(name: &str) -> bool
     name == INPUT
 }
 
+/// Whether a standard stream is open.
+fn is_open<F: AsFd>(stream: &F) -> bool {
+    stream.as_fd().try_clone_to_owned().is_ok()
+}
+
 /// This standard stream, or `None` if it is closed now; to be called before any file is opened.
 pub fn if_open<F: AsFd + Copy>(stream: F) -> Option<F> {
-    match stream.as_fd().try_clone_to_owned() {
-        Ok(_) => Some(stream),
-        Err(_) => None,
-    }
+    is_open(&stream).then_some(stream)
 }
 
 /// A folder in place of this standard stream if it is closed, and otherwise nothing.
@@ -29,8 +31,8 @@ pub fn if_open<F: AsFd + Copy>(stream: F) -> Option<F> {
 /// It has the stream's file descriptor, if the standard streams with lower ones are open or have a folder too; no file
 /// can then get it by chance, as long as the folder is held. Every read and write of a folder fails.
 pub fn place_holder<R: Files, F: AsFd + Copy>(rt: &R, stream: F) -> Option<R::File> {
-    match stream.as_fd().try_clone_to_owned() {
-        Ok(_) => None,
-        Err(_) => fs::open(rt, "/").ok(),
+    if is_open(&stream) {
+        return None;
     }
+    fs::open(rt, "/").ok()
 }

@@ -1,9 +1,9 @@
 //! Notes on the files of a run while they are read: why a file failed, how it ended and its first bytes.
 ghost use Rattle.std.specs.Prelude.{◌≡◌, false, OnOk};
 
-use crate::fault_line::ShortLine;
 use crate::hints::{ending_of, hint_of, number_of};
 use crate::reason::Reason;
+use crate::short_line::ShortLine;
 use std::alloc::{AllocError, Global};
 use std::fmt::Write;
 use std::sync::atomic::{AtomicU8, AtomicU64, Ordering};
