@@ -53,8 +53,8 @@ impl Seen {
         }
     }
 
-    /// Waits until the sink has this many lines, and notes if the next part was then seen more than `most` times. They
-    /// leave, since lines that are buffered leave when none comes for a while.
+    /// Waits until the sink has this many lines, and notes if the next part was then seen more than `most` times. Lines
+    /// that are buffered leave when none comes for a while.
     fn hold(&self, lines: u32, next: &AtomicU32, most: u32) {
         self.wait_for(&self.lines, lines);
         if next.load(Ordering::SeqCst) > most {
@@ -62,9 +62,9 @@ impl Seen {
         }
     }
 
-    /// A stage passes the gate. At its first record it waits until the stage before it is 60 records ahead. At the
-    /// record of this place it waits until the lines of all records before have left: a record that was handed on
-    /// before would have come to the next part by then. The file's first line is not that of a record.
+    /// A stage passes the gate. At its first record it waits until the stage before it is `ahead` records ahead. At the
+    /// record of this place it waits until the lines of all records before it have left, after the file's first line:
+    /// if it had been handed on already, the next part would have got it by then.
     fn pass_at(
         &self,
         ordinal: u32,
@@ -153,8 +153,8 @@ impl<'s> Opener for Files<'s> {
     }
 }
 
-/// Takes a text. When it gets lines after those of the records at which stages are held, it waits until as many more
-/// are drawn as there is room for, or all.
+/// Takes a text. When it gets lines of records after those at which stages are held, it waits until as many more
+/// records are drawn as the fan has room for, or all of them.
 #[derive(Drop)]
 struct Held<'s> {
     seen: &'s Seen,
