@@ -1,7 +1,7 @@
 use Rattle.std.proofs.Common.{◌∷◌, ◌++◌, [], ap, sym, ◌∙◌}
 use Rattle.lanes.specs.Notes.{notes_of, notes_of_items, Item, End}
 use Rattle.lanes.proofs.Passing.{going_told, passed_on}
-use Rattle.lanes.proofs.stage.run_last_stage.Goals as goal
+use Rattle.lanes.proofs.stage.run_until_stop.Goals as goal
 
 pub loop-preserved-in-Ok : goal.loop-preserved-in-Ok
 loop-preserved-in-Ok g c =

@@ -1,7 +1,7 @@
 use Rattle.std.proofs.Common.{◌≡◌, []}
 use Rattle.ruled_lanes.specs.LinkEnds.{taken, TakesFromSame}
 use Rattle.lanes.specs.Notes.{notes, GoOn}
-use Rattle.lanes.proofs.stage.run_last_stage.Given as goal
+use Rattle.lanes.proofs.stage.run_until_stop.Given as goal
 
 abbrev pub invariant-loop : goal.invariant-loop
 invariant-loop g l = record {
