@@ -1,10 +1,10 @@
 #!/usr/bin/env python3
 """Makes the library for C in out/: libplanarbend.a, libplanarbend.so.1 with the link libplanarbend.so, and planarbend.pc, by
-which pkg-config finds them here. Both libraries are the crate planarbend_c, which it proves over the libraries that
-build.py has proved, and c/planarbend.c. They export the names that c/planarbend.map lists and no others. It needs a C
-compiler (CC, or cc) and binutils.
+which pkg-config finds them here. Both libraries consist of the crate planarbend_c, which this script proves over the
+libraries that build.py has proved, and of c/planarbend.c. They export the names in c/planarbend.map and no others. Needs a
+C compiler (CC, or cc) and binutils.
 
-`planarbend --build` runs it at last. With an archive as its one word it takes that in place of the proved crate.
+`planarbend --build` runs it last. With one argument, an archive, it uses that instead of the proved crate.
 """
 import os
 import re
@@ -26,13 +26,13 @@ FLAGS = ["-std=c11", "-O2", "-fPIC", "-Wall", "-Wextra", "-Werror"]
 
 
 def prove():
-    """Proves the crate and compiles it to the archive, where that was not made of the texts of today."""
+    """Proves the crate and compiles it to the archive, unless the archive was made from the current sources."""
     crates = build.Crates(build.LIBRARY)
     missing = [name for name in crates.libraries if not crates.is_built(name)]
     if missing and missing != [build.LIBRARY]:
         stop(f"libraries below {build.LIBRARY} are not proved: planarbend --build proves them")
     if missing:
-        say("the library for C is proved and compiled now")
+        say("proving and compiling the library for C")
         with build.kept_out(crates.uses) as held:
             build.prove(crates, build.Work(crates, build.processors()), held)
 
@@ -56,7 +56,7 @@ def package_text(prefix, libraries, headers):
 
 
 def run(*words):
-    """Runs a command; where it fails, the script ends by what it said."""
+    """Runs a command; if it fails, prints its output and ends the script."""
     ran = subprocess.run([str(word) for word in words], stdout=subprocess.PIPE, stderr=subprocess.STDOUT, text=True)
     if ran.returncode:
         sys.stderr.write(ran.stdout)
@@ -64,7 +64,7 @@ def run(*words):
 
 
 def make(archive, out, folder):
-    """Makes the libraries in a folder, by files in another."""
+    """Makes the libraries in the folder `out`, with temporary files in `folder`."""
     compiler = os.environ.get("CC") or "cc"
     own, whole = folder / "planarbend.o", folder / "whole.o"
     run(compiler, *FLAGS, f'-DPLANARBEND_VERSION="{version()}"', f"-I{SOURCE}", "-c", SOURCE / "planarbend.c", "-o", own)
@@ -87,7 +87,7 @@ def main():
     archive = Path(sys.argv[1] if len(sys.argv) > 1 else build.library_of(build.LIBRARY))
     for tool in (os.environ.get("CC") or "cc", "ld", "objcopy", "ar"):
         if shutil.which(tool) is None:
-            stop(f"{tool} is not on the path, so the library for C cannot be made")
+            stop(f"{tool} is not on the path, and the library for C needs it: install a C compiler and binutils")
     if len(sys.argv) == 1:
         end_on_signals()
         prove()
@@ -96,7 +96,7 @@ def main():
     OUT.mkdir(exist_ok=True)
     with tempfile.TemporaryDirectory(dir=OUT) as folder:
         make(archive, OUT, Path(folder))
-    say(f"the library for C stands in {OUT}")
+    say(f"the library for C is in {OUT}")
 
 
 if __name__ == "__main__":

@@ -51,14 +51,14 @@ enum { ALIGNMENT = 16, HEAD = ALIGNMENT, FIRST_ROOM = 16 << 10, MOST_ROOM = (1 <
 
 struct planarbend {
     unsigned char *piece;
-    size_t room; /* 0 where there is no piece */
+    size_t room; /* 0 if there is no piece */
 };
 
 /*
- * The piece of memory of the object that this thread's call has; all null where it has none.
+ * The piece of memory of the object that this thread's call has; all null if it has none.
  *
- * Blocks are cut off one after another, each behind its size. A call gives all of them back before it returns, so each call
- * begins with the whole piece; of blocks given back before, the last one is used again. Where the piece is too small, malloc
+ * Blocks are cut off one after another, each after its size. A call returns all of them before it ends, so each call
+ * begins with the whole piece; of blocks returned before, the last one is used again. If the piece is too small, malloc
  * gives the block, and the next call finds a greater piece.
  */
 static _Thread_local struct {
@@ -109,7 +109,7 @@ static bool is_inside(const void *block) {
     return (uintptr_t)block - (uintptr_t)lent.piece < (uintptr_t)lent.next - (uintptr_t)lent.piece;
 }
 
-/* Whether no block lies behind this one, which begins there with its head. */
+/* Whether no block lies after this one, which begins there with its head. */
 static bool is_last(const unsigned char *start) {
     size_t whole;
     memcpy(&whole, start, sizeof whole);
@@ -150,7 +150,7 @@ static void lend(const planarbend *object) {
     lent.outside = 0;
 }
 
-/* Ends that. Where the piece was too small, the object has a greater one then; where there is no memory for one, none. */
+/* Ends that. If the piece was too small, the object has a greater one then, or none if memory ran out. */
 static void take_back(planarbend *object) {
     size_t outside = lent.outside;
     lend(NULL);

@@ -2,7 +2,7 @@
 """Checks of the pages for checks/ready: no page is too long; the numbers of crates, proofs, edits, attacks and tests
 that pages quote are those of the tree; and each name in backticks exists in the tree as a file, a crate, an option, or
 a word of the code, the definitions or the scripts. In docs/PROVED.md, a name must occur in the crates of its section,
-and each clause in a table must be in the contract of a call beside it. Code blocks are not checked. The man page
+and each clause in a table must be in the contract of a call in the same row. Code blocks are not checked. The man page
 docs/planarbend.1 has the arguments and options of --help in the same words, its version is the program's, and
 `man --warnings` finds no fault in it. Its texts are those of checks/start/texts, which checks/first-answer compares
 with the program's. Run directly, this script puts these texts into the man page.
@@ -29,7 +29,7 @@ NUMBER = re.compile(r"([\d,]*\d) (crates|proofs|edits|attacks|tests)\b")
 # Words of other programs, of formats, and of the system.
 OUTSIDE = set("""rt ci check fmt tidy lemma test doc version must-fail verdict Ok Err printf png svg planarg geng -p -c
     -D4 plantri parallel slurm-wlm munge nauty chromium futex clap MOD RES kill cred_expire slurm.conf sshlogin workdir
-    env passed failed smallvec --only requires docs/REFUSED.md python3-networkx""".split())
+    env passed failed smallvec --only requires docs/REFUSED.md python3-networkx graphviz pip -e""".split())
 MAN, TEXTS = "docs/planarbend.1", "checks/start/texts"
 ENTRY = re.compile(r"^ {2,6}(-\S.*?|<.*?>\S*)  +(\S.*)$")  # an argument or option of --help, and what it says
 WORD = re.compile(r"-{0,2}[A-Za-z_][\w\-]*(?:\.[a-z]\w*)*|\d[\d,.]*")
@@ -149,7 +149,7 @@ def clauses_by_call(tree):
 
 
 def lost_clauses(tree, text):
-    """The clauses in the tables of docs/PROVED.md that no call beside them has. A cell without a call repeats the one
+    """The clauses in the tables of docs/PROVED.md that no call of their row has. A cell without a call repeats the one
     above; in a table of two columns the call is in the heading."""
     clauses, lost = clauses_by_call(tree), []
     for table in re.findall(r"(?:^\|.*\n)+", text, flags=re.M):

@@ -86,7 +86,7 @@ class Cases:
         print(f"{'passed' if well else 'FAILED'}: {name}" + f": {told}" * bool(told), flush=True)
 
     def run(self, name: str, case: Callable[..., object], *given: object) -> None:
-        """Runs a case, which fails by an exception."""
+        """Runs a case; it fails if it raises an exception."""
         try:
             case(*given)
         except Exception as fault:
@@ -134,7 +134,7 @@ Part = Callable[[argparse.Namespace, str], Section]  # of a script: from its opt
 
 
 def measure(told: argparse.Namespace, parts: dict[str, Part]) -> int:
-    """Runs the parts that are named, each in a folder of its own, keeps what they print if requested, and tells their
+    """Runs the named parts, each in its own folder, keeps what they print if requested, and prints their
     faults. Returns the exit status of the script."""
     faults = []
     for name in told.names:
@@ -227,7 +227,7 @@ def outside(folder: str, source: str = "lemon.cc", *more: str) -> str:
 
 
 def toolchain(name: str = "rt") -> Any:
-    """The toolchain's command `rt` as a module, or the module `rtlib` beside it, which knows crates."""
+    """The toolchain's command `rt` as a module, or the module `rtlib` next to it, which reads crates."""
     command = os.path.realpath(shutil.which("rt") or sys.exit("the Rattle kit's command rt is not on the path"))
     return module(command if name == "rt" else os.path.join(os.path.dirname(command), name + ".py"))
 

@@ -19,7 +19,7 @@ static void wrong(int line, const char *what) {
 
 /* ---- memory that is refused */
 
-static long refused = -1; /* how many allocations go well before one is refused; none where it is below 0 */
+static long refused = -1; /* how many allocations go well before one is refused; none if it is below 0 */
 static long asked = 0;
 
 void *__real_malloc(size_t size);
@@ -227,7 +227,7 @@ static void look_at_sizes(const uint8_t *record, size_t size) {
     }
 }
 
-/* One allocation refused after another, until a call meets none: each ends by want of memory or by the same answer. */
+/* One allocation refused after another, until a call meets none: each ends with PLANARBEND_MEMORY or with the same answer. */
 static void look_at_memory(const uint8_t *record, size_t size, int drawing, planarbend *object) {
     planarbend_counts counts, found;
     refused = -1;

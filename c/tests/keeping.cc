@@ -1,6 +1,6 @@
 // For each graph of a planar_code file and random conditions: whether libplanarbend and LEMON's network simplex find as few
 // bends, or both none. Arguments: the file, how many conditions for each graph, and a seed. It looks at each drawing too:
-// edges that are to stay straight have no corners, and the outer face is none that is to stay inside. Where there is no
+// edges that are to stay straight have no corners, and the outer face is none that is to stay inside. If there is no
 // shape, it prints a line: the word "cut", the record in hexadecimal, the numbers of the straight darts and of the faces to
 // stay inside, the outer face, and the vertices and faces of the library's cut, each list with commas ("-": empty). At last
 // counts; the first disagreement ends it by status 1.

@@ -4,7 +4,7 @@
  *     speed OUTER DRAWING MEMORY ROUNDS FILE
  *
  * OUTER and DRAWING are numbers of planarbend.h; MEMORY is "object" or "malloc". It prints the microseconds of the processor
- * that a graph took in the least of so many rounds, and the sum of all bends.
+ * that a graph took in the fastest of ROUNDS rounds, and the sum of all bends.
  */
 #define _POSIX_C_SOURCE 200809L
 #include <stdio.h>

@@ -134,7 +134,7 @@ def in_pieces(machine: Machine, command: Command, text: bytes, records: list[byt
 
 
 def names_of_each_length(machine: Machine, command: Command) -> None:
-    """A file with a name of each length from 1 to 255 bytes holds as many records as its name has bytes."""
+    """Files with names of 1 to 255 bytes, each with as many records as its name has bytes."""
     for length in range(1, 256):
         name = "n" * length
         path = machine.file(HEADER + EDGE * length, os.path.join(machine.folder, name))
@@ -169,7 +169,7 @@ def check_streams(machine: Machine) -> None:
 
 
 def named_pipes(machine: Machine, command: Command) -> None:
-    """Pipes with a name, which are slow, are cut, stop, or give nothing."""
+    """FIFOs that are slow, end early, stop, or give nothing."""
     for name, text, pause in [("byte by byte", TWO, PAUSE), ("cut in a record", TWO[:-3], 0)]:
         with machine.case(command, f"a FIFO, {name}"):
             is_whole(command, slowly(machine, command, text, pause), [split(text)])
@@ -222,8 +222,8 @@ def check_input(machine: Machine) -> None:
         machine.whole(command, "- between files", others, [two, one, two, one], given=HEADER + LONE)
         machine.whole(command, "- is closed, between files", others, [two, IO, two, one], preexec_fn=closing(0))
     for command in (Command(["layout", "--lanes", "2"]), Command(["layout", "--lanes", "2", "--json"])):
-        with machine.case(command, "- is closed, while an open file has its number"):
-            is_whole(command, numbered_as_input(machine, command), [two, two, IO])
+        with machine.case(command, "- is closed, and no file gets its number"):
+            is_whole(command, beside_closed_input(machine, command), [two, two, IO])
 
 
 def input_is_a_pipe(machine: Machine, command: Command) -> None:
@@ -249,26 +249,26 @@ def input_is_a_file(machine: Machine, command: Command, before: str) -> None:
 
 
 def input_is_a_folder(machine: Machine, command: Command) -> None:
-    """Standard input that opens, and that no read reads."""
+    """Standard input that opens, and every read of which fails."""
     with machine.case(command, "- is a directory"), contextlib.ExitStack() as opened:
         folder = os.open(machine.room, os.O_RDONLY)
         opened.callback(os.close, folder)
         is_whole(command, machine.run([*command.words, "-"], stdin=folder), [IO])
 
 
-def numbered_as_input(machine: Machine, command: Command) -> Ran:
-    """A run of two lanes without standard input over two FIFOs and `-`. One of the FIFOs gets the number of standard
-    input, and ends after `-` has come."""
+def beside_closed_input(machine: Machine, command: Command) -> Ran:
+    """A run of two lanes over two FIFOs and `-`, while standard input is closed: a folder has its number. `-` is opened
+    once a FIFO has ended."""
     paths = [machine.fifo(), machine.fifo()]
     with both_ends(paths[0]) as one, both_ends(paths[1]) as other, \
             machine.started([*command.words, *paths, "-"], preexec_fn=closing(0)) as child:
         wait_for(lambda: child.poll() is not None or all(place_in(child.pid, path) >= 0 for path in paths), "two files")
-        first = os.path.realpath(f"/proc/{child.pid}/fd/0")
-        for path, writer in sorted([(paths[0], one), (paths[1], other)], key=lambda pair: pair[0] == first):
+        if (first := os.path.realpath(f"/proc/{child.pid}/fd/0")) != "/":
+            raise Wrong(f"{first} has the number of standard input")
+        for path, writer in zip(paths, (one, other)):
             writer.write(TWO)
             writer.close()
             wait_for(lambda: child.poll() is not None or place_in(child.pid, path) < 0, "the end of a file")
-            time.sleep(0.1)
         return machine.ended(child)
 
 
@@ -343,6 +343,7 @@ def check_reasons(machine: Machine) -> None:
         for name, path, reason in files:
             tells(machine, command, name, path, IO, reason, **(AS_NOBODY if reason == "Permission denied" else {}))
         tells(machine, command, "- is closed", "-", IO, CLOSED, preexec_fn=closing(0))
+        tells(machine, command, "/dev/stdin, closed", "/dev/stdin", IO, FOLDER, preexec_fn=closing(0))
         with open("/dev/null", "wb") as null:
             tells(machine, command, "- is open for writing only", "-", IO, CLOSED, stdin=null)
         fails_in_the_middle(machine, command)
@@ -373,7 +374,7 @@ def unreadable(machine: Machine) -> list[tuple[str, str, str]]:
 
 
 def fails_in_the_middle(machine: Machine, command: Command) -> None:
-    """A read that fails after two records: the other end of a terminal is gone."""
+    """A read that fails after two records: the other end of a terminal was closed."""
     with machine.case(command, "what is said of a read that fails in the middle"):
         master, terminal = pty.openpty()
         with os.fdopen(master, "rb", buffering=0) as given:
@@ -385,8 +386,8 @@ def fails_in_the_middle(machine: Machine, command: Command) -> None:
 
 
 def misfits() -> list[tuple[str, bytes, str | None]]:
-    """Files that are no planar_code in the one-byte form, as the programs write them that make such files, and what is
-    said of them; and a file of which nothing is said."""
+    """Files that are not planar_code in the one-byte form, as other programs write them, with the message about each;
+    and a file without a message."""
     two_bytes = "two-byte form: at most 255 vertices here"
     cases: list[tuple[str, bytes, str | None]] = [
         ("gzip", gzip.compress(TWO), "gzip-compressed: use zcat"),
@@ -407,7 +408,7 @@ def misfits() -> list[tuple[str, bytes, str | None]]:
 
 
 def tells_in_order(machine: Machine, command: Command) -> None:
-    """A line for each file that could not be read, in the order of the files; a name may come twice."""
+    """A line for each file that could not be read, in the order of the files; a name may occur twice."""
     with machine.case(command, "what is said of several files"):
         missing = machine.path()
         paths = [missing, machine.two, machine.room, "-", missing]

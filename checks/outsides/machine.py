@@ -158,7 +158,7 @@ MISFITS = ("header", "large", "oversize", "truncated")
 
 def is_whole(command: Command, ran: Ran, files: list[File], said: str | None = None) -> None:
     """The whole report of these files, the status that goes with it, and this text on standard error. If no text is
-    given, there is a line for each file that could not be read, and one or none for each that is no planar_code."""
+    given, there is a line for each file that could not be read, and one or none for each that is not planar_code."""
     least = sum(file.mark == "io" for file in files)
     most = least + sum(file.mark in MISFITS for file in files)
     told = said if said is not None else ran.err
@@ -181,7 +181,7 @@ def lacks_memory(event: Event) -> bool:
 
 
 def are_same(events: list[Event], expected: list[Event], scarce: bool) -> bool:
-    """Whether these are the lines expected; where memory is scarce, a graph may be `memory` instead."""
+    """Whether these are the expected lines; if memory is scarce, a graph may be `memory` instead."""
     return len(events) == len(expected) and all(
         event == other or scarce and lacks_memory(event)
         and (event[0], event[1].split()[:2]) == (other[0], other[1].split()[:2])
@@ -189,7 +189,7 @@ def are_same(events: list[Event], expected: list[Event], scarce: bool) -> bool:
 
 
 def is_beginning(command: Command, out: bytes, files: list[File], scarce: bool = False) -> None:
-    """What was written is a beginning of the whole report of these files; where memory is scarce, with graphs that
+    """What was written is a prefix of the whole report of these files; if memory is scarce, with graphs that
     are `memory`."""
     events, rest = events_of(command, out)
     expected = expected_events(command, files)
@@ -201,7 +201,7 @@ def is_beginning(command: Command, out: bytes, files: list[File], scarce: bool =
 
 
 def is_fault(ran: Ran, status: int, text: str | None) -> None:
-    """This status with nothing on standard output, and this text on standard error, or any where it is None."""
+    """This status with nothing on standard output, and this text on standard error (any text if it is None)."""
     if ran.status != status or ran.out or (not ran.err if text is None else ran.err != text):
         raise Wrong(f"status {ran.status}, {len(ran.out)} bytes of output, {ran.err[:200]!r}; not status {status}, "
                     f"{'a text' if text is None else repr(text)}")
@@ -217,7 +217,7 @@ AS_NOBODY: dict[str, Any] = {"user": NOBODY, "group": NOBODY, "extra_groups": []
 
 
 def limits(**which: int) -> Callable[[], None]:
-    """What sets limits by name, as AS or NOFILE, in the process that becomes the program."""
+    """A function that sets limits by name, such as AS or NOFILE, in the process that becomes the program."""
     def set_limits() -> None:
         for name, most in which.items():
             resource.setrlimit(getattr(resource, f"RLIMIT_{name}"), (most, most))
@@ -225,7 +225,7 @@ def limits(**which: int) -> Callable[[], None]:
 
 
 def closing(*descriptors: int) -> Callable[[], None]:
-    """What closes these in the process that becomes the program."""
+    """A function that closes these in the process that becomes the program."""
     def close() -> None:
         for descriptor in descriptors:
             os.close(descriptor)
@@ -245,7 +245,7 @@ def full_disk() -> Any:
 
 
 def both_ends(fifo: str) -> Any:
-    """The end of a FIFO by which it is written, and by which it is also open for reading."""
+    """The writing end of a FIFO, which is also open for reading."""
     return open(fifo, "r+b", buffering=0)
 
 
@@ -266,7 +266,7 @@ def waiting_bytes(pipe: int) -> int:
 
 
 def is_stopped(process: int) -> bool:
-    """Whether each thread of a process stands still."""
+    """Whether all threads of a process are idle."""
     states = []
     for task in os.listdir(f"/proc/{process}/task"):
         with contextlib.suppress(OSError), open(f"/proc/{process}/task/{task}/stat", encoding="ascii") as line:

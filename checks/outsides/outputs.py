@@ -67,7 +67,7 @@ def output_is_closed(machine: Machine, command: Command) -> None:
 
 
 def output_is_gone(machine: Machine, command: Command) -> None:
-    """Standard output whose other end is gone."""
+    """Standard output whose reader has closed it."""
     words, two = [*command.words, machine.two], [split(TWO)]
     with machine.case(command, "standard output on a terminal that is gone"):
         master, terminal = pty.openpty()
@@ -82,7 +82,7 @@ def output_is_gone(machine: Machine, command: Command) -> None:
 
 
 def nobody_reads(machine: Machine, command: Command, long: str) -> None:
-    """Standard output that is a pipe which nobody reads, from the beginning or after the first line."""
+    """Standard output is a pipe that nobody reads, from the beginning or after the first line."""
     many = [File([EDGE, TRIANGLE] * MANY, "complete")]
     for name, how in [("", {}), (", SIGPIPE ignored", IGNORED)]:
         with machine.case(command, f"standard output is a closed pipe{name}"), broken_pipe() as pipe:
@@ -92,7 +92,7 @@ def nobody_reads(machine: Machine, command: Command, long: str) -> None:
 
 
 def first_line(machine: Machine, words: list[Any], how: dict[str, Any]) -> Ran:
-    """A run whose reader goes after the first line."""
+    """A run whose reader closes the pipe after the first line."""
     with machine.started(words, **how) as child:
         line = child.stdout.readline()
         child.stdout.close()
@@ -101,7 +101,7 @@ def first_line(machine: Machine, words: list[Any], how: dict[str, Any]) -> Ran:
 
 
 def to_a_short_file(machine: Machine, words: list[Any]) -> Ran:
-    """A run that writes to a file which may have 16 bytes."""
+    """A run that writes to a file limited to 16 bytes."""
     def prepare() -> None:
         signal.signal(signal.SIGXFSZ, signal.SIG_IGN)
         limits(FSIZE=16)()
@@ -136,7 +136,7 @@ FULL_PIPE = 30_000  # bytes, more than which a pipe holds once a run waits to wr
 
 
 def check_signals(machine: Machine) -> None:
-    """Both signals by which a run is asked to end."""
+    """Both signals that ask a run to end."""
     long = machine.file(LONG)
     for command in COMMANDS:
         for which in (signal.SIGTERM, signal.SIGINT):
@@ -239,12 +239,12 @@ def feeding(machine: Machine, command: Command, path: str, *more: str) -> Iterat
 
 
 def begun(command: Command, records: list[bytes]) -> list[Event]:
-    """What a report tells of a file with these records that has not ended."""
+    """What a report contains of a file with these records that has not ended."""
     return expected_events(command, [File(records, "complete")])[:-1]
 
 
 def falls_silent(machine: Machine, command: Command, path: str) -> None:
-    """Graphs come at once, and then nothing for some seconds."""
+    """Graphs arrive at once, and then nothing for some seconds."""
     records = [EDGE, TRIANGLE] * (AT_ONCE // 2)
     with feeding(machine, command, path) as fed:
         fed.pipe.write(HEADER + b"".join(records))
@@ -280,7 +280,7 @@ def comes_slowly(machine: Machine, command: Command) -> None:
 
 
 def is_before_another(machine: Machine, command: Command) -> None:
-    """The lines of a silent file are written, although a later file, whose lines wait, has ended."""
+    """The lines of a silent file are written, although a later file, whose lines are buffered, has ended."""
     records = [TRIANGLE] * 3
     other = machine.file(HEADER + EDGE * 2_000)
     with feeding(machine, command, "-", other) as fed:
@@ -318,7 +318,7 @@ def tells_nothing(machine: Machine, command: Command) -> None:
 
 
 def tells_on_a_terminal(machine: Machine, command: Command, wanted: bool) -> None:
-    """On a terminal the line is written over, and ended at the end of the run; it stands there only if wanted."""
+    """On a terminal the line is overwritten, and ended at the end of the run; it is shown only if requested."""
     ran, shown = on_a_terminal(machine, command, 100, "stderr")
     is_whole(command, ran, [File([EDGE] * 100, "complete")])
     if wanted:
@@ -330,7 +330,7 @@ def tells_on_a_terminal(machine: Machine, command: Command, wanted: bool) -> Non
 
 
 def shares_a_terminal(machine: Machine, command: Command) -> None:
-    """On a terminal to which the report goes too, each of its lines stands whole, and then the last of progress."""
+    """On a terminal that also gets the report, each of its lines is complete, and the last line of progress follows."""
     ran, shown = on_a_terminal(machine, command, 200, "stdout", "stderr")
     *report, last = screen_of(shown)
     text = "".join(line + "\n" for line in report).encode()
@@ -339,7 +339,7 @@ def shares_a_terminal(machine: Machine, command: Command) -> None:
 
 
 def on_a_terminal(machine: Machine, command: Command, graphs: int, *outputs: str) -> tuple[Ran, str]:
-    """A run over this many graphs, of which these outputs are a terminal, and what that shows."""
+    """A run over this many graphs whose given outputs are a terminal, and what the terminal shows."""
     master, terminal = pty.openpty()
     parts: list[bytes] = []
     reader = threading.Thread(target=reads_all, args=(master, parts), daemon=True)
@@ -354,14 +354,14 @@ def on_a_terminal(machine: Machine, command: Command, graphs: int, *outputs: str
 
 
 def reads_all(master: int, parts: list[bytes]) -> None:
-    """Reads what comes to a terminal until nobody has it open."""
+    """Reads what is written to a terminal until nobody has it open."""
     with contextlib.suppress(OSError):
         while part := os.read(master, 65_536):
             parts.append(part)
 
 
 def screen_of(shown: str) -> list[str]:
-    """The lines that stand on a screen after this text, with the cursor's return and the end of a line cleared."""
+    """The lines on a screen after this text, which returns the cursor and clears to the end of the line."""
     lines, column = [""], 0
     for word in re.findall(r"\x1b\[K|\r|\n|[^\x1b\r\n]+", shown):
         if word == "\n":
@@ -378,7 +378,7 @@ def screen_of(shown: str) -> list[str]:
 
 
 def tells_in_time(machine: Machine, command: Command) -> None:
-    """While graphs come for more than a second, lines come at most four times a second, and once at the end."""
+    """While graphs arrive for over a second, lines are written at most four times a second, and once at the end."""
     start = time.monotonic()
     ran = machine.fed([*command.words, "-"], HEADER + EDGE * 300, 0.001)
     passed = time.monotonic() - start
@@ -474,7 +474,7 @@ def place_where_it_pauses(child: subprocess.Popen[bytes], path: str, least: int)
 
 
 def opens(machine: Machine, words: list[str], lanes: int) -> None:
-    """Of ten files without data, as many are open at once as there are lanes."""
+    """Of ten files without data, one for each lane is open at a time."""
     paths = [machine.fifo() for _ in range(10)]
     with contextlib.ExitStack() as opened:
         for path in paths:

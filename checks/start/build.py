@@ -1,6 +1,6 @@
 #!/usr/bin/env python3
-"""Proves and builds the program and the library for C, and shows its progress and about how much time is left. What is
-proved is kept, so a build that was stopped continues there. The exit status is 0 if both are built, otherwise 1.
+"""Proves and builds the program and the library for C, and shows its progress and an estimate of the time left. Proved
+crates are kept, so a build that was stopped continues from them. The exit status is 0 if both are built, otherwise 1.
 
 Libraries are proved in parallel, first those on which the longest chain of others depends. Each is built with only its
 statements, as in `rt ci`, so that crates above need not load its proofs. rt builds libraries with their proofs, so the
@@ -225,7 +225,7 @@ def kept_out(names):
             try:
                 fcntl.flock(folder, fcntl.LOCK_EX | fcntl.LOCK_NB)
             except BlockingIOError:
-                tell_state("waiting for an rt or an earlier build that works here")
+                tell_state("waiting for another rt or build in this checkout")
                 fcntl.flock(folder, fcntl.LOCK_EX)
         yield folders
 
@@ -355,11 +355,11 @@ def processors():
 def build(crates):
     begun, both = time.time(), Crates("planarbend", LIBRARY)
     work = Work(both, processors())
-    say(f"proving and building, about {BUILD_MINUTES} minutes on 4 free cores from nothing; when it is stopped, the"
-        " next --build goes on")
+    say(f"proving and building: about {BUILD_MINUTES} minutes on 4 idle cores from scratch; if this is stopped, the next"
+        " --build continues")
     with kept_out(both.uses) as held:
         prove(both, work, held)
-        work.tell("the program itself is proved and compiled now")
+        work.tell("proving and compiling the program itself")
         os.makedirs(os.path.dirname(PROGRAM), exist_ok=True)
         with contextlib.suppress(FileNotFoundError):
             os.remove(SUMS)
@@ -367,7 +367,7 @@ def build(crates):
         os.utime(PROGRAM, (begun, begun))  # a source that was changed in the meantime is newer
         crates.keep_program()
     clear_line()
-    say(f"the program is proved and built, in {work.minutes():.0f} min")
+    say(f"proved and built the program in {work.minutes():.0f} min")
 
 
 def make_library():
@@ -379,7 +379,7 @@ def make_library():
 def main():
     crates = Crates()
     if crates.is_program_built():
-        say("the program is proved and built from these sources")
+        say("the program is already proved and built from these sources")
         make_library()
         return
     end_on_signals()
@@ -388,14 +388,14 @@ def main():
         try:
             fcntl.flock(lock, fcntl.LOCK_EX | fcntl.LOCK_NB)
         except BlockingIOError:
-            stop("another --build runs here, and shows its progress")
+            stop("another --build is running here, and shows its progress")
         try:
             build(crates)
             make_library()
         except SystemExit as ended:
             if ended.code > 128:  # a signal
                 clear_line()
-                say("stopped: the next --build goes on from what is proved")
+                say("stopped: the next --build continues from what is proved")
             raise
 
 

@@ -44,7 +44,7 @@ def look_at_machine(what, memory, disk, folder):
              "end other programs, or build on another machine and copy crates/planarbend/out/planarbend")
     free = shutil.disk_usage(folder).free // 1000000
     if free < disk:
-        stop(f"{what} needs {disk} MB of disk below {folder}, and {free} MB are free", "make room there")
+        stop(f"{what} needs {disk} MB of disk space in {folder}, and {free} MB are free", "free some space there")
 
 
 def end_on_signals():

@@ -1,10 +1,10 @@
 #!/usr/bin/env python3
-"""Copies what --build has made below a folder: the program and planarbend-draw to bin, the library to lib, its header
-to include, the man page to share/man/man1, and the Python package to the folder below it where this version of Python
-looks for packages. Files of an earlier version are replaced; each file is complete at any time.
+"""Copies what --build has made to folders below PREFIX: the program and planarbend-draw to bin, the library to lib, its
+header to include, the man page to share/man/man1, and the Python package to the folder below PREFIX where this version
+of Python looks for packages. Files of an earlier version are replaced; each file is complete at any time.
 
-`planarbend --install PREFIX` runs it. The exit status is 0 if everything is copied; otherwise it is 1, and a message
-says why.
+`planarbend --install PREFIX` starts this script. The exit status is 0 if everything was copied; otherwise it is 1, and
+a message says why.
 """
 import os
 import shutil
@@ -74,7 +74,7 @@ def install(prefix):
     if (make.OUT / make.SONAME).is_file():
         put_library(prefix)
     else:
-        say("no library for C stands here, so none is installed; planarbend --build makes it")
+        say("there is no C library here, so none is installed: planarbend --build makes it")
     put(TOP / "docs/planarbend.1", prefix / "share/man/man1/planarbend.1", 0o644)
     packages = put_package(prefix)
     put_text(DRAW.format(python=sys.executable, packages=str(packages)), prefix / "bin/planarbend-draw", 0o755)

@@ -2,9 +2,9 @@
 """Answers a call of planarbend by a trial run if there is no proved program: `rt try` compiles the same sources with
 run-time checks, proves nothing, and runs the compiled program in its own folder, on copies of the caller's files.
 
-`planarbend` starts it with its own name, the reason why no proved program answers, and the arguments of the call. The
-answer goes to standard output only after the trial has ended successfully; the exit status is then that of the program.
-If a trial cannot answer, a message says so and what to do, and the exit status is 1.
+`planarbend` starts it with its own path, the reason why no proved program runs, and the arguments of the call. The
+output is written only after the trial has ended successfully; the exit status is then that of the program. If a trial
+cannot answer, a message says why and what to do, and the exit status is 1.
 """
 import os
 import re
@@ -51,7 +51,7 @@ class Trial:
         self.words = list(words)
         self.files = places_of_files(words)
         self.way_out = (f"{called} --build proves and builds the program, in about {BUILD_MINUTES} minutes on"
-                        " 4 free cores")
+                        " 4 idle cores")
         self.room = INPUT
         self.data = []
         self.names = {}
@@ -124,8 +124,10 @@ class Trial:
         try:
             with open(1, "wb", closefd=False) as out:
                 out.write(Path(self.path("stdout")).read_bytes())
-        except OSError:
-            stop("write failed")
+        except BrokenPipeError:
+            return 1  # without a message, like the program
+        except OSError as error:
+            stop(f"cannot write output: {error.strerror}")
         return int(ended[1])
 
     def tell_fault(self, said):
@@ -133,9 +135,9 @@ class Trial:
         if b" bytes to standard output or to standard error, the limit on each" in said:
             self.refuse("its output is longer than 1 MiB")
         if b"no-answer: the program did not end within the time limit" in said:
-            self.refuse(f"it takes longer than {SECONDS} seconds of run")
+            self.refuse(f"it runs for longer than {SECONDS} seconds")
         write_error(said)
-        self.refuse("the lines above tell why it failed")
+        self.refuse("the lines above say why")
 
 
 def size_of(file):
@@ -147,23 +149,26 @@ def size_of(file):
     return found.st_size if stat.S_ISREG(found.st_mode) else 0
 
 
-def are_text(words):
-    try:
-        return all(os.fsencode(word).decode() is not None for word in words)
-    except UnicodeDecodeError:
-        return False
+def first_not_utf8(words):
+    """The number, from 1, of the first argument that is not UTF-8, or None."""
+    for number, word in enumerate(words, 1):
+        try:
+            os.fsencode(word).decode()
+        except UnicodeDecodeError:
+            return number
+    return None
 
 
 def main(called, why, *words):
     end_on_signals()
-    if not are_text(words):
-        stop("arguments are not text", status=2)
+    if number := first_not_utf8(words):
+        stop(f"argument {number} is not valid UTF-8", status=2)
     with tempfile.TemporaryDirectory(prefix="planarbend-") as folder:
         look_at_machine("a trial run", MEMORY, DISK, folder)
         trial = Trial(words, called, folder)
         trial.look_at_sizes()
-        say(f"{why}, so a trial run answers, in about a minute: the same sources, compiled with run-time checks and not"
-            " yet proved", trial.way_out)
+        say(f"{why}: an unverified build of the same sources, with run-time checks, answers in one to two minutes",
+            trial.way_out)
         trial.take_input()
         return trial.answer(trial.run())
 

@@ -33,7 +33,7 @@ PART = re.compile(r"(.*)-part-(\d+)-of-(\d+)")
 
 
 class Incomplete(Exception):
-    """Why there is no table."""
+    """A part is missing, given twice or incomplete, so there is no table; the message says which."""
 
 
 @dataclasses.dataclass
@@ -65,7 +65,13 @@ def entry_of(text: str) -> File | Graph | End:
 
 
 def graphs_of(path: str) -> Iterator[Graph]:
-    """The graphs of a part. Raises `Incomplete` if it is not a complete report of files that end complete."""
+    """Yield the graphs of a part.
+
+    Raises
+    ------
+    Incomplete
+        The part is not a complete report, or one of its files does not end complete.
+    """
     count, ended, place = 0, None, 0
     with open(path, encoding="utf-8", errors="replace") as lines:
         for place, text in enumerate(lines, 1):
@@ -96,7 +102,7 @@ def graphs_of(path: str) -> Iterator[Graph]:
 
 
 def paths_of(words: Iterable[str]) -> list[str]:
-    """The paths of the parts; a folder stands for all parts in it."""
+    """Return the paths of the parts; a folder stands for all parts in it."""
     paths = []
     for word in words:
         if not os.path.isdir(word):
@@ -110,7 +116,7 @@ def paths_of(words: Iterable[str]) -> list[str]:
 
 
 def stem_of(path: str) -> str:
-    """The name of a part, without its folder and suffix."""
+    """Return the name of a part, without its folder and suffix."""
     name = os.path.basename(path)
     for suffix in SUFFIXES:
         name = name.removesuffix(suffix)
@@ -118,7 +124,13 @@ def stem_of(path: str) -> str:
 
 
 def look_for_missing(paths: list[str], folder: str | None) -> None:
-    """Raises `Incomplete` if a part is missing or given twice."""
+    """Check that each part is given once.
+
+    Raises
+    ------
+    Incomplete
+        A part is missing or given twice.
+    """
     stems = collections.Counter(map(stem_of, paths))
     for stem, count in stems.items():
         if count > 1:
@@ -138,7 +150,13 @@ def look_for_missing(paths: list[str], folder: str | None) -> None:
 
 
 def collect(words: Iterable[str], folder: str | None = None) -> Table:
-    """The table of all these parts. Raises `Incomplete` if one is missing or incomplete."""
+    """Return the table of all these parts.
+
+    Raises
+    ------
+    Incomplete
+        A part is missing or incomplete.
+    """
     paths = paths_of(words)
     look_for_missing(paths, folder)
     table = Table()

@@ -48,7 +48,7 @@ class Help(argparse.RawDescriptionHelpFormatter):
 
 
 def command_line() -> argparse.Namespace:
-    """The arguments."""
+    """Parse the arguments."""
     parser = argparse.ArgumentParser(description=ABOUT, epilog=TEXT, formatter_class=Help)
     parser.add_argument("graph", metavar="GRAPH", help="the file, or - for standard input")
     parser.add_argument("-o", "--output", metavar="OUT", required=True,
@@ -77,7 +77,13 @@ def command_line() -> argparse.Namespace:
 
 
 def named(graph: Graph, names: str) -> list[int]:
-    """The vertices with these names. Raises `DrawError` if several vertices, or none, have a name."""
+    """Return the vertices with these names.
+
+    Raises
+    ------
+    DrawError
+        Several vertices, or none, have a name.
+    """
     found = []
     for name in filter(None, map(str.strip, names.split(","))):
         at = [number for number, vertex in enumerate(graph.vertices) if vertex.name == name]
@@ -89,7 +95,13 @@ def named(graph: Graph, names: str) -> list[int]:
 
 
 def between(graph: Graph, names: str) -> list[int]:
-    """The edges between two vertices, given as `NAME--NAME`. Raises `DrawError` if there are none."""
+    """Return the edges between two vertices, given as `NAME--NAME`.
+
+    Raises
+    ------
+    DrawError
+        There is no such vertex or no such edge.
+    """
     known = {name for vertex in graph.vertices for name in (vertex.name, vertex.label)}
     cuts = [(names[:match.start()].strip(), names[match.end():].strip()) for match in re.finditer("--", names)]
     pair = next((cut for cut in cuts if known.issuperset(cut)), None)
@@ -103,8 +115,8 @@ def between(graph: Graph, names: str) -> list[int]:
 
 
 def to_split(graph: Graph, which: str) -> list[int]:
-    """The vertices to split: those with these names, or those with more connections than a number; in a circuit, only
-    nets."""
+    """Return the vertices to split: those with these names, or those with more connections than a number; in a circuit,
+    only nets."""
     if not which.isdecimal():
         return named(graph, which)
     degree = [0] * len(graph.vertices)
@@ -117,7 +129,7 @@ def to_split(graph: Graph, which: str) -> list[int]:
 
 
 def read_file(path: str, form: str | None) -> Graph:
-    """The graph of a file."""
+    """Read the graph of a file."""
     with sys.stdin.buffer if path == "-" else open(path, "rb") as source:
         return read(source.read(), path, form)
 
@@ -136,17 +148,16 @@ def write(drawing: Drawing, path: str, scale: float) -> None:
 
 
 def engine_of() -> Engine:
-    """The engine. If this is the script of a checkout in which nothing is built, a message on standard error says why
-    it is slow."""
+    """Return the engine. If nothing is built in this checkout, a message on standard error says that this is slow."""
     engine = default_engine()
     if isinstance(engine, ProcessEngine) and engine.program == SCRIPT:
-        print("planarbend-draw: planarbend is not built here, so each of many calls is a trial run of a minute;"
-              f" {SCRIPT} --build builds it", file=sys.stderr)
+        print("planarbend-draw: planarbend is not built, so a drawing takes many trial runs of a minute or two each:"
+              f" stop this, and run {SCRIPT} --build first", file=sys.stderr)
     return engine
 
 
 def run() -> int:
-    """Run the command. Returns its exit status."""
+    """Run the command, and return its exit status."""
     words = command_line()
     try:
         if words.output != "-":

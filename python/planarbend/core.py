@@ -30,7 +30,7 @@ class Strand:
 
 @dataclass(frozen=True, slots=True)
 class Core:
-    """A simple graph of least degree 3, or of no edge.
+    """A simple graph of minimum degree 3, or without edges.
 
     Attributes
     ----------

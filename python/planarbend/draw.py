@@ -204,7 +204,7 @@ def embedded(count: int, pairs: list[tuple[int, int]], options: Options, togethe
 
 def embedded_within(most: int, count: int, pairs: list[tuple[int, int]], options: Options, together: Sequence[int],
                     attempt: int) -> Planarization:
-    """The same with this number of crossings at most, or `TooManyCrossings`."""
+    """A component in the plane, as `embedded`, with at most `most` crossings, or raises `TooManyCrossings`."""
     if not attempt:
         return planarize(count, pairs, effort=options.effort, seed=options.seed, together=together, most=most)
     source = random.Random(options.seed * MOST_EMBEDDINGS + attempt)

@@ -135,7 +135,13 @@ class ProcessEngine:
 
 
 def answer_of(line: dict[str, Any]) -> Answer:
-    """Return the answer in a JSON line. Raises `PlanarbendError` if the graph is not drawn."""
+    """Return the answer in a JSON line.
+
+    Raises
+    ------
+    PlanarbendError
+        The graph is not drawn.
+    """
     if line["status"] != "ok" or line["points"] is None:
         raise PlanarbendError(f"planarbend does not draw a graph: {line}")
     points = [(x, y) for x, y in line["points"]["vertices"]]

@@ -33,7 +33,13 @@ Point = tuple[int, int]
 
 
 class GraphError(PlanarbendError):
-    """One graph has no layout; `number` is its number in the stream, from 1."""
+    """One graph has no layout.
+
+    Attributes
+    ----------
+    number : int
+        The number of the graph in the stream, counted from 1.
+    """
 
     def __init__(self, number: int, said: str) -> None:
         super().__init__(f"graph {number}: {said}")
@@ -41,7 +47,13 @@ class GraphError(PlanarbendError):
 
 
 class GraphRefused(GraphError):
-    """The graph breaks a rule; `rule` is the rule's word in docs/FORMAT.md."""
+    """The graph breaks a rule.
+
+    Attributes
+    ----------
+    rule : str
+        The rule's word in docs/FORMAT.md.
+    """
 
     def __init__(self, number: int, rule: str) -> None:
         super().__init__(number, f"refused {rule}")
@@ -49,7 +61,13 @@ class GraphRefused(GraphError):
 
 
 class GraphUndrawn(GraphError):
-    """The graph has no drawing; `cause` is the word for the cause. It is proved that this does not occur."""
+    """The graph has no drawing, which is proved never to occur.
+
+    Attributes
+    ----------
+    cause : str
+        The word for the cause.
+    """
 
     def __init__(self, number: int, cause: str) -> None:
         super().__init__(number, f"drawn=no cause={cause}")
@@ -65,7 +83,16 @@ class GraphLost(GraphError):
 
 @dataclasses.dataclass(frozen=True)
 class Record:
-    """A graph as in planar_code: the names of its vertices, vertex 1 first, and their neighbour lists by number."""
+    """A graph as in planar_code.
+
+    Attributes
+    ----------
+    names : tuple
+        The vertices of the given graph, vertex 1 first.
+    lists : list of list of int
+        The neighbours of each vertex by number, clockwise.
+    """
+
     names: tuple[Vertex, ...]
     lists: Lists
 
@@ -109,20 +136,42 @@ class Record:
         return Record(tuple(range(1, len(lists) + 1)), lists)
 
     def bytes(self) -> bytes:
+        """Return the record's bytes in planar_code."""
         return record_of(self.lists)
 
 
 @dataclasses.dataclass(frozen=True)
 class Layout:
-    """The layout of one graph. Vertices are those of the given graph."""
-    number: int  # of the graph in the stream, counted from 1
+    """The layout of one graph. Vertices are those of the given graph.
+
+    Attributes
+    ----------
+    number : int
+        The number of the graph in the stream, counted from 1.
+    record : Record
+        The graph.
+    bends : int
+        The fewest bends.
+    outer : int
+        The number of the outer face.
+    faces : list of list of vertices
+        The vertices of each face, in walking order with the face on the left.
+    points : dict of vertex to (x, y)
+        The point of each vertex; x grows to the east, y to the north.
+    corners : dict of (tail, head) to list of (x, y)
+        The corners of each edge in both directions, from tail to head.
+    line : dict
+        The JSON line of the layout (docs/JSON.md).
+    """
+
+    number: int
     record: Record
-    bends: int  # the fewest
-    outer: int  # the number of the outer face
-    faces: list[list[Vertex]]  # the vertices of each face, in walking order with the face on the left
-    points: dict[Vertex, Point]  # x grows to the east, y to the north
-    corners: dict[tuple[Vertex, Vertex], list[Point]]  # of each edge in both directions, from tail to head
-    line: dict[str, Any]  # the JSON line of the layout: docs/JSON.md
+    bends: int
+    outer: int
+    faces: list[list[Vertex]]
+    points: dict[Vertex, Point]
+    corners: dict[tuple[Vertex, Vertex], list[Point]]
+    line: dict[str, Any]
 
     @property
     def outer_face(self) -> list[Vertex]:
@@ -135,7 +184,13 @@ class Layout:
 
     @staticmethod
     def of(number: int, record: Record, line: dict[str, Any]) -> Layout:
-        """Return the layout in the JSON line of a record. Raises `GraphError` if the line has no layout."""
+        """Return the layout in the JSON line of a record.
+
+        Raises
+        ------
+        GraphError
+            The line has no layout.
+        """
         if line["status"] == "refused":
             raise GraphRefused(number, line["rule"])
         if line["status"] != "ok":
@@ -215,7 +270,15 @@ class Run:
         self.end(ended)
 
     def end(self, is_whole: bool) -> None:
-        """Wait for the end of the run. Raises what the caller's graphs raised, or `RunFailed`."""
+        """Wait for the end of the run.
+
+        Raises
+        ------
+        RunFailed
+            The run failed or ended early.
+        BaseException
+            What the caller's graphs raised.
+        """
         self.output.close()
         status = self.child.wait()
         self.feeder.join()
@@ -236,7 +299,13 @@ class Run:
 
 
 def refuse_single(graphs: Any) -> None:
-    """Raise `TypeError` if this is a single graph rather than an iterable of graphs."""
+    """Check that this is an iterable of graphs.
+
+    Raises
+    ------
+    TypeError
+        It is a single graph.
+    """
     if isinstance(graphs, (Record, Mapping, str, bytes)) or hasattr(graphs, "adjacency"):
         raise TypeError("layouts takes an iterable of graphs, not a single graph: pass [graph], or call layout_of")
 
@@ -315,8 +384,15 @@ def layouts(graphs: Iterable[Any], outer: str = "first", words: Iterable[str] = 
     NoProgram
         The program is needed, and there is none.
 
+    Notes
+    -----
     `next` raises a `GraphError` for a graph without a layout, what `Record.of` raises, and `RunFailed` if the program
     fails.
+
+    Examples
+    --------
+    >>> [layout.bends for layout in layouts([{"a": ["b", "c"], "b": ["c", "a"], "c": ["a", "b"]}])]
+    [1]
     """
     from planarbend import library  # imported here: it uses this module
 
@@ -328,6 +404,23 @@ def layouts(graphs: Iterable[Any], outer: str = "first", words: Iterable[str] = 
 
 
 def layout_of(graph: Any, outer: str = "first") -> Layout:
-    """Return the layout of one graph. Arguments and errors are those of `layouts`, for a single graph."""
+    """Return the layout of one graph.
+
+    Parameters
+    ----------
+    graph : mapping, `PlanarEmbedding` or `Record`
+        An embedded graph, as in `layouts`.
+    outer : {"first", "best"}
+        The outer face, as in `layout --outer`.
+
+    Raises
+    ------
+    GraphError
+        The graph has no layout.
+    ValueError, TypeError
+        The argument is not an embedded graph, as for `Record.of`.
+    NoProgram, RunFailed
+        There is neither program nor library, or the program fails.
+    """
     with layouts([graph], outer) as found:
         return next(found)

@@ -78,8 +78,11 @@ Darts = Iterable[tuple[int, int]]
 
 
 def path() -> str | None:
-    """Return the path of the library: PLANARBEND_LIBRARY (None if that is empty), or the library built here or installed with
-    this package, or the system's; None if there is none."""
+    """Return the path of the library, or None if there is none.
+
+    It is PLANARBEND_LIBRARY, where an empty value means none. If that is not set, it is the first that exists of: the
+    library built in this checkout, the one installed with this package, and the system's.
+    """
     named = os.environ.get("PLANARBEND_LIBRARY")
     if named is not None:
         return named or None
@@ -94,7 +97,7 @@ def path() -> str | None:
 
 
 def is_wanted() -> bool:
-    """Whether to use the library: there is one, and PLANARBEND does not name a program to use instead."""
+    """Return whether to use the library: there is one, and PLANARBEND does not name a program to use instead."""
     return "PLANARBEND" not in os.environ and path() is not None
 
 
@@ -118,7 +121,8 @@ class Library:
         self._object = ctypes.c_void_p()
         name = name or path()
         if name is None:
-            raise NoProgram("no library libplanarbend.so")
+            raise NoProgram(f"the library {NAME} was not found: run ./planarbend --build, or set PLANARBEND_LIBRARY"
+                            " to its path")
         try:
             self._library = ctypes.CDLL(name)
         except OSError as error:

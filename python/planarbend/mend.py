@@ -69,7 +69,7 @@ def between(first: int, last: int, count: int) -> Iterator[int]:
 
 
 def ways_round_spine(sections: Sections, count: int) -> Iterator[list[int]]:
-    """The same for a spine, whose connections are counted from that at its first end, clockwise."""
+    """As `ways_round_cage`, for a spine, whose connections are counted clockwise from the one at its first end."""
     bent = [place for place, section in enumerate(sections) if any(turns_of(section))]
     bent += [place for place, (one, other) in enumerate(itertools.pairwise(sections)) if any(turns_of([*one[-2:], other[1]]))]
     first, last, nodes = min(bent), max(bent), len(sections) + 1

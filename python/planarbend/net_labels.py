@@ -1,4 +1,4 @@
-"""Places the names of nets beside their lines, where there is room."""
+"""Places the names of nets beside their lines, if there is room."""
 from __future__ import annotations
 
 import itertools

@@ -18,8 +18,15 @@ Lists = list[list[int]]
 
 
 class Unreadable(Exception):
-    """The bytes are not planar_code up to their end; `ending` is the report's word for this, `why` says where and
-    why."""
+    """The bytes are not planar_code up to their end.
+
+    Attributes
+    ----------
+    ending : str
+        The word for the ending in docs/FORMAT.md.
+    why : str
+        What is wrong, and where.
+    """
 
     def __init__(self, ending: str, why: str) -> None:
         super().__init__(f"{ending}: {why}")
@@ -27,11 +34,15 @@ class Unreadable(Exception):
 
 
 def records(source: BinaryIO) -> Iterator[bytes]:
-    """Yield the bytes of each complete record of a stream, in order. Memory holds one record and one piece of the
-    stream.
+    """Yield the bytes of each complete record of a stream, in order.
 
-    Raises `Unreadable` after the last complete record if the stream does not end there; its ending is then `header`,
-    `truncated`, `large` or `oversize`.
+    Only one record and one piece of the stream are in memory at a time.
+
+    Raises
+    ------
+    Unreadable
+        After the last complete record, if the stream does not end there. The ending is `header`, `truncated`, `large`
+        or `oversize`.
     """
     if source.read(len(HEADER)) != HEADER:
         raise Unreadable("header", f"it does not begin with {HEADER.decode()}")

@@ -18,7 +18,15 @@ class NoProgram(PlanarbendError):
 
 
 class RunFailed(PlanarbendError):
-    """The run ended before its last graph; `status` is its exit status, `said` its whole standard error."""
+    """The run ended before its last graph.
+
+    Attributes
+    ----------
+    status : int
+        The exit status.
+    said : str
+        The whole standard error.
+    """
 
     def __init__(self, status: int, said: str) -> None:
         super().__init__(said or f"planarbend ended with status {status}")
@@ -26,8 +34,16 @@ class RunFailed(PlanarbendError):
 
 
 def program() -> str:
-    """Return the path of the program to run: the one that PLANARBEND names, or the first that exists of the one built here,
-    ./planarbend, the one installed with this package, and the one on the path. Raises `NoProgram` if there is none."""
+    """Return the path of the program to run.
+
+    It is the one that PLANARBEND names. If that is not set, it is the first that exists of: the one built in this checkout,
+    ./planarbend, the one installed with this package, and the one on the path.
+
+    Raises
+    ------
+    NoProgram
+        There is none.
+    """
     named = os.environ.get("PLANARBEND")
     for path in [named] if named else [BUILT, SCRIPT, INSTALLED]:
         if path and is_program(path):
@@ -38,9 +54,11 @@ def program() -> str:
         found = shutil.which("planarbend")
         if found and is_program(found):
             return os.path.abspath(found)
-    raise NoProgram(f"no such program: {named or SCRIPT}")
+    if named:
+        raise NoProgram(f"PLANARBEND={named} is not a program")
+    raise NoProgram("the program planarbend is not installed: put it on the path, or set PLANARBEND to its path")
 
 
 def is_program(path: str) -> bool:
-    """Whether the file can be executed."""
+    """Return whether the file can be executed."""
     return os.path.isfile(path) and os.access(path, os.X_OK)

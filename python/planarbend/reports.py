@@ -87,7 +87,13 @@ Line = File | Record | Graph | End
 
 
 def line_of(text: str) -> Line:
-    """Return the entry in a line of a report, given without its line end. Raises `NoLine` if it is not such a line."""
+    """Return the entry in a line of a report, given without its line end.
+
+    Raises
+    ------
+    NoLine
+        It is not a line of a report.
+    """
     if match := RECORD.fullmatch(text):
         return Record(*map(int, match.groups()))
     if match := FILE.fullmatch(text):
@@ -112,7 +118,13 @@ def figures_of(text: str) -> Graph:
 
 
 def json_line(text: str) -> dict[str, Any]:
-    """Return the object of a JSON line. Raises `NoLine` if it does not have the keys of one, in order."""
+    """Return the object of a JSON line.
+
+    Raises
+    ------
+    NoLine
+        It does not have the keys of such a line, in order.
+    """
     try:
         line: dict[str, Any] = json.loads(text)
         status = line.get("status")

@@ -1,14 +1,15 @@
 #!/usr/bin/env python3
-"""Draws ninety-three real graphs and compares crossings, bends, room and time with a table of figures.
+"""Draws 93 real graphs and compares their crossings, bends, area and time with a table of figures.
 
 The graphs are examples of Graphviz, demo boards of KiCad and graphs of networkx (Debian: graphviz-doc, kicad-demos,
-python3-networkx; the first two are fetched with apt-get where they are not installed, and nothing of them is kept). Each is
-drawn by `python3 -m planarbend draw` in a process of its own, and each drawing is checked by
-drawing_checker.py. real_graphs.csv has OGDF's figures, and those of a first try.
+python3-networkx; the first two are downloaded with apt-get if they are not installed, and deleted afterwards). Each is drawn
+by a separate process `python3 -m planarbend draw`, and drawing_checker.py checks each drawing. real_graphs.csv has the
+figures of OGDF and of an early version.
 
-The graphs are as OGDF had them: a board with parallel connections once, no loops, and no parts without a connection; boxes
-with names alone, so that pixels compare (`--labels` draws them as they are). OGDF's figures are of its release 2012.07,
-with 10 pixels between lines. Where pydot, by which they came, reads a graph otherwise than Graphviz, they were measured anew.
+The graphs are as OGDF received them: parallel connections of a board only once, no loops, no parts without a connection;
+boxes with names only, so that sizes are comparable (`--labels` draws the graphs as they are). OGDF's figures are from its
+release 2012.07, with 10 pixels between lines; pydot read the graphs. Those that pydot reads differently from Graphviz were
+measured again.
 """
 from __future__ import annotations
 

@@ -1,6 +1,6 @@
 #!/usr/bin/env python3
-"""Runs the package's tests, with the program that PLANARBEND names. The last line is 'N passed, M failed, K skipped'; the status
-is 0 if nothing failed, and else 1. Tests that need networkx, Graphviz or rsvg-convert are skipped, by name, if that is
+"""Runs the package's tests with the program that PLANARBEND names. The last line is 'N passed, M failed, K skipped'; the exit
+status is 0 if nothing failed, otherwise 1. Tests that need networkx, Graphviz or rsvg-convert are skipped, by name, if it is
 missing.
 """
 from __future__ import annotations

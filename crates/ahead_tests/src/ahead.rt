@@ -1,5 +1,5 @@
 //! How far the parts of a run are ahead of one another: lines leave while their file is read, links and the fan hold as
-//! many messages as they are made for, stages pass the gate before they hand a record on, and nothing is read behind a
+//! many messages as they are made for, stages pass the gate before they hand a record on, and nothing is read after a
 //! fault.
 ghost use Rattle.std.specs.Prelude.{false, None};
 ghost use Rattle.lanes.specs.Opening.{Silent};
@@ -7,68 +7,64 @@ ghost use Rattle.lanes.specs.Opening.{Silent};
 use collector::{
     Choice, DrawingKind, Form, Gate, IoSink, OpenFault, Opener, Stage, Style, Tap, TapFault,
 };
-use commands::{TextFault, write_batch};
+use commands::{Fault, write_batch};
 use std::alloc::Global;
+use std::io;
 use std::io::Write;
 use std::process::Abort;
 use std::sync::Wait;
 use std::sync::atomic::{AtomicBool, AtomicU32, Ordering};
 use std::thread::Threads;
-use std::{io, thread};
 use test_tools::{same, wait_for_count};
 
-/// What was seen of a run: how often each stage has passed the gate, the sink had bytes, and had a full buffer of them (one
-/// that is not full leaves where no line comes for a while); whether one part waited too long for another; and whether
-/// something came too early or was done once more.
+/// What was seen of a run: how often each stage passed the gate, and how many lines the sink got; whether one part
+/// waited too long for another; and whether something came too early or was done once more.
 #[derive(Drop)]
 struct Seen {
     read: AtomicU32,
     embed: AtomicU32,
     shape: AtomicU32,
     draw: AtomicU32,
-    had: AtomicU32,
-    full: AtomicU32,
+    lines: AtomicU32,
     ran_out: AtomicBool,
     strayed: AtomicBool,
-    /// The place of the first record whose line has no room in the buffer of 16 KB in front of the sink.
-    no_room: u32,
-    /// How many records are to be drawn while the sink has its first full buffer.
-    drawn: u32,
+    /// Whether stages are held at a record, and the sink when it gets lines after those.
+    is_held: bool,
 }
 
 impl Seen {
-    fn nothing(no_room: u32, drawn: u32) -> Seen {
+    fn nothing(is_held: bool) -> Seen {
         Seen {
             read: AtomicU32::new(0),
             embed: AtomicU32::new(0),
             shape: AtomicU32::new(0),
             draw: AtomicU32::new(0),
-            had: AtomicU32::new(0),
-            full: AtomicU32::new(0),
+            lines: AtomicU32::new(0),
             ran_out: AtomicBool::new(false),
             strayed: AtomicBool::new(false),
-            no_room,
-            drawn,
+            is_held,
         }
     }
 
-    /// Waits until a part was seen so often, and notes where a million turns were too few.
+    /// Waits until a part was seen this often, and notes if a million turns were too few; then no part waits any more.
     fn wait_for(&self, part: &AtomicU32, least: u32) {
-        wait_for_count(part, least, &self.ran_out);
+        if !self.ran_out.load(Ordering::SeqCst) {
+            wait_for_count(part, least, &self.ran_out);
+        }
     }
 
-    /// Waits for a while, and notes where the next part was then seen more than so often.
-    fn hold(&self, next: &AtomicU32, most: u32) {
-        for _ in 0..4_000 {
-            thread::yield_now();
-        }
+    /// Waits until the sink has this many lines, and notes if the next part was then seen more than `most` times. Lines
+    /// that are buffered leave when none comes for a while.
+    fn hold(&self, lines: u32, next: &AtomicU32, most: u32) {
+        self.wait_for(&self.lines, lines);
         if next.load(Ordering::SeqCst) > most {
             self.strayed.store(true, Ordering::SeqCst);
         }
     }
 
-    /// A stage passes the gate: it waits at its first record until the stage before it is so far ahead, and at the
-    /// record of this place for a while, in which the next part is not to have it.
+    /// A stage passes the gate. At its first record it waits until the stage before it is `ahead` records ahead. At the
+    /// record of this place it waits until the lines of all records before it have left, after the file's first line:
+    /// if it had been handed on already, the next part would have got it by then.
     fn pass_at(
         &self,
         ordinal: u32,
@@ -79,8 +75,8 @@ impl Seen {
         if ordinal == 0 {
             self.wait_for(before, ahead);
         }
-        if ordinal == place {
-            self.hold(next, most);
+        if self.is_held && ordinal == place {
+            self.hold(place.saturating_add(1), next, most);
         }
     }
 }
@@ -89,16 +85,16 @@ impl Gate for Seen {
     fn pass(&self, _lane: u32, stage: Stage, ordinal: u32) {
         let (parts, numbers) = match stage {
             Stage::Read => ([&self.read, &self.read, &self.embed], [0, 100, 100]),
-            Stage::Embed => ([&self.embed, &self.read, &self.shape], [60, 100, 100]),
-            Stage::Shape => ([&self.shape, &self.embed, &self.draw], [60, 100, 100]),
-            Stage::Draw => ([&self.draw, &self.shape, &self.full], [60, self.no_room, 0]),
+            Stage::Embed => ([&self.embed, &self.read, &self.shape], [60, 140, 140]),
+            Stage::Shape => ([&self.shape, &self.embed, &self.draw], [60, 180, 180]),
+            Stage::Draw => ([&self.draw, &self.shape, &self.lines], [60, 220, 221]),
         };
         self.pass_at(ordinal, parts, numbers);
     }
 }
 
-/// A source of 451 edges and a fault behind them. It gives one a read, and waits in front of the last one until the sink
-/// has had bytes.
+/// A source of 700 edges followed by a fault. It returns one edge a read, and waits before the last one until the sink
+/// got a line.
 #[derive(Drop)]
 struct Edges<'s> {
     seen: &'s Seen,
@@ -106,17 +102,17 @@ struct Edges<'s> {
 }
 
 impl Edges<'_> {
-    /// What the next read gives, if there is to be one.
+    /// What the next read returns, if there is to be one.
     fn next(&mut self) -> Option<&'static [u8]> {
         let read = self.reads;
         self.reads = read.saturating_add(1);
-        if read == 451 {
-            self.seen.wait_for(&self.seen.had, 1);
+        if read == 700 {
+            self.seen.wait_for(&self.seen.lines, 1);
         }
         match read {
             0 => Some(b">>planar_code<<"),
-            1..452 => Some(b"\x02\x02\x00\x01\x00"),
-            452 => Some(b"\x00"),
+            1..701 => Some(b"\x02\x02\x00\x01\x00"),
+            701 => Some(b"\x00"),
             _ => None,
         }
     }
@@ -138,7 +134,7 @@ impl Tap for Edges<'_> {
     }
 }
 
-/// Opens one such source.
+/// Opens one of these sources.
 #[derive(Clone, Copy)]
 struct Files<'s> {
     seen: &'s Seen,
@@ -157,7 +153,8 @@ impl<'s> Opener for Files<'s> {
     }
 }
 
-/// Takes a text. Where it has a full buffer it waits until so many records are drawn.
+/// Takes a text. When it gets lines of records after those at which stages are held, it waits until as many more
+/// records are drawn as the fan has room for, or all of them.
 #[derive(Drop)]
 struct Held<'s> {
     seen: &'s Seen,
@@ -166,10 +163,20 @@ struct Held<'s> {
 
 impl Write for Held<'_> {
     fn write(&mut self, buf: &[u8]) -> io::Result<usize> {
-        self.seen.had.fetch_add(1, Ordering::SeqCst);
-        if buf.len() > 8_192 {
-            self.seen.full.fetch_add(1, Ordering::SeqCst);
-            self.seen.wait_for(&self.seen.draw, self.seen.drawn);
+        let mut more = 0u32;
+        for byte in buf {
+            if *byte == b'\n' {
+                more = more.saturating_add(1);
+            }
+        }
+        let lines = self
+            .seen
+            .lines
+            .fetch_add(more, Ordering::SeqCst)
+            .saturating_add(more);
+        if self.seen.is_held && lines > 221 {
+            let drawn = lines.saturating_add(57).min(700);
+            self.seen.wait_for(&self.seen.draw, drawn);
         }
         self.text.write(buf)
     }
@@ -179,12 +186,12 @@ impl Write for Held<'_> {
     }
 }
 
-/// The text of the source in this form over one lane whose links have room for 64, and how the run ended.
+/// The output for the source in this form, over one lane whose links have room for 64, and how the run ended.
 fn run<R: AllocGlobal + Threads + Wait + Sync>(
     rt: &R,
     seen: &Seen,
     form: Form,
-) -> (Result<u8, TextFault>, Vec<u8>) {
+) -> (Result<u8, Fault>, Vec<u8>) {
     let alloc = rt.alloc();
     let text = Vec::new(alloc);
     let mut sink = IoSink::new(Held { seen, text });
@@ -208,7 +215,7 @@ fn run<R: AllocGlobal + Threads + Wait + Sync>(
     (ended, text)
 }
 
-/// The text has so many lines, ends so, and nothing came too late or too early.
+/// Checks that the text has this many lines and this end, and that nothing came too late or too early.
 fn check<R: AllocGlobal + Threads + Wait + Sync + Abort>(
     rt: &R,
     seen: &Seen,
@@ -225,14 +232,14 @@ fn check<R: AllocGlobal + Threads + Wait + Sync + Abort>(
     same!(rt, found, lines);
 }
 
-/// The lines of the first 372 records take 15,888 bytes, so that 496 are left where a line is to have 512. While these
-/// leave, the fan has room for 64 more, and the last stage has one.
+/// Lines leave while their file is read, each stage passes the gate before it hands a record on, and each part is as
+/// far ahead as there is room: while lines leave, the fan has room for 64 more, and the last stage has one.
 #[test]
 fn gate_sees_lines_leave(rt: HostRuntime) {
-    let report = Seen::nothing(372, 430);
-    let ends = b"graph 451 ok n=2 m=1 f=1 bends=0 drawn=yes\nend large graphs=451\n";
-    check(&rt, &report, Form::Report, 454, ends);
-    let json = Seen::nothing(u32::MAX, 0);
-    let ends = b"\n{\"end\":\"large\",\"file\":1,\"graphs\":451}\n";
-    check(&rt, &json, Form::Json, 453, ends);
+    let report = Seen::nothing(true);
+    let ends = b"graph 700 ok n=2 m=1 f=1 bends=0 drawn=yes\nend large graphs=700\n";
+    check(&rt, &report, Form::Report, 703, ends);
+    let json = Seen::nothing(false);
+    let ends = b"\n{\"end\":\"large\",\"file\":1,\"graphs\":700}\n";
+    check(&rt, &json, Form::Json, 702, ends);
 }

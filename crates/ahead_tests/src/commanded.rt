@@ -2,10 +2,8 @@
 ghost use Rattle.std.specs.Prelude.{false, None};
 ghost use Rattle.lanes.specs.Opening.{Silent};
 
-use commands::{Console, FilesAndInput, KeepsReason, Reason, SystemFiles, command};
-use lanes::{OpenFault, Opener};
+use commands::{Console, KeepsReason, NamedFiles, Reason, Refused, command};
 use std::alloc::Global;
-use std::rt::Files;
 use std::sync::Wait;
 use std::sync::atomic::{AtomicBool, AtomicU32, Ordering};
 use std::test::Fail;
@@ -23,7 +21,7 @@ struct Edges<'r> {
 }
 
 impl Edges<'_> {
-    /// What the next read gives.
+    /// What the next read returns.
     fn next(&mut self) -> &'static [u8] {
         if !self.is_begun {
             self.is_begun = true;
@@ -59,18 +57,18 @@ impl KeepsReason for Edges<'_> {
     }
 }
 
-/// Opens such sources of 400 edges.
+/// Opens sources of 400 edges, by any name.
 #[derive(Clone, Copy)]
 struct Input<'r> {
     reads: &'r AtomicU32,
 }
 
-impl<'r> Opener for Input<'r> {
+impl<'r> NamedFiles for Input<'r> {
     type Source = Edges<'r>;
 
     ghost meaning = { λ _ _. Silent };
 
-    fn open(&self, _alloc: Global, _file: u32) -> Result<Edges<'r>, OpenFault> {
+    fn open(&self, _alloc: Global, _name: &str) -> Result<Edges<'r>, Refused> {
         Ok(Edges {
             reads: self.reads,
             left: 400,
@@ -79,8 +77,8 @@ impl<'r> Opener for Input<'r> {
     }
 }
 
-/// A console that shows nothing. It tells the time when a run begins; if it is asked again, it waits until the input was
-/// read 150 times, and notes if a million turns were too few.
+/// A console that shows nothing. A run asks it for the time when it begins; when it is asked again, it waits until the
+/// input was read 150 times, and notes if a million turns were too few.
 #[derive(Drop)]
 struct Held<'r> {
     is_begun: AtomicBool,
@@ -104,25 +102,16 @@ impl Console for Held<'_> {
     fn show(&self, _text: &[u8]) {}
 }
 
-/// Runs the command with these arguments, on this standard input; returns its status and what it wrote.
-fn ran<R: Files + AllocGlobal + Threads + Wait + Sync, I: Opener, C: Console + Sync>(
+/// Runs the command with these arguments, on these files; returns its status and what it wrote.
+fn ran<R: AllocGlobal + Threads + Wait + Sync, N: NamedFiles, C: Console + Sync>(
     rt: &R,
     words: &[String],
-    input: &I,
+    files: &N,
     console: &C,
-) -> (u8, Vec<u8>)
-where
-    R::File: Send,
-    R::Dir: Send,
-    I::Source: KeepsReason,
-{
+) -> (u8, Vec<u8>) {
     let mut out = IoSink::new(Vec::new(rt.alloc()));
     let mut err = IoSink::new(Vec::new(rt.alloc()));
-    let files = FilesAndInput {
-        files: &SystemFiles { rt },
-        input,
-    };
-    let status = command(rt, words, &files, console, &mut out, &mut err);
+    let status = command(rt, words, files, console, &mut out, &mut err);
     (status, out.into_writer())
 }
 

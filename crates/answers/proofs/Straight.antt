@@ -12,8 +12,6 @@ use Rattle.ortho_rep.specs.Edges.{edge_number}
 use Rattle.drawing_check.specs.Paths.{path_along}
 use Rattle.drawing_check.specs.Draws.{Draws, IsTurning}
 use Rattle.drawing_check.proofs.Routing.{each_lesser}
-use Rattle.drawing_check.specs.Regions.{HasRegions}
-use Rattle.entries.specs.Drawn.{HasPoints, IsDrawingOf}
 use Rattle.conditions.specs.declared.conditions.Conditions.{Conditions}
 use Rattle.conditions.specs.Chosen.{IsKept}
 use Rattle.compact.specs.declared.fault.CompactFault.{CompactFault}
@@ -47,9 +45,3 @@ pub kept_straight-if : (conditions : Conditions) (choice : Choice) (p : PlaneMod
     → HasEnds p → IsKept conditions choice p shape prices → IfOk drawing (AreDrawnStraight p shape) → IfOk drawing (AreKeptStraight conditions p)
 kept_straight-if conditions choice p shape prices (Ok points) ends kept drawn = kept_straight conditions choice p shape prices points ends kept drawn
 kept_straight-if conditions choice p shape prices (Err fault) ends kept drawn = tt
-
--- three facts of a drawing are one
-pub drawing_of-if : (p : PlaneModel) (shape : ShapeModel) (drawing : Result PointsModel CompactFault)
-    → IfOk drawing (HasPoints p) → IfOk drawing (Draws p shape) → IfOk drawing (HasRegions p) → IfOk drawing (IsDrawingOf p shape)
-drawing_of-if p shape (Ok points) whole draws regions = record { whole = whole; draws = draws; regions = regions }
-drawing_of-if p shape (Err fault) whole draws regions = tt

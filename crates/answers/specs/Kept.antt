@@ -11,9 +11,7 @@ use Rattle.conditions.specs.declared.fault.KeepFault.{KeepFault}
 use Rattle.conditions.specs.Asked.{IsAmong}
 use Rattle.conditions.specs.Chosen.{IsKept, IsKeepFault}
 use Rattle.answers.specs.declared.kept_plane.KeptPlane.{KeptPlane}
-use Rattle.answers.specs.declared.kept_plane.KeptFault.{KeptFault}
-use Rattle.answers.specs.declared.kept_plane.KeptFault.TheVariants as fault
-use Rattle.answers.specs.Steps.{IsTracedPlane, IsRefused}
+use Rattle.answers.specs.Steps.{IsTracedPlane}
 
 -- the plane of the record's bytes with the chosen outer face among those that may be outside, and a shape of it with the
 -- fewest bends of all that keep the edges straight, as the prices prove
@@ -27,11 +25,6 @@ pub record IsUnkept (conditions : Conditions) (choice : Choice) (bytes : List �
   pub plane : PlaneModel
   pub traced : IsTracedPlane bytes plane
   pub shown : IsKeepFault conditions choice plane fault
-
--- what a fault shows of the record
-abbrev pub IsKeptFault : Conditions → Choice → List ℕ → KeptFault → Type 0
-IsKeptFault conditions choice bytes (fault.Record fault) = IsRefused bytes fault
-IsKeptFault conditions choice bytes (fault.Conditions fault) = IsUnkept conditions choice bytes fault
 
 -- an edge without turns has no corners
 abbrev pub AreDrawnStraight : PlaneModel → ShapeModel → PointsModel → Type 0

@@ -4,7 +4,7 @@ ghost use Rattle.std.specs.Prelude.{◌≡◌, ℕ, List};
 use planar_code::Record;
 use std::snapshot::Snapshot;
 
-/// What a lane carries of a record once its graph is read: the record itself, or nothing.
+/// What a lane keeps of a record once its graph is read: the record itself, or nothing.
 pub trait Carried: Drop + Send {
     /// The record's bytes.
     ghost bytes: { Self → List ℕ };

@@ -1,13 +1,13 @@
 //! How a shape is drawn.
 
-ghost use Rattle.std.specs.Prelude.{◌≡◌, ◌≤◌, ◌*◌, length, IfOk, IfSome};
-ghost use Rattle.faces.specs.Planes.{darts, vertices};
+ghost use Rattle.std.specs.Prelude.{◌≡◌, ◌≤◌, length, IfOk, IfSome};
 ghost use Rattle.ortho_rep.specs.Representation.{IsLeast, IsShape};
 ghost use Rattle.compact.specs.Monotone.{AreDirectionsOf};
-ghost use Rattle.drawing_check.specs.Draws.{Draws};
+ghost use Rattle.drawing_check.specs.Draws.{HasPoints, Draws};
 ghost use Rattle.drawing_check.specs.Regions.{HasRegions};
-ghost use Rattle.entries.specs.Drawn.{HasPoints, IsDrawingOf, IsDrawn};
+ghost use Rattle.entries.specs.Drawn.{IsDrawn};
 ghost use Rattle.entries.specs.Lengths.{AreBelow, IsNear, IsNoLonger, IsQuick, edge_length};
+ghost use Rattle.answers.specs.Drawings.{IsDrawing};
 
 use crate::holder::{Holder, Shell};
 use crate::length::{are_below, is_no_longer};
@@ -50,7 +50,7 @@ impl DrawScratch {
         }
     }
 
-    /// Takes back the lists of a shaped plane and of its points, which are no longer read, to be reused.
+    /// Consumes a shaped plane and its points, whose lists are reused.
     ///
     /// Those of the points stay here; those of the shaped plane return in its holder.
     pub fn take_back(&mut self, shaped_plane: ShapedPlane, points: Points) {
@@ -141,9 +141,8 @@ pub(crate) fn least_points(
     requires shape { IsShape plane.now shape.now }
     requires least { IsLeast plane.now shape.now }
     requires directions { AreDirectionsOf plane.now shape.now directions.now }
-    ensures drawn { IfOk result (IsDrawingOf plane.now shape.now) }
+    ensures drawn { IfOk result (IsDrawing plane.now shape.now) }
     ensures quick { IfOk result (IsQuick plane.now shape.now) }
-    ensures near { IfOk result (IsNear plane.now shape.now) }
 {
     // Only the proof needs this: `graph` says that the plane is one.
     let _graph = plane.graph();
@@ -165,11 +164,9 @@ pub(crate) fn drawing_of(
     shaped_plane: &ShapedPlane,
     drawing_kind: DrawingKind,
 ) -> Result<Drawing, AllocError>
-    ensures drawn { IfOk result (IsDrawingOf shaped_plane.now.plane shaped_plane.now.shape) }
+    ensures drawn { IfOk result (IsDrawing shaped_plane.now.plane shaped_plane.now.shape) }
     ensures quick { drawing_kind ≡ DrawingKind.Quick
         → IfOk result (IsQuick shaped_plane.now.plane shaped_plane.now.shape) }
-    ensures no_longer { IfOk result (IsNoLonger shaped_plane.now.plane shaped_plane.now.shape) }
-    ensures near { IfOk result (IsNear shaped_plane.now.plane shaped_plane.now.shape) }
 {
     // Only the proof needs this: `graph` says that the plane is one.
     let _graph = shaped_plane.plane.graph();
@@ -193,9 +190,9 @@ pub(crate) fn points_of(
     shaped_plane: &ShapedPlane,
     drawing_kind: DrawingKind,
 ) -> Result<Points, AllocError>
-    ensures drawn { IfOk result (IsDrawingOf shaped_plane.now.plane shaped_plane.now.shape) }
-    ensures no_longer { IfOk result (IsNoLonger shaped_plane.now.plane shaped_plane.now.shape) }
-    ensures near { IfOk result (IsNear shaped_plane.now.plane shaped_plane.now.shape) }
+    ensures drawn { IfOk result (IsDrawing shaped_plane.now.plane shaped_plane.now.shape) }
+    ensures quick { drawing_kind ≡ DrawingKind.Quick
+        → IfOk result (IsQuick shaped_plane.now.plane shaped_plane.now.shape) }
 {
     match drawing_kind {
         DrawingKind::Quick => least_points(
@@ -223,8 +220,7 @@ fn shorter_drawing(
     limit: u32,
 ) -> Result<Option<Drawing>, AllocError>
     requires shape { IsShape plane.now shape.now }
-    requires vertices { length points.now.vertices ≡ vertices plane.now }
-    requires corners { 2 * length points.now.corners ≡ darts plane.now }
+    requires points { HasPoints plane.now points.now }
     ensures points { IfOk result (λ found. IfSome found (HasPoints plane.now)) }
     ensures draws { IfOk result (λ found. IfSome found (Draws plane.now shape.now)) }
     ensures regions { IfOk result (λ found. IfSome found (HasRegions plane.now)) }

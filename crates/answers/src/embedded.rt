@@ -10,7 +10,7 @@ use lanes::{Stage, Staged};
 use std::alloc::Global;
 use std::sync::Wait;
 
-/// A record of a file with its plane, or the reason why there is none.
+/// A record of a file with its plane, or the reason why it has none.
 pub type Embedded<P = Keeping> = Item<P, <P as Purpose>::Carried, Traced>;
 
 impl<P: Purpose> Staged for Item<P, <P as Purpose>::Carried, Traced> {

@@ -12,19 +12,19 @@ use std::mem;
 enum Slot<T: Drop> {
     /// Nothing.
     Empty,
-    /// What goes on to the next stage.
+    /// A value that goes on to the next stage.
     Full(T),
-    /// What is done with and goes back.
+    /// A spent value, whose lists go back.
     Spent(T),
 }
 
-/// An empty holder. Lists that are no longer needed may return to an earlier stage in it.
+/// An empty holder, in which lists that are no longer needed may return to an earlier stage.
 #[derive(Drop)]
 pub struct Shell<T: Drop> {
     slot: Box<Slot<T>>,
 }
 
-/// A value with the shell in which its lists return once it is no longer needed. In contracts it is the value.
+/// A boxed value. Once it is spent, its box returns its lists to an earlier stage. In contracts it is the value.
 #[derive(Drop)]
 pub struct Holder<T: Drop> {
     slot: Box<Slot<T>>,
@@ -56,7 +56,7 @@ impl<T: Drop> Shell<T> {
         Holder { slot }
     }
 
-    /// Puts what is done with in the holder.
+    /// Puts a spent value into the holder.
     pub(crate) fn refill(&mut self, spent: T) {
         *self.slot = Slot::Spent(spent);
     }

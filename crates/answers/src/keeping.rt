@@ -1,15 +1,17 @@
 //! The answer to a record whose layout is to keep conditions.
 
 ghost use Rattle.std.specs.Prelude.{IfOk, IfErr};
-ghost use Rattle.entries.specs.Drawn.{IsDrawingOf};
-ghost use Rattle.answers.specs.Kept.{IsKeptPlane, IsKeptFault, AreKeptStraight};
+ghost use Rattle.answers.specs.Drawings.{IsDrawing};
+ghost use Rattle.answers.specs.Kept.{IsKeptPlane, IsUnkept, AreKeptStraight};
+ghost use Rattle.answers.specs.Steps.{IsRefused};
 
 use crate::kept::RecordScratch;
-use crate::kept_plane::{KeptFault, KeptPlane};
+use crate::kept_plane::KeptPlane;
 use common::{Choice, DrawingKind};
 use compact::CompactFault;
-use conditions::Conditions;
+use conditions::{Conditions, KeepFault};
 use drawing_check::Drawing;
+use embedding::ReadFault;
 use planar_code::Record;
 use std::alloc::Global;
 
@@ -34,19 +36,20 @@ pub fn answer_keeping(
     conditions: &Conditions<'_>,
     choice: Choice,
     drawing_kind: DrawingKind,
-) -> Result<KeptLayout, KeptFault>
-    ensures kept { IfOk result (λ laid. IsKeptPlane conditions.now choice rec.now laid.kept) }
-    ensures drawn { IfOk result (λ laid. IfOk laid.drawing (IsDrawingOf laid.kept.plane laid.kept.shape)) }
-    ensures straight { IfOk result (λ laid. IfOk laid.drawing (AreKeptStraight conditions.now laid.kept.plane)) }
-    ensures fault { IfErr result (IsKeptFault conditions.now choice rec.now) }
+) -> Result<Result<KeptLayout, KeepFault>, ReadFault>
+    ensures kept { IfOk result (λ made. IfOk made (λ laid. IsKeptPlane conditions.now choice rec.now laid.kept)) }
+    ensures drawn { IfOk result (λ made. IfOk made (λ laid. IfOk laid.drawing (IsDrawing laid.kept.plane laid.kept.shape))) }
+    ensures straight { IfOk result (λ made. IfOk made (λ laid. IfOk laid.drawing (AreKeptStraight conditions.now laid.kept.plane))) }
+    ensures unkept { IfOk result (λ made. IfErr made (IsUnkept conditions.now choice rec.now)) }
+    ensures refused { IfErr result (IsRefused rec.now) }
 {
     let mut scratch = RecordScratch::empty(alloc);
-    let kept = match scratch.shape_keeping(alloc, rec, conditions, choice) {
+    let kept = match scratch.shape_keeping(alloc, rec, conditions, choice)? {
         Ok(kept) => kept,
-        Err(fault) => return Err(fault),
+        Err(fault) => return Ok(Err(fault)),
     };
     // Only the proof needs this: `graph` says that the plane is one.
     let _graph = kept.plane.graph();
     let drawing = scratch.draw_keeping(alloc, &kept, drawing_kind);
-    Ok(KeptLayout { kept, drawing })
+    Ok(Ok(KeptLayout { kept, drawing }))
 }

@@ -1,22 +1,21 @@
 //! Records that are answered one after another on the caller's thread, in memory that is kept.
 
 ghost use Rattle.std.specs.Prelude.{◌≡◌, IfOk, IfErr};
-ghost use Rattle.drawing_check.specs.Draws.{Draws};
-ghost use Rattle.drawing_check.specs.Regions.{HasRegions};
 ghost use Rattle.entries.specs.declared.cause.Cause.TheVariants.{Wide};
-ghost use Rattle.entries.specs.Drawn.{HasPoints, IsCause};
-ghost use Rattle.answers.specs.Kept.{IsKeptPlane, IsKeptFault, AreDrawnStraight};
-ghost use Rattle.entries.specs.Lengths.{IsNear, IsNoLonger, IsQuick};
-ghost use Rattle.answers.specs.Steps.{IsShaped};
+ghost use Rattle.entries.specs.Drawn.{IsCause};
+ghost use Rattle.answers.specs.Drawings.{IsDrawing};
+ghost use Rattle.answers.specs.Kept.{IsKeptPlane, IsUnkept, AreDrawnStraight};
+ghost use Rattle.entries.specs.Lengths.{IsQuick};
+ghost use Rattle.answers.specs.Steps.{IsRefused, IsShaped};
 
 use crate::drawing::{DrawScratch, draw, drawing_of, least_points};
-use crate::kept_plane::{KeptFault, KeptPlane};
+use crate::kept_plane::KeptPlane;
 use crate::shaped_plane::ShapedPlane;
 use crate::shaping::{ShapeScratch, with_shape_keeping};
 use crate::stages::{embed, shape};
 use common::{Choice, DrawingKind};
 use compact::CompactFault;
-use conditions::Conditions;
+use conditions::{Conditions, KeepFault};
 use drawing_check::Drawing;
 use embedding::ReadFault;
 use ortho_rep::Points;
@@ -62,10 +61,10 @@ impl RecordScratch {
         shape(alloc, &mut self.shapes, plane, choice, drawing_kind)
     }
 
-    /// A drawing of a plane with a least shape, quick or short. Each least shape has one.
+    /// Returns a drawing of the plane that has the shape of `shaped_plane`: quick or short, as `drawing_kind` says.
     ///
-    /// The edges of a short drawing are together no longer than those of a quick one. For n vertices and b bends,
-    /// coordinates are below 3n + 2b + 5.
+    /// Each least shape has a drawing. The edges of a short one are in all no longer than those of a quick one. For n
+    /// vertices and b bends, coordinates are below 3n + 2b + 5.
     ///
     /// # Errors
     ///
@@ -76,18 +75,14 @@ impl RecordScratch {
         shaped_plane: &ShapedPlane,
         drawing_kind: DrawingKind,
     ) -> Result<Drawing, AllocError>
-        ensures points { IfOk result (HasPoints shaped_plane.now.plane) }
-        ensures draws { IfOk result (Draws shaped_plane.now.plane shaped_plane.now.shape) }
-        ensures regions { IfOk result (HasRegions shaped_plane.now.plane) }
+        ensures drawn { IfOk result (IsDrawing shaped_plane.now.plane shaped_plane.now.shape) }
         ensures quick { drawing_kind ≡ DrawingKind.Quick
             → IfOk result (IsQuick shaped_plane.now.plane shaped_plane.now.shape) }
-        ensures no_longer { IfOk result (IsNoLonger shaped_plane.now.plane shaped_plane.now.shape) }
-        ensures near { IfOk result (IsNear shaped_plane.now.plane shaped_plane.now.shape) }
     {
         drawing_of(alloc, &mut self.drawings, shaped_plane, drawing_kind)
     }
 
-    /// The points of a quick drawing, as `draw` makes them, but not checked: it is proved that they draw the shape.
+    /// Returns the points of a quick drawing, as `draw` makes them; no check of them is needed, as they are proved.
     ///
     /// # Errors
     ///
@@ -97,12 +92,8 @@ impl RecordScratch {
         alloc: Global,
         shaped_plane: &ShapedPlane,
     ) -> Result<Points, AllocError>
-        ensures points { IfOk result (HasPoints shaped_plane.now.plane) }
-        ensures draws { IfOk result (Draws shaped_plane.now.plane shaped_plane.now.shape) }
-        ensures regions { IfOk result (HasRegions shaped_plane.now.plane) }
+        ensures drawn { IfOk result (IsDrawing shaped_plane.now.plane shaped_plane.now.shape) }
         ensures quick { IfOk result (IsQuick shaped_plane.now.plane shaped_plane.now.shape) }
-        ensures no_longer { IfOk result (IsNoLonger shaped_plane.now.plane shaped_plane.now.shape) }
-        ensures near { IfOk result (IsNear shaped_plane.now.plane shaped_plane.now.shape) }
     {
         least_points(
             alloc,
@@ -121,25 +112,21 @@ impl RecordScratch {
     ///
     /// # Errors
     ///
-    /// `Record` if the record has no plane; `Conditions` if its plane has no such shape.
+    /// The outer one as of [`RecordScratch::shape`], if the record has no plane; the inner one if its plane has no such
+    /// shape.
     pub fn shape_keeping(
         &mut self,
         alloc: Global,
         rec: &Record,
         conditions: &Conditions<'_>,
         choice: Choice,
-    ) -> Result<KeptPlane, KeptFault>
-        ensures kept { IfOk result (IsKeptPlane conditions.now choice rec.now) }
-        ensures fault { IfErr result (IsKeptFault conditions.now choice rec.now) }
+    ) -> Result<Result<KeptPlane, KeepFault>, ReadFault>
+        ensures kept { IfOk result (λ made. IfOk made (IsKeptPlane conditions.now choice rec.now)) }
+        ensures unkept { IfOk result (λ made. IfErr made (IsUnkept conditions.now choice rec.now)) }
+        ensures refused { IfErr result (IsRefused rec.now) }
     {
-        let plane = match embed(alloc, &mut self.planes, rec) {
-            Ok(plane) => plane,
-            Err(fault) => return Err(KeptFault::Record(fault)),
-        };
-        match with_shape_keeping(alloc, &mut self.shapes, plane, conditions, choice) {
-            Ok(made) => Ok(made),
-            Err(fault) => Err(KeptFault::Conditions(fault)),
-        }
+        let plane = embed(alloc, &mut self.planes, rec)?;
+        Ok(with_shape_keeping(alloc, &mut self.shapes, plane, conditions, choice))
     }
 
     /// A drawing of a shape that keeps conditions, in which an edge without turns has no corners.
@@ -156,14 +143,10 @@ impl RecordScratch {
         kept: &KeptPlane,
         drawing_kind: DrawingKind,
     ) -> Result<Drawing, CompactFault>
-        ensures points { IfOk result (HasPoints kept.now.plane) }
-        ensures draws { IfOk result (Draws kept.now.plane kept.now.shape) }
-        ensures regions { IfOk result (HasRegions kept.now.plane) }
+        ensures drawn { IfOk result (IsDrawing kept.now.plane kept.now.shape) }
         ensures straight { IfOk result (AreDrawnStraight kept.now.plane kept.now.shape) }
         ensures quick { drawing_kind ≡ DrawingKind.Quick
             → IfOk result (IsQuick kept.now.plane kept.now.shape) }
-        ensures no_longer { IfOk result (IsNoLonger kept.now.plane kept.now.shape) }
-        ensures near { IfOk result (IsNear kept.now.plane kept.now.shape) }
         ensures wide { IfErr result (λ fault. fault ≡ CompactFault.Wide → IsCause kept.now.plane kept.now.shape Wide) }
     {
         // Only the proof needs this: `graph` says that the plane is one.

@@ -1,11 +1,9 @@
-//! Planes with a shape that keeps conditions, and why a record has none.
+//! Planes with a shape that keeps conditions.
 
 ghost use Rattle.ortho_rep.specs.Representation.{IsShape};
 ghost use Rattle.compact.specs.Monotone.{AreDirectionsOf};
 ghost use Rattle.std.proofs.Props.{props};
 
-use conditions::KeepFault;
-use embedding::ReadFault;
 use faces::Plane;
 use ortho_rep::{Prices, Shape};
 
@@ -20,13 +18,4 @@ pub struct KeptPlane {
     pub directions: Vec<u8>,
     pub ghost shape_is: { IsShape plane shape } by { Prim.hlevel props },
     pub ghost directed: { AreDirectionsOf plane shape directions.items } by { Prim.hlevel props },
-}
-
-/// The reason why a record has no shape that keeps conditions.
-#[derive(Debug, Drop)]
-pub enum KeptFault {
-    /// It has no plane.
-    Record(ReadFault),
-    /// Its plane has no such shape.
-    Conditions(KeepFault),
 }

@@ -31,7 +31,7 @@ pub use holder::{Holder, Shell};
 pub use item::Item;
 pub use keeping::{KeptLayout, answer_keeping};
 pub use kept::RecordScratch;
-pub use kept_plane::{KeptFault, KeptPlane};
+pub use kept_plane::KeptPlane;
 pub use purpose::{Keeping, Purpose};
 pub use scratch::{EmbedScratch, StageScratch};
 pub use shaped::Shaped;

@@ -68,7 +68,7 @@ pub struct StageScratch {
 }
 
 impl StageScratch {
-    /// The scratch of a lane whose links have room for `capacity` messages.
+    /// New, empty scratches of the stages of a lane whose links have room for `capacity` messages.
     ///
     /// A holder is in transit in one link, alone or in a list, in use in a stage, or on its return.
     ///

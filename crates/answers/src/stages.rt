@@ -106,7 +106,7 @@ pub(crate) fn answer_with(
     }
 }
 
-/// The shaped plane of a record with points that draw it, or why there are none.
+/// Adds points that draw the shape to a shaped plane; a record without a plane keeps its fault.
 ///
 /// The points of a quick drawing are not checked: it is proved that they draw the shape.
 pub fn find_points(
@@ -117,6 +117,9 @@ pub fn find_points(
 ) -> PointsFound
     ensures answers { (choice : Choice) (bytes : List ℕ) → IsShaped choice bytes shaped_plane → Answers choice bytes (answer_in result) }
     ensures same { IsFoundFor shaped_plane result }
+    ensures quick { drawing_kind ≡ DrawingKind.Quick → IfDrawn IsQuick (answer_in result) }
+    ensures no_longer { IfDrawn IsNoLonger (answer_in result) }
+    ensures near { IfDrawn IsNear (answer_in result) }
 {
     let shaped_plane = shaped_plane?;
     match points_of(alloc, scratch, &shaped_plane, drawing_kind) {

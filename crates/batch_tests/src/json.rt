@@ -9,8 +9,7 @@ use test_tools::{Narrow, same};
 
 const EDGE: &[u8] = b">>planar_code<<\x02\x02\x00\x01\x00";
 
-/// The complete graph on four vertices in a rotation that is one of another surface, and vertices without
-/// edges.
+/// The complete graph on four vertices with a rotation of another surface, and vertices without edges.
 const REFUSED: &[u8] =
     b">>planar_code<<\x04\x03\x04\x02\x00\x01\x04\x03\x00\x02\x04\x01\x00\x01\x02\x03\x00\x01\x00";
 
@@ -36,6 +35,7 @@ fn lines_of(rt: &impl Abort, alloc: Global, files: &[&[u8]]) -> Vec<u8> {
     text_of(alloc, &batch).expect(rt, "lines")
 }
 
+/// The JSON lines of refused graphs and of ends of files are as in the description.
 #[test]
 fn shows_refused_graphs_and_ends(rt: HostRuntime) {
     let lines = lines_of(&rt, rt.alloc(), &[b"", REFUSED, b">>planar_code<<"]);
@@ -48,6 +48,7 @@ fn shows_refused_graphs_and_ends(rt: HostRuntime) {
     same!(&rt, lines_of(&rt, rt.alloc(), &[]).len(), 0);
 }
 
+/// The JSON line of a single edge begins and ends as in the description.
 #[test]
 fn shows_a_single_edge(rt: HostRuntime) {
     let text = lines_of(&rt, rt.alloc(), &[EDGE]);
@@ -63,7 +64,7 @@ fn shows_a_single_edge(rt: HostRuntime) {
     );
 }
 
-/// Writes into so much room, and looks at the answer and at what was written of the text.
+/// Writes into a writer with this much room, and checks the result and what is written of the text.
 fn check_room<R: AllocGlobal + Abort>(
     rt: &R,
     batch: &Batch,
@@ -77,7 +78,8 @@ fn check_room<R: AllocGlobal + Abort>(
     same!(rt, written.text(), &text[..room.min(text.len())]);
 }
 
-/// A writer that fails after so many bytes has just these, and one that takes a byte a call has all.
+/// Checks that a writer that fails after this many bytes holds just these, and that one that takes a byte a call holds
+/// all.
 fn check_rooms<R: AllocGlobal + Abort>(rt: &R, batch: &Batch, text: &[u8]) {
     assert!(rt; text.len() <= 2048);
     for room in 0..text.len() {
@@ -86,6 +88,7 @@ fn check_rooms<R: AllocGlobal + Abort>(rt: &R, batch: &Batch, text: &[u8]) {
     check_room(rt, batch, text, (2048, 1), Ok(()));
 }
 
+/// A writer that fails holds a beginning of the JSON lines.
 #[test]
 fn writes_a_beginning_before_a_fault(rt: HostRuntime) {
     let batch = batch_of(rt.alloc(), &THREE_FILES).expect(&rt, "a batch");
@@ -93,22 +96,23 @@ fn writes_a_beginning_before_a_fault(rt: HostRuntime) {
     check_rooms(&rt, &batch, text.as_slice());
 }
 
-/// What is written of a batch into a writer that takes at most 100 bytes a call, and the answer.
+/// What is written of a batch into a writer that takes at most 100 bytes a call, and the result.
 fn narrow_text(alloc: Global, batch: &Batch) -> (Narrow, Result<(), WriteFault>) {
     let mut sink = IoSink::new(Narrow::new(2048, 100, true));
     let found = write_json(alloc, batch, &mut sink);
     (sink.into_writer(), found)
 }
 
-/// Writes a batch twice: whether one text is whole, and the other as well, or a beginning that names the want.
+/// Writes a batch twice: whether one text is whole, and the other one as well, or a beginning whose result says that
+/// memory ran out.
 fn is_written(alloc: Global, batch: &Batch) -> bool {
     let (first, found) = narrow_text(alloc, batch);
     let (second, again) = narrow_text(alloc, batch);
     are_allowed(first.text(), found, second.text(), again)
 }
 
-/// With each allocation refused in turn, one of two calls writes a beginning of the text and names the want,
-/// and the other writes the whole text; or both do, where none of theirs was refused.
+/// With each allocation refused in turn, one of two calls writes a beginning of the text and says that memory ran out.
+/// The other one writes the whole text. Both do if none of their allocations was refused.
 #[test]
 fn names_want_of_memory(rt: HostRuntime) {
     if let Some(batch) = batch_of(rt.alloc(), &THREE_FILES) {
@@ -116,7 +120,7 @@ fn names_want_of_memory(rt: HostRuntime) {
     }
 }
 
-/// Two texts, each with its answer, are the same; or one is a beginning of the other, and its answer names the want.
+/// Whether two texts are the same, or one is a beginning of the other and its result says that memory ran out.
 fn are_allowed(
     first: &[u8],
     found: Result<(), WriteFault>,

@@ -15,7 +15,7 @@ use test_tools::same;
 
 const TRIANGLE: &[u8] = b">>planar_code<<\x03\x02\x03\x00\x03\x01\x00\x01\x02\x00";
 
-/// So many files of one triangle each.
+/// This many files of one triangle each.
 fn triangles(alloc: Global, count: u32) -> Result<MemOpener, AllocError> {
     let mut files = Vec::new(alloc);
     for _ in 0..count {
@@ -46,7 +46,7 @@ fn report_of_lanes<R: AllocGlobal + Threads + Wait + Sync>(
     report_of(alloc, &batch).ok()
 }
 
-/// The report of a run over lanes is this one.
+/// Checks that the report of a run over lanes is this one.
 fn check_lanes<R: AllocGlobal + Threads + Wait + Sync + Abort>(
     rt: &R,
     opener: &MemOpener,
@@ -61,6 +61,7 @@ fn check_lanes<R: AllocGlobal + Threads + Wait + Sync + Abort>(
     assert!(rt; found.as_slice() == report, "{lanes}");
 }
 
+/// The report of 64 files is the same on one thread and over any number of lanes.
 #[test]
 fn reports_64_files_the_same_over_lanes(rt: HostRuntime) {
     let opener = triangles(rt.alloc(), 64).expect(&rt, "memory");
@@ -73,8 +74,8 @@ fn reports_64_files_the_same_over_lanes(rt: HostRuntime) {
     }
 }
 
-/// An edge, the complete graph on four vertices in a rotation of another surface, two edges apart, a triangle, and a
-/// record that is cut off.
+/// An edge, the complete graph on four vertices with a rotation of another surface, two separate edges, a triangle, and
+/// a record that is cut off.
 const MIXED: &[u8] = b">>planar_code<<\x02\x02\x00\x01\x00\
     \x04\x03\x04\x02\x00\x01\x04\x03\x00\x02\x04\x01\x00\x01\x02\x03\x00\
     \x04\x02\x00\x01\x00\x04\x00\x03\x00\
@@ -88,14 +89,14 @@ const OF_MIXED: &[u8] = b"file 1\n\
     graph 4 ok n=3 m=3 f=2 bends=1 drawn=yes\n\
     end truncated graphs=4\n";
 
-/// One file over four lanes, read two bytes at a time.
+/// One file over four lanes, read two bytes at a time, has its report.
 #[test]
 fn reports_one_file_over_four_lanes(rt: HostRuntime) {
     let opener = opener_of(rt.alloc(), &[MIXED], 2).expect(&rt, "memory");
     check_lanes(&rt, &opener, 1, 4, 1, OF_MIXED);
 }
 
-/// So many files, which are in turn of one triangle, of graphs of several kinds, and of no header.
+/// This many files, in turn of one triangle, of graphs of several kinds, and without a header.
 fn different(alloc: Global, count: u32) -> Result<MemOpener, AllocError> {
     let kinds: [&[u8]; 3] = [TRIANGLE, MIXED, b"planar_code"];
     let mut files = Vec::new(alloc);
@@ -113,8 +114,7 @@ fn lines_of_books(alloc: Global, opener: &MemOpener, files: u32) -> Option<Vec<u
     Some(sink.into_writer())
 }
 
-/// JSON lines of quick drawings that leave as they are made over any number of lanes are those of the books of one
-/// thread.
+/// JSON Lines of quick drawings, streamed over any number of lanes, are those of the books of one thread.
 #[test]
 fn json_lines_are_those_of_books(rt: HostRuntime) {
     let opener = different(rt.alloc(), 48).expect(&rt, "memory");
@@ -129,6 +129,7 @@ fn json_lines_are_those_of_books(rt: HostRuntime) {
     }
 }
 
+/// The report of 256 files is the same on one thread and over eight lanes.
 #[test]
 fn reports_256_files_the_same_over_eight_lanes(rt: HostRuntime) {
     let opener = triangles(rt.alloc(), 256).expect(&rt, "memory");

@@ -45,7 +45,7 @@ const OF_FAULTS: &str = "file 1\ngraph 1 ok n=3 m=3 f=2 bends=1 drawn=yes\n\
     file 4\ngraph 1 ok n=2 m=1 f=1 bends=0 drawn=yes\nend large graphs=1\n\
     file 5\nend io graphs=0\nfile 6\nend io graphs=0\n";
 
-/// Runs the files over lanes with a gate, and looks at the report.
+/// Runs the files over lanes with a gate, and checks the report.
 fn check<R: AllocGlobal + Threads + Wait + Sync + Abort, G: Gate>(
     rt: &R,
     way: Way,
@@ -71,12 +71,13 @@ fn check_chosen<R: AllocGlobal + Threads + Wait + Sync + Abort, G: Gate>(
     same!(rt, text.as_slice(), report.as_bytes());
 }
 
-/// Runs the files on one thread, and looks at the report.
+/// Runs the files on one thread, and checks the report.
 fn check_plain<R: AllocGlobal + Abort>(rt: &R, files: &[&[u8]], choice: Choice, report: &str) {
     let batch = plain_batch(rt.alloc(), files, 1, choice).expect(rt, "a batch");
     check_report(rt, &batch, report.as_bytes());
 }
 
+/// The report is the same on one thread and over any number of lanes.
 #[test]
 fn reports_the_same_over_lanes(rt: HostRuntime) {
     for lanes in 1..=MAX_LANES {
@@ -87,7 +88,8 @@ fn reports_the_same_over_lanes(rt: HostRuntime) {
     check_plain(&rt, &THREE_FILES, Choice::First, OF_THREE);
 }
 
-/// Neither a single edge nor a triangle has a better face than the widest.
+/// The report is the same under either choice of the outer face: no face of an edge or a triangle is better than the
+/// widest.
 #[test]
 fn reports_the_same_under_either_choice(rt: HostRuntime) {
     let (files, best) = (THREE_FILES, Choice::Best);
@@ -107,8 +109,8 @@ const CAPPED_BY_BEST: &str = "file 1\n\
     graph 1 ok n=9 m=16 f=9 bends=8 drawn=yes\n\
     end complete graphs=1\n";
 
-/// The face of a capped cube that lies opposite to its cap needs fewest bends, and the widest face with the least dart
-/// needs two more.
+/// The best outer face is chosen if it needs fewer bends than the widest one.
+/// For a capped cube this is the face opposite to its cap; the widest face with the least dart needs two more bends.
 #[test]
 fn chooses_the_outer_face(rt: HostRuntime) {
     let file = [HEADER, CAPPED_CUBE].concat(rt.alloc());
@@ -163,7 +165,7 @@ impl Gate for Counts {
     }
 }
 
-/// Each stage passes the gate so often over these files.
+/// Checks that each stage passes the gate this many times over these files.
 fn check_counts<R: AllocGlobal + Threads + Wait + Sync + Abort>(
     rt: &R,
     files: &[&[u8]],
@@ -177,13 +179,14 @@ fn check_counts<R: AllocGlobal + Threads + Wait + Sync + Abort>(
     }
 }
 
+/// Each stage passes the gate once for each record.
 #[test]
 fn each_stage_passes_the_gate_once_a_record(rt: HostRuntime) {
     check_counts(&rt, &THREE_FILES, OF_THREE, 3);
     check_counts(&rt, &[TRIANGLES, CUT, HEADER, EDGELESS], OF_FOUR, 4);
 }
 
-/// Why a run over so many files that do not open and so many lanes came to nothing, or none.
+/// The fault of a run over this many files that do not open and this many lanes, if any.
 fn fault_of<R: AllocGlobal + Threads + Wait + Sync>(
     rt: &R,
     files: u32,
@@ -203,6 +206,7 @@ fn fault_of<R: AllocGlobal + Threads + Wait + Sync>(
     .err()
 }
 
+/// More than 256 files are refused, and otherwise 0 or more than 8 lanes.
 #[test]
 fn refuses_bad_numbers(rt: HostRuntime) {
     same!(&rt, fault_of(&rt, 257, 0), Some(BatchFault::TooManyFiles));
@@ -210,6 +214,7 @@ fn refuses_bad_numbers(rt: HostRuntime) {
     same!(&rt, fault_of(&rt, 256, 0), Some(BatchFault::BadLanes));
 }
 
+/// The report of no files is empty.
 #[test]
 fn no_files_have_an_empty_report(rt: HostRuntime) {
     for lanes in 1..=MAX_LANES {
@@ -219,7 +224,7 @@ fn no_files_have_an_empty_report(rt: HostRuntime) {
     }
 }
 
-/// Two calls, of which each is held up until the other is made.
+/// Two calls, each of which is held up until the other is made.
 #[derive(Drop)]
 struct Meeting {
     first: AtomicU32,
@@ -246,7 +251,7 @@ impl Meeting {
         wait_for_count(&self.first, 1, &self.ran_out);
     }
 
-    /// Both calls were made, and neither waited too long.
+    /// Whether both calls were made, and neither waited too long.
     fn took_place(&self) -> bool {
         let both = self
             .first
@@ -272,8 +277,7 @@ impl Gate for HoldsStages {
     }
 }
 
-/// Two stages of a lane work at once: the first one on the second record while the second one has the
-/// first record.
+/// Two stages of a lane work at once: the first one on the second record while the second one has the first record.
 #[test]
 fn gate_holds_stages(rt: HostRuntime) {
     for way in WAYS {
@@ -313,8 +317,8 @@ fn gate_holds_two(rt: HostRuntime) {
     }
 }
 
-/// Counts the calls of each of two lanes at the first stage, and holds the first call of one lane until the
-/// other has made so many.
+/// Counts the calls of each of two lanes at the first stage, and holds the first call of one lane until the other has
+/// made this many.
 #[derive(Drop)]
 struct HoldsFan {
     held: u32,
@@ -358,7 +362,7 @@ impl Gate for HoldsFan {
     }
 }
 
-/// A file of so many records of two vertices with one edge.
+/// A file of this many records of two vertices with one edge.
 fn edges(alloc: Global, count: u32) -> Result<Vec<u8>, AllocError> {
     let mut bytes = HEADER.to_vec(alloc)?;
     for _ in 0..count {
@@ -367,7 +371,7 @@ fn edges(alloc: Global, count: u32) -> Result<Vec<u8>, AllocError> {
     Ok(bytes)
 }
 
-/// The report of so many files of so many such records.
+/// The report of this many files of this many of these records.
 fn report_of_edges(alloc: Global, files: u32, count: u32) -> Result<String, AllocError> {
     let mut report = String::new(alloc);
     for file in 1..=files {
@@ -376,7 +380,7 @@ fn report_of_edges(alloc: Global, files: u32, count: u32) -> Result<String, Allo
     Ok(report)
 }
 
-/// What it says of one file.
+/// Adds the lines of one file to the report.
 fn tell_edges(report: &mut String, file: u32, count: u32) -> Result<(), AllocError> {
     writeln!(report, "file {file}")?;
     for graph in 1..=count {
@@ -385,7 +389,7 @@ fn tell_edges(report: &mut String, file: u32, count: u32) -> Result<(), AllocErr
     writeln!(report, "end complete graphs={count}")
 }
 
-/// Runs two files of these bytes with one of two lanes held, and looks at the report.
+/// Runs two files of these bytes with one of two lanes held, and checks the report.
 fn check_fan<R: AllocGlobal + Threads + Wait + Sync + Abort>(
     rt: &R,
     bytes: &[u8],
@@ -399,7 +403,7 @@ fn check_fan<R: AllocGlobal + Threads + Wait + Sync + Abort>(
     }
 }
 
-/// Of two lanes one gives all records of its file while the other gives none, whichever of them is held.
+/// While one of two lanes is held, the other one gives all records of its file, whichever lane is held.
 #[test]
 fn gate_holds_fan(rt: HostRuntime) {
     let file = edges(rt.alloc(), 12).expect(&rt, "memory");
@@ -435,8 +439,7 @@ impl Gate for HoldsDeal {
     }
 }
 
-/// Runs four files of these bytes, of four records each, and looks at the report and at how often each lane
-/// has called.
+/// Runs four files of these bytes, of four records each, and checks the report and how often each lane has called.
 fn check_deal<R: AllocGlobal + Threads + Wait + Sync + Abort>(
     rt: &R,
     way: Way,
@@ -468,7 +471,7 @@ fn gate_holds_deal(rt: HostRuntime) {
     }
 }
 
-/// A run over lanes behind a gate, and how many sources were opened and let go.
+/// A run over lanes with a gate, and the numbers of sources opened and dropped.
 fn counted_run<R: AllocGlobal + Threads + Wait + Sync, G: Gate>(
     rt: &R,
     files: MemOpener,
@@ -501,9 +504,10 @@ fn counted_run<R: AllocGlobal + Threads + Wait + Sync, G: Gate>(
     )
 }
 
-/// With each allocation refused in turn, one answer or one mark says so and all else is as ever, or a fault does. Where
-/// it was to start a thread, the fault names that instead; a lane's own fault arrives, so none is named a lost lane.
-/// Each record that is booked has passed the gate once at each stage, whether or not memory was wanting for it.
+/// With each allocation refused in turn, one answer, one mark or the fault says that memory ran out, and all else is
+/// unchanged.
+/// If a thread could not be started for it, the fault names that instead. A lane's own fault arrives, so no lane is
+/// called lost. Each record of a book has passed the gate once at each stage, whether or not memory ran out for it.
 #[test]
 fn names_want_of_memory(rt: HostRuntime) {
     let Ok(files) = opener_of(rt.alloc(), &THREE_FILES, 1) else {
@@ -515,7 +519,7 @@ fn names_want_of_memory(rt: HostRuntime) {
     check_named(&rt, &counts, run);
 }
 
-/// A run has its books, or a fault that names want of memory or of a thread.
+/// Checks that a run has its books, or a fault that names memory or a thread.
 fn check_named(rt: &impl Abort, counts: &Counts, run: Result<Batch, BatchFault>) {
     match run {
         Ok(batch) => check_passed(rt, counts, check_three(rt, &batch)),
@@ -523,14 +527,14 @@ fn check_named(rt: &impl Abort, counts: &Counts, run: Result<Batch, BatchFault>)
     }
 }
 
-/// Each stage has passed the gate so often.
+/// Checks that each stage has passed the gate this many times.
 fn check_passed(rt: &impl Abort, counts: &Counts, count: usize) {
     for stage in [Stage::Read, Stage::Embed, Stage::Shape, Stage::Draw] {
         same!(rt, (stage, counts.passed(stage) as usize), (stage, count));
     }
 }
 
-/// How many books a run of three files over lanes has, or why it came to nothing.
+/// The number of books of a run of three files over lanes, or its fault.
 fn books_of_run<R: AllocGlobal + Threads + Wait + Sync>(
     rt: &R,
     opener: &MemOpener,
@@ -549,8 +553,8 @@ fn books_of_run<R: AllocGlobal + Threads + Wait + Sync>(
     Ok(batch.files())
 }
 
-/// With the start of each thread refused in turn, of a lane's own and of its stages', the run ends, and
-/// answers Ok or the fault `Thread`.
+/// With the start of each thread refused in turn, a lane's own and those of its stages, the run ends with Ok or the
+/// fault `Thread`.
 #[test]
 fn names_a_refused_thread(rt: HostRuntime) {
     let opener = opener_of(rt.alloc(), &THREE_FILES, 1).expect(&rt, "memory");
@@ -563,8 +567,8 @@ fn names_a_refused_thread(rt: HostRuntime) {
     }
 }
 
-/// Opens these files, and then one whose reads all fail. It counts the sources that it opened, and those
-/// that were let go.
+/// Opens these files, and then one whose reads all fail. It counts the sources that it opened, and those that were
+/// dropped.
 #[derive(Drop)]
 struct Counting<'a> {
     files: MemOpener,
@@ -591,7 +595,7 @@ impl<'a> Opener for Counting<'a> {
     }
 }
 
-/// A source that is counted when it is let go; one without bytes fails at each read.
+/// A source that is counted when it is dropped; one without bytes fails at each read.
 struct Counted<'a> {
     source: Option<MemTap>,
     dropped: &'a AtomicU32,
@@ -620,8 +624,8 @@ impl Tap for Counted<'_> {
     }
 }
 
-/// Runs six files over lanes: a whole one, a cut one, one with another beginning, one with a fault, one
-/// whose reads fail and one that does not open. Looks at the report and at how many sources were let go.
+/// Runs six files over lanes: a whole one, a cut one, one with another beginning, one with a fault, one whose reads
+/// fail and one that does not open. Checks the report and the number of sources dropped.
 fn check_let_go<R: AllocGlobal + Threads + Wait + Sync + Abort>(rt: &R, lanes: u32) {
     let files = opener_of(rt.alloc(), &[TRIANGLES, CUT, b"planar_code", LARGE], 1).expect(
         rt, "memory",
@@ -631,7 +635,7 @@ fn check_let_go<R: AllocGlobal + Threads + Wait + Sync + Abort>(rt: &R, lanes: u
     check_report(rt, &run.expect(rt, "a batch"), OF_FAULTS.as_bytes());
 }
 
-/// Every source is let go.
+/// A run drops every source that it opened.
 #[test]
 fn lets_every_source_go(rt: HostRuntime) {
     for lanes in 1..=MAX_LANES {

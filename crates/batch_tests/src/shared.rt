@@ -23,7 +23,7 @@ pub(crate) const CUT: &[u8] = b">>planar_code<<\x02\x02\x00\x01\x00\x02\x02\x00\
 /// Two triangles; an edge and a record that is cut; no record.
 pub(crate) const THREE_FILES: [&[u8]; 3] = [TRIANGLES, CUT, HEADER];
 
-/// The report of them.
+/// The report of these three files.
 pub(crate) const OF_THREE: &str = "file 1\ngraph 1 ok n=3 m=3 f=2 bends=1 drawn=yes\n\
     graph 2 ok n=3 m=3 f=2 bends=1 drawn=yes\nend complete graphs=2\n\
     file 2\ngraph 1 ok n=2 m=1 f=1 bends=0 drawn=yes\nend truncated graphs=1\n\
@@ -38,7 +38,7 @@ pub(crate) fn copies(alloc: Global, files: &[&[u8]]) -> Result<Vec<Vec<u8>>, All
     Ok(lists)
 }
 
-/// These files, so many bytes a read at most.
+/// An opener of these files, of which a read returns at most this many bytes.
 pub(crate) fn opener_of(
     alloc: Global,
     files: &[&[u8]],
@@ -49,7 +49,7 @@ pub(crate) fn opener_of(
     Ok(MemOpener::new(copies(alloc, files)?, most))
 }
 
-/// How many files these are.
+/// The number of these files.
 pub(crate) fn count_of(files: &[&[u8]]) -> Option<u32> {
     u32::try_from(files.len()).ok()
 }
@@ -81,12 +81,12 @@ pub(crate) fn lanes_batch<R: AllocGlobal + Threads + Wait + Sync, G: Gate>(
     run_batch(rt, rt.alloc(), &opener, count, lanes, 1, choice, gate).ok()
 }
 
-/// How the report of a run over lanes is had.
+/// The two ways to get the report of a run over lanes.
 #[derive(Clone, Copy)]
 pub(crate) enum Way {
     /// From its books.
     Books,
-    /// As it is made.
+    /// As streamed output.
     Text,
 }
 
@@ -111,7 +111,7 @@ pub(crate) fn lanes_report<R: AllocGlobal + Threads + Wait + Sync, G: Gate>(
     }
 }
 
-/// The text of a run over these files, as it is made.
+/// The streamed output of a run over these files.
 fn lanes_text<R: AllocGlobal + Threads + Wait + Sync, G: Gate>(
     rt: &R,
     files: &[&[u8]],
@@ -124,7 +124,7 @@ fn lanes_text<R: AllocGlobal + Threads + Wait + Sync, G: Gate>(
     text_of_lanes(rt, &opener, count, lanes, choice, Form::Report, gate)
 }
 
-/// The text in this form of a run over so many files of an opener, as it is made, of quick drawings.
+/// The streamed output, in this form and of quick drawings, of a run over this many files of an opener.
 pub(crate) fn text_of_lanes<R: AllocGlobal + Threads + Wait + Sync, G: Gate>(
     rt: &R,
     opener: &MemOpener,
@@ -163,7 +163,7 @@ pub(crate) fn report_of(alloc: Global, batch: &Batch) -> Result<Vec<u8>, WriteFa
     Ok(sink.into_writer())
 }
 
-/// The report of a batch is this text.
+/// Checks that the report of a batch is this text.
 pub(crate) fn check_report<R: AllocGlobal + Abort>(rt: &R, batch: &Batch, report: &[u8]) {
     let text = report_of(rt.alloc(), batch).expect(rt, "a report");
     same!(rt, text.as_slice(), report);
@@ -172,7 +172,8 @@ pub(crate) fn check_report<R: AllocGlobal + Abort>(rt: &R, batch: &Batch, report
 /// The numbers of vertices, edges, faces and bends of a drawn record.
 type Sizes = (u32, u32, u32, u32);
 
-/// How many wants of memory an answer tells, which is else a drawing of these sizes.
+/// Returns 1 if an answer says that memory ran out. Otherwise checks that it is a drawing of these sizes, and returns
+/// 0.
 fn wants_of(rt: &impl Abort, answer: &Answer, sizes: Sizes) -> usize {
     let found = match answer {
         Answer::Laid {
@@ -197,8 +198,8 @@ fn wants_of(rt: &impl Abort, answer: &Answer, sizes: Sizes) -> usize {
     0
 }
 
-/// How many wants of memory a book tells, by an answer or by its mark, and how many entries it has. It is else of these
-/// records and has this mark.
+/// How often a book says that memory ran out, by an answer or by its mark, and how many entries it has. Checks that the
+/// book otherwise has these records and this mark.
 fn wants_in(rt: &impl Abort, book: &Book, records: &[Sizes], mark: Mark) -> (usize, usize) {
     let entries = book.entries();
     let mut wants: usize = 0;
@@ -215,8 +216,8 @@ fn wants_in(rt: &impl Abort, book: &Book, records: &[Sizes], mark: Mark) -> (usi
     (wants, entries.len())
 }
 
-/// The books are those of the three files, but for one place at most, which tells want of memory. Answers how many
-/// entries they have.
+/// Checks that the books are those of the three files, except for at most one place that says that memory ran out.
+/// Returns how many entries they have.
 pub(crate) fn check_three(rt: &impl Abort, batch: &Batch) -> usize {
     assert!(rt; batch.files() == 3);
     let complete = Mark::Ended(Ending::Complete);

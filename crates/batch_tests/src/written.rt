@@ -36,7 +36,7 @@ const RECORDS: [(&[u8], &str); 17] = [
         b"\x04\x02\x00\x01\x00\x04\x00\x03\x00",
         "refused disconnected",
     ),
-    // A vertex past the last one stands in one list, and a vertex in its own.
+    // A neighbour is out of range, and a vertex is its own neighbour.
     (b"\x02\x03\x00\x02\x00", "refused range"),
     (SQUARE, "ok n=4 m=4 f=2 bends=0 drawn=yes"),
     (CUBE, "ok n=8 m=12 f=6 bends=4 drawn=yes"),
@@ -50,7 +50,7 @@ fn joined(alloc: Global, parts: &[&[u8]]) -> Result<Vec<u8>, AllocError> {
     Ok(bytes)
 }
 
-/// Reads these files, a byte or all at a time, and looks at the report.
+/// Reads these files, a byte or all at a time, and checks the report.
 fn check_files<R: AllocGlobal + Abort>(rt: &R, files: &[&[u8]], report: &[u8]) {
     for most in [1, 65_536] {
         let batch = plain_batch(rt.alloc(), files, most, Choice::First).expect(rt, "a batch");
@@ -58,14 +58,14 @@ fn check_files<R: AllocGlobal + Abort>(rt: &R, files: &[&[u8]], report: &[u8]) {
     }
 }
 
-/// Reads one file, and looks at the lines after its first.
+/// Reads one file, and checks the lines after its first.
 fn check_file<R: AllocGlobal + Abort>(rt: &R, parts: &[&[u8]], lines: &str) {
     let bytes = joined(rt.alloc(), parts).expect(rt, "memory");
     let report = joined(rt.alloc(), &[b"file 1\n", lines.as_bytes()]).expect(rt, "memory");
     check_files(rt, &[bytes.as_slice()], report.as_slice());
 }
 
-/// Reads a file of one record, and looks at what the record's line says after the number.
+/// Reads a file of one record, and checks what the record's line says after the number.
 fn check_record<R: AllocGlobal + Abort>(rt: &R, bytes: &[u8], said: &str) {
     let bytes = joined(rt.alloc(), &[HEADER, bytes]).expect(rt, "memory");
     let report = joined(
@@ -80,6 +80,7 @@ fn check_record<R: AllocGlobal + Abort>(rt: &R, bytes: &[u8], said: &str) {
     check_files(rt, &[bytes.as_slice()], report.as_slice());
 }
 
+/// The line of a graph has its sizes or the rule that it breaks.
 #[test]
 fn tells_sizes_and_rules(rt: HostRuntime) {
     for (bytes, said) in RECORDS {
@@ -87,6 +88,7 @@ fn tells_sizes_and_rules(rt: HostRuntime) {
     }
 }
 
+/// A cycle of 255 vertices is drawn without bends.
 #[test]
 fn draws_a_cycle_of_most_vertices(rt: HostRuntime) {
     let bytes = longest_cycle(rt.alloc()).expect(&rt, "memory");
@@ -109,6 +111,7 @@ const ENDINGS: [(&[&[u8]], &str); 5] = [
     ),
 ];
 
+/// The last line of a file has its mark and its number of graphs.
 #[test]
 fn tells_how_a_file_ended(rt: HostRuntime) {
     for (parts, lines) in ENDINGS {
@@ -121,13 +124,14 @@ fn tells_how_a_file_ended(rt: HostRuntime) {
     check_file(&rt, &long, "end oversize graphs=0\n");
 }
 
+/// The report has all files in their order.
 #[test]
 fn tells_of_all_files_in_order(rt: HostRuntime) {
     check_files(&rt, &THREE_FILES, OF_THREE.as_bytes());
     check_files(&rt, &[], b"");
 }
 
-/// What of the report of three files goes into ten bytes, and the answer.
+/// The part of the report of three files that fits into ten bytes, and the result.
 fn narrow_report(alloc: Global) -> Option<(Narrow, Result<(), WriteFault>)> {
     let batch = plain_batch(alloc, &THREE_FILES, 65_536, Choice::First)?;
     let mut sink = IoSink::new(Narrow::new(10, usize::MAX, true));
@@ -135,6 +139,7 @@ fn narrow_report(alloc: Global) -> Option<(Narrow, Result<(), WriteFault>)> {
     Some((sink.into_writer(), found))
 }
 
+/// A writer that fails holds a beginning of the report.
 #[test]
 fn writes_a_beginning_before_a_fault(rt: HostRuntime) {
     let (narrow, found) = narrow_report(rt.alloc()).expect(&rt, "a batch");
@@ -142,13 +147,14 @@ fn writes_a_beginning_before_a_fault(rt: HostRuntime) {
     same!(&rt, narrow.text(), b"file 1\ngra".as_slice());
 }
 
-/// How many books a run of files that do not open has, or why it came to nothing.
+/// The number of books of a run over this many files that do not open, or its fault.
 fn books_of_run(alloc: Global, files: u32) -> Result<u32, BatchFault> {
     let opener = MemOpener::new(Vec::new(alloc), 1);
     let batch = run_plain(alloc, &opener, files, Choice::Best)?;
     Ok(batch.files())
 }
 
+/// A run takes 256 files, and refuses 257.
 #[test]
 fn takes_at_most_256_files(rt: HostRuntime) {
     same!(
@@ -159,6 +165,7 @@ fn takes_at_most_256_files(rt: HostRuntime) {
     same!(&rt, books_of_run(rt.alloc(), 256), Ok(256));
 }
 
+/// A file that does not open has the mark `io`.
 #[test]
 fn marks_a_file_that_does_not_open(rt: HostRuntime) {
     let opener = opener_of(rt.alloc(), &[HEADER], 1).expect(&rt, "memory");
@@ -167,13 +174,14 @@ fn marks_a_file_that_does_not_open(rt: HostRuntime) {
     check_report(&rt, &batch, report);
 }
 
-/// A cause is written so.
+/// Checks the text of a cause.
 fn check_cause<R: Abort>(rt: &R, cause: Cause, text: &str) {
     let mut line = ReportLine::new();
     line.push_cause(cause);
     same!(rt, line.as_slice(), text.as_bytes());
 }
 
+/// The line of a graph that is not drawn names the cause.
 #[test]
 fn names_each_cause(rt: HostRuntime) {
     let cases = [
@@ -188,8 +196,8 @@ fn names_each_cause(rt: HostRuntime) {
     }
 }
 
-/// With each allocation refused in turn, all is as ever but for one entry that says so, or one file that
-/// ends early and says so, or there is no batch.
+/// With each allocation refused in turn, at most one entry or the end of one file says that memory ran out.
+/// All else is unchanged, or there is no batch.
 #[test]
 fn names_want_of_memory(rt: HostRuntime) {
     let Ok(opener) = opener_of(rt.alloc(), &THREE_FILES, 4) else {

@@ -215,7 +215,7 @@ module _ {L : Type 0} (to_come : L → Option (List ℕ)) (fails : L → Bool) (
       pairs_one before faces records kept verdicts bytes v (given.Fault fault) many each step
       (λ failed. judged_as faces failed bytes (Some step.line) v (given.Fault fault) step.tells holds memory)
 
-  -- ---- the lines behind the last record
+  -- ---- the lines after the last record
 
   pub rest_none : (kept : List (List ℕ)) (first : State) → state_in lines ≡ first → HasKept to_come fails known known_fails lines kept
       → KeepsMore to_come fails known known_fails first lines kept 0

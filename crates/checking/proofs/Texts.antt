@@ -1,5 +1,5 @@
 -- The lines of verdicts, one after another, and what is true of each.
-use Rattle.std.proofs.Common.{◌≡◌, ◌<◌, ◌≤◌, ℕ, suc, ◌+◌, get_or, take, Bool, List, [], ◌∷◌, ◌++◌, All, Option, Ok, Err, length, ap, subst, sym, ◌∙◌, append_assoc, append-nil, arith}
+use Rattle.std.proofs.Common.{◌≡◌, ◌↔◌, ◌<◌, ◌≤◌, ℕ, true, false, refl, suc, ◌+◌, get_or, take, Bool, List, [], ◌∷◌, ◌++◌, All, Option, Ok, Err, length, ap, subst, sym, ◌∙◌, append_assoc, append-nil, arith}
 use Rattle.std.proofs.Math.Seq.{take-append_seam, take-suc}
 use Rattle.std.proofs.lemmas.List.{take_all}
 use Rattle.std.proofs.lemmas.List.Elements.{All-take, All-contains, Contains-push}
@@ -44,6 +44,21 @@ pub flush_lost : (start old new : Option (List ℕ)) (waiting text : List ℕ) (
 flush_lost start old new waiting text failed Write writes way =
     let f = sent_front start old new waiting text [] way writes.1 in (f.0, f.1, sym (append-nil text) ∙ f.2, f.3)
 flush_lost start old new waiting text failed Memory writes way = absurd writes
+
+-- there was no room exactly if the sink failed
+pub room_fault : (old new : Option (List ℕ)) (waited waits more : List ℕ) (failed : Bool) (fault : WriteFault)
+    → StaysInTransit {A = Unit {0}} old waited new waits failed more (Err fault) → (fault ≡ Write) ↔ (failed ≡ true)
+room_fault old new waited waits more failed Write stays = (λ is. stays.0, λ is. refl)
+room_fault old new waited waits more failed Memory stays = absurd stays
+
+pub flush_fault : (old new : Option (List ℕ)) (waiting : List ℕ) (failed : Bool) (fault : WriteFault)
+    → Writes {A = Unit {0}} old new failed waiting (Err fault) → (fault ≡ Write) ↔ (failed ≡ true)
+flush_fault old new waiting failed Write writes = (λ is. writes.0, λ is. refl)
+flush_fault old new waiting failed Memory writes = absurd writes
+
+-- memory ran out, and the sink has not failed
+pub memory_fault : (failed : Bool) (fault : WriteFault) → fault ≡ Memory → failed ≡ false → (fault ≡ Write) ↔ (failed ≡ true)
+memory_fault failed fault memory intact = (λ is. (cc), λ is. (cc))
 
 -- a line more
 pub line_added : (start old new : Option (List ℕ)) (waited mid waits text line whole : List ℕ) (failed : Bool)

@@ -113,7 +113,7 @@ begun asked graphs cut known known_fails start now found surplus records is shor
 
 -- ---- all lines of a source
 
--- all lines of a source of which this is known, each with the record at its place, and those behind the last record
+-- all lines of a source of which this is known, each with the record at its place, and those after the last record
 pub record AreAll (known : Option (List ℕ)) (known_fails faces failed : Bool) (records : List (List ℕ)) (verdicts : List Verdict) (surplus : ℕ) : Type 0 where
   pub line_bytes : List ℕ
   pub gave : IsKnownOf known known_fails line_bytes failed
@@ -127,7 +127,7 @@ given_all : (failed : Bool) (known rest : Option (List ℕ)) (known_fails fails 
 given_all true known rest known_fails fails given has = has
 given_all false known rest known_fails fails given has = has
 
--- the lines behind as many as there are records
+-- the lines after as many as there are records
 behind_same : (kept more : List (List ℕ)) (records surplus : ℕ) → length kept ≡ records → All (λ line. ¬ EndsRun line) more → surplus ≡ min (length more) (2 ^ 64 - 1)
     → AreSurplus records (kept ++ more) surplus
 behind_same kept more records surplus same each counted =

@@ -54,7 +54,7 @@ AreVerdicts faces failed (bytes ∷ records) lines [] = ⊥
 AreVerdicts faces failed (bytes ∷ records) [] (v ∷ vs) = IsVerdictOf faces failed bytes None v × AreVerdicts faces failed records [] vs
 AreVerdicts faces failed (bytes ∷ records) (line ∷ lines) (v ∷ vs) = IsVerdictOf faces failed bytes (Some line) v × AreVerdicts faces failed records lines vs
 
--- the lines behind those of this many records, none of which is the end of a run; as a number of 64 bits
+-- the lines after those of this many records, none of which is the end of a run; as a number of 64 bits
 pub record AreSurplus (records : ℕ) (lines : List (List ℕ)) (surplus : ℕ) : Type 0 where
   pub counted : surplus ≡ min (length (drop records lines)) (2 ^ 64 - 1)
   pub each : All (λ line. ¬ EndsRun line) (drop records lines)

@@ -62,7 +62,7 @@ KeepsNext to_come fails known known_fails before lines kept given.Missing = Keep
 KeepsNext to_come fails known known_fails before lines kept given.Unread = KeepsNoMore to_come fails known known_fails true before lines kept
 KeepsNext to_come fails known known_fails before lines kept told = KeepsOneMore to_come fails known known_fails before lines kept told
 
--- what is given, behind the last record
+-- what is given after the last record
 abbrev pub behind_of : Given → Behind
 behind_of (given.Drawing said) = behind.Line
 behind_of (given.Fault fault.Memory) = behind.Wanting
@@ -70,7 +70,7 @@ behind_of (given.Fault other) = behind.Line
 behind_of given.Missing = behind.End false
 behind_of given.Unread = behind.End true
 
--- a reader that had given the lines in `kept` has given so many more, none of which is the end of a run
+-- a reader that had given the lines in `kept` has given some more, none of which is the end of a run
 pub record KeepsMore {L : Type 0} (to_come : L → Option (List ℕ)) (fails : L → Bool) (known : Option (List ℕ)) (known_fails : Bool) (before : State) (lines : Lines L) (kept : List (List ℕ)) (surplus : ℕ) : Type 0 where
   pub more : List (List ℕ)
   pub has_kept : HasKept to_come fails known known_fails lines (kept ++ more)

@@ -1,5 +1,5 @@
 //! Records as they come, each with its line.
-ghost use Rattle.std.specs.Prelude.{◌≡◌, ◌≢◌, ◌+◌, ◌≤◌, ◌<◌, ◌++◌, ◌∷◌, ◌↔◌, ℕ, Bool, Option, List, [], length, true, false, IfOk, OnOk, OnErr};
+ghost use Rattle.std.specs.Prelude.{◌≡◌, ◌≢◌, ◌+◌, ◌≤◌, ◌<◌, ◌++◌, ◌∷◌, ◌↔◌, ℕ, Bool, Option, List, [], length, true, false, IfOk, OnOk, IfErr, OnErr};
 ghost use Rattle.planar_code.specs.declared.TheConstants.{MAX_RECORDS};
 ghost use Rattle.planar_code.specs.declared.ending.Ending.{Ending};
 ghost use Rattle.streams.specs.declared.frames.Mark.{Mark};
@@ -90,6 +90,7 @@ impl<L: Tap> Judge<L> {
         requires intact { S.failed out.old ≡ false }
         requires few { self.old.count + length records.old.items ≤ MAX_RECORDS }
         ensures unfailed { OnOk result (S.failed out.new ≡ false) }
+        ensures fault { IfErr result (λ fault. (fault ≡ WriteFault.Write) ↔ (S.failed out.new ≡ true)) }
         ensures goes_on { OnOk result ((known : Option (List ℕ)) (fails : Bool) (start : Option (List ℕ)) (earlier : List (List ℕ))
             → IsUnderWay L.to_come L.fails known fails start (S.taken out.old) self.old earlier
             → IsUnderWay L.to_come L.fails known fails start (S.taken out.new) self.new (earlier ++ records.old.items)) }
@@ -119,6 +120,7 @@ impl<L: Tap> Judge<L> {
         requires intact { S.failed out.old ≡ false }
         requires few { self.old.count + 1 ≤ MAX_RECORDS }
         ensures unfailed { OnOk result (S.failed out.new ≡ false) }
+        ensures fault { IfErr result (λ fault. (fault ≡ WriteFault.Write) ↔ (S.failed out.new ≡ true)) }
         ensures goes_on { OnOk result ((known : Option (List ℕ)) (fails : Bool) (start : Option (List ℕ)) (earlier : List (List ℕ))
             → IsUnderWay L.to_come L.fails known fails start (S.taken out.old) self.old earlier
             → IsUnderWay L.to_come L.fails known fails start (S.taken out.new) self.new (earlier ++ rec.now ∷ [])) }
@@ -214,6 +216,7 @@ impl<L: Tap> Judge<L> {
         ensures reads { IfOk result (λ rest. (known : Option (List ℕ)) (fails : Bool) (kept : List (List ℕ))
             → HasKept L.to_come L.fails known fails self.old.lines kept
             → KeepsRest L.to_come L.fails known fails (state_in self.old.lines) self.new.lines kept rest) }
+        ensures memory { IfErr result (λ fault. fault ≡ WriteFault.Memory) }
         ensures asked { self.new.asked ≡ self.old.asked }
         ensures text { self.new.text ≡ self.old.text }
         ensures count { self.new.count ≡ self.old.count }
@@ -243,6 +246,7 @@ impl<L: Tap> Judge<L> {
             (start : Option (List ℕ)) (records : List (List ℕ)) → IsFoundIn graphs cut records mark
             → IsUnderWay L.to_come L.fails known fails start (S.taken out.old) self records
             → IsTextOfVerdicts self.asked graphs cut known fails start (S.taken out.new) (S.failed out.new) checked.status) }
+        ensures fault { IfErr result (λ fault. (fault ≡ WriteFault.Write) ↔ (S.failed out.new ≡ true)) }
         ensures begun { OnErr result ((known : Option (List ℕ)) (fails : Bool) (start : Option (List ℕ)) (records : List (List ℕ))
             → IsUnderWay L.to_come L.fails known fails start (S.taken out.old) self records
             → (surplus : ℕ) × IsCutShort self.asked known fails start (S.taken out.new) mark surplus records) }

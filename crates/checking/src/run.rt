@@ -1,5 +1,5 @@
 //! A whole run: all records of a file of graphs, each with its line.
-ghost use Rattle.std.specs.Prelude.{◌≡◌, ◌<◌, false, IfOk, OnErr};
+ghost use Rattle.std.specs.Prelude.{◌≡◌, ◌<◌, ◌↔◌, true, false, IfOk, IfErr, OnErr};
 ghost use Rattle.checking.specs.Runs.{IsTextOfVerdicts, IsBegunTextOfVerdicts};
 
 use crate::judge::Judge;
@@ -39,8 +39,8 @@ pub struct Checked {
 ///
 /// # Errors
 ///
-/// `Write` if a write to the sink fails. `Memory` if memory runs out for the buffers, or before it is known whether a
-/// line after the last record is the end of a run. A prefix of the text was then written.
+/// `Write` exactly if the sink has then failed. `Memory` if memory runs out for the buffers, or before it is known
+/// whether a line after the last record is the end of a run. A prefix of the text was then written.
 pub fn check_files<R: AllocGlobal + Wait, G: Tap, L: Tap, S: Sink>(
     rt: &R,
     mut graphs: G,
@@ -51,6 +51,7 @@ pub fn check_files<R: AllocGlobal + Wait, G: Tap, L: Tap, S: Sink>(
     requires { S.failed out.old ≡ false }
     ensures whole { IfOk result (λ checked. IsTextOfVerdicts asked (G.to_come graphs) (G.fails graphs) (L.to_come lines)
         (L.fails lines) (S.taken out.old) (S.taken out.new) (S.failed out.new) checked.status) }
+    ensures fault { IfErr result (λ fault. (fault ≡ WriteFault.Write) ↔ (S.failed out.new ≡ true)) }
     ensures begun { OnErr result (IsBegunTextOfVerdicts asked (G.to_come graphs) (G.fails graphs) (L.to_come lines)
         (L.fails lines) (S.taken out.old) (S.taken out.new)) }
 {

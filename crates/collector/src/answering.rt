@@ -9,7 +9,7 @@ use planar_code::Record;
 use std::alloc::{AllocError, Global};
 use streams::SourceEnd;
 
-/// The kind of lanes that answer records with quick drawings and keep whole entries.
+/// The `LaneKind` of lanes that answer records with quick drawings and keep whole entries.
 #[derive(Clone, Copy, Debug)]
 pub struct Answering;
 

@@ -37,7 +37,7 @@ impl Keep for Entries {
         Ok(())
     }
 
-    fn pass_on(&mut self) -> Result<(), AllocError> {
+    fn pass_on(&mut self, _file: u32) -> Result<(), AllocError> {
         Ok(())
     }
 

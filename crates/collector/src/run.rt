@@ -8,10 +8,10 @@ ghost use Rattle.printing.specs.DrawnBooks.{AreDrawnBooks};
 use crate::answering::Answering;
 use common::Choice;
 use entries::{Batch, Entry, MAX_FILES, books_of};
-use lane_runs::{Run, RunFault, run_lanes};
-use lanes::{Drafts, Gate, Opener};
+use lane_runs::{Run, run_lanes};
+use lanes::{Drafts, Gate, Opener, Pauses, RunFault};
 use ruled_lanes::LANES;
-use std::alloc::{AllocError, Global};
+use std::alloc::Global;
 use std::sync::Wait;
 use std::thread::Threads;
 use streams::BatchFault;
@@ -67,10 +67,12 @@ pub fn run_batch<R: Threads + Wait + Sync, O: Opener, G: Gate>(
     let Ok(drafts) = Drafts::<Entry>::new(alloc, files) else {
         return Err(BatchFault::Memory);
     };
+    let pauses = Pauses::none();
     let run = Run {
         rt,
         alloc,
         opener,
+        pauses: &pauses,
         gate,
         files,
         lanes,
@@ -81,7 +83,6 @@ pub fn run_batch<R: Threads + Wait + Sync, O: Opener, G: Gate>(
     match ran {
         Ok(()) => {}
         Err(RunFault::Memory) => return Err(BatchFault::Memory),
-        Err(RunFault::Refused(AllocError)) => return Err(BatchFault::Memory),
         Err(RunFault::LaneLost) => return Err(BatchFault::LaneLost),
         Err(RunFault::Thread) => return Err(BatchFault::Thread),
     }

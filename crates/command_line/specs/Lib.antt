@@ -1,6 +1,3 @@
-pub mod Naming
-pub mod Readers
 pub mod Refusals
-pub mod Refused
-pub mod Sources
+pub mod Faults
 pub mod Requests

@@ -9,7 +9,7 @@ use Rattle.reports.specs.declared.form.Form.{Form}
 use Rattle.common.specs.declared.drawing_kind.DrawingKind.{DrawingKind}
 use Rattle.common.specs.declared.drawing_kind.DrawingKind.TheVariants.{Quick, Short}
 use Rattle.reports.specs.declared.style.Style.{Style}
-use Rattle.command_line.specs.Naming.{is_input}
+use Rattle.named_sources.specs.Naming.{is_input}
 use Rattle.command_line.specs.declared.reading.Role.{Role}
 use Rattle.command_line.specs.declared.reading.Role.TheVariants.{Command, Any, Lanes, Waiting, Outer, Drawing, File}
 use Rattle.command_line.specs.declared.reading.Number.{Number}

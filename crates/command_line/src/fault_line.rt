@@ -1,14 +1,13 @@
-//! Short lines of text, built without allocation.
+//! The message of a fault that ends the program.
 ghost use Rattle.std.specs.Prelude.{◌≡◌, false};
 
 use crate::faults::Fault;
-use crate::reason::Reason;
-use arrayvec::ArrayString;
+use named_sources::{Reason, ShortLine};
 use std::fmt::Write;
 use streams::{BatchFault, Sink, WriteFault, put_all};
 
-/// A short line of text, stored in the value itself. A piece of text that does not fit is left out.
-pub(crate) type ShortLine = ArrayString<128>;
+/// The system's error code for an output whose reader has closed it (`EPIPE`).
+const BROKEN_PIPE: i32 = 32;
 
 /// Writes `planarbend: ` and the message of the fault to `err`. A failure of this write changes nothing.
 ///
@@ -23,7 +22,7 @@ pub fn write_fault<E: Sink>(fault: Fault, reason: Reason, err: &mut E)
             "planarbend: internal error: a worker thread disconnected"
         ),
         Fault::Run(BatchFault::Thread) => writeln!(line, "planarbend: cannot start a thread"),
-        Fault::Write(WriteFault::Write) if reason.is_broken_pipe() => return,
+        Fault::Write(WriteFault::Write) if reason.code == Some(BROKEN_PIPE) => return,
         Fault::Write(WriteFault::Write) if reason.code.is_some() => writeln!(
             line,
             "planarbend: cannot write output: {reason}"

@@ -1,11 +1,12 @@
 //! The faults that end the program without complete output, and their exit status.
 ghost use Rattle.std.specs.Prelude.{◌≡◌};
 
+use lanes::RunFault;
 use std::alloc::AllocError;
-use streams::{BatchFault, WriteFault};
+use streams::{BatchFault, SinkFault, WriteFault};
 use thiserror::Error;
 
-/// The reason why there is no complete output. Its message is what the program prints after its own name.
+/// The reason why the program did not complete its output. Its message is printed after the program's name.
 #[derive(Clone, Copy, Debug, PartialEq, Eq, Error)]
 pub enum Fault {
     /// Out of memory for the arguments, for the text of help or of an error message, or while a file was opened.
@@ -59,6 +60,21 @@ impl From<BatchFault> for Fault {
 
     fn from(fault: BatchFault) -> Fault {
         Fault::Run(fault)
+    }
+}
+
+impl From<RunFault<SinkFault>> for Fault {
+    ghost use Rattle.command_line.specs.Faults.{fault_of};
+
+    ghost from_gives = { λ fault e. e ≡ fault_of fault };
+
+    fn from(fault: RunFault<SinkFault>) -> Fault {
+        match fault {
+            RunFault::Memory => Fault::Run(BatchFault::Memory),
+            RunFault::LaneLost => Fault::Run(BatchFault::LaneLost),
+            RunFault::Thread => Fault::Run(BatchFault::Thread),
+            RunFault::Refused(SinkFault) => Fault::Write(WriteFault::Write),
+        }
     }
 }
 

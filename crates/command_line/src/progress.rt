@@ -1,8 +1,8 @@
 //! Progress output of a run.
 ghost use Rattle.std.specs.Prelude.{◌≡◌};
 
-use crate::fault_line::ShortLine;
 use lanes::{Gate, Stage};
+use named_sources::ShortLine;
 use std::fmt;
 use std::fmt::Write;
 use std::sync::atomic::{AtomicU64, Ordering};
@@ -96,7 +96,7 @@ impl<'c, C: Console> Meter<'c, C> {
         }
     }
 
-    /// The counter of the files that were opened, or could not be.
+    /// The atomic counter of the files that were opened or could not be opened.
     pub fn opened(&self) -> &AtomicU64 {
         &self.opened
     }

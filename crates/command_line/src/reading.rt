@@ -1,13 +1,13 @@
 //! The meaning of the arguments of a command line, one after another.
 ghost use Rattle.std.specs.Prelude.{◌≡◌, ◌<◌, IfOk, map, option_map};
 ghost use Rattle.std.specs.List.{count_by};
-ghost use Rattle.command_line.specs.Naming as naming;
+ghost use Rattle.named_sources.specs.Naming as naming;
 ghost use Rattle.command_line.specs.Requests.{role_after, asks, asks_in, files_in, given_after, has_prefix, is_file, is_help, number_text, number_text_in};
 
-use crate::standard_input::is_input;
+use named_sources::is_input;
 use std::alloc::{AllocError, Global};
 
-/// The role of an argument, given the arguments before it.
+/// What an argument may be, given the arguments before it.
 #[derive(Clone, Copy)]
 pub enum Role {
     /// The first argument: a command, or `--version`.
@@ -41,7 +41,7 @@ pub enum Keyword {
     Faces,
 }
 
-/// The numbers that arguments can give.
+/// An option whose value is a number.
 #[derive(Clone, Copy)]
 pub enum Number {
     /// The value of `--lanes`.

@@ -54,11 +54,12 @@ pub struct CheckRequest<'a> {
     pub faces: bool,
 }
 
-/// The reason why the arguments are not a valid request.
+/// The reason why no request was returned: help was asked for, or the arguments are not valid.
 #[derive(Drop)]
 pub enum ParseFault {
-    /// The help, if it is asked for; the reason why the arguments are refused; or that memory ran out, of the kind
-    /// `OutOfMemory`.
+    /// The error of `clap`: the help, if it is asked for; why the arguments are refused; or that memory ran out.
+    ///
+    /// The last is of the kind `OutOfMemory`.
     Told(Error),
     /// The value of `--waiting` is not 1 to 65536.
     BadWaiting,

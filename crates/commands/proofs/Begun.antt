@@ -1,26 +1,23 @@
 -- What was written where a run came to nothing.
-use Rattle.std.proofs.Common.{◌≡◌, ℕ, List, Option, subst}
+use Rattle.std.proofs.Common.{◌≡◌, ℕ, List, Option, inl, inr, subst}
 use Rattle.common.specs.declared.choice.Choice.{Choice}
 use Rattle.lanes.specs.Notes.{Note}
 use Rattle.lanes.specs.Opening.{Meaning}
-use Rattle.lane_runs.specs.declared.fault.RunFault.{RunFault}
-use Rattle.lane_runs.specs.declared.fault.RunFault.TheVariants.{Memory, LaneLost, Thread, Refused}
-use Rattle.lane_runs.specs.Faults.{HoldsOnRunFault}
+use Rattle.lanes.specs.declared.fault.RunFault.{RunFault}
+use Rattle.lanes.specs.Faults.{IsOfLanes, HoldsOnFault}
 use Rattle.reports.specs.declared.form.Form.{Form}
 use Rattle.printing.specs.declared.run_lines.Lines.{Lines}
 use Rattle.printing.specs.Holding.{form_of, choice_of, files_of, ArePartialNotes, ArePartialLines}
 use Rattle.printing.specs.Whole.{IsBegun}
 use Rattle.printing.proofs.Ordering.{begun_left_off, begun_none}
 
--- where it holds of what a consumer holds and of one that gave up
-pub ended_with : {F Q : Type 0} (gave_up : F → Type 0) (holds : List Note → Type 0) (fault : RunFault F) → ((refusal : F) → gave_up refusal → Q) → ((ns : List Note) → holds ns → Q)
-    → HoldsOnRunFault gave_up holds fault → Q
-ended_with gave_up holds (Refused refusal) given held ends = given refusal ends
-ended_with gave_up holds Memory given held ends = held ends.0 ends.1
-ended_with gave_up holds LaneLost given held ends = held ends.0 ends.1
-ended_with gave_up holds Thread given held ends = held ends.0 ends.1
+-- where it holds of a consumer that gave up, and of what one holds if the lanes failed
+pub ended_with : {F Q : Type 0} (gave_up : RunFault F → Type 0) (holds : List Note → Type 0) (fault : RunFault F) → (gave_up fault → Q) → (IsOfLanes fault → (ns : List Note) → holds ns → Q)
+    → HoldsOnFault gave_up holds fault → Q
+ended_with gave_up holds fault given held (inl gave) = given gave
+ended_with gave_up holds fault given held (inr (of, told)) = held of told.0 told.1
 
--- lines of so many files in this form, under this choice
+-- lines of this many files in this form, under this choice
 pub begun_lines : (choice : Choice) (meaning : ℕ → Meaning) (form : Form) (files : ℕ) (start now : Option (List ℕ)) (lines : Lines) → choice_of lines ≡ choice → form_of lines ≡ form → files_of lines ≡ files
     → (ns : List Note) → ArePartialLines meaning start now lines ns → ∥ IsBegun choice meaning form files start now ∥₁
 begun_lines choice meaning form files start now lines choice_is form_is files_is ns left =

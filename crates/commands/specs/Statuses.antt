@@ -19,7 +19,7 @@ use Rattle.reports.specs.FlawlessBooks.{IsFlawlessBook}
 use Rattle.checking.specs.Runs.{IsTextOfVerdicts, IsBegunTextOfVerdicts}
 use Rattle.checking.specs.declared.run.Asked.{Asked}
 use Rattle.commands.specs.TextRuns.{IsBegun}
-use Rattle.command_line.specs.Naming.{meanings_in}
+use Rattle.named_sources.specs.Naming.{meanings_in}
 use Rattle.command_line.specs.Requests.{IsAskedBy, AsksCheck, asks_in}
 use Rattle.command_line.specs.declared.reading.Keyword.{Keyword}
 use Rattle.entries.specs.declared.limits.TheConstants.{MAX_FILES}
@@ -125,7 +125,7 @@ IsBegunToBeDone files (Check asked) old new = IsBegunTextOfChecked files asked o
 
 -- The meaning of status 0 or 3: the version was asked for, with status 0; or help was, and some text was added to the
 -- output, with status 0; or the text of all files that the arguments name was added, as they ask for it. Arguments that
--- ask for help make no request, and nothing else is said of the text of help.
+-- ask for help make no request: what the text of help says is not promised.
 abbrev pub IsDoneFor : (List ℕ → Meaning) → List (String Global) → Option (List ℕ) → Option (List ℕ) → Bool → ℕ → Type 0
 IsDoneFor files words old new failed status =
     ((status ≡ 0) × (asks_in Keyword.Version words ≡ true))

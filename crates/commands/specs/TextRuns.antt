@@ -1,26 +1,37 @@
 -- What a streaming run writes, beside `IsBegun` of `printing`.
-use Rattle.std.specs.Prelude.{◌≡◌, ◌<◌, ◌≤◌, ◌⊎◌, ◌↔◌, ℕ, Bool, true, List, Option, Result, Err, IfOk, IfErr, OnErr, ⊤}
+use Rattle.std.specs.Prelude.{◌≡◌, ◌<◌, ◌≤◌, ◌⊎◌, ◌↔◌, ℕ, Bool, true, false, List, Option, Result, Err, IfOk, IfErr, OnErr, ⊤}
 use Rattle.common.specs.declared.choice.Choice.{Choice}
 use Rattle.ruled_lanes.specs.declared.limits.TheConstants.{LANES}
 use Rattle.streams.specs.declared.faults.BatchFault.TheVariants.{TooManyFiles, BadLanes}
+use Rattle.streams.specs.declared.faults.WriteFault.TheVariants as write
+use Rattle.streams.specs.declared.output.SinkFault.{SinkFault}
+use Rattle.lanes.specs.declared.fault.RunFault.{RunFault}
+use Rattle.lanes.specs.declared.fault.RunFault.TheVariants.{Memory, LaneLost, Thread, Refused}
 use Rattle.lanes.specs.Opening.{Meaning}
 use Rattle.entries.specs.declared.limits.TheConstants.{MAX_FILES}
 use Rattle.reports.specs.declared.form.Form.{Form}
 pub use Rattle.printing.specs.Whole.{IsBegun}
 use Rattle.printing.specs.Whole.{IsAllWritten}
-use Rattle.printing.specs.declared.fault.TextFault.{TextFault}
-use Rattle.printing.specs.declared.fault.TextFault.TheVariants.{Run, Write}
+use Rattle.command_line.specs.declared.faults.Fault.{Fault}
+use Rattle.command_line.specs.declared.faults.Fault.TheVariants.{Run, Write}
+use Rattle.command_line.specs.Refusals.{IsMisuse}
 
--- there are too many files, or no lanes, or too many
-abbrev pub IsMisuseOfRun : TextFault → Type 0
-IsMisuseOfRun (Run TooManyFiles) = ⊤
-IsMisuseOfRun (Run BadLanes) = ⊤
-IsMisuseOfRun (Run _) = ⊥
-IsMisuseOfRun Write = ⊥
+-- the run failed, or the sink did
+abbrev pub IsOfTextRun : Fault → Type 0
+IsOfTextRun (Run fault) = ⊤
+IsOfTextRun (Write write.Write) = ⊤
+IsOfTextRun _ = ⊥
+
+-- the sink has failed exactly if a run of lanes failed for that
+abbrev pub HasFailedBy : Bool → RunFault SinkFault → Type 0
+HasFailedBy failed (Refused fault) = failed ≡ true
+HasFailedBy failed Memory = failed ≡ false
+HasFailedBy failed LaneLost = failed ≡ false
+HasFailedBy failed Thread = failed ≡ false
 
 -- What a run over this many files, which mean this, leaves on this many lanes in a sink, which was `old` and is `new`,
 -- of which these bytes are taken and which may have failed.
-pub record IsStreamed {S : Type 0} (choice : Choice) (meaning : ℕ → Meaning) (form : Form) (files lanes : ℕ) (taken : S → Option (List ℕ)) (fails : S → Bool) (old new : S) (result : Result ℕ TextFault) : Type 0 where
+pub record IsStreamed {S : Type 0} (choice : Choice) (meaning : ℕ → Meaning) (form : Form) (files lanes : ℕ) (taken : S → Option (List ℕ)) (fails : S → Bool) (old new : S) (result : Result ℕ Fault) : Type 0 where
   -- the whole text was added, with its status
   pub written : IfOk result (IsAllWritten choice meaning form files (taken old) (taken new))
   pub status : IfOk result (λ status. (status ≡ 0) ⊎ (status ≡ 3))
@@ -29,5 +40,7 @@ pub record IsStreamed {S : Type 0} (choice : Choice) (meaning : ℕ → Meaning)
   pub too_many : (MAX_FILES < files) ↔ (result ≡ Err (Run TooManyFiles))
   pub bad_lanes : (((lanes ≡ 0) ⊎ (LANES < lanes)) × (files ≤ MAX_FILES)) ↔ (result ≡ Err (Run BadLanes))
   -- if the run is refused, nothing was written
-  pub refused : IfErr result (λ fault. IsMisuseOfRun fault → new ≡ old)
-  pub failed : (result ≡ Err Write) ↔ (fails new ≡ true)
+  pub refused : IfErr result (λ fault. IsMisuse fault → new ≡ old)
+  pub failed : (result ≡ Err (Write write.Write)) ↔ (fails new ≡ true)
+  -- there is no other fault
+  pub only : IfErr result IsOfTextRun

@@ -1,22 +1,25 @@
 //! The command `check`.
-ghost use Rattle.std.specs.Prelude.{◌≡◌, ◌⊎◌, false, IfOk, IfErr, OnErr};
+ghost use Rattle.std.specs.Prelude.{◌≡◌, ◌⊎◌, ◌↔◌, true, false, IfOk, IfErr, OnErr};
+ghost use Rattle.streams.specs.declared.faults.WriteFault.{WriteFault};
 ghost use Rattle.command_line.specs.Refusals.{IsMisuse};
 ghost use Rattle.commands.specs.Statuses.{IsTextOfChecked, IsBegunTextOfChecked, is_json};
 
 use checking::{Asked, check_files};
-use command_line::{CheckRequest, Fault, FileNotes, NamedFiles, open_source};
+use command_line::{CheckRequest, Fault};
+use named_sources::{FileNotes, NamedFiles, open_source};
 use reports::Form;
 use std::alloc::AllocError;
 use std::sync::Wait;
 use streams::Sink;
 
-/// Writes the verdicts that a `check` request asks for; returns their exit status.
+/// Writes the verdicts that a `check` request asks for; returns the exit status.
 ///
 /// It checks the drawings in one file of the graphs in another one. Lines about the two files are written to `err`.
 ///
 /// # Errors
 ///
-/// `Memory` if memory ran out for the run, and `Write` if the output failed; a prefix of the text is then written.
+/// `Memory` if memory ran out for the run, and `Write` exactly if the output has then failed; a prefix of the text is
+/// then written.
 pub fn check<R: AllocGlobal + Wait, N: NamedFiles, S: Sink, E: Sink>(
     rt: &R,
     asked: CheckRequest<'_>,
@@ -29,6 +32,7 @@ pub fn check<R: AllocGlobal + Wait, N: NamedFiles, S: Sink, E: Sink>(
     ensures written { IfOk result (IsTextOfChecked (N.meaning files.now) asked.entry
         (S.taken out.old) (S.taken out.new) (S.failed out.new)) }
     ensures failed { IfErr result (λ fault. ¬ IsMisuse fault) }
+    ensures write { IfErr result (λ fault. (fault ≡ Fault.Write WriteFault.Write) ↔ (S.failed out.new ≡ true)) }
     ensures begun { OnErr result ((out.new ≡ out.old)
         ⊎ IsBegunTextOfChecked (N.meaning files.now) asked.entry (S.taken out.old) (S.taken out.new)) }
     ensures intact { OnErr result (E.failed err.new ≡ false) }

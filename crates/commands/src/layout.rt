@@ -3,15 +3,15 @@ ghost use Rattle.std.specs.Prelude.{◌≡◌, ◌<◌, ◌≤◌, ◌⊎◌, �
 ghost use Rattle.command_line.specs.Refusals.{IsMisuse};
 ghost use Rattle.ruled_lanes.specs.declared.limits.TheConstants.{LANES};
 ghost use Rattle.entries.specs.declared.limits.TheConstants.{MAX_FILES};
-ghost use Rattle.command_line.specs.Naming.{meanings_in};
+ghost use Rattle.named_sources.specs.Naming.{meanings_in};
 ghost use Rattle.commands.specs.Statuses.{IsTextOfBooks, IsBegunTextOfBooks};
 
-use crate::text::write_watched;
-use command_line::{Console, Fault, FileNotes, FileOpener, LayoutRequest, Meter, NamedFiles};
-use printing::TextFault;
+use crate::text::TextRun;
+use command_line::{Console, Fault, LayoutRequest, Meter};
+use named_sources::{FileNotes, FileOpener, NamedFiles};
 use std::sync::Wait;
 use std::thread::Threads;
-use streams::{BatchFault, MAX_CAPACITY, Sink, WriteFault};
+use streams::{BatchFault, MAX_CAPACITY, Sink};
 
 /// The maximum number of messages that wait between two threads of a run.
 pub const CAPACITY: u32 = MAX_CAPACITY;
@@ -19,7 +19,7 @@ pub const CAPACITY: u32 = MAX_CAPACITY;
 /// The number of bytes of a megabyte.
 const MEGABYTE: usize = 1_000_000;
 
-/// Writes the answers that a `layout` request asks for; returns the exit status of their text.
+/// Writes the answers that a `layout` request asks for; returns the exit status.
 ///
 /// They are written while the files are read. `files` opens the files that are named. The meter counts files and
 /// graphs. How files begin, end and fail is noted in `notes`. Later files pause once `waiting` megabytes of their text
@@ -28,7 +28,7 @@ const MEGABYTE: usize = 1_000_000;
 /// # Errors
 ///
 /// `TooManyFiles` exactly if there are more than `MAX_FILES` files, and `BadLanes` exactly if there are no more than
-/// that and no lanes or more than `MAX_LANES`; nothing is then written. Otherwise the fault of a run or of the writing;
+/// that and no lanes or more than `LANES`; nothing is then written. Otherwise the fault of a run or of the writing;
 /// then a prefix of the text is written: that of books of the first files, of which any may end `memory`, and the lines
 /// of the next one, which has no last line. If no bytes of a file are known, as of a real one, they are those of some
 /// bytes.
@@ -68,22 +68,18 @@ pub fn layout<
     let Ok(count) = u32::try_from(names.len()) else {
         return Err(Fault::Run(BatchFault::TooManyFiles));
     };
-    match write_watched(
+    let run = TextRun {
         rt,
-        rt.alloc(),
-        &opener,
-        count,
-        asked.lanes,
-        CAPACITY,
-        (asked.waiting as usize).saturating_mul(MEGABYTE),
-        asked.choice,
-        asked.style,
-        meter,
-        Some(notes),
-        out,
-    ) {
-        Ok(status) => Ok(status),
-        Err(TextFault::Run(fault)) => Err(Fault::Run(fault)),
-        Err(TextFault::Write) => Err(Fault::Write(WriteFault::Write)),
-    }
+        alloc: rt.alloc(),
+        opener: &opener,
+        gate: meter,
+        files: count,
+        lanes: asked.lanes,
+        capacity: CAPACITY,
+        choice: asked.choice,
+        waiting: (asked.waiting as usize).saturating_mul(MEGABYTE),
+        style: asked.style,
+        notes: Some(notes),
+    };
+    run.write(out)
 }

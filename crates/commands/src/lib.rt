@@ -12,11 +12,12 @@ mod version;
 mod worded;
 
 pub use command_line::{
-    Console, ErrorConsole, Fault, FileNotes, FileOpener, FileSource, FilesAndInput, INPUT,
-    KeepsReason, Meter, NamedFiles, NamedSource, OutputSink, Progress, ReadTap, Reason,
-    SharedTerminal, StandardInput, SystemFiles, is_input, open_fault, write_fault,
+    Console, ErrorConsole, Fault, Meter, Progress, SharedTerminal, write_fault,
 };
-pub use printing::TextFault;
+pub use named_sources::{
+    FileOpener, KeepsReason, NamedFiles, OutputSink, Reason, Refused, SystemFiles, if_open,
+    is_input, place_holder,
+};
 pub use process::run;
 pub use program::command;
 pub use text::write_batch;

@@ -8,10 +8,10 @@ use crate::worded::Worded;
 use answers::{
     DrawScratch, EmbedScratch, Embedded, Framed, ShapeScratch, Shaped, StageScratch, Task,
 };
-use command_line::FileNotes;
 use common::{Choice, DrawingKind};
 use lane_runs::{LaneKind, LaneScratch};
 use lanes::Numbered;
+use named_sources::FileNotes;
 use planar_code::Record;
 use printing::{KnownEnd, Meant, Printed, known_end};
 use reports::{Form, Style};
@@ -19,7 +19,7 @@ use std::alloc::{AllocError, Global};
 use std::marker::PhantomData;
 use streams::SourceEnd;
 
-/// The kind of lanes that answer records and make their output lines, in one format and with drawings of one kind.
+/// The `LaneKind` of lanes that answer records and make output lines, in one format and with drawings of one kind.
 /// How each file ends is noted in `notes`, if there are any.
 #[derive(Drop)]
 pub struct LineLanes<'n, J: Meant> {

@@ -2,16 +2,14 @@
 ghost use Rattle.std.specs.Prelude.{◌≡◌, ◌≤◌, ◌⊎◌, List, String, false};
 ghost use Rattle.std.specs.Process.{exit_status};
 ghost use Rattle.std.specs.declared.alloc.Global.{Global};
-ghost use Rattle.command_line.specs.Naming.{meaning_of};
 ghost use Rattle.commands.specs.Statuses.{IsOutcome};
 
 use crate::program::command;
-use command_line::{Console, Fault, FilesAndInput, KeepsReason, Reason, SystemFiles, write_fault};
-use lanes::Opener;
+use command_line::{Console, Fault, write_fault};
+use named_sources::{KeepsReason, NamedFiles, Reason};
 use std::alloc::{AllocError, Global};
 use std::env::{Env, FillError};
 use std::process::ExitCode;
-use std::rt::Files;
 use std::sync::Wait;
 use std::thread::Threads;
 use streams::Sink;
@@ -21,37 +19,26 @@ const LONGEST: usize = 131_072;
 
 /// Runs the whole program as its arguments ask, like `command`, and ends it with the exit status.
 ///
-/// The file named `-` is file 0 of `input`, and others are those of the system. If an argument is not valid UTF-8 or
-/// memory for the arguments runs out, the message of that fault is written to `err`, and the status is that of the
-/// fault.
+/// `files` opens the files that are named, and standard input by its name. If an argument is not valid UTF-8 or memory
+/// for the arguments runs out, the message of that fault is written to `err`, and the status is that of the fault.
 pub fn run<
-    R: Env + Files + AllocGlobal + Threads + Wait + Sync,
-    I: Opener,
+    R: Env + AllocGlobal + Threads + Wait + Sync,
+    N: NamedFiles,
     C: Console + Sync,
     S: Sink + KeepsReason,
     E: Sink,
->(rt: &R, input: &I, console: &C, out: &mut S, err: &mut E) -> ExitCode
-where
-    R::File: Send,
-    R::Dir: Send,
-    I::Source: KeepsReason,
+>(rt: &R, files: &N, console: &C, out: &mut S, err: &mut E) -> ExitCode
     requires out_is_intact { S.failed out.old ≡ false }
     requires err_is_intact { E.failed err.old ≡ false }
     ensures in_range { exit_status result ≤ 4 }
 
     // For some arguments all that `command` promises holds; or the arguments could not be read, and nothing is written.
     ensures outcome { ((words : List (String Global))
-        × IsOutcome (meaning_of (I.meaning input.now 0)) words S.taken S.failed out.old out.new (exit_status result))
+        × IsOutcome (N.meaning files.now) words S.taken S.failed out.old out.new (exit_status result))
         ⊎ (((exit_status result ≡ 1) ⊎ (exit_status result ≡ 2)) × (out.new ≡ out.old)) }
 {
     match arguments(rt) {
-        Ok(words) => {
-            let files = FilesAndInput {
-                files: &SystemFiles { rt },
-                input,
-            };
-            ExitCode::from(command(rt, words.as_slice(), &files, console, out, err))
-        }
+        Ok(words) => ExitCode::from(command(rt, words.as_slice(), files, console, out, err)),
         Err(fault) => {
             write_fault(fault, Reason::UNKNOWN, err);
             ExitCode::from(fault.status())

@@ -7,7 +7,7 @@ ghost use Rattle.reports.specs.declared.form.Form.{Form};
 ghost use Rattle.command_line.specs.Refusals.{IsMisuse};
 ghost use Rattle.entries.specs.declared.limits.TheConstants.{MAX_FILES};
 ghost use Rattle.ruled_lanes.specs.declared.limits.TheConstants.{LANES};
-ghost use Rattle.command_line.specs.Naming.{meanings_in};
+ghost use Rattle.named_sources.specs.Naming.{meanings_in};
 ghost use Rattle.clap.specs.Words.{kind_of};
 ghost use Rattle.clap.specs.declared.error.kind.ErrorKind.{ErrorKind};
 ghost use Rattle.command_line.specs.declared.reading.Keyword.{Keyword};
@@ -22,9 +22,9 @@ use crate::version::VERSION;
 use clap::Error;
 use clap::error::ErrorKind;
 use command_line::{
-    Console, Fault, FileNotes, KeepsReason, Keyword, LayoutRequest, Meter, NamedFiles, ParseFault,
-    Reason, Request, asks, open_source, parse, write_fault,
+    Console, Fault, Keyword, LayoutRequest, Meter, ParseFault, Request, asks, parse, write_fault,
 };
+use named_sources::{FileNotes, KeepsReason, NamedFiles, Reason, open_source};
 use reports::status_of;
 use std::alloc::{AllocError, Global};
 use std::sync::Wait;

@@ -1,37 +1,37 @@
 //! A run whose output is streamed.
-ghost use Rattle.std.specs.Prelude.{◌≡◌, ◌≤◌, ◌⊎◌, ◌↔◌, List, [], Err, false, true, IfOk, IfErr, OnOk, OnErr};
+ghost use Rattle.std.specs.Prelude.{◌≡◌, ◌≤◌, ◌⊎◌, List, [], false, IfOk, IfErr, OnOk, OnErr};
 ghost use Rattle.ruled_lanes.specs.declared.limits.TheConstants.{MAX_CAPACITY};
 ghost use Rattle.lanes.specs.Notes.{Note};
 ghost use Rattle.lanes.specs.Files.{AreToldWhole};
-ghost use Rattle.lane_runs.specs.Faults.{HoldsOnRunFault};
+ghost use Rattle.lanes.specs.Faults.{HoldsOnFault};
 ghost use Rattle.lane_runs.specs.Accepting.{AcceptsFiles};
 ghost use Rattle.printing.specs.Whole.{IsAllWritten, IsBegun};
-ghost use Rattle.commands.specs.TextRuns.{IsMisuseOfRun, IsStreamed};
+ghost use Rattle.commands.specs.TextRuns.{HasFailedBy, IsStreamed};
 
 use crate::line_lanes::LineLanes;
-use command_line::FileNotes;
+use command_line::Fault;
 use common::Choice;
 use entries::MAX_FILES;
-use lane_runs::{LaneKind, Run, RunFault, run_lanes};
-use lanes::{Consumer, Gate, Opener, Pauses, PausingOpener};
-use printing::{Lines, Meant, Pace, TextFault, Texts};
+use lane_runs::{LaneKind, Run, run_lanes};
+use lanes::{Consumer, Gate, Opener, Pauses, RunFault};
+use named_sources::FileNotes;
+use printing::{Lines, Meant, Pace, Texts};
 use reports::Style;
 use ruled_lanes::LANES;
 use std::alloc::Global;
 use std::marker::Brand;
 use std::sync::Wait;
 use std::thread::Threads;
-use streams::{BatchFault, Sink, WriteFault};
+use streams::{BatchFault, Sink, SinkFault};
 
-/// Answers all records of the first `files` files on `lanes` lanes, streams the text to `sink`, and returns the exit
-/// status.
+/// Answers all records of the first `files` files, streams the text to `sink`, and returns the exit status of the run.
 ///
 /// Each record is answered under this choice of the outer face. The text is that of the files' books in the format of
 /// this style, as `Form::write` writes books, and is written while the files are read. JSON lines have drawings of the
 /// style's kind; the report shows no coordinates, and its lines are of quick ones. It returns the exit status of the
 /// whole text: 0 if each file ended complete and memory ran out for no record's answer or line, and otherwise 3.
 ///
-/// Files go over lanes as in `run_batch`. They are written in their order: the lines of the first file that has not
+/// Files go over `lanes` lanes as in `run_batch`, and are written in order: the lines of the first file that has not
 /// ended go to the sink as they arrive, and those of later files are buffered. The layout of a record is freed once its
 /// line is made. If the buffered lines hold `waiting` bytes of memory or more, the reading of later files pauses until
 /// there is room again or they become first; what lanes have read by then still arrives and is buffered too.
@@ -45,76 +45,89 @@ use streams::{BatchFault, Sink, WriteFault};
 /// each case what was written is a prefix of this: the text of books of the first files, of which any may end `memory`,
 /// and the lines of the next file so far, which has no last line. If no bytes of a file are known, as of a real one,
 /// records and mark are those of some bytes.
-pub fn write_batch<R: Threads + Wait + Sync, O: Opener, G: Gate, S: Sink>(
-    rt: &R,
+pub fn write_batch<'r, R: Threads + Wait + Sync, O: Opener, G: Gate, S: Sink>(
+    rt: &'r R,
     alloc: Global,
-    opener: &O,
+    opener: &'r O,
     files: u32,
     lanes: u32,
     capacity: u32,
     waiting: usize,
     choice: Choice,
     style: Style,
-    gate: &G,
+    gate: &'r G,
     sink: &mut S,
-) -> Result<u8, TextFault>
+) -> Result<u8, Fault>
     requires least { 1 ≤ capacity }
     requires most { capacity ≤ MAX_CAPACITY }
     requires stands { S.failed sink.old ≡ false }
     ensures { IsStreamed choice (O.meaning opener.now) style.form files lanes S.taken S.failed sink.old sink.new result }
 {
-    write_watched(
-        rt, alloc, opener, files, lanes, capacity, waiting, choice, style, gate, None, sink,
-    )
-}
-
-/// Streams the text of a run as `write_batch` does, and notes how each file ends.
-pub(crate) fn write_watched<R: Threads + Wait + Sync, O: Opener, G: Gate, S: Sink>(
-    rt: &R,
-    alloc: Global,
-    opener: &O,
-    files: u32,
-    lanes: u32,
-    capacity: u32,
-    waiting: usize,
-    choice: Choice,
-    style: Style,
-    gate: &G,
-    notes: Option<&FileNotes>,
-    sink: &mut S,
-) -> Result<u8, TextFault>
-    requires least { 1 ≤ capacity }
-    requires most { capacity ≤ MAX_CAPACITY }
-    requires stands { S.failed sink.old ≡ false }
-    ensures { IsStreamed choice (O.meaning opener.now) style.form files lanes S.taken S.failed sink.old sink.new result }
-{
-    if files > MAX_FILES {
-        return Err(TextFault::Run(BatchFault::TooManyFiles));
-    }
-    if lanes == 0 || lanes > LANES {
-        return Err(TextFault::Run(BatchFault::BadLanes));
-    }
-    let pauses = Pauses::none();
-    let pausing = PausingOpener {
-        rt,
-        opener,
-        pauses: &pauses,
-    };
-    let run = Run {
+    let run = TextRun {
         rt,
         alloc,
-        opener: &pausing,
+        opener,
         gate,
         files,
         lanes,
         capacity,
         choice,
+        waiting,
+        style,
+        notes: None,
     };
-    let pace = Pace {
-        pauses: &pauses,
-        most: waiting,
-    };
-    write_files::<Brand, _, _, _, _>(&run, style, pace, notes, sink)
+    run.write(sink)
+}
+
+/// The parameters of a run whose output is streamed: those of `write_batch`, and where to note how each file ends.
+#[derive(Drop)]
+pub(crate) struct TextRun<'r, R, O, G> {
+    pub(crate) rt: &'r R,
+    pub(crate) alloc: Global,
+    pub(crate) opener: &'r O,
+    pub(crate) gate: &'r G,
+    pub(crate) files: u32,
+    pub(crate) lanes: u32,
+    pub(crate) capacity: u32,
+    pub(crate) choice: Choice,
+    pub(crate) waiting: usize,
+    pub(crate) style: Style,
+    pub(crate) notes: Option<&'r FileNotes>,
+    ghost least: { 1 ≤ capacity },
+    ghost most: { capacity ≤ MAX_CAPACITY },
+}
+
+impl<R: Threads + Wait + Sync, O: Opener, G: Gate> TextRun<'_, R, O, G> {
+    /// Streams the text of the run as `write_batch` does, and notes how each file ends.
+    pub(crate) fn write<S: Sink>(&self, sink: &mut S) -> Result<u8, Fault>
+        requires stands { S.failed sink.old ≡ false }
+        ensures { IsStreamed self.now.choice (O.meaning self.now.opener.now) self.now.style.form self.now.files self.now.lanes
+            S.taken S.failed sink.old sink.new result }
+    {
+        if self.files > MAX_FILES {
+            return Err(Fault::Run(BatchFault::TooManyFiles));
+        }
+        if self.lanes == 0 || self.lanes > LANES {
+            return Err(Fault::Run(BatchFault::BadLanes));
+        }
+        let pauses = Pauses::none();
+        let run = Run {
+            rt: self.rt,
+            alloc: self.alloc,
+            opener: self.opener,
+            pauses: &pauses,
+            gate: self.gate,
+            files: self.files,
+            lanes: self.lanes,
+            capacity: self.capacity,
+            choice: self.choice,
+        };
+        let pace = Pace {
+            pauses: &pauses,
+            most: self.waiting,
+        };
+        Ok(write_files::<Brand, _, _, _, _>(&run, self.style, pace, self.notes, sink)?)
+    }
 }
 
 /// Writes the text of a run in this style and at this pace. The type `J` represents what the files mean.
@@ -124,18 +137,16 @@ fn write_files<J: Meant + Send + Sync, R: Threads + Wait + Sync, O: Opener, G: G
     pace: Pace<'_>,
     notes: Option<&FileNotes>,
     sink: &mut S,
-) -> Result<u8, TextFault>
+) -> Result<u8, RunFault<SinkFault>>
     requires stands { S.failed sink.old ≡ false }
     requires same_meaning { J.meaning ≡ O.meaning run.now.opener.now }
     ensures written { IfOk result (IsAllWritten run.now.choice (O.meaning run.now.opener.now) style.form run.now.files (S.taken sink.old) (S.taken sink.new)) }
     ensures begun { OnErr result ∥ IsBegun run.now.choice (O.meaning run.now.opener.now) style.form run.now.files (S.taken sink.old) (S.taken sink.new) ∥₁ }
     ensures status { IfOk result (λ status. (status ≡ 0) ⊎ (status ≡ 3)) }
-    ensures began { IfErr result (λ fault. ¬ IsMisuseOfRun fault) }
-    ensures failed { (result ≡ Err TextFault.Write) ↔ (S.failed sink.new ≡ true) }
+    ensures stands { OnOk result (S.failed sink.new ≡ false) }
+    ensures failed { IfErr result (HasFailedBy (S.failed sink.new)) }
 {
-    let Ok(lines) = Lines::new(run.alloc, style.form, run.choice, run.files) else {
-        return Err(TextFault::Run(BatchFault::Memory));
-    };
+    let lines = Lines::new(run.alloc, style.form, run.choice, run.files)?;
     let texts = Texts::new(run.alloc, sink, lines, pace);
     let lanes = LineLanes::<J>::new(style, notes);
     let mut ran = Ok(());
@@ -143,11 +154,11 @@ fn write_files<J: Meant + Send + Sync, R: Threads + Wait + Sync, O: Opener, G: G
     match ran {
         Ok(()) => match texts.finish() {
             Ok(status) => Ok(status),
-            Err(_) => Err(TextFault::Write),
+            Err(_) => Err(RunFault::Refused(SinkFault)),
         },
         Err(fault) => {
             let_go(texts);
-            Err(fault_of(fault))
+            Err(fault)
         }
     }
 }
@@ -157,19 +168,6 @@ fn let_go<S: Sink>(texts: Texts<'_, S, Lines>)
     ensures { texts.exit.0.now ≡ texts.entry.sink.now }
 {
     let Texts { .. } = texts;
-}
-
-/// The returned fault for the fault of a run.
-fn fault_of(fault: RunFault<TextFault>) -> TextFault
-    ensures write { (result ≡ TextFault.Write) ↔ (fault ≡ RunFault.Refused TextFault.Write) }
-    ensures begun { IsMisuseOfRun result → fault ≡ RunFault.Refused result }
-{
-    match fault {
-        RunFault::Memory => TextFault::Run(BatchFault::Memory),
-        RunFault::LaneLost => TextFault::Run(BatchFault::LaneLost),
-        RunFault::Thread => TextFault::Run(BatchFault::Thread),
-        RunFault::Refused(fault) => fault,
-    }
 }
 
 /// Runs lanes of this kind, and stores the result in `ran`: returned beside it in a pair, the state of the sink that
@@ -184,7 +182,7 @@ fn run_into<
     requires empty { C.holds consumer [] }
     requires accepts { AcceptsFiles L.accepts L.ends (O.meaning run.now.opener.now) }
     ensures told { OnOk ran.new ((ns : List Note) × C.holds result ns × AreToldWhole run.now.choice (O.meaning run.now.opener.now) run.now.files ns) }
-    ensures failed { IfErr ran.new (HoldsOnRunFault (C.gave_up result) (C.holds result)) }
+    ensures failed { IfErr ran.new (HoldsOnFault (C.gave_up result) (C.holds result)) }
     ensures stays { C.stays consumer result }
 {
     let (consumer, end) = run_lanes(run, kind, consumer);

@@ -1,7 +1,9 @@
 //! The kind of answers that become output lines.
 ghost use Rattle.std.specs.Prelude.{◌≡◌};
+ghost use Rattle.common.specs.declared.drawing_kind.DrawingKind.{DrawingKind};
+ghost use Rattle.entries.specs.Lengths.{IfDrawn, IsQuick};
 ghost use Rattle.lanes.specs.Opening.{IsPlacedAt};
-ghost use Rattle.answers.specs.Steps.{IsFoundFor, IsShaped};
+ghost use Rattle.answers.specs.Steps.{IsFoundFor, IsShaped, answer_in};
 ghost use Rattle.answers.specs.Tasks.{about_in};
 ghost use Rattle.printing.specs.Spelt.{IsSpelt};
 
@@ -57,6 +59,7 @@ impl<J: Meant + Send + Sync> Purpose for Worded<J> {
         requires shaped { ∥ IsShaped task.choice rec.value shaped_plane ∥₁ }
         ensures about { ⟦<Printed<J> as Numbered>⟧.about result ≡ about_in task rec.value }
         ensures found { IsFoundFor shaped_plane result.found.value }
+        ensures quick { task.drawing_kind ≡ DrawingKind.Quick → IfDrawn IsQuick (answer_in result.found.value) }
         ensures form { result.form ≡ self.form }
     {
         let found = find_points(alloc, scratch, shaped_plane, task.drawing_kind);

@@ -170,10 +170,6 @@ sum_below-turned n pair f inside back =
 
 -- ---- sums of whole numbers of either sign
 
--- one more number
-pub total_below-more : (n : ℕ) (f : ℕ → ℤ) → total_below (n + 1) f ≡ total_below n f +ℤ f n
-total_below-more n f = rw add-one refl
-
 -- equal summands
 pub total_below-same : (n : ℕ) (f g : ℕ → ℤ) → ((i : ℕ) → i < n → f i ≡ g i) → total_below n f ≡ total_below n g
 total_below-same zero f g h = refl
@@ -219,17 +215,3 @@ total_below-split m (suc n) f =
     let one : m + suc n ≡ suc (m + n) = omega arith in
     let before : total_below (m + n) f ≡ total_below m f +ℤ total_below n (λ i. f (m + i)) = total_below-split m n f in
     rw one (omega (arith, ints))
-
--- one summand differs
-pub total_below-changed : (n a : ℕ) (f g : ℕ → ℤ) → a < n → ((i : ℕ) → i < n → (i ≡ a → ⊥) → f i ≡ g i) → total_below n f +ℤ g a ≡ total_below n g +ℤ f a
-total_below-changed zero a f g b h = absurd (omega arith)
-total_below-changed (suc n) a f g b h =
-    elim (cases_eq a n) [
-      | inl e ↦ let same : total_below n f ≡ total_below n g = total_below-same n f g (λ i c. h i (omega arith) (λ k. omega arith)) in
-          let here : f a ≡ f n = ap f e in
-          let there : g a ≡ g n = ap g e in
-          omega (arith, ints)
-      | inr ne ↦ let before : total_below n f +ℤ g a ≡ total_below n g +ℤ f a = total_below-changed n a f g (omega arith) (λ i c. h i (omega arith)) in
-          let last : f n ≡ g n = h n (omega arith) (λ k. ne (sym k)) in
-          omega (arith, ints)
-    ]

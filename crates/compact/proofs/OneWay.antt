@@ -30,7 +30,7 @@ angle_at w u a = cond (eqb (w.head a) u) (w.angle a) 0
 angle_there : (w : DartMap) (u a : ℕ) → w.head a ≡ u → angle_at w u a ≡ w.angle a
 angle_there w u a there = cond-true (eqb (w.head a) u) (w.angle a) 0 (eq-eqb (w.head a) u there)
 
--- the dart x was passed on the way clockwise to c, at most so many right angles ago
+-- the dart x was passed on the way clockwise to c, at most `most` right angles ago
 record IsPassed (w : DartMap) (c most x : ℕ) : Type 0 where
   ago : ℕ
   some : 1 ≤ ago

@@ -117,7 +117,7 @@ goes_on constraints i d old now new found Wide i_in inside under relaxed size =
       is_wide constraints i d now (length old) i_in ends.1 ends.0 under.low relaxed.1,
     )
 
--- behind the last constraint
+-- after the last constraint
 pub ends_up : (constraints : List Constraint) (i : ℕ) (old now : List ℕ) (found : Relaxation) → length constraints ≤ i → IsRelaxedUpTo constraints i old now found → AreRelaxed constraints old now found
 ends_up constraints i old now Satisfied past under =
     (under.stands.0, subst (λ (gs : List Constraint). Satisfies gs (at now)) (take_all i constraints past) under.stands.1)

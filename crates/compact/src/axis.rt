@@ -101,6 +101,7 @@ fn are_along(boxes: &Boxes, around: &[u32], x: &[u16], y: &[u16]) -> bool
 }
 
 /// The neighbours of each vertex by their directions along an axis. Directions are numbered from east.
+#[inline(always)]
 fn neighbours_along(around: &[u32], axis: Axis) -> Neighbours<'_>
     ensures around { result.around.now ≡ around.now }
     ensures ahead { (result.ahead < 4) × (result.ahead ≡ growth axis) }
@@ -116,7 +117,9 @@ fn neighbours_along(around: &[u32], axis: Axis) -> Neighbours<'_>
 
 /// Coordinates that are nowhere above any that grow along the darts of an axis: the lengths of longest
 /// paths, found segment by segment, in the buffer of a list. `around` has the neighbours of each
-/// vertex. Linear in the vertices, if all faces are boxes.
+/// vertex. Linear in the vertices, if all faces are boxes. It is inlined, so that the directions of an axis are
+/// constants.
+#[inline(always)]
 fn low_along(
     boxes: &Boxes,
     around: &[u32],
@@ -131,7 +134,9 @@ fn low_along(
     ensures under { IfOk result (λ coordinates. (y : ℕ → ℕ) → IsAlong (dart_map boxes.now) (growth axis) y → AreUnder boxes.now.vertices coordinates.items y) }
 {
     let mut coordinates = filled(coordinates, boxes.vertices() as usize, 0)?;
-    segments.resize(coordinates.len(), 0)?;
+    if segments.len() < coordinates.len() {
+        segments.resize(coordinates.len(), 0)?;
+    }
     raise_to_longest_paths(
         segments.as_mut_slice(),
         neighbours_along(around, axis),
@@ -165,7 +170,7 @@ fn relaxed_along(
     Ok(coordinates)
 }
 
-/// The x and y coordinates of the vertices: the least such that they grow along the darts.
+/// Returns the x and y coordinates of the vertices: the least that grow along the darts.
 ///
 /// They reuse the buffers of `x` and `y`. `around` has the neighbours of each vertex.
 pub fn least_coordinates(

@@ -2,11 +2,11 @@
 
 use thiserror::Error;
 
-/// The reason why boxes get no coordinates.
+/// The reason why no coordinates were returned.
 #[derive(Clone, Copy, Debug, PartialEq, Eq, Error)]
 pub enum CompactFault {
     /// No coordinates that grow along the darts are all at most 65,535.
-    #[error("the drawing is too wide for the grid")]
+    #[error("the drawing does not fit coordinates up to 65535")]
     Wide,
     /// Memory ran out, which says nothing of the boxes.
     #[error("out of memory")]

@@ -4,6 +4,8 @@
 //! has the one farthest to the right, which ends at the segment's first vertex; the children of a segment come from left
 //! to right. In a plane map with one source and one sink, as boxes are, an arc from a segment that comes later would have
 //! to cross the path of the tree.
+//!
+//! All is inlined into the two calls of `low_along`, so that the directions of an axis are constants.
 
 ghost use Rattle.std.specs.Prelude.{◌≡◌, ◌*◌, ◌^◌, ◌<◌, ◌≤◌, ℕ, length};
 ghost use Rattle.compact.specs.Neighbours.{neighbour, AreUnder, Grow, StayEqual, StayUnder};
@@ -65,8 +67,8 @@ impl<'a> Neighbours<'a> {
 /// A stack of the first vertices of segments that are still to come. The first vertex of a segment has no neighbour to
 /// its right.
 ///
-/// Time and the coordinates depend on what it holds. Whatever that is, no coordinate goes above any that grow along the
-/// arcs.
+/// Time and the coordinates depend on what it holds: where a segment comes twice, its second visit can even lower a
+/// coordinate. Whatever it holds, no coordinate goes above any that grow along the arcs; only that is proved.
 #[derive(Drop)]
 struct SegmentStack<'a> {
     firsts: &'a mut [u32],
@@ -93,8 +95,9 @@ impl SegmentStack<'_> {
     }
 }
 
-/// The first vertex from `begin` on that has no neighbour to its right and none behind it, or `NO_VERTEX`. In boxes, all
+/// The first vertex from `begin` on with no neighbour to its right and none at its back, or `NO_VERTEX`. In boxes, all
 /// segments are reached from its segment.
+#[inline(always)]
 fn find_source(neighbours: Neighbours<'_>, begin: u32, vertices: u32) -> u32
     requires directions { (neighbours.right < 4) × (neighbours.back < 4) }
     requires count { length neighbours.around.now ≡ 4 * vertices }
@@ -113,6 +116,7 @@ fn find_source(neighbours: Neighbours<'_>, begin: u32, vertices: u32) -> u32
 }
 
 /// The greatest coordinate on the segment with this first vertex.
+#[inline(always)]
 fn greatest_on(around: &[u32], left: u8, first: u32, coordinates: &[u16]) -> u16
     requires left { left < 4 }
     requires first { first < length coordinates.now }
@@ -135,6 +139,7 @@ fn greatest_on(around: &[u32], left: u8, first: u32, coordinates: &[u16]) -> u16
 
 /// Gives a vertex this coordinate, and the next one along the axis, if there is one, one more, but no more than 65,535.
 /// Pushes the next one if it is the first of its segment.
+#[inline(always)]
 fn place_vertex(
     neighbours: Neighbours<'_>,
     vertex: u32,
@@ -161,6 +166,7 @@ fn place_vertex(
 
 /// Gives all vertices of the segment with this first vertex the greatest coordinate among them, and the next ones along
 /// the axis one more.
+#[inline(always)]
 fn place_segment(
     neighbours: Neighbours<'_>,
     first: u32,
@@ -185,10 +191,12 @@ fn place_segment(
     }
 }
 
-/// Raises coordinates, all of them 0 at first, to the lengths of longest paths, segment by segment in a topological order.
+/// Sets coordinates, all of them 0 at first, to lengths of longest paths, segment by segment in a topological order.
 ///
 /// Segments wait in `stack`, which has a place for each vertex. The first one of all is looked for from the vertex
-/// `begin` on. Linear in the vertices, if all faces are boxes.
+/// `begin` on. If all faces are boxes, it visits each segment once, in time linear in the vertices. What is proved, of
+/// any faces, is that no coordinate goes above any that grow along the arcs.
+#[inline(always)]
 pub fn raise_to_longest_paths(
     stack: &mut [u32],
     neighbours: Neighbours<'_>,

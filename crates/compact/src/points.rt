@@ -67,8 +67,8 @@ fn list_corners(
 /// x grows to the east and y to the north. Edges run along the axes between their ends and corners.
 ///
 /// The coordinates are the lengths of longest paths in the two constraint graphs of the dissection (Tamassia 1987).
-/// They are found segment by segment, a segment being the vertices that darts across the axis join, in time linear in
-/// the darts. If that does not satisfy all constraints, as in a drawing too wide for the grid, the end of each
+/// They are found segment by segment, a segment being the vertices that darts across the axis join. In boxes this takes
+/// time linear in the darts. If some constraint is not satisfied then, as if the grid is too small, the end of each
 /// constraint that is not satisfied is raised, in rounds. The points are in one list.
 ///
 /// # Errors

@@ -39,7 +39,7 @@ impl Scratch {
         }
     }
 
-    /// Takes back the list of points, to be reused. It allocates nothing.
+    /// Consumes points, whose list is reused. It allocates nothing.
     pub fn take_back(&mut self, points: Points) {
         self.points = points.into_list();
     }

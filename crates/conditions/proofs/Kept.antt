@@ -1,12 +1,11 @@
 -- What is asked of a plane is asked of it with another outer face.
-use Rattle.std.proofs.Common.{◌≡◌, ◌∙◌, ℕ, Bool, List, Result, Ok, Err, OnOk, ap, subst, sym}
+use Rattle.std.proofs.Common.{◌≡◌, ◌∙◌, ℕ, Bool, List, Result, Ok, Err, OnOk, subst, sym}
 use Rattle.common.specs.declared.choice.Choice.{Choice}
 use Rattle.faces.specs.Planes.{PlaneModel, with_outer}
 use Rattle.conditions.specs.declared.conditions.Conditions.{Conditions}
 use Rattle.conditions.specs.declared.conditions.DartEnds.{DartEnds}
 use Rattle.conditions.specs.declared.fault.KeepFault.{KeepFault}
 use Rattle.conditions.specs.declared.fault.KeepFault.TheVariants.{NoEdge, NoOuter, NoShape, Memory}
-use Rattle.ortho_rep.specs.Keeping.{HasNoneKeeping}
 use Rattle.cuts.specs.Cut.{ShowsNone}
 use Rattle.conditions.specs.Asked.{IsAsked, IsDart}
 use Rattle.conditions.specs.Chosen.{IsGreatestOpen, HasNoChosen, IsToldOf, IsKeepFault}
@@ -46,10 +45,3 @@ fault_told p q conditions choice marks barred greatest (NoShape why) moved asked
 fault_told p q conditions choice marks barred greatest Memory moved asked is none told = tt
 fault_told p q conditions choice marks barred greatest NoEdge moved asked is none told = absurd told
 fault_told p q conditions choice marks barred greatest NoOuter moved asked is none told = absurd told
-
--- whichever face was the outer one, with this one as the outer face it is the same plane
-pub outer_anew : (p q r : PlaneModel) → q ≡ with_outer p q.outer → r ≡ with_outer q r.outer → r ≡ with_outer p r.outer
-outer_anew p q r one two = two ∙ ap (λ (m : PlaneModel). with_outer m r.outer) one
-
-pub none_anew : (p q : PlaneModel) (marks : List Bool) (o : ℕ) → q ≡ with_outer p q.outer → HasNoneKeeping (with_outer p o) marks → HasNoneKeeping (with_outer q o) marks
-none_anew p q marks o moved none = subst (λ (m : PlaneModel). HasNoneKeeping (with_outer m o) marks) (sym moved) none

@@ -8,7 +8,7 @@ use Rattle.flow_network.specs.Straight.{is_marked}
 abbrev pub HasOneAt : (ℕ → ℕ) → (ℕ → Type 0) → ℕ → ℕ → Type 0
 HasOneAt place P n k = (d : ℕ) × (d < n) × (place d ≡ k) × P d
 
--- of so many places those of such items are marked
+-- of the places below `size` exactly those of the items with P are marked
 abbrev pub AreMarkedBelow : (ℕ → ℕ) → (ℕ → Type 0) → ℕ → ℕ → List Bool → Type 0
 AreMarkedBelow place P size n marks = (k : ℕ) → k < size → (is_marked marks k ≡ true) ↔ HasOneAt place P n k
 

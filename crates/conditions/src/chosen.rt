@@ -17,7 +17,7 @@ use common::Choice;
 use cuts::cut_keeping;
 use faces::Plane;
 use flow_network::has_mark;
-use ortho_rep::{Prices, Scratch, Shape, ShapeFault, best_shape_keeping, least_shape_keeping_in};
+use ortho_rep::{Prices, Scratch, Shape, SolveFault, best_shape_keeping, least_shape_keeping_in};
 use std::alloc::{AllocError, Global};
 
 /// Makes the chosen face the outer one, and returns a least shape that keeps the conditions, with prices that prove it.
@@ -48,8 +48,8 @@ pub fn shape_keeping_in(
     };
     match chosen_shape(alloc, scratch, plane, choice, &meant) {
         Ok(solution) => Ok(solution),
-        Err(ShapeFault::NoShape) => Err(unkept(alloc, plane, &meant)),
-        Err(ShapeFault::Memory) => Err(KeepFault::Memory),
+        Err(SolveFault::Infeasible) => Err(unkept(alloc, plane, &meant)),
+        Err(SolveFault::Memory) => Err(KeepFault::Memory),
     }
 }
 
@@ -114,16 +114,16 @@ fn chosen_shape(
     plane: &mut Plane,
     choice: Choice,
     meant: &Meaning,
-) -> Result<(Shape, Prices), ShapeFault>
+) -> Result<(Shape, Prices), SolveFault>
     requires { IsGreatestOpen plane.old meant.now.barred.items meant.now.greatest }
     ensures outer_moved { plane.new ≡ with_outer plane.old plane.new.outer }
     ensures chosen { OnOk result (IsChosenKeeping choice plane.new meant.now.marks.items meant.now.barred.items) }
     ensures shape { IfOk result (λ found. IsShape plane.new found.0) }
     ensures least { IfOk result (λ found. IsLeastKeeping plane.new meant.now.marks.items found.0) }
     ensures proof { IfOk result (λ found. IsProofKeeping plane.new meant.now.marks.items found.0 found.1) }
-    ensures none { IfErr result (λ fault. fault ≡ ShapeFault.NoShape
+    ensures none { IfErr result (λ fault. fault ≡ SolveFault.Infeasible
         → HasNoChosen choice plane.old meant.now.marks.items meant.now.barred.items) }
-    ensures none_there { IfErr result (λ fault. fault ≡ ShapeFault.NoShape
+    ensures none_there { IfErr result (λ fault. fault ≡ SolveFault.Infeasible
         → HasNoneKeeping (with_outer plane.old meant.now.greatest) meant.now.marks.items) }
 {
     match choice {
@@ -139,13 +139,13 @@ fn first_shape(
     plane: &mut Plane,
     marks: &[bool],
     face: u16,
-) -> Result<(Shape, Prices), ShapeFault>
+) -> Result<(Shape, Prices), SolveFault>
     requires { face < plane.old.faces }
     ensures outer_moved { plane.new ≡ with_outer plane.old face }
     ensures shape { IfOk result (λ found. IsShape plane.new found.0) }
     ensures least { IfOk result (λ found. IsLeastKeeping plane.new marks.now found.0) }
     ensures proof { IfOk result (λ found. IsProofKeeping plane.new marks.now found.0 found.1) }
-    ensures none { IfErr result (λ fault. fault ≡ ShapeFault.NoShape → HasNoneKeeping (with_outer plane.old face) marks.now) }
+    ensures none { IfErr result (λ fault. fault ≡ SolveFault.Infeasible → HasNoneKeeping (with_outer plane.old face) marks.now) }
 {
     plane.set_outer(face);
     least_shape_keeping_in(alloc, scratch, plane, marks)

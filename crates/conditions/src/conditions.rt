@@ -1,6 +1,6 @@
 //! Edges and faces, named by vertices.
 
-/// A dart by its ends, a vertex and a neighbour of it. Vertices are numbered from 1.
+/// A dart, given by the vertex that it comes from and the one that it goes to. Vertices are numbered from 1.
 #[repr(C)]
 #[derive(Clone, Copy, Debug)]
 pub struct DartEnds {

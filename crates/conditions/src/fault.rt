@@ -1,30 +1,30 @@
-//! Why no shape keeps the conditions.
+//! Why no shape that keeps the conditions was returned.
 
 use cuts::Cut;
 use thiserror::Error;
 
-/// The reason why there is no shape that keeps the conditions.
+/// The reason why no shape that keeps the conditions was returned.
 #[derive(Debug, Drop, Error)]
 pub enum KeepFault {
     /// Two vertices that name an edge or a face are not adjacent.
-    #[error("two vertices are no neighbours")]
+    #[error("two vertices are not adjacent")]
     NoEdge,
-    /// All faces are to stay inside.
-    #[error("all faces are to stay inside")]
+    /// All faces are to stay inside, so none can be the outer face.
+    #[error("all faces must be inner, so none can be the outer face")]
     NoOuter,
     /// No shape with a chosen outer face keeps these edges straight.
-    #[error("no shape keeps these edges straight")]
+    #[error("no orthogonal representation keeps these edges straight")]
     NoShape(Unkept),
     /// An allocation was refused.
     #[error("out of memory")]
     Memory,
 }
 
-/// A proof that no shape keeps edges straight with the outer face `outer`: a cut that turns more than can leave it.
+/// A proof that no shape with a certain outer face keeps the edges straight: a cut that turns more than can leave it.
 #[derive(Debug, Drop)]
 pub struct Unkept {
-    /// That face: the one with the most darts, among equals the one with the least number.
+    /// The outer face: the one with the most darts, among equals the one with the least number.
     pub outer: u16,
-    /// The vertices and faces.
+    /// The vertices and faces that turn more than can leave them.
     pub cut: Cut,
 }

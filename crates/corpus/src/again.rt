@@ -1,9 +1,8 @@
-//! Graphs through the calls of each layer, where a call that finds no memory is made again. All that the calls
-//! answer is printed, so that runs can be compared.
+//! Graphs through the calls of each layer; a call that runs out of memory is made again. All answers of the calls are
+//! printed, so that runs can be compared.
 
-ghost use Rattle.std.specs.Prelude.{◌≡◌, ◌*◌, length};
-ghost use Rattle.faces.specs.Planes.{darts, vertices};
 ghost use Rattle.ortho_rep.specs.Representation.{IsShape};
+ghost use Rattle.drawing_check.specs.Draws.{HasPoints};
 
 use crate::files::read_file;
 use crate::shapes::test_shape;
@@ -40,7 +39,7 @@ fn take<R: Print + Eprint + AllocGlobal>(rt: &R, record: &Record) -> Result<()> 
     draw_best(rt, &mut plane)
 }
 
-/// Tells that this call is made again.
+/// Says that this call is made again.
 fn tell<R: Eprint>(rt: &R, call: &str) -> Result<()> {
     eprintln!(rt; "{call} again")?;
     Ok(())
@@ -128,7 +127,7 @@ fn draw_best<R: Print + Eprint + AllocGlobal>(rt: &R, plane: &mut Plane) -> Resu
     draw(rt, plane, &shape, &prices)
 }
 
-/// Draws a shape, once both tests have said yes to it.
+/// Draws a shape, after both tests accepted it.
 fn draw<R: Print + Eprint + AllocGlobal>(
     rt: &R,
     plane: &Plane,
@@ -198,7 +197,7 @@ fn points_again<R: Eprint + AllocGlobal>(rt: &R, boxes: &Boxes) -> Result<Points
     }
 }
 
-/// The drawing of these points, which are handed back where the check finds no memory.
+/// The drawing of these points, which come back if the check runs out of memory.
 fn drawing_again<R: Eprint + AllocGlobal>(
     rt: &R,
     plane: &Plane,
@@ -206,8 +205,7 @@ fn drawing_again<R: Eprint + AllocGlobal>(
     points: Points,
 ) -> Result<Drawing>
     requires shape { IsShape plane.now shape.now }
-    requires vertices { length points.vertices ≡ vertices plane.now }
-    requires corners { 2 * length points.corners ≡ darts plane.now }
+    requires points { HasPoints plane.now points }
 {
     match check(rt.alloc(), plane, shape, points) {
         Ok(drawing) => Ok(drawing),
@@ -222,8 +220,7 @@ fn drawing_again<R: Eprint + AllocGlobal>(
 /// The drawing of points that must draw the shape.
 fn drawn(alloc: Global, plane: &Plane, shape: &Shape, points: Points) -> Result<Drawing>
     requires shape { IsShape plane.now shape.now }
-    requires vertices { length points.vertices ≡ vertices plane.now }
-    requires corners { 2 * length points.corners ≡ darts plane.now }
+    requires points { HasPoints plane.now points }
 {
     match check(alloc, plane, shape, points) {
         Ok(drawing) => Ok(drawing),

@@ -13,7 +13,7 @@ use std::rt::Files;
 use std::sync::Wait;
 use std::thread::Threads;
 
-/// How many messages wait between two threads at most.
+/// How many messages may wait between two threads.
 const CAPACITIES: [u32; 2] = [1, 16];
 
 /// Compares runs over files with the widest outer face, and over files with the best one.
@@ -46,7 +46,7 @@ fn compare_runs<R: Files + Print + AllocGlobal + Threads + Wait + Sync>(
     compare_texts(rt, names, choice)
 }
 
-/// Puts the report of one file behind those of others, under this number.
+/// Appends the report of one file to those of others, under this number.
 fn put_report(alloc: Global, joined: &mut Vec<u8>, number: u64, report: &[u8]) -> Result<()> {
     let lines = report.strip_prefix(b"file 1\n");
     joined.extend_from_slice(format!(in alloc; "file {number}\n")?.as_bytes())?;
@@ -54,7 +54,7 @@ fn put_report(alloc: Global, joined: &mut Vec<u8>, number: u64, report: &[u8]) -
     Ok(())
 }
 
-/// The report of these files, which must be the same over lanes. What their JSON lines say is tested.
+/// The report of these files, which must be the same over lanes. Their JSON lines are tested, too.
 fn report_of_runs<R: Files + AllocGlobal + Threads + Wait + Sync>(
     rt: &R,
     names: &[String],
@@ -70,14 +70,14 @@ fn report_of_runs<R: Files + AllocGlobal + Threads + Wait + Sync>(
     Ok(report)
 }
 
-/// The report of a run on one thread, once what its JSON lines say is tested.
+/// The report of a run on one thread. Its JSON lines are tested first.
 fn plain_report(alloc: Global, opener: &MemOpener, files: u32, choice: Choice) -> Result<Vec<u8>> {
     let batch = run_plain(alloc, opener, files, choice)?;
     test_lines(alloc, &batch)?;
     report_of(alloc, &batch)
 }
 
-/// Whether runs over so many lanes give this report.
+/// Whether runs over this many lanes give this report, with links of each capacity.
 fn is_same_over<R: AllocGlobal + Threads + Wait + Sync>(
     rt: &R,
     opener: &MemOpener,

@@ -6,8 +6,8 @@ use ortho_rep::{Point, Points, Shape};
 /// The angle, in right angles, that no vertex has but one of degree 2 that turns, and it has it once.
 const REFLEX: u8 = 3;
 
-/// How many graphs are drawn, how many bends these drawings have, how long their edges are, and how many vertices of
-/// degree 2 turn, all in all.
+/// The number of drawings, and in all of them the number of bends, the length of the edges, and the number of vertices
+/// of degree 2 that turn.
 #[derive(Clone, Copy, PartialEq, Eq, Debug)]
 pub struct Figures {
     pub graphs: u32,
@@ -17,7 +17,7 @@ pub struct Figures {
 }
 
 impl Figures {
-    /// Those of no drawing.
+    /// The figures of no drawing.
     pub fn none() -> Figures {
         Figures {
             graphs: 0,
@@ -27,7 +27,7 @@ impl Figures {
         }
     }
 
-    /// Both together.
+    /// The sum of both.
     pub fn with(self, other: Figures) -> Figures {
         Figures {
             graphs: self.graphs.wrapping_add(other.graphs),
@@ -38,7 +38,7 @@ impl Figures {
     }
 }
 
-/// Those of one drawing.
+/// The figures of one drawing.
 pub fn figures_of(plane: &Plane, shape: &Shape, points: &Points) -> Figures {
     Figures {
         graphs: 1,
@@ -59,7 +59,7 @@ fn turning_of(plane: &Plane, shape: &Shape) -> u32 {
     count
 }
 
-/// How long all edges are together.
+/// The total length of all edges.
 fn length_of(plane: &Plane, points: &Points) -> u32 {
     let graph = plane.graph();
     let mut length: u32 = 0;
@@ -91,7 +91,7 @@ fn distance(from: Point, to: Point) -> u32 {
     from.x.abs_diff(to.x).wrapping_add(from.y.abs_diff(to.y))
 }
 
-/// The point of a vertex, and the origin where there is none.
+/// The point of a vertex, or the origin if there is none.
 fn place_of(points: &Points, vertex: u8) -> Point {
     match points.vertices().get(usize::from(vertex).wrapping_sub(1)) {
         Some(place) => *place,

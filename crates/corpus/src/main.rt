@@ -1,19 +1,18 @@
-//! Tries the layers of the library on files of other tools. After the word `pieces` each file that is
-//! named is read in pieces of several sizes, and what is found is compared with what the plain
-//! splitter finds in the whole file.
+//! Tries the layers of the library on files of other tools. After the word `pieces` each file that is named is read in
+//! pieces of several sizes, and what is found is compared with what the plain splitter finds in the whole file.
 //!
-//! Each file behind the word `short` is laid out with short drawings, twice in one run over lanes; the lines are tested, and
-//! what they show must be within bounds. Of a file behind `growing` the graphs of its first edges are laid out, of one edge,
-//! two and so on up to all.
+//! Each file after the word `short` is laid out with short drawings, twice in one run over lanes; the lines are tested,
+//! and what they show must be within bounds. Of a file after `growing` the graphs of its first edges are laid out, of
+//! one edge, two and so on up to all.
 //!
-//! All words after `batches` are files; those behind the word `best` are laid out with the best outer face.
-//! The report of each is printed, and compared with that of runs over lanes, as is the report of all files at
-//! once; the JSON lines of each are read back and tested. Both texts of all files at once, as they are made over lanes,
-//! must be those of books. An error comes behind what was printed of the files before.
+//! All arguments after `batches` are files; those after the word `best` are laid out with the best outer face. The
+//! report of each is printed, and compared with that of runs over lanes, as is the report of all files at once; the
+//! JSON lines of each are read back and tested. Both kinds of streamed output of all files at once must be those of
+//! books. An error is printed after the output for the files before.
 //!
 //! Two commands are for scripts of checks/. After `stress`, a seed and a number of rounds come files, of whose graphs
 //! random files are made and run over lanes that are held up at random. After `again` come files: each graph goes
-//! through the calls of each layer, and a call that finds no memory is made again.
+//! through the calls of each layer, and a call that runs out of memory is made again.
 #![tactic(auto)]
 
 mod again;

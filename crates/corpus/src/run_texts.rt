@@ -1,4 +1,4 @@
-//! Texts of runs over lanes, as they are made: they must be those of the books of one thread.
+//! Streamed output of runs over lanes: it must be that of the books of one thread.
 
 use crate::files::read_files;
 use anyhow::{Result, ensure};
@@ -9,13 +9,13 @@ use std::rt::Files;
 use std::sync::Wait;
 use std::thread::Threads;
 
-/// How many messages wait between two threads at most.
+/// How many messages may wait between two threads.
 const CAPACITY: u32 = 16;
 
-/// From how many bytes of later files' lines on reading pauses.
+/// Reading of later files pauses while this many bytes of their lines wait.
 const WAITING: usize = 100_000;
 
-/// Over how many lanes the files are read.
+/// The number of lanes.
 const LANES: u32 = 3;
 
 /// Compares the texts of these files in both formats.
@@ -38,14 +38,14 @@ pub fn compare_texts<R: Files + AllocGlobal + Threads + Wait + Sync>(
     Ok(())
 }
 
-/// The text of a batch in this form.
+/// The output for a batch in this form.
 fn text_of(alloc: Global, batch: &Batch, form: Form) -> Result<Vec<u8>> {
     let mut sink = IoSink::new(Vec::new(alloc));
     form.write(alloc, batch, &mut sink)?;
     Ok(sink.into_writer())
 }
 
-/// The text in this style of a run over so many files and lanes.
+/// The streamed output, in this style, of a run over this many files and lanes.
 pub fn text_over<R: AllocGlobal + Threads + Wait + Sync>(
     rt: &R,
     opener: &MemOpener,

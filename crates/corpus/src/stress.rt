@@ -1,6 +1,6 @@
 //! Runs over random files, with random lanes, capacities and sizes of reads, whose stages are held up at random, to
-//! books and to a text of which little may wait. Each report must be that of a run on one thread. All numbers come from
-//! the seed: none from the time.
+//! books and to streamed output of which little may wait. Each report must be that of a run on one thread. All numbers
+//! come from the seed, and none from the time.
 ghost use Rattle.std.specs.Prelude.{◌<◌, ◌≤◌};
 
 use crate::files::read_file;
@@ -170,8 +170,8 @@ fn random_run<R: AllocGlobal + Clock + Threads + Wait + Sync>(
     report_over(rt, opener, files, lanes, capacity, choice, &gate)
 }
 
-/// The text of such a run as it is made, where what waits may hold a random number of bytes, mostly less than one line
-/// of each file takes.
+/// The streamed output of a run over lanes, of which a random number of bytes may wait, mostly fewer than one line of
+/// each file takes.
 fn random_text<R: AllocGlobal + Clock + Threads + Wait + Sync>(
     rt: &R,
     numbers: &Numbers,
@@ -219,7 +219,7 @@ fn random_choice(numbers: &Numbers) -> Choice {
     }
 }
 
-/// Up to eight files in memory, with reads of a random size.
+/// Up to eight files in memory, which are read with a random size of reads.
 fn random_files(alloc: Global, numbers: &Numbers, records: &[Record]) -> Result<MemOpener> {
     let mut files = Vec::new(alloc);
     for _ in 0..numbers.up_to(8) {
@@ -228,7 +228,7 @@ fn random_files(alloc: Global, numbers: &Numbers, records: &[Record]) -> Result<
     Ok(MemOpener::new(files, numbers.small(2_000) as usize))
 }
 
-/// The header and some of the records. Of four such files one is cut, or has another byte in one place.
+/// The header and some of the records. One file in four is cut, or has another byte in one place.
 fn random_file(alloc: Global, numbers: &Numbers, records: &[Record]) -> Result<Vec<u8>> {
     let mut bytes = HEADER.to_vec(alloc)?;
     for _ in 0..numbers.up_to(12) {

@@ -8,7 +8,7 @@ use Rattle.dissect.specs.Paths.{Follows, IsPath, HasPaths}
 use Rattle.dissect.proofs.Backwards.{path_unique, path_distinct}
 use Rattle.dissect.proofs.Chains.{HasChains}
 
--- the darts behind the reverse of the last dart on the way back
+-- the darts after the reverse of the last dart on the way back
 abbrev pub backs : DartMap → ℕ → List ℕ → List ℕ
 backs w a [] = []
 backs w a (b ∷ bs) = backs w b bs ++ (w.reverse_dart a ∷ [])
@@ -39,7 +39,7 @@ later w b y (c ∷ cs) follows here =
       ]
     ]
 
--- what comes behind a dart of a path
+-- what comes after a dart of a path
 pub record IsRest (w : DartMap) (y end : ℕ) : Type 0 where
   pub list : List ℕ
   pub follows : Follows w y list
@@ -106,7 +106,7 @@ module _ (v : ℕ) (w : DartMap) (n : ℕ) (reverse_dart : ℕ → ℕ) (quarter
   dart_in : (d : ℕ) → d < n → d < w.darts
   dart_in d l = omega (arith, are.paths.few)
 
-  -- nothing comes behind the dart of an edge
+  -- nothing comes after the dart of an edge
   ends_there : (b d : ℕ) → b < w.darts → d < n → w.before b ≢ d
   ends_there b d b_in d_in at =
       elim (are.paths.ends b b_in) [

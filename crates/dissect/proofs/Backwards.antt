@@ -8,7 +8,7 @@ use Rattle.dissect.specs.Faces.{last_of, Below, In, Distinct}
 use Rattle.dissect.specs.Paths.{Follows, IsPath}
 use Rattle.dissect.proofs.Listing.{in_below}
 
--- so many darts before the dart a
+-- the dart this many darts before the dart a
 abbrev pub back : DartMap → ℕ → ℕ → ℕ
 back w zero a = a
 back w (suc k) a = w.before (back w k a)

@@ -1,7 +1,7 @@
 -- Finding the first place in front of which the walk has turned left most.
 use Rattle.std.proofs.Common.{◌≡◌, ℕ, ◌+◌, ◌-◌, ◌*◌, ◌<◌, ◌≤◌, ◌⊎◌, List, length, take, get_or, arith, subst, sym, inl, inr}
 use Rattle.std.proofs.lemmas.Bool.{cases_eq}
-use Rattle.dissect.specs.Turning.{total, IsPeak}
+use Rattle.dissect.specs.Turning.{total}
 use Rattle.dissect.proofs.Rotating.{total-take_more}
 
 -- after the corners below `done` the walk is `behind` quarter turns behind the best place
@@ -11,15 +11,6 @@ pub record IsClimb (xs : List ℕ) (done best behind : ℕ) : Type 0 where
   pub first : (j : ℕ) → j < best → 2 * j + total (take best xs) + 1 ≤ 2 * best + total (take j xs)
   pub most : (j : ℕ) → j ≤ done → 2 * j + total (take best xs) ≤ 2 * best + total (take j xs)
   pub small : behind ≤ 2 * done
-
-pub climb_begins : (xs : List ℕ) → IsClimb xs 0 0 0
-climb_begins xs = record {
-  low = omega arith;
-  here = omega arith;
-  first = λ j l. absurd (omega arith);
-  most = λ j l. let e : j ≡ 0 = omega arith in subst (λ (k : ℕ). 2 * k + total (take 0 xs) ≤ 2 * 0 + total (take k xs)) (sym e) (omega arith);
-  small = omega arith;
-}
 
 -- a new best place
 pub climb_higher : (xs : List ℕ) (done best behind x : ℕ) → done < length xs → x ≡ get_or xs done 0 →
@@ -58,13 +49,6 @@ climb_stays xs done best behind x more x_is x_small lower climb =
   where
     last : (done j : ℕ) → j ≤ done + 1 → (j ≡ done + 1 → ⊥) → j ≤ done
     last done j l other = omega arith
-
-pub climb_ends : (xs : List ℕ) (done best behind : ℕ) → done ≡ length xs → IsClimb xs done best behind → IsPeak xs best
-climb_ends xs done best behind all climb = record {
-  within = omega (arith, climb.low, all);
-  first = climb.first;
-  most = λ j l. climb.most j (omega (arith, l, all));
-}
 
 -- one corner read, with what the branch made of the best place
 pub climb_either : (xs : List ℕ) (done best behind x best' behind' : ℕ) → done < length xs → x ≡ get_or xs done 0 → x ≤ 4 →

@@ -57,7 +57,7 @@ pub record IsLonger (w new : DartMap) (a : ℕ) (rest turns : List ℕ) : Type 0
   pub turning : path_quarters new a list ≡ turns
   pub holds : (b : ℕ) → In b rest → In b list
 
--- what the longer list holds, behind the same dart
+-- what the longer list holds, after the same dart
 pub holds_behind : (c b : ℕ) (bs list : List ℕ) → ((x : ℕ) → In x bs → In x list) → In c (b ∷ bs) → In c (b ∷ list)
 holds_behind c b bs list holds (inl at) = inl at
 holds_behind c b bs list holds (inr there) = inr (holds c there)

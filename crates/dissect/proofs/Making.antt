@@ -1,7 +1,7 @@
 -- What the writes of a subdivision and of a chord make of a table.
 use Rattle.std.proofs.Common.{◌≡◌, ◌≢◌, ℕ, ◌+◌, ◌-◌, ◌%◌, ◌<◌, ◌≤◌, ◌∙◌, List, length, get_or, set, arith, subst, sym, ap, refl, get_or-set_same, get_or-set_other}
 use Rattle.std.proofs.Math.ListN.{length-set}
-use Rattle.dissect.specs.DartMaps.{DartMap, IsTied, IsSubdivided, IsChord, HasChordAngles, no_dart}
+use Rattle.dissect.specs.DartMaps.{DartMap, IsTied, IsSubdivided}
 
 -- the map of plain lists
 abbrev pub dart_map_from : (n v : ℕ) (next prev reverse_dart head direction angle before : List ℕ) → DartMap
@@ -106,74 +106,4 @@ split_made n v e t way bend N N1 N2 P P1 P2 T T1 T2 H H2 D D2 A A2 B B1 B2 tied 
       before_reverse_dart = ap (λ (k : ℕ). get_or B2 k 0) (sym t_is) ∙ more_B.second;
       before_second = more_B.first ∙ b_same ∙ ap (λ (k : ℕ). get_or B k 0) t_is;
       before_other = λ a l ne nt. more_B.other a (not_new a l).1 (λ h. nt (h ∙ t_is)) ∙ two_B.other a (not_new a l).0 ne;
-    }
-
-pub chord_made : (n v d f way : ℕ) (N N1 N2 N3 N4 P P1 P2 P3 P4 T T1 H H1 H2 D D2 A A4 B B2 : List ℕ) (nd nf : ℕ) →
-    IsTied (dart_map_from n v N P T H D A B) → HasChordAngles (dart_map_from n v N P T H D A B) d f way →
-    nd ≡ get_or N d 0 → nf ≡ get_or N f 0 →
-    n + 2 ≤ length N → n + 2 ≤ length P → n + 2 ≤ length T → n + 2 ≤ length H → n + 2 ≤ length D → n + 2 ≤ length A → n + 2 ≤ length B →
-    N1 ≡ set N d n → N2 ≡ set N1 n nf → N3 ≡ set N2 f (n + 1) → N4 ≡ set N3 (n + 1) nd →
-    P1 ≡ set P n d → P2 ≡ set P1 nf n → P3 ≡ set P2 (n + 1) f → P4 ≡ set P3 nd (n + 1) →
-    T1 ≡ set (set T n (n + 1)) (n + 1) n → H1 ≡ set H n (get_or H f 0) → H2 ≡ set H1 (n + 1) (get_or H d 0) →
-    D2 ≡ set (set D n way) (n + 1) ((way + 2) % 4) → B2 ≡ set (set B n no_dart) (n + 1) no_dart →
-    A4 ≡ set (set (set (set A n 1) (n + 1) 1) d (get_or A d 0 - 1)) f (get_or A f 0 - 1) →
-    IsChord (dart_map_from n v N P T H D A B) d f way (dart_map_from (n + 2) v N4 P4 T1 H2 D2 A4 B2)
-chord_made n v d f way N N1 N2 N3 N4 P P1 P2 P3 P4 T T1 H H1 H2 D D2 A A4 B B2 nd nf tied fits nd_is nf_is
-    long_N long_P long_T long_H long_D long_A long_B said_N1 said_N2 said_N3 said_N4 said_P1 said_P2 said_P3 said_P4
-    said_T said_H1 said_H2 said_D said_B said_A =
-    let d_in : d < n = fits.d_in in
-    let f_in : f < n = fits.f_in in
-    let nd_in : nd < n = omega (arith, nd_is, tied.next_in d d_in) in
-    let nf_in : nf < n = omega (arith, nf_is, tied.next_in f f_in) in
-    let nd_back : get_or P nd 0 ≡ d = ap (λ (k : ℕ). get_or P k 0) nd_is ∙ tied.next_back d d_in in
-    let nf_back : get_or P nf 0 ≡ f = ap (λ (k : ℕ). get_or P k 0) nf_is ∙ tied.next_back f f_in in
-    let ends : nf ≢ nd = λ h. fits.apart (sym nd_back ∙ ap (λ (k : ℕ). get_or P k 0) (sym h) ∙ nf_back) in
-    let not_new : (a : ℕ) → a < n → (a ≢ n) × (a ≢ n + 1) = λ a l. ((λ h. omega (arith, h, l)), (λ h. omega (arith, h, l))) in
-    let two_N = twice N N2 d n n nf (not_new d d_in).0 (omega (arith, d_in, long_N)) (omega (arith, long_N))
-    (said_N2 ∙ ap (λ (z : List ℕ). set z n nf) said_N1) in
-    let more_N = twice N2 N4 f (n + 1) (n + 1) nd (not_new f f_in).1 (omega (arith, f_in, long_N, two_N.length)) (omega (arith, long_N, two_N.length))
-    (said_N4 ∙ ap (λ (z : List ℕ). set z (n + 1) nd) said_N3) in
-    let two_P = twice P P2 n d nf n (λ h. (not_new nf nf_in).0 (sym h)) (omega (arith, long_P)) (omega (arith, nf_in, long_P))
-    (said_P2 ∙ ap (λ (z : List ℕ). set z nf n) said_P1) in
-    let more_P = twice P2 P4 (n + 1) f nd (n + 1) (λ h. (not_new nd nd_in).1 (sym h)) (omega (arith, long_P, two_P.length)) (omega (arith, nd_in, long_P, two_P.length))
-    (said_P4 ∙ ap (λ (z : List ℕ). set z nd (n + 1)) said_P3) in
-    let two_T = twice T T1 n (n + 1) (n + 1) n (λ h. omega (arith, h)) (omega (arith, long_T)) (omega (arith, long_T)) said_T in
-    let two_H = twice H H2 n (get_or H f 0) (n + 1) (get_or H d 0) (λ h. omega (arith, h)) (omega (arith, long_H)) (omega (arith, long_H))
-    (said_H2 ∙ ap (λ (z : List ℕ). set z (n + 1) (get_or H d 0)) said_H1) in
-    let two_D = twice D D2 n way (n + 1) ((way + 2) % 4) (λ h. omega (arith, h)) (omega (arith, long_D)) (omega (arith, long_D)) said_D in
-    let two_B = twice B B2 n no_dart (n + 1) no_dart (λ h. omega (arith, h)) (omega (arith, long_B)) (omega (arith, long_B)) said_B in
-    let A2 : List ℕ = set (set A n 1) (n + 1) 1 in
-    let two_A = twice A A2 n 1 (n + 1) 1 (λ h. omega (arith, h)) (omega (arith, long_A)) (omega (arith, long_A)) refl in
-    let more_A = twice A2 A4 d (get_or A d 0 - 1) f (get_or A f 0 - 1) fits.apart (omega (arith, d_in, long_A, two_A.length))
-    (omega (arith, f_in, long_A, two_A.length)) said_A in
-    record {
-      darts = refl;
-      vertices = refl;
-      next_d = more_N.other d fits.apart (not_new d d_in).1 ∙ two_N.first;
-      next_there = more_N.other n (λ h. (not_new f f_in).0 (sym h)) (λ h. omega (arith, h)) ∙ two_N.second ∙ nf_is;
-      next_f = more_N.first;
-      next_back = more_N.second ∙ nd_is;
-      next_other = λ a l nd nf. more_N.other a nf (not_new a l).1 ∙ two_N.other a nd (not_new a l).0;
-      prev_there = more_P.other n (λ h. omega (arith, h)) (λ h. (not_new nd nd_in).0 (sym h)) ∙ two_P.first;
-      prev_after_f = ap (λ (k : ℕ). get_or P4 k 0) (sym nf_is) ∙ more_P.other nf (not_new nf nf_in).1 ends ∙ two_P.second;
-      prev_back = more_P.first;
-      prev_after_d = ap (λ (k : ℕ). get_or P4 k 0) (sym nd_is) ∙ more_P.second;
-      prev_other = λ a l other_f other_d. more_P.other a (not_new a l).1 (λ h. other_d (h ∙ nd_is)) ∙ two_P.other a (not_new a l).0 (λ h. other_f (h ∙ nf_is));
-      reverse_dart_there = two_T.first;
-      reverse_dart_back = two_T.second;
-      reverse_dart_old = λ a l. two_T.other a (not_new a l).0 (not_new a l).1;
-      head_old = λ a l. two_H.other a (not_new a l).0 (not_new a l).1;
-      head_there = two_H.first;
-      head_back = two_H.second;
-      direction_old = λ a l. two_D.other a (not_new a l).0 (not_new a l).1;
-      direction_there = two_D.first;
-      direction_back = two_D.second;
-      angle_d = omega (arith, more_A.first, fits.divides_d);
-      angle_f = omega (arith, more_A.second, fits.divides_f);
-      angle_there = more_A.other n (λ h. (not_new d d_in).0 (sym h)) (λ h. (not_new f f_in).0 (sym h)) ∙ two_A.first;
-      angle_back = more_A.other (n + 1) (λ h. (not_new d d_in).1 (sym h)) (λ h. (not_new f f_in).1 (sym h)) ∙ two_A.second;
-      angle_other = λ a l nd nf. more_A.other a nd nf ∙ two_A.other a (not_new a l).0 (not_new a l).1;
-      before_there = two_B.first;
-      before_back = two_B.second;
-      before_old = λ a l. two_B.other a (not_new a l).0 (not_new a l).1;
     }

@@ -70,7 +70,7 @@ edge_left p s start t k before greater = record {
   steps = λ end rest. before.steps end (passed k (dart_map_of t) end greater rest);
 }
 
--- the lesser darts that are left begin behind the edges that have their bends
+-- the lesser darts that are left begin after the edges that have their bends
 pub record AreRemaining (p : PlaneModel) (s : ℕ → List Turn) (start t : DartTable) (left : List ℕ) : Type 0 where
   pub place : ℕ
   pub within : place ≤ darts p

@@ -44,7 +44,7 @@ pub record IsOwing (p : PlaneModel) (a h : ℕ → ℕ) (total : ℕ) (w : DartM
   pub directions : (x : ℕ) → x < darts p → w.direction x ≡ h x
   pub faces : (x : ℕ) → x < darts p → face_number x ≡ face_at p x
 
--- once the edge of e has its first turn, e and the new dart behind it owe the others, and no one else of its four darts
+-- once the edge of e has its first turn, e and the new dart after it owe the others, and no one else of its four darts
 pub record IsOwedNext (w : DartMap) (e : ℕ) (turns : List Turn) (owed next : ℕ → List Turn) : Type 0 where
   pub at_e : next e ≡ turns
   pub at_reverse_dart : next (w.reverse_dart e) ≡ []

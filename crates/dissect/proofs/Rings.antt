@@ -78,7 +78,7 @@ split_outside w o e way a new s tied e_in l outside = record {
   holds = outside.holds;
 }
 
--- d turns right, then c1 and c turn left, one behind the other; f is the straight place right behind c
+-- d turns right, then c1 and c turn left, one after the other; f is the straight place right after c
 pub record IsHook (w : DartMap) (d c1 c f : ℕ) : Type 0 where
   pub cutting : IsCutting w d c f
   pub c1_in : c1 < w.darts

@@ -13,7 +13,7 @@ total-subdivide k xs = ap total (sym (take-append-drop k xs)) ∙ total-appended
 pub total-take_more : (xs : List ℕ) (k : ℕ) → k < length xs → total (take (k + 1) xs) ≡ total (take k xs) + get_or xs k 0
 total-take_more xs k l = ap total (take_more xs k 0 l) ∙ total-appended (take k xs) (get_or xs k 0 ∷ []) ∙ omega arith
 
--- each suffix, with what comes behind the list, turns left
+-- each suffix, with what comes after the list, turns left
 pub rising_over : (xs ys : List ℕ) →
     ((j : ℕ) → j < length xs → total (drop j xs) + total ys + 1 ≤ 2 * (length xs - j + length ys)) → Rising ys → Rising (xs ++ ys)
 rising_over [] ys each rising = rising

@@ -40,7 +40,7 @@ stretch_direction w sound k a b l r =
         let rest : (w.direction b + w.angle m) % 4 ≡ (w.direction m + 2) % 4 = go w sound k m b m_in r.1 onward in
         omega (arith, rest, r.0, step)
 
--- a right and two lefts behind it lead back along the right's way
+-- a right and two lefts after it lead back along the right's way
 pub hook_faces : (w : DartMap) (d c1 c : ℕ) → IsSound w → d < w.darts → c1 < w.darts → c < w.darts → Stretches w d c1 → Stretches w c1 c →
     w.angle c1 ≡ 1 → w.angle c ≡ 1 → (w.direction (w.next c) + w.angle d) % 4 ≡ w.direction d
 hook_faces w d c1 c sound d_in c1_in c_in to_first to_second left_first left =
@@ -252,9 +252,6 @@ scan_kept w0 face w d c1 c way st rest o rs new face_cutting wait bite =
           (below_down w.darts st [] (λ a h. in_below w.darts a (down st []) below_front (in_down a st [] h))) out_st;
       unread = map_kept w d c1 c (w.next c) way new bite rest below_tail.1.1.1 (λ h. after.0 (inr (inr h)));
     }
-
-pub total_kept : (w new : DartMap) (rest : List ℕ) → map new.angle rest ≡ map w.angle rest → total (map new.angle rest) ≡ total (map w.angle rest)
-total_kept w new rest e = ap total e
 
 pub scan_cut_straight : (w0 : DartMap) (face : List ℕ) (w : DartMap) (d c1 c way : ℕ) (st rest : List ℕ) (o : ℕ) (rs : List (List ℕ)) (new : DartMap) →
     IsFaceCutting w0 face w (c ∷ c1 ∷ d ∷ st) rest → AreWaiting w0 o (face ∷ rs) → w.angle c1 ≡ 1 → w.angle c ≡ 1 →

@@ -153,7 +153,7 @@ passed_on p s k w owed ends greater behind = record {
     above : (x k : ℕ) → k ≤ x → x ≢ k → k + 1 ≤ x
     above x k low off = omega arith
 
--- and behind the bends of its edge
+-- and after the bends of its edge
 bent_on : (p : PlaneModel) (s : ℕ → List Turn) (k : ℕ) (w mid : DartMap) (owed owed' : ℕ → List Turn) → HasEnds p → darts p ≤ w.darts →
     k < darts p → k < reverse_dart p k → IsBehind p s k w owed → IsPaid w k owed mid owed' → IsBehind p s (k + 1) mid owed'
 bent_on p s k w mid owed owed' ends few k_in lesser behind paid =

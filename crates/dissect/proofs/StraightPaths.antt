@@ -1,8 +1,7 @@
 -- Paths of one dart, and places of a path where it does not turn.
-use Rattle.std.proofs.Common.{◌≡◌, ℕ, suc, ◌+◌, ◌-◌, ◌%◌, ◌<◌, ◌∙◌, List, [], ◌∷◌, length, arith, ap, sym, refl, inl, inr, eqb}
-use Rattle.std.proofs.lemmas.Bool.{cases_eq, eq-eqb, ne_eqb, cond-true, cond-false}
+use Rattle.std.proofs.Common.{◌≡◌, ℕ, ◌+◌, ◌-◌, ◌%◌, ◌<◌, ◌∙◌, [], ◌∷◌, arith, refl, inl}
 use Rattle.dissect.specs.DartMaps.{DartMap, no_dart, IsStraight}
-use Rattle.dissect.specs.Paths.{HasPaths, turn_to, path_quarters, turning_vertices}
+use Rattle.dissect.specs.Paths.{HasPaths, turn_to}
 
 -- where no dart stands before another, each dart is a path of its own
 pub plain_paths : (w : DartMap) (n : ℕ) (reverse_dart : ℕ → ℕ) → w.darts ≡ n → ((a : ℕ) → a < n → w.before a ≡ no_dart) →
@@ -31,20 +30,3 @@ turned_on w a b straight quarter_a quarter_b l =
     let turn : ℕ = turn_to w a b in
     let is : turn ≡ (w.direction (w.reverse_dart b) + 6 - w.direction a) % 4 = refl in
     omega (arith, straight b l, quarter_a, quarter_b, is)
-
--- a path has a place for each of its turns
-pub length-turning_vertices : (w : DartMap) (a : ℕ) (bs : List ℕ) → length (turning_vertices w a bs) ≡ length (path_quarters w a bs)
-length-turning_vertices w a [] = refl
-length-turning_vertices w a (b ∷ bs) =
-    let t : ℕ = turn_to w a b in
-    let on = length-turning_vertices w b bs in
-    elim (cases_eq t 0) [
-      | inl none ↦
-          ap length (cond-true {A = List ℕ} (eqb t 0) (turning_vertices w b bs) (w.head a ∷ turning_vertices w b bs) (eq-eqb t 0 none))
-          ∙ on
-          ∙ ap length (sym (cond-true {A = List ℕ} (eqb t 0) (path_quarters w b bs) (t ∷ path_quarters w b bs) (eq-eqb t 0 none)))
-      | inr some ↦
-          ap length (cond-false {A = List ℕ} (eqb t 0) (turning_vertices w b bs) (w.head a ∷ turning_vertices w b bs) (ne_eqb t 0 some))
-          ∙ ap suc on
-          ∙ ap length (sym (cond-false {A = List ℕ} (eqb t 0) (path_quarters w b bs) (t ∷ path_quarters w b bs) (ne_eqb t 0 some)))
-    ]

@@ -11,7 +11,7 @@ stretch_more w a b c to straight stretches = record {
   stretch = (ap w.angle to ∙ straight, subst (λ (m : ℕ). StretchesIn w stretches.places m c) (sym to) stretches.stretch);
 }
 
--- a corner directly behind
+-- a corner directly after
 pub stretch_direct : (w : DartMap) (a c : ℕ) → w.next a ≡ c → IsCorner w c → Stretches w a c
 stretch_direct w a c to corner = record { places = 0; stretch = (to, corner) }
 
@@ -126,7 +126,7 @@ pub split_stretches : (w : DartMap) (e way a c : ℕ) (new : DartMap) → IsSubd
     a < w.darts → Stretches w a c → Stretches new a c
 split_stretches w e way a c new s tied e_in l r = split_stretch w e way new s tied e_in r.places a c l r.stretch
 
--- where a chord connects the corner d with the straight place f right behind the corner c
+-- where a chord connects the corner d with the straight place f right after the corner c
 pub record IsCutting (w : DartMap) (d c f : ℕ) : Type 0 where
   pub d_in : d < w.darts
   pub c_in : c < w.darts

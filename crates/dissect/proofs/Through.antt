@@ -30,7 +30,7 @@ stands_further (x ∷ xs) (y ∷ ys) (z ∷ zs) one (inr later) = inr (stands_fu
 abbrev pub StaysBehind : DartMap → DartMap → ℕ → Type 0
 StaysBehind w new b = IsKept w new b ⊎ ((front : ℕ) × IsDoubled w new b front 0)
 
--- a map with more darts, where each old dart stays behind what it was behind
+-- a map with more darts, where each old dart stays after what it was after
 pub record IsStep (w new : DartMap) : Type 0 where
   pub keeps : KeepsHeads w new
   pub stays : (b : ℕ) → b < w.darts → StaysBehind w new b

@@ -9,7 +9,7 @@ use Rattle.dissect.proofs.Stretching.{split_stretches}
 use Rattle.dissect.proofs.Rings.{Clear, IsHook, split_ring, split_four, chord_ring, cut_ring_within, split_outside, cut_boxes, cut_box, cut_outside}
 use Rattle.dissect.proofs.Listing.{in_left, in_right, in_below, below_left, below_right, distinct_right, distinct_apart, still_in, gone_distinct, kept_distinct, gone_below, kept_below}
 
--- d turns right, c1 and c behind it turn left, and the cut goes from d to the dart e right behind c
+-- d turns right, c1 and c after it turn left, and the cut goes from d to the dart e right after c
 pub record IsBite (w : DartMap) (d c1 c e way : ℕ) (new : DartMap) : Type 0 where
   pub tied : IsTied w
   pub cut : IsCut w d e way new

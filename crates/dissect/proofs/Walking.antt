@@ -15,9 +15,6 @@ pub record IsSeeking (w : DartMap) (a k dart : ℕ) : Type 0 where
   pub here : dart ≡ steps w k a
   pub flat : (j : ℕ) → j < k → w.angle (steps w j a) ≤ 2
 
-pub seek_begins : (w : DartMap) (a : ℕ) → IsSeeking w a 0 a
-seek_begins w a = record { here = refl; flat = λ j l. absurd (omega arith) }
-
 pub seek_on : (w : DartMap) (a k dart next : ℕ) → IsSeeking w a k dart → w.angle dart ≤ 2 → next ≡ w.next dart → IsSeeking w a (k + 1) next
 seek_on w a k dart next seek low to =
     let more : k + 1 ≡ suc k = omega arith in

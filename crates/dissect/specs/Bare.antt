@@ -17,7 +17,7 @@ pub record IsBare (p : PlaneModel) (a h : ℕ → ℕ) (w : DartMap) : Type 0 wh
   pub angles : (d : ℕ) → d < darts p → w.angle d ≡ a d
   pub befores : (d : ℕ) → d < darts p → w.before d ≡ no_dart
 
--- a table of so many darts and vertices, with room for `places` darts at least
+-- a table of these numbers of darts and vertices, with room for `places` darts at least
 pub record IsBlank (dart_number vertex_number places : ℕ) (t : DartTable) : Type 0 where
   pub dart_count : t.darts ≡ dart_number
   pub vertex_count : t.vertices ≡ vertex_number

@@ -80,7 +80,7 @@ pub record IsBoxed (p : PlaneModel) (shape : ShapeModel) (b : BoxesModel) : Type
   -- paths meet nowhere but at their ends, which are vertices of the plane: between the darts of a path, of a side of the rectangle and
   -- of the bridge lie vertices that are on no other, and are none of the plane's
   pub chains : AreChains (vertices p) (dart_map b)
-  -- at its head it makes its angle with the next dart: the reverse of the next dart arrives so many quarters to the right
+  -- at its head it makes its angle with the next dart, whose reverse arrives this many quarters to the right
   pub angles : (d : ℕ) → d < darts p → ((dart_map b).direction (reverse_dart p (next p d)) + angle_at shape d) % 4 ≡ (dart_map b).direction d
   -- round the whole stands a rectangle, connected to it at a right turn of the plane's outer face
   pub enclosed : IsEnclosedMap p shape b

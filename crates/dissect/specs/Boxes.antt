@@ -18,7 +18,7 @@ pub record BoxesModel : Type 0 where
   pub direction : List ℕ
   pub angle : List ℕ
   pub before : List ℕ
-  -- vertex v of the plane is the vertex v - 1 of the map, so many of them there are
+  -- the number of vertices of the plane; vertex v of the plane is the vertex v - 1 of the map
   pub old : ℕ
   -- the lesser darts of the plane's edges, each of which is a dart of the map too: the last one on its edge
   pub edges : List ℕ

@@ -6,7 +6,7 @@ use Rattle.dissect.specs.DartMaps.{DartMap, no_dart}
 pub record AreChains (v : ℕ) (w : DartMap) : Type 0 where
   -- what stands before a dart is a dart
   pub inside : (a : ℕ) → a < w.darts → (w.before a ≡ no_dart) ⊎ (w.before a < w.darts)
-  -- behind the reverse of a dart comes the reverse of the dart before it
+  -- after the reverse of a dart comes the reverse of the dart before it
   pub back : (a : ℕ) → a < w.darts → w.before a ≢ no_dart → w.before (w.reverse_dart (w.before a)) ≡ w.reverse_dart a
   -- the vertex between a dart and the one before it is none of the first v
   pub fresh : (a : ℕ) → a < w.darts → w.before a ≢ no_dart → v ≤ w.head (w.before a)

@@ -21,7 +21,7 @@ pub record DartMap : Type 0 where
   -- the dart before it on the same edge of the plane, side of a rectangle or chord, or `no_dart`
   pub before : ℕ → ℕ
 
--- stands where there is no dart
+-- the value for a missing dart
 abbrev pub no_dart : ℕ
 no_dart = NO_DART
 

@@ -23,7 +23,7 @@ pub record IsFaceCutting (w0 : DartMap) (face : List ℕ) (w : DartMap) (st rest
   pub hopeful : Hopeful (total (map w.angle rest)) (length rest) (map w.angle st)
   pub rising : Rising (map w.angle rest)
 
--- the edge of the dart behind c lies straight across from the corner at the head of d, which turns right
+-- the edge of the dart after c lies straight across from the corner at the head of d, which turns right
 pub record CanCut (w : DartMap) (d c : ℕ) : Type 0 where
   pub d_in : d < w.darts
   pub c_in : c < w.darts

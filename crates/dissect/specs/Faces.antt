@@ -7,12 +7,12 @@ use Rattle.dissect.specs.Turning.{total}
 abbrev pub IsCorner : DartMap → ℕ → Type 0
 IsCorner w a = w.angle a ≢ 2
 
--- from the dart a the walk goes straight through k darts, and the one behind them is the corner c
+-- from the dart a the walk goes straight through k darts, and the one after them is the corner c
 abbrev pub StretchesIn : DartMap → ℕ → ℕ → ℕ → Type 0
 StretchesIn w zero a c = (w.next a ≡ c) × IsCorner w c
 StretchesIn w (suc k) a c = (w.angle (w.next a) ≡ 2) × StretchesIn w k (w.next a) c
 
--- the next corner behind the dart a is c
+-- the next corner after the dart a is c
 pub record Stretches (w : DartMap) (a c : ℕ) : Type 0 where
   pub places : ℕ
   pub stretch : StretchesIn w places a c

@@ -20,7 +20,7 @@ pub record KeepsLabels (n : ℕ) (face : ℕ → ℕ) (w : DartMap) (label : ℕ
   pub labelling : IsLabelling n face new now
   pub kept : (a : ℕ) → a < w.darts → now a ≡ label a
 
--- the same of a map in a rectangle, the darts of whose sides come behind those of w and have the label of the dart `outer`
+-- the same of a map in a rectangle, whose sides have darts that come after those of w and have the label of `outer`
 pub record KeepsLabelsInside (n : ℕ) (face : ℕ → ℕ) (w : DartMap) (label : ℕ → ℕ) (outer : ℕ) (new : DartMap) : Type 0 where
   pub keeps : KeepsLabels n face w label new
   pub ring : (k : ℕ) → k < 8 → keeps.now (w.darts + k) ≡ label outer

@@ -8,7 +8,7 @@ abbrev pub Follows : DartMap → ℕ → List ℕ → Type 0
 Follows w a [] = Unit {0}
 Follows w a (b ∷ bs) = (w.before b ≡ a) × (w.head (w.reverse_dart b) ≡ w.head a) × Follows w b bs
 
--- first, and behind it the rest, are all darts of the edge that ends with the dart `end`
+-- first, and after it the rest, are all darts of the edge that ends with the dart `end`
 pub record IsPath (w : DartMap) (end first : ℕ) (rest : List ℕ) : Type 0 where
   pub first_in : first < w.darts
   pub rest_in : Below w.darts rest

@@ -20,7 +20,7 @@ pub data IsBent (e : ℕ) : DartMap → List Turn → DartMap → Type 0 where
   turned : (w mid new : DartMap) (turn : Turn) (turns : List Turn) → IsSubdivided w e (start_direction w e) (angle_of turn) mid
       → IsBent e mid turns new → IsBent e w (turn ∷ turns) new
 
--- each edge of the plane p whose lesser dart is k or comes behind k gets the turns of that dart
+-- each edge of the plane p whose lesser dart is k or comes after k gets the turns of that dart
 pub data AreBent (p : PlaneModel) (s : ℕ → List Turn) : ℕ → DartMap → DartMap → Type 0 where
   finished : (k : ℕ) (w : DartMap) → darts p ≤ k → AreBent p s k w w
   passed : (k : ℕ) (w new : DartMap) → reverse_dart p k ≤ k → AreBent p s (k + 1) w new → AreBent p s k w new

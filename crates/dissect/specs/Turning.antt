@@ -6,7 +6,7 @@ abbrev pub total : List ℕ → ℕ
 total [] = 0
 total (x ∷ xs) = x + total xs
 
--- each right turn is made good for by what comes behind it
+-- each right turn is made good for by what comes after it
 abbrev pub Rising : List ℕ → Type 0
 Rising [] = Unit {0}
 Rising (x ∷ xs) = (2 < x → x + total xs + 1 ≤ 2 * (length xs + 1)) × Rising xs

@@ -18,7 +18,7 @@ abbrev pub turning : DartMap → List ℕ → List ℕ
 turning w [] = []
 turning w (a ∷ rest) = if w.angle a == 2 then turning w rest else (a ∷ turning w rest)
 
--- the walk from a is back at a after so many steps, and not before
+-- the walk from a is back at a after `places` steps, and not before
 pub record HasPeriod (w : DartMap) (a places : ℕ) : Type 0 where
   pub some : 1 ≤ places
   pub most : places ≤ w.darts

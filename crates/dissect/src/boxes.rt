@@ -152,9 +152,9 @@ impl Boxes {
         self.table.direction.as_slice()
     }
 
-    /// The previous dart of the same chain, or `None` for the first one.
+    /// The previous dart along the same edge of the plane, side, bridge or cut, or `None` for the first one.
     ///
-    /// A chain is an edge of the plane, a side of the rectangle, its bridge or a cut.
+    /// A side is one of the rectangle, and its bridge connects it to the plane.
     pub fn before(&self, dart: u32) -> Option<u32>
         requires { dart < self.now.darts }
         ensures some { IfSome result (λ front. front ≡ (dart_map self.now).before dart) }
@@ -174,7 +174,7 @@ impl Boxes {
         self.old
     }
 
-    /// The number, among the vertices of the boxes, of a vertex of the plane, which is numbered from 1.
+    /// The vertex of the boxes that is this vertex of the plane, where vertices are numbered from 1.
     pub fn old(&self, vertex: u8) -> u32
         requires from { 1 ≤ vertex }
         requires to { vertex ≤ self.now.old }

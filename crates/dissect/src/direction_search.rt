@@ -91,7 +91,7 @@ fn reverse_direction(direction: u8, turns: &[Turn]) -> u8
     ((usize::from(direction) + 2 + rights + 3 * lefts) % 4) as u8
 }
 
-/// The direction of each dart of an orthogonal representation: `directions[d]` is that of dart d.
+/// Finds the direction of each dart of an orthogonal representation; in the result, `directions[d]` is that of dart d.
 ///
 /// The direction of a dart is that in which it arrives at its head, in quarter turns to the left from east: 0 is east,
 /// 1 north, 2 west and 3 south. Dart 0 arrives to the east. Linear in the darts and the turns. It reuses the buffers of

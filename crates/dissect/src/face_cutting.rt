@@ -58,7 +58,7 @@ fn has_hook(table: &DartTable, ring: &[u32], height: usize) -> bool
 }
 
 /// Reads the corner at `read`: puts it on the stack, the first `height` corners, and cuts at the uppermost
-/// ones as long as they are two left turns on a right turn. Gives back the stack's height then.
+/// ones as long as they are two left turns on a right turn. Returns the height of the stack after that.
 fn read_corner(table: &mut DartTable, ring: &mut [u32], height: usize, read: usize) -> usize
     requires more { read < length ring.old }
     requires reading { let face = down (tops ring.old height) (drop read ring.old) in

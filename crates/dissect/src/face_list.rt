@@ -26,7 +26,7 @@ pub struct Faces {
 }
 
 impl Faces {
-    /// No faces. It allocates nothing.
+    /// An empty list of faces. It allocates nothing.
     pub fn empty(alloc: Global) -> Faces
         ensures { result.corners.items ≡ [] }
     {
@@ -60,8 +60,8 @@ pub fn list_faces(table: &DartTable, right: u32, faces: Faces) -> Result<Faces, 
     let mut seen = filled(faces.seen, darts, false)?;
     let mut outer = emptied(faces.outer, darts)?;
     walk(table, right, &mut seen, &mut outer)?;
-    // The merged face has the corners of the outer face, and seven more.
-    let mut corners = emptied(faces.corners, darts + 7)?;
+    // Each walk asks for room for all darts. The merged face has the corners of the outer face, and seven more.
+    let mut corners = emptied(faces.corners, 2 * darts + 7)?;
     let mut counts = emptied(faces.counts, face_count(table))?;
     'darts: for start in 0..table.darts {
         if !seen[start as usize] && table.angle[start as usize] != 2 {

@@ -58,7 +58,7 @@ pub fn cuts_stay_connected()
     ensures { (w new : DartMap) → IsSound w → IsCutUp w new → IsConnected w → IsConnected new }
 {}
 
-/// A connected map together with the rectangle round it stays connected.
+/// Enclosing a connected map in a rectangle, with a bridge and cuts, leaves it connected.
 pub fn rectangles_stay_connected()
     ensures { (w : DartMap) (outer : ℕ) (new : DartMap) → IsSound w → IsEnclosed w outer new → IsConnected w → IsConnected new }
 {}

@@ -1,4 +1,4 @@
-//! Memory for dissections, which is used again.
+//! Buffers for dissections, which are reused.
 
 ghost use Rattle.std.specs.Prelude.{◌≡◌};
 ghost use Rattle.dissect.specs.Tables.{room};

@@ -28,7 +28,7 @@ pub struct DartTable {
     /// The vertex that the dart goes to.
     pub head: Vec<u32>,
     /// The dart before it on the same edge of the plane, side of a rectangle or chord, or `NO_DART`
-    /// where it is the first there.
+    /// if it is the first there.
     pub before: Vec<u32>,
     /// The direction in which it arrives.
     pub direction: Vec<u8>,

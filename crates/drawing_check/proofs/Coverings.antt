@@ -1,6 +1,6 @@
 -- Lists of points against the rectangles that cover them: no point repeats exactly where the rectangles are apart.
-use Rattle.std.proofs.Common.{◌≡◌, ℕ, ◌+◌, ◌-◌, ◌<◌, List, [], ◌∷◌, ◌++◌, length, length-append, get_or, refl, sym, ap, ◌∙◌, subst, ⊎_elim, arith, AllPairs, Contains, append_assoc, zero, suc}
-use Rattle.std.proofs.lemmas.List.{append-nil, get_or_append_left}
+use Rattle.std.proofs.Common.{◌≡◌, ℕ, ◌+◌, ◌-◌, ◌<◌, List, [], ◌∷◌, ◌++◌, length, length-append, get_or, sym, ap, ◌∙◌, subst, ⊎_elim, arith, AllPairs, Contains, append_assoc, zero, suc}
+use Rattle.std.proofs.lemmas.List.{get_or_append_left}
 use Rattle.std.proofs.Math.Seq.{get_or-append_right}
 use Rattle.std.proofs.lemmas.List.Elements.{Contains-append_cases, Contains-append_left, Contains-append_right, Contains-get_or}
 use Rattle.std.proofs.lemmas.List.Kept.{AllPairs-cons}
@@ -9,7 +9,7 @@ use Rattle.geometry.specs.declared.rectangles.Rectangle.{Rectangle}
 use Rattle.geometry.specs.Rectangles.{Covers, AreApart}
 use Rattle.ortho_rep.specs.declared.points.Point.{Point}
 use Rattle.drawing_check.specs.Walks.{AreDistinct}
-use Rattle.drawing_check.specs.Shown.{Enumerates, Shows}
+use Rattle.drawing_check.specs.Shown.{Shows}
 
 -- points with the same coordinates are the same
 pub point_is : (p q : Point) → p.x ≡ q.x → p.y ≡ q.y → p ≡ q
@@ -18,7 +18,7 @@ point_is p q ex ey =
 
 -- ---- no repeat in two lists, one after the other
 
--- the element at i behind l
+-- the element at i after l
 behind : (l m : List Point) (i : ℕ) (d : Point) → get_or (l ++ m) (length l + i) d ≡ get_or m i d
 behind l m i d = get_or-append_right l m (length l + i) d (omega arith) ∙ ap (λ (k : ℕ). get_or m k d) (omega arith)
 
@@ -91,6 +91,3 @@ pub shows_append : (rs ts : List Rectangle) (ps qs : List Point) → Shows rs ps
 shows_append [] ts ps qs s t = subst (λ (l : List Point). Shows ts (l ++ qs)) (sym s) t
 shows_append (r ∷ rs) ts ps qs s t =
     (s.0, s.1 ++ qs, ap (λ (l : List Point). l ++ qs) s.2 ∙ append_assoc s.0 s.1 qs, s.3, shows_append rs ts s.1 qs s.4 t)
-
-pub shows_push : (rs : List Rectangle) (r : Rectangle) (ps qs : List Point) → Shows rs ps → Enumerates r qs → Shows (rs ++ r ∷ []) (ps ++ qs)
-shows_push rs r ps qs s l = shows_append rs (r ∷ []) ps qs s (qs, [], sym (append-nil qs), l, refl)

@@ -1,26 +1,14 @@
 -- What writes leave in a table of cells.
 use Rattle.std.proofs.Common.{◌≡◌, ◌≢◌, ℕ, ◌+◌, ◌-◌, ◌*◌, ◌<◌, ◌≤◌, zero, suc, cond, List, [], ◌∷◌, length, get_or, refl, sym, ap, ◌∙◌, subst, ⊎_elim, arith, eqb}
 use Rattle.std.proofs.lemmas.Grind.{same_number_lists}
-use Rattle.std.proofs.Math.ListN.{set}
 use Rattle.std.proofs.Math.Nat.{suc-mul}
 use Rattle.std.proofs.lemmas.Bool.{cases_Bool, cases_lt, cond-true, cond-false, eq-eqb, ne_eqb, both_ways}
-use Rattle.std.proofs.lemmas.List.{get_or-set_same, get_or-set_other}
 use Rattle.drawing_check.specs.declared.parts.Part.{Part}
 use Rattle.drawing_check.specs.declared.cells.CellOrder.{CellOrder}
 use Rattle.drawing_check.specs.declared.cells.TheConstants.{BLANK}
 use Rattle.drawing_check.specs.Parts.{passes, face_behind}
 use Rattle.drawing_check.specs.Cells.{stands_at, cell, IsOrder, HaveFaces, HasMarks, Fills, IsSwept}
 use Rattle.drawing_check.proofs.Swept.{last_or_none, passing_told, passing_from}
-
-pub put_others : (o : CellOrder) (cells : List ℕ) (line place w v : ℕ) → IsOrder o (length cells) → line < o.lines → place < o.places → w ≡ stands_at o line place
-    → (l c : ℕ) → l < o.lines → c < o.places → (l ≡ line → c ≡ place → ⊥) → cell o (set cells w v) l c ≡ cell o cells l c
-put_others o cells line place w v is in_line in_place at l c in_l in_c other =
-    get_or-set_other cells w (stands_at o l c) v 0 (λ e. let both = is.apart l c line place in_l in_c in_line in_place (e ∙ at) in other both.0 both.1)
-
-pub put_here : (o : CellOrder) (cells : List ℕ) (line place w v : ℕ) → IsOrder o (length cells) → line < o.lines → place < o.places → w ≡ stands_at o line place
-    → cell o (set cells w v) line place ≡ v
-put_here o cells line place w v is in_line in_place at =
-    subst (λ i. get_or (set cells w v) i 0 ≡ v) at (get_or-set_same cells w v 0 (subst (λ i. i < length cells) (sym at) (is.inside line place in_line in_place)))
 
 -- a part's marks, by whether it passes
 pub marks_told : (s : Part) (l c old new : ℕ) → (s.line ≡ l → s.from < c → c ≤ s.to → new ≡ s.behind) → ((s.line ≡ l → s.from < c → c ≤ s.to → ⊥) → new ≡ old)
@@ -153,41 +141,7 @@ fills_once marks a b size_a size_b fills_a fills_b = same_number_lists a b (size
         ∙ ap (λ v. cond (eqb (get_or marks (i + 1) 0) BLANK) v (get_or marks (i + 1) 0)) before
         ∙ sym (fills_b.onward i (omega arith)))
 
--- the first so many cells are filled up
+-- the first n cells are filled up
 pub record FillsTo (n : ℕ) (marks cells : List ℕ) : Type 0 where
   pub first : get_or cells 0 0 ≡ get_or marks 0 0
   pub onward : (i : ℕ) → i + 1 < n → get_or cells (i + 1) 0 ≡ cond (eqb (get_or marks (i + 1) 0) BLANK) (get_or cells i 0) (get_or marks (i + 1) 0)
-
-pub one_filled : (marks cells : List ℕ) → get_or cells 0 0 ≡ get_or marks 0 0 → FillsTo 1 marks cells
-one_filled marks cells first = record { first = first; onward = λ i lt. absurd (omega arith) }
-
-pub more_filled : (n : ℕ) (marks cells : List ℕ) → 0 < n → FillsTo n marks cells
-    → get_or cells n 0 ≡ cond (eqb (get_or marks n 0) BLANK) (get_or cells (n - 1) 0) (get_or marks n 0) → FillsTo (n + 1) marks cells
-more_filled n marks cells some so_far here = record {
-  first = so_far.first;
-  onward = λ i lt. ⊎_elim
-      (λ before. so_far.onward i before)
-      (λ now.
-      let next : n ≡ i + 1 = omega arith in
-      let last : n - 1 ≡ i = omega arith in
-      subst (λ k. get_or cells k 0 ≡ cond (eqb (get_or marks k 0) BLANK) (get_or cells i 0) (get_or marks k 0)) next
-      (here ∙ ap (λ k. cond (eqb (get_or marks n 0) BLANK) (get_or cells k 0) (get_or marks n 0)) last))
-      (cases_lt (i + 1) n);
-}
-
-pub less_filled : (n : ℕ) (marks cells : List ℕ) → 0 < n → FillsTo (n + 1) marks cells
-    → FillsTo n marks cells × (get_or cells n 0 ≡ cond (eqb (get_or marks n 0) BLANK) (get_or cells (n - 1) 0) (get_or marks n 0))
-less_filled n marks cells some all = (
-  record { first = all.first; onward = λ i lt. all.onward i (omega arith) },
-  let e : (n - 1) + 1 ≡ n = omega arith in
-      subst (λ k. get_or cells k 0 ≡ cond (eqb (get_or marks k 0) BLANK) (get_or cells (n - 1) 0) (get_or marks k 0)) e (all.onward (n - 1) (omega arith)),
-)
-
-pub all_filled : (marks cells : List ℕ) → FillsTo (length marks) marks cells → Fills 1 marks cells
-all_filled marks cells all = record {
-  first = λ i lt. let e : 0 ≡ i = omega arith in subst (λ k. get_or cells k 0 ≡ get_or marks k 0) e all.first;
-  onward = all.onward;
-}
-
-pub filled_all : (marks cells : List ℕ) → Fills 1 marks cells → FillsTo (length marks) marks cells
-filled_all marks cells fills = record { first = fills.first 0 (omega arith); onward = fills.onward }

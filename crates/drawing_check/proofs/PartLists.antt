@@ -1,5 +1,5 @@
 -- Lists of parts, one more path or one more piece of a path.
-use Rattle.std.proofs.Common.{◌≡◌, ℕ, ◌+◌, Bool, true, false, List, [], ◌∷◌, ◌++◌, filter, sym, ap, ◌∙◌, append_assoc}
+use Rattle.std.proofs.Common.{◌≡◌, ℕ, ◌+◌, Bool, true, false, List, [], ◌∷◌, ◌++◌, filter, sym, ap, ◌∙◌}
 use Rattle.std.specs.List.{flat_map, range_with_len}
 use Rattle.std.proofs.lemmas.Bool.{cond-true, cond-false}
 use Rattle.std.proofs.lemmas.List.{append-nil, flat_map_more}
@@ -20,21 +20,6 @@ pub edges_kept : (f : ℕ → List Part) (q : ℕ → Bool) (n : ℕ) (old : Lis
 edges_kept f q n old past done =
     done
     ∙ ap (flat_map f) (sym (lesser-more q n ∙ ap (λ (ds : List ℕ). filter q (range_with_len 0 n) ++ ds) (cond-false (q n) (n ∷ []) [] past) ∙ append-nil (filter q (range_with_len 0 n))))
-
--- one more piece
-pub piece_more : (f : Point → Point → List Part) (old new target : List Part) (from c e : Point) (l rest : List Point) → old ++ pieces f (from ∷ (l ++ e ∷ [])) ≡ target → l ≡ c ∷ rest → new ≡ old ++ f from c → new ++ pieces f (c ∷ (rest ++ e ∷ [])) ≡ target
-piece_more f old new target from c e l rest done is_l is_new =
-    ap (λ (ss : List Part). ss ++ pieces f (c ∷ (rest ++ e ∷ []))) is_new
-    ∙ append_assoc old (f from c) (pieces f (c ∷ (rest ++ e ∷ [])))
-    ∙ ap (λ (m : List Point). old ++ pieces f (from ∷ (m ++ e ∷ []))) (sym is_l)
-    ∙ done
-
-pub piece_last : (f : Point → Point → List Part) (old new target : List Part) (from e : Point) (l : List Point) → old ++ pieces f (from ∷ (l ++ e ∷ [])) ≡ target → l ≡ [] → new ≡ old ++ f from e → new ≡ target
-piece_last f old new target from e l done is_l is_new =
-    is_new
-    ∙ ap (λ (ss : List Part). old ++ ss) (sym (append-nil (f from e)))
-    ∙ ap (λ (m : List Point). old ++ pieces f (from ∷ (m ++ e ∷ []))) (sym is_l)
-    ∙ done
 
 -- the pieces of a path between the same faces
 pub same_pieces : (between : ℕ → ℕ → Point → Point → List Part) (old new : List Part) (l m r q : ℕ) (path other : List Point) → l ≡ m → r ≡ q → path ≡ other → new ≡ old ++ pieces (between l r) path → new ≡ old ++ pieces (between m q) other

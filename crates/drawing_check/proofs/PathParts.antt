@@ -74,7 +74,7 @@ line_south x y a c n some room is_x is_y =
     (λ p in_r. (a - p.y, omega arith, omega arith, point_is (at x y (a - p.y)) p (omega (arith, is_x (a - p.y))) (omega (arith, is_y (a - p.y)))))
     (λ i j low lt high same. omega (arith, is_y i, is_y j, ap (λ (p : Point). p.y) same))
 
--- the first n points behind a on the way to b list a rectangle
+-- the first n points after a on the way to b list a rectangle
 pub segment_lists : (a b : Point) (n : ℕ) → IsAxis a b → 1 ≤ n → n ≤ distance a b → Enumerates (rectangle_between (step_from a b 1) (step_from a b n)) (walk a b n)
 segment_lists a b n axis some within =
     ⊎_elim

@@ -1,8 +1,8 @@
 -- Tables of ranks: that they rank all coordinates, and how they come from marks.
-use Rattle.std.proofs.Common.{◌≡◌, ℕ, ◌+◌, ◌-◌, ◌<◌, ◌≤◌, ◌⊎◌, zero, suc, List, ◌++◌, length, map, take, drop, get_or, refl, sym, ap, ◌∙◌, subst, ⊎_elim, inl, inr, arith, All}
+use Rattle.std.proofs.Common.{◌≡◌, ℕ, ◌+◌, ◌-◌, ◌<◌, ◌≤◌, ◌⊎◌, zero, suc, List, ◌++◌, length, map, take, drop, get_or, sym, ap, ◌∙◌, subst, ⊎_elim, inl, inr, arith, All}
 use Rattle.std.proofs.Math.ListN.{set}
-use Rattle.std.proofs.lemmas.Bool.{cases_lt, cases_eq}
-use Rattle.std.proofs.lemmas.List.{get_or_default, get_or_past, get_or-set_same, get_or-set_other, length-set, length-map, length-take-le, length-append, length-drop, get_or-append_right, get_or-drop}
+use Rattle.std.proofs.lemmas.Bool.{cases_lt}
+use Rattle.std.proofs.lemmas.List.{get_or_default, get_or_past, length-map, length-take-le, length-append, length-drop, get_or-append_right, get_or-drop}
 use Rattle.std.proofs.lemmas.List.Edits.{map_over_more}
 use Rattle.std.proofs.lemmas.List.Elements.{All-weaker}
 use Rattle.drawing_check.specs.declared.parts.Part.{Part}
@@ -101,40 +101,11 @@ marks_none marks zeros = record {
   few = λ i. let z = zeros i in omega arith;
 }
 
-pub adds_nothing : (marks : List ℕ) → AddsMarks marks marks
-adds_nothing marks = record { size = refl; marks = λ m. m; kept = λ c m. m }
-
 pub adds_both : (a b c : List ℕ) → AddsMarks a b → AddsMarks b c → AddsMarks a c
 adds_both a b c ab bc = record {
   size = bc.size ∙ ab.size;
   marks = λ m. bc.marks (ab.marks m);
   kept = λ x m. bc.kept x (ab.kept x m);
-}
-
-pub marked_set : (old : List ℕ) (c w : ℕ) → w ≡ c + 1 → c + 1 < length old → IsMarked (set old w 1) c
-marked_set old c w e lt =
-    let size = length-set old w 1 in (
-      omega arith,
-      subst (λ i. get_or (set old w 1) i 0 ≡ 1) e (get_or-set_same old w 1 0 (omega arith)),
-    )
-
-pub adds_set : (old : List ℕ) (c w : ℕ) → w ≡ c + 1 → c + 1 < length old → AddsMarks old (set old w 1)
-adds_set old c w e lt = record {
-  size = length-set old w 1;
-  marks = λ m. record {
-    none = get_or-set_other old w 0 1 0 (λ z. absurd (omega arith)) ∙ m.none;
-    few = λ i. ⊎_elim
-        (λ here. let one = ap (λ k. get_or (set old w 1) k 0) here ∙ get_or-set_same old w 1 0 (omega arith) in omega arith)
-        (λ else. let same = get_or-set_other old w i 1 0 else in let few = m.few i in omega arith)
-        (cases_eq i w);
-  };
-  kept = λ d m. let size = length-set old w 1 in let inside = m.0 in (
-    omega arith,
-    ⊎_elim
-        (λ here. ap (λ k. get_or (set old w 1) k 0) here ∙ get_or-set_same old w 1 0 (omega arith))
-        (λ else. get_or-set_other old w (d + 1) 1 0 else ∙ m.1)
-        (cases_eq (d + 1) w),
-  );
 }
 
 -- sums of marks are ranks

@@ -197,7 +197,3 @@ all_below m n w h us is_w is_h lines ends = λ k d lt.
     let from = end.0 in
     let to = end.1 in
     record { line = omega arith; from = omega arith; to = omega arith }
-
-pub below_within : (w h : ℕ) (us : List Part) (o : CellOrder) → o.lines ≡ w → o.places ≡ h → All (IsBelow w h) us → All (IsWithin o) us
-below_within w h us o is_lines is_places below =
-    All-weaker (IsBelow w h) (IsWithin o) (λ s b. let line = b.line in let to = b.to in record { line = omega arith; end = omega arith }) us below

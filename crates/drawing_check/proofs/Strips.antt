@@ -91,7 +91,7 @@ more_steps a b axis no_end =
 
 -- ---- a path
 
--- what holds of a path's parts holds of those behind the first
+-- what holds of a path's parts holds of those after the first
 axes_rest : (a : Point) (path : List Point) → IsOnAxes (a ∷ path) → IsOnAxes path
 axes_rest a path h k lt =
     let e : suc k + 1 ≡ suc (k + 1) = omega arith in

@@ -13,7 +13,7 @@ stands_at o l c = l * o.line_step + c * o.place_step
 abbrev pub cell : CellOrder → List ℕ → ℕ → ℕ → ℕ
 cell o cells l c = slice_index cells (stands_at o l c)
 
--- a table of so many cells has room for each place of each line, each at an index of its own
+-- a table of `size` cells has room for each place of each line, each at an index of its own
 pub record IsOrder (o : CellOrder) (size : ℕ) : Type 0 where
   pub some_line : 0 < o.lines
   pub some_step : 0 < o.line_step
@@ -21,16 +21,16 @@ pub record IsOrder (o : CellOrder) (size : ℕ) : Type 0 where
   pub apart : (l c m e : ℕ) → l < o.lines → c < o.places → m < o.lines → e < o.places
       → stands_at o l c ≡ stands_at o m e → (l ≡ m) × (c ≡ e)
 
--- there is a line behind the part's, and the part ends at one of the places
+-- there is a line after the part's, and the part ends at one of the places
 pub record IsWithin (o : CellOrder) (s : Part) : Type 0 where
   pub line : s.line + 1 < o.lines
   pub end : s.to < o.places
 
--- a part that passes any place has a face behind it
+-- a part that passes any place has a face after it
 abbrev pub HaveFaces : List Part → Type 0
 HaveFaces parts = (s : Part) → Contains parts s → (l c : ℕ) → passes s l c ≡ true → s.behind ≢ BLANK
 
--- the first line has the outer face, behind each line is what the parts on it tell, and all else is blank
+-- the first line has the outer face, after each line comes what the parts on it determine, and all else is blank
 pub record HasMarks (o : CellOrder) (parts : List Part) (outer : ℕ) (cells : List ℕ) : Type 0 where
   pub start : (c : ℕ) → c < o.places → cell o cells 0 c ≡ outer
   pub behind : (l c : ℕ) → l + 1 < o.lines → c < o.places → cell o cells (l + 1) c ≡ face_behind parts l c BLANK
@@ -41,7 +41,7 @@ pub record Fills (step : ℕ) (marks cells : List ℕ) : Type 0 where
   pub onward : (i : ℕ) → i + step < length marks
       → slice_index cells (i + step) ≡ (if slice_index marks (i + step) == BLANK then slice_index cells i else slice_index marks (i + step))
 
--- the first line has the outer face, and behind each line is what the parts on it tell
+-- the first line has the outer face, and after each line comes what the parts on it determine
 pub record IsSwept (o : CellOrder) (parts : List Part) (outer : ℕ) (cells : List ℕ) : Type 0 where
   pub start : (c : ℕ) → c < o.places → cell o cells 0 c ≡ outer
   pub onward : (l c : ℕ) → l + 1 < o.lines → c < o.places → cell o cells (l + 1) c ≡ face_behind parts l c (cell o cells l c)
@@ -69,7 +69,7 @@ pub record Agree (uprights levels : List Part) (outer : ℕ) : Type 0 where
   pub uprights_hold : AreBeside uprights outer
   pub levels_hold : AreBeside levels outer
 
--- a table of so many columns and rows, row by row: lines are columns, or they are rows
+-- a table of these numbers of columns and rows, row by row: lines are columns, or they are rows
 abbrev pub by_columns : ℕ → ℕ → CellOrder
 by_columns columns rows = record { lines = columns; places = rows; line_step = 1; place_step = columns }
 

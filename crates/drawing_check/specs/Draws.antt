@@ -1,11 +1,11 @@
 -- What it is that points draw a shape of a plane: four conditions, on the points and on the paths of the edges.
-use Rattle.std.specs.Prelude.{◌≡◌, ◌≢◌, ℕ, ◌+◌, ◌<◌, ◌≤◌, ◌⊎◌, List, ◌++◌, length, nat_lt, slice_index_or, if◌then◌else◌, All}
+use Rattle.std.specs.Prelude.{◌≡◌, ◌≢◌, ℕ, ◌+◌, ◌*◌, ◌<◌, ◌≤◌, ◌⊎◌, List, ◌++◌, length, nat_lt, slice_index_or, if◌then◌else◌, All}
 use Rattle.std.specs.List.{flat_map}
 use Rattle.ortho_rep.specs.declared.points.TheConstants.{MAX_COORDINATE}
 use Rattle.geometry.specs.declared.direction.Direction.{Direction}
 use Rattle.geometry.specs.declared.direction.Direction.TheVariants.{East, North, West, South}
 use Rattle.geometry.specs.Directions.{left_of, right_of, left_quarters}
-use Rattle.faces.specs.Planes.{PlaneModel, darts, reverse_dart, next}
+use Rattle.faces.specs.Planes.{PlaneModel, vertices, darts, reverse_dart, next}
 use Rattle.ortho_rep.specs.declared.turn.Turn.{Turn}
 use Rattle.ortho_rep.specs.declared.turn.Turn.TheVariants.{Left, Right}
 use Rattle.ortho_rep.specs.declared.points.Point.{Point}
@@ -14,6 +14,11 @@ use Rattle.ortho_rep.specs.Points.{PointsModel}
 use Rattle.ortho_rep.specs.Edges.{lesser_darts}
 use Rattle.drawing_check.specs.Paths.{path_along, paths, dart_path, point_of}
 use Rattle.drawing_check.specs.Walks.{interior, AreDistinct}
+
+-- there is a point for each vertex, and a list of corners for each edge
+pub record HasPoints (plane : PlaneModel) (points : PointsModel) : Type 0 where
+  pub vertex_count : length points.vertices ≡ vertices plane
+  pub edge_count : 2 * length points.corners ≡ darts plane
 
 -- ---- 1. every coordinate is 0 to 65,535
 
@@ -61,7 +66,7 @@ abbrev pub leaving : PlaneModel → PointsModel → ℕ → Direction
 leaving p points d = direction_of (dart_path p points d) 0
 
 -- The angle of a dart lies at its head on the left, between the next dart of its face and the way back along its
--- reverse: so many quarters to the left of the next dart is the way back. So the direction turns by 2 less the
+-- reverse: the way back is this many quarters to the left of the next dart. So the direction turns by 2 less the
 -- angle, in left quarters, from a dart to the next.
 pub record TurnAsSaid (p : PlaneModel) (shape : ShapeModel) (points : PointsModel) : Type 0 where
   pub edges : All (λ d. IsTurning (path_along p points d) (turns_at shape d)) (lesser_darts p)

@@ -42,7 +42,7 @@ level_parts p points d = pieces (level_between (face_at p d) (face_at p (reverse
 abbrev pub passes : Part → ℕ → ℕ → Bool
 passes s l c = (s.line == l) && (nat_lt s.from c && nat_le c s.to)
 
--- the face behind place c of line l, where v is that before it: the last part that passes there tells, and v stays
+-- the face after place c of line l, where v is that before it: the last part that passes there tells, and v stays
 -- where none does
 abbrev pub face_behind : List Part → ℕ → ℕ → ℕ → ℕ
 face_behind [] l c v = v

@@ -9,7 +9,7 @@ pub record IsRanking (f : ℕ → ℕ) (n : ℕ) : Type 0 where
   pub below : (x : ℕ) → f x < n
   pub reached : (i : ℕ) → i < n → (x : ℕ) × (f x ≡ i)
 
--- it rises behind a coordinate
+-- it rises after a coordinate
 abbrev pub Rises : (ℕ → ℕ) → ℕ → Type 0
 Rises f c = f (c + 1) ≡ f c + 1
 
@@ -17,7 +17,7 @@ Rises f c = f (c + 1) ≡ f c + 1
 abbrev pub ranked : (ℕ → ℕ) → (ℕ → ℕ) → Part → Part
 ranked f g s = record { line = f s.line; from = g s.from; to = g s.to; before = s.before; behind = s.behind }
 
--- the ranks rise behind all coordinates of a part
+-- the ranks rise after all coordinates of a part
 pub record AreRanked (f g : ℕ → ℕ) (s : Part) : Type 0 where
   pub line : Rises f s.line
   pub from : Rises g s.from
@@ -39,12 +39,12 @@ pub record IsRankTable (ranks : List ℕ) : Type 0 where
   pub step : (x : ℕ) → x + 1 < length ranks
       → (slice_index ranks (x + 1) ≡ slice_index ranks x) ⊎ (slice_index ranks (x + 1) ≡ slice_index ranks x + 1)
 
--- the table rises behind a coordinate
+-- the table rises after a coordinate
 pub record RisesIn (ranks : List ℕ) (c : ℕ) : Type 0 where
   pub inside : c + 1 < length ranks
   pub rises : slice_index ranks (c + 1) ≡ slice_index ranks c + 1
 
--- it does so behind a part's line, and behind both its ends
+-- it does so after a part's line, and after both its ends
 abbrev pub LineRises : List ℕ → Part → Type 0
 LineRises ranks s = RisesIn ranks s.line
 
@@ -52,7 +52,7 @@ pub record EndsRise (ranks : List ℕ) (s : Part) : Type 0 where
   pub from : RisesIn ranks s.from
   pub to : RisesIn ranks s.to
 
--- ---- marks: 1 behind each coordinate that is used, else 0
+-- ---- marks: 1 after each coordinate that is used, else 0
 
 abbrev pub IsMarked : List ℕ → ℕ → Type 0
 IsMarked marks c = (c + 1 < length marks) × (slice_index marks (c + 1) ≡ 1)

@@ -1,4 +1,4 @@
--- The paths of edges as the check sees them in place. Only private contracts speak of them.
+-- The paths of edges, seen in place.
 use Rattle.std.specs.Prelude.{◌≡◌, ℕ, ◌<◌, List, [], ◌∷◌, ◌++◌, slice_index_or}
 use Rattle.geometry.specs.declared.direction.Direction.{Direction}
 use Rattle.geometry.specs.declared.direction.Direction.TheVariants.{East}

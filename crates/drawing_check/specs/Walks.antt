@@ -15,7 +15,7 @@ step_from a b k = record { x = toward a.x b.x k; y = toward a.y b.y k }
 abbrev pub distance : Point → Point → ℕ
 distance a b = (a.x - b.x) + (b.x - a.x) + (a.y - b.y) + (b.y - a.y)
 
--- the first n points behind a on the way to b
+-- the first n points after a on the way to b
 abbrev pub walk : Point → Point → ℕ → List Point
 walk a b n = map (step_from a b) (range_with_len 1 n)
 

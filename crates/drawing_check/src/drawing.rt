@@ -1,10 +1,10 @@
 //! The check of a drawing, by a sweep over rectangles (Shamos and Hoey 1976), and what it makes.
 
-ghost use Rattle.std.specs.Prelude.{◌≡◌, ◌*◌, ◌≤◌, length, IfOk, IfErr, IfNone, IfSome, Some};
-ghost use Rattle.faces.specs.Planes.{darts, vertices};
+ghost use Rattle.std.specs.Prelude.{◌≡◌, ◌≤◌, length, IfOk, IfErr, IfNone, IfSome, Some};
+ghost use Rattle.faces.specs.Planes.{darts};
 ghost use Rattle.ortho_rep.specs.Representation.{HasDarts, IsShape};
-ghost use Rattle.drawing_check.specs.Draws.{Draws};
-ghost use Rattle.drawing_check.specs.Faults.{IsFirstFault, KeepsFirstThree};
+ghost use Rattle.drawing_check.specs.Draws.{Draws, HasPoints};
+ghost use Rattle.drawing_check.specs.Faults.{IsFirstFault, KeepsFirstThree, IsTaken, IsRefused};
 
 use crate::edges::scan_edges;
 use crate::fault::CheckFault;
@@ -72,14 +72,9 @@ pub fn check(
     points: Points,
 ) -> Result<Drawing, (CheckFault, Points)>
     requires shape { IsShape plane.now shape.now }
-    requires vertices { length points.vertices ≡ vertices plane.now }
-    requires corners { 2 * length points.corners ≡ darts plane.now }
-    ensures same { IfOk result (λ drawing. drawing ≡ points) }
-    ensures draws { IfOk result (Draws plane.now shape.now) }
-    ensures returned { IfErr result (λ refused. refused.1 ≡ points) }
-    ensures fault { IfErr result (λ refused. IsFirstFault plane.now shape.now points refused.0) }
-    ensures memory { IfErr result (λ refused.
-        refused.0 ≡ CheckFault.Memory → KeepsFirstThree plane.now shape.now points) }
+    requires points { HasPoints plane.now points }
+    ensures taken { IfOk result (IsTaken plane.now shape.now points) }
+    ensures refused { IfErr result (λ refused. IsRefused plane.now shape.now points refused.0 refused.1) }
 {
     let mut scratch = Scratch::empty(alloc);
     check_in(alloc, &mut scratch, plane, shape, points)
@@ -100,14 +95,9 @@ pub fn check_in(
     points: Points,
 ) -> Result<Drawing, (CheckFault, Points)>
     requires shape { IsShape plane.now shape.now }
-    requires vertices { length points.vertices ≡ vertices plane.now }
-    requires corners { 2 * length points.corners ≡ darts plane.now }
-    ensures same { IfOk result (λ drawing. drawing ≡ points) }
-    ensures draws { IfOk result (Draws plane.now shape.now) }
-    ensures returned { IfErr result (λ refused. refused.1 ≡ points) }
-    ensures fault { IfErr result (λ refused. IsFirstFault plane.now shape.now points refused.0) }
-    ensures memory { IfErr result (λ refused.
-        refused.0 ≡ CheckFault.Memory → KeepsFirstThree plane.now shape.now points) }
+    requires points { HasPoints plane.now points }
+    ensures taken { IfOk result (IsTaken plane.now shape.now points) }
+    ensures refused { IfErr result (λ refused. IsRefused plane.now shape.now points refused.0 refused.1) }
 {
     match find_fault(alloc, scratch, plane, shape, &points) {
         None => Ok(Drawing { points }),
@@ -124,8 +114,7 @@ fn find_fault(
     points: &Points,
 ) -> Option<CheckFault>
     requires lengths { HasDarts plane.now shape.now }
-    requires vertices { length points.now.vertices ≡ vertices plane.now }
-    requires corners { 2 * length points.now.corners ≡ darts plane.now }
+    requires points { HasPoints plane.now points.now }
     ensures draws { IfNone result (Draws plane.now shape.now points.now) }
     ensures fault { IfSome result (IsFirstFault plane.now shape.now points.now) }
     ensures memory { result ≡ Some CheckFault.Memory
@@ -149,8 +138,7 @@ fn first_fault(
     directions: &mut [Direction],
 ) -> Option<CheckFault>
     requires lengths { HasDarts plane.now shape.now }
-    requires vertices { length points.now.vertices ≡ vertices plane.now }
-    requires corners { 2 * length points.now.corners ≡ darts plane.now }
+    requires points { HasPoints plane.now points.now }
     requires room { darts plane.now ≤ length directions.old }
     ensures draws { IfNone result (Draws plane.now shape.now points.now) }
     ensures fault { IfSome result (IsFirstFault plane.now shape.now points.now) }

@@ -1,14 +1,14 @@
 //! The results of one walk over all edges.
 
-ghost use Rattle.std.specs.Prelude.{◌≡◌, ℕ, ◌*◌, ◌<◌, ◌≤◌, ◌↔◌, ◌++◌, length, map, IsTrue, All};
+ghost use Rattle.std.specs.Prelude.{◌≡◌, ℕ, ◌<◌, ◌≤◌, ◌↔◌, ◌++◌, length, map, IsTrue, All};
 ghost use Rattle.std.specs.List.{flat_map};
-ghost use Rattle.faces.specs.Planes.{darts, vertices};
+ghost use Rattle.faces.specs.Planes.{darts};
 ghost use Rattle.ortho_rep.specs.Shapes.{turns_at};
 ghost use Rattle.ortho_rep.specs.Representation.{HasDarts};
 ghost use Rattle.ortho_rep.specs.Edges.{lesser_darts};
 ghost use Rattle.drawing_check.specs.Paths.{path_along, paths};
-ghost use Rattle.drawing_check.specs.Draws.{AreInGrid, AreOnAxes, IsTurning, leaving};
-ghost use Rattle.drawing_check.specs.Routes.{path_of, direction_at};
+ghost use Rattle.drawing_check.specs.Draws.{AreInGrid, AreOnAxes, IsTurning, leaving, HasPoints};
+ghost use Rattle.drawing_check.specs.Routes.{direction_at};
 ghost use Rattle.drawing_check.specs.Shown.{rectangle_between, strips};
 
 use crate::grid::all_in_grid;
@@ -43,8 +43,7 @@ pub(crate) fn scan_edges(
     directions: &mut [Direction],
 ) -> EdgesSeen
     requires lengths { HasDarts plane.now shape.now }
-    requires vertices { length points.now.vertices ≡ vertices plane.now }
-    requires corners { 2 * length points.now.corners ≡ darts plane.now }
+    requires points { HasPoints plane.now points.now }
     requires room { darts plane.now ≤ length directions.old }
     ensures in_grid { IsTrue result.in_grid ↔ AreInGrid points.now }
     ensures on_axes { IsTrue result.on_axes ↔ AreOnAxes (paths plane.now points.now) }

@@ -6,20 +6,18 @@ use thiserror::Error;
 #[derive(Clone, Copy, Debug, PartialEq, Eq, Error)]
 pub enum CheckFault {
     /// Some coordinate is above 65,535.
-    #[error("a point lies out of the grid")]
+    #[error("a coordinate is above 65535")]
     OutOfGrid,
     /// Two consecutive points of a path are equal, or differ in both coordinates.
-    #[error("a part of an edge is not parallel to an axis")]
+    #[error("a segment of an edge has length 0 or is not parallel to an axis")]
     NotAxis,
-    /// An edge has not as many corners as turns, or a corner or an angle at a vertex is not the
-    /// shape's.
-    #[error("a corner or an angle is not that of the shape")]
+    /// An edge has more or fewer corners than turns, or a corner or an angle at a vertex is not the shape's.
+    #[error("a corner or an angle differs from the representation")]
     WrongTurn,
-    /// Two paths meet, or a path meets itself or a vertex that is not its end, or two vertices are at
-    /// one point.
-    #[error("a point is met twice")]
+    /// Two paths meet, or a path meets itself or a vertex that is not its end, or two vertices are at one point.
+    #[error("edges or vertices overlap")]
     Meet,
-    /// Memory ran out: only whether a point is met twice is left open.
+    /// Memory ran out. All conditions hold except perhaps the last one, `Meet`.
     #[error("out of memory")]
     Memory,
 }

@@ -1,11 +1,11 @@
 //! The parts of edges by the axis along which they lie, each with the faces on its sides.
 
-ghost use Rattle.std.specs.Prelude.{◌≡◌, ◌*◌, ◌++◌, length, OnOk};
+ghost use Rattle.std.specs.Prelude.{◌≡◌, ◌*◌, ◌++◌, OnOk};
 ghost use Rattle.std.specs.List.{flat_map};
-ghost use Rattle.faces.specs.Planes.{darts, vertices};
 ghost use Rattle.ortho_rep.specs.Edges.{lesser_darts};
 ghost use Rattle.drawing_check.specs.Routes.{path_of};
 ghost use Rattle.drawing_check.specs.Parts.{upward, on_line, upright_between, level_between, pieces, upright_parts, level_parts};
+ghost use Rattle.drawing_check.specs.Draws.{HasPoints};
 
 use crate::route::{Route, route_of};
 use faces::Plane;
@@ -33,8 +33,7 @@ pub(crate) fn list_parts(
     uprights: &mut Vec<Part>,
     levels: &mut Vec<Part>,
 ) -> Result<(), AllocError>
-    requires vertices { length points.now.vertices ≡ vertices plane.now }
-    requires corners { 2 * length points.now.corners ≡ darts plane.now }
+    requires points { HasPoints plane.now points.now }
     ensures uprights { OnOk result (uprights.new.items ≡ flat_map (upright_parts plane.now points.now) (lesser_darts plane.now)) }
     ensures levels { OnOk result (levels.new.items ≡ flat_map (level_parts plane.now points.now) (lesser_darts plane.now)) }
 {

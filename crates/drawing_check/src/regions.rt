@@ -1,10 +1,10 @@
 //! Whether the regions into which a drawing cuts the plane are the faces.
 
 ghost use Rattle.std.specs.Prelude.{◌≡◌, ◌≢◌, ◌↔◌, ◌+◌, ◌*◌, ◌^◌, ◌<◌, length, All, IsTrue, IfOk, OnOk};
-ghost use Rattle.faces.specs.Planes.{darts, vertices};
 ghost use Rattle.drawing_check.specs.declared.cells.TheConstants.{BLANK};
 ghost use Rattle.drawing_check.specs.Regions.{HasRegions};
 ghost use Rattle.drawing_check.specs.Cells.{HaveFaces, IsWithin, HasMarks, Fills, IsSwept, HasSides, Agree, by_columns, by_rows};
+ghost use Rattle.drawing_check.specs.Draws.{HasPoints};
 
 use crate::cells::{CellOrder, are_filled, mark, sides_hold, sweep};
 use crate::drawing::Drawing;
@@ -27,8 +27,7 @@ use std::alloc::{AllocError, Global};
 ///
 /// `AllocError` if there is no memory for the parts, the ranks of their coordinates and the cells.
 pub fn has_regions(alloc: Global, plane: &Plane, drawing: &Drawing) -> Result<bool, AllocError>
-    requires vertices { length drawing.now.vertices ≡ vertices plane.now }
-    requires corners { 2 * length drawing.now.corners ≡ darts plane.now }
+    requires points { HasPoints plane.now drawing.now }
     ensures { IfOk result (λ regions. IsTrue regions ↔ HasRegions plane.now drawing.now) }
 {
     let mut scratch = Scratch::empty(alloc);
@@ -47,8 +46,7 @@ pub fn has_regions_in(
     plane: &Plane,
     drawing: &Drawing,
 ) -> Result<bool, AllocError>
-    requires vertices { length drawing.now.vertices ≡ vertices plane.now }
-    requires corners { 2 * length drawing.now.corners ≡ darts plane.now }
+    requires points { HasPoints plane.now drawing.now }
     ensures { IfOk result (λ regions. IsTrue regions ↔ HasRegions plane.now drawing.now) }
 {
     // Only the proof needs this: `graph` says where darts end.

@@ -1,26 +1,28 @@
 //! The path of an edge, seen in place.
 
-ghost use Rattle.std.specs.Prelude.{◌≡◌, ℕ, ◌+◌, ◌*◌, ◌<◌, ◌≤◌, length, IsTrue};
-ghost use Rattle.faces.specs.Planes.{darts, vertices, reverse_dart};
+ghost use Rattle.std.specs.Prelude.{◌≡◌, ℕ, ◌<◌, length, IsTrue};
+ghost use Rattle.faces.specs.Planes.{darts, reverse_dart};
 ghost use Rattle.ortho_rep.specs.Points.{corners_at};
 ghost use Rattle.ortho_rep.specs.Edges.{is_lesser, edge_number};
 ghost use Rattle.drawing_check.specs.Paths.{path_along, point_of};
 ghost use Rattle.drawing_check.specs.Routes.{path_of};
+ghost use Rattle.drawing_check.specs.Draws.{HasPoints};
 
 use faces::Plane;
 use ortho_rep::{Point, Points};
 
 /// The path of an edge along its lesser dart: from one end by the corners to the other.
 #[derive(Clone, Copy)]
-pub(crate) struct Route<'a> {
-    pub(crate) start: Point,
-    pub(crate) corners: &'a [Point],
-    pub(crate) end: Point,
+pub struct Route<'a> {
+    pub start: Point,
+    pub corners: &'a [Point],
+    pub end: Point,
 }
 
 impl Route<'_> {
     /// Point k of the path.
-    pub(crate) fn point_at(&self, k: usize) -> Point
+    #[inline]
+    pub fn point_at(&self, k: usize) -> Point
         requires { k < length (path_of self.now) }
         ensures { result ≡ point_of (path_of self.now) k }
     {
@@ -35,7 +37,8 @@ impl Route<'_> {
 }
 
 /// The path of the edge with this number, whose lesser dart and its reverse are given.
-pub(crate) fn route_of<'a>(
+#[inline]
+pub fn route_of<'a>(
     plane: &Plane,
     points: &'a Points,
     dart: u16,
@@ -46,8 +49,7 @@ pub(crate) fn route_of<'a>(
     requires lesser { IsTrue (is_lesser plane.now dart) }
     requires reverse { reverse ≡ reverse_dart plane.now dart }
     requires number { edge ≡ edge_number plane.now dart }
-    requires vertices { length points.now.vertices ≡ vertices plane.now }
-    requires corners { 2 * length points.now.corners ≡ darts plane.now }
+    requires points { HasPoints plane.now points.now }
     ensures path { path_of result ≡ path_along plane.now points.now dart }
     ensures corners { result.corners.now ≡ corners_at points.now edge }
 {

@@ -1,4 +1,4 @@
-//! Memory for checks, which is used again.
+//! Buffers for checks, which are reused.
 
 ghost use Rattle.std.specs.Prelude.{◌≡◌, []};
 

@@ -66,7 +66,8 @@ fn heads_turn(plane: &Plane, shape: &Shape, directions: &[Direction]) -> bool
 
 /// Where `to` lies from `from`, if the two differ in one coordinate. Both answers are made before one is taken, so
 /// that no branch hangs on a direction, which cannot be foreseen.
-pub(crate) fn direction_from(from: Point, to: Point) -> Direction
+#[inline]
+pub fn direction_from(from: Point, to: Point) -> Direction
     ensures { result ≡ direction_between from to }
 {
     let along_x = if from.x < to.x {

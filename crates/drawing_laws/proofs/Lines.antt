@@ -16,7 +16,7 @@ use Rattle.drawing_check.specs.Paths.{point_of}
 use Rattle.drawing_check.specs.Draws.{IsAxis, IsOnAxes, IsTurning, direction_between, direction_of, turned}
 use Rattle.drawing_laws.proofs.Sides.{Goes, goes_on, goes_leads, dart_goes}
 
--- the points from the vertex u on: straight to the first corner behind the dart a, to the others and to the end
+-- the points from the vertex u on: straight to the first corner after the dart a, to the others and to the end
 abbrev pub line : DartMap → (ℕ → ℕ) → (ℕ → ℕ) → ℕ → ℕ → List ℕ → List Point
 line w x y u a rest = point_at x y u ∷ (map (point_at x y) (turning_vertices w a rest) ++ point_at x y (w.head (last_of a rest)) ∷ [])
 
@@ -129,7 +129,7 @@ module _ (w : DartMap) (sound : IsSound w) (x y : ℕ → ℕ) (monotone : IsMon
             (goes_leads k x y (w.head a) (w.head b) (subst (λ (v : ℕ). Goes k x y v (w.head b)) from (dart_goes w sound x y monotone k b b_in refl))),
       )
 
-  -- behind a turn the next dart goes on from there
+  -- after a turn the next dart goes on from there
   pub on_turn : (a b : ℕ) → b < w.darts → w.head (w.reverse_dart b) ≡ w.head a → Goes (w.direction b) x y (w.head a) (w.head b)
   on_turn a b b_in from = subst (λ (v : ℕ). Goes (w.direction b) x y v (w.head b)) from (dart_goes w sound x y monotone (w.direction b) b b_in refl)
 

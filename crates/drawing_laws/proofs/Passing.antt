@@ -22,7 +22,7 @@ Passes (suc zero) x y px py u v = (x v ≡ px) × (y u < py) × (py ≤ y v)
 Passes (suc (suc zero)) x y px py u v = (y v ≡ py) × (x v ≤ px) × (px < x u)
 Passes (suc (suc (suc k))) x y px py u v = (x v ≡ px) × (y v ≤ py) × (py < y u)
 
--- behind a middle vertex or before it
+-- after a middle vertex or before it
 passes_split : (k : ℕ) (x y : ℕ → ℕ) (px py u m v : ℕ) → Goes k x y m v → Passes k x y px py u v → Passes k x y px py u m ⊎ Passes k x y px py m v
 passes_split zero x y px py u m v goes (line, low, high) =
     elim (cases_lt (x m) px) [ inl less ↦ inr (line, less, high) | inr more ↦ inl (omega (arith, goes.1, line), low, omega (arith, more)) ]
@@ -123,7 +123,7 @@ IsBefore w x y px py z e = (px ≡ x (w.head z)) → (py ≡ y (w.head z)) → z
 abbrev pub PassesAt : DartMap → (ℕ → ℕ) → (ℕ → ℕ) → ℕ → ℕ → ℕ → Type 0
 PassesAt w x y px py z = Passes (w.direction z) x y px py (tail w z) (w.head z)
 
--- what is met along a path is passed by its first stretch, or by one of the darts behind
+-- what is met along a path is passed by its first stretch, or by one of the darts after it
 abbrev IsMet : DartMap → (ℕ → ℕ) → (ℕ → ℕ) → ℕ → ℕ → List ℕ → ℕ → ℕ → Type 0
 IsMet w x y u a rest px py =
     (Passes (w.direction a) x y px py u (w.head a) × IsBefore w x y px py a (last_of a rest))

@@ -1,4 +1,4 @@
--- A map whose directions are all turned by so many quarters is one of the same kind.
+-- A map whose directions are all turned by the same number of quarters is one of the same kind.
 use Rattle.std.proofs.Common.{ℕ, zero, suc, ◌+◌, ◌%◌, arith, inl, inr}
 use Rattle.dissect.specs.DartMaps.{DartMap, IsSound}
 use Rattle.dissect.specs.Faces.{StretchesIn, Stretches, HasFourCorners}

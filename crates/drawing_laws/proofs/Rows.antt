@@ -22,7 +22,7 @@ pub record IsStep (w : DartMap) (a b : ℕ) : Type 0 where
   pub right : IsOn w a (corner 1)
   pub left : IsOn w (w.reverse_dart b) (corner 3)
 
--- so many boxes lie between the outside and the dart a, which crosses row j
+-- this many boxes lie between the outside and the dart a, which crosses row j
 abbrev pub DartsAcross : (w : DartMap) (y around : ℕ → ℕ) → ℕ → ℕ → ℕ → Type 0
 DartsAcross w y around j zero a = Crosses w y j a × IsOn w a (around 1)
 DartsAcross w y around j (suc k) a = (b : ℕ) × Crosses w y j a × IsStep w a b × DartsAcross w y around j k b

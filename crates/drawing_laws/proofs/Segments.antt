@@ -86,7 +86,7 @@ runs_later q path k i j (n, inside, runs) =
     (suc n, omega (arith, inside), subst (λ (m : ℕ). Runs k (point_of path n) (point_of (q ∷ path) m) i j) e runs)
 
 module _ (w : DartMap) (sound : IsSound w) (x y : ℕ → ℕ) (monotone : IsMonotone w x y) where
-  -- a part of the line runs along the side where its first stretch does, or one of the darts behind
+  -- a part of the line runs along the side where its first stretch does, or one of the darts after it does
   pub line_runs : (k u a : ℕ) (rest : List ℕ) (i j n : ℕ) → k < 4 → a < w.darts → Below w.darts rest → Follows w a rest → Goes (w.direction a) x y u (w.head a) →
       n + 1 < length (line w x y u a rest) → Runs k (point_of (line w x y u a rest) n) (point_of (line w x y u a rest) (n + 1)) i j →
       Runs k (point_at x y u) (point_at x y (w.head a)) i j ⊎ ((z : ℕ) × In z rest × DartRuns w x y k z i j)
@@ -150,7 +150,7 @@ module _ (w : DartMap) (sound : IsSound w) (x y : ℕ → ℕ) (monotone : IsMon
             subst (λ (path : List Point). PathRuns path k i j) (sym (line_turn w x y u a b bs some)) turned
       ]
 
-  -- where a dart behind does, too
+  -- where a later dart does, too
   pub later_runs : (k u a : ℕ) (rest : List ℕ) (z i j : ℕ) → k < 4 → a < w.darts → Below w.darts rest → Follows w a rest → Goes (w.direction a) x y u (w.head a) →
       In z rest → DartRuns w x y k z i j → PathRuns (line w x y u a rest) k i j
   later_runs k u a [] z i j few a_in below follows goes here runs = absurd here

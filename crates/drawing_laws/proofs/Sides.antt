@@ -117,7 +117,7 @@ keeps_between w tied (suc k) a c j a_in keeps less =
       | inr other ↦ keeps_between w tied k (w.next a) c j (tied.next_in a a_in) keeps.1 (omega arith)
     ]
 
--- what is on a side lies behind the corner from which it sets out
+-- what is on a side lies after the corner from which it sets out
 keeps_short : (w : DartMap) → IsTied w → (k m p a c : ℕ) → p < w.darts → a < w.darts → IsCorner w p → StretchesIn w k p c → Keeps w m a c → m ≤ k
 keeps_short w tied k m p a c p_in a_in corner stretch keeps =
     elim (cases_lt k m) [
@@ -134,7 +134,7 @@ on_itself w c = record { places = 0; keeps = refl }
 -- ---- directions and coordinates
 
 module _ (w : DartMap) (sound : IsSound w) where
-  -- the way behind a dart, by its angle
+  -- the way after a dart, by its angle
   pub next_way : (a : ℕ) → a < w.darts → (w.direction (w.next a) + 2 + w.angle a) % 4 ≡ w.direction a
   next_way a a_in =
       let next_in = sound.tied.next_in a a_in in
@@ -263,7 +263,7 @@ module _ (w : DartMap) (sound : IsSound w) where
         (keeps_short w sound.tied stretch.places on.places p a c p_in a_in corner stretch.stretch on.keeps))
         (keeps_leads d on.places a c a_in way on.keeps) spans
 
-    -- where one dart of a side comes behind another, it passes no coordinate that the other passes
+    -- where one dart of a side comes after another, it passes no coordinate that the other passes
     not_both : (d m n a b c t : ℕ) → a < w.darts → b < w.darts → IsCorner w c → w.direction c ≡ d → Keeps w m a c → Keeps w n b c → m < n
         → Spans d x y t (tail w a) (w.head a) → Spans d x y t (tail w b) (w.head b) → ⊥
     not_both d m zero a b c t a_in b_in corner way one two less sa sb = omega (arith, less)

@@ -10,7 +10,7 @@ pub record IsBoxAt (w : DartMap) (c : ℕ) : Type 0 where
   pub north : w.direction c ≡ 1
   pub four : HasFourCorners w 1 c
 
--- the box with the upper right corner c covers the cell: the corners behind it are the upper left, the lower left and the lower right one
+-- the box with the upper right corner c covers the cell: the corners after it are the upper left, the lower left and the lower right one
 pub record CoversCell (w : DartMap) (x y : ℕ → ℕ) (c i j : ℕ) : Type 0 where
   pub box : IsBoxAt w c
   pub right : i < x (w.head c)

@@ -19,7 +19,9 @@ ghost use Rattle.dissect.specs.Boxes.{BoxesModel, AreBoxes};
 ghost use Rattle.dissect.specs.Boxed.{IsBoxed};
 ghost use Rattle.drawing_laws.specs.Orders.{HasCoordinates};
 
-/// Boxes always have coordinates that grow along their darts, also those that dissect a shape of a plane.
+/// All boxes have coordinates that grow along their darts.
+///
+/// This is said of any boxes, and of those that dissect a shape of a plane.
 pub fn monotone_coordinates_exist()
     ensures boxes { (b : BoxesModel) → AreBoxes b → HasCoordinates b }
     ensures shape { (p : PlaneModel) (shape : ShapeModel) (b : BoxesModel) → IsBoxed p shape b → HasCoordinates b }

@@ -6,6 +6,7 @@ use compact::{CompactFault, compact};
 use test_tools::records::EDGE;
 use test_tools::same;
 
+/// A spiral of 140,000 turns does not fit into the grid.
 #[test]
 fn long_spiral_is_too_wide(rt: HostRuntime) {
     let alloc = rt.alloc();

@@ -32,12 +32,12 @@ fn bend_of(
     )
 }
 
-/// Sees that a list begins so.
+/// Checks that a list begins with these elements.
 fn begins<T: PartialEq + Debug>(rt: &impl Abort, list: &[T], want: &[T]) {
     assert!(rt; list.starts_with(want));
 }
 
-/// The numbers of the edge with one bend: dart 2 stands in front of dart 0, and dart 3 in front of dart 1.
+/// Checks the numbers of the edge with one bend: dart 2 is in front of dart 0, and dart 3 in front of dart 1.
 fn expect_bent_edge(rt: &impl Abort, table: &DartTable) {
     same!(
         rt,
@@ -63,13 +63,14 @@ fn bent_edge(rt: &impl Abort, alloc: Global, shape: &Shape) -> DartTable {
     bend_of(rt, alloc, &plane, shape).expect(rt, "memory")
 }
 
+/// The drawing of an edge with one bend is the one worked out by hand.
 #[test]
 fn edge_with_one_bend(rt: HostRuntime) {
     let shape = spiral_in(rt.alloc(), 1).expect(&rt, "a shape");
     expect_bent_edge(&rt, &bent_edge(&rt, rt.alloc(), &shape));
 }
 
-/// How many darts the drawing of a shape has, by the second call where the first finds no memory.
+/// The number of darts of the drawing of a shape, by the second call if the first one runs out of memory.
 fn darts_at_last(
     rt: &impl Abort,
     alloc: Global,
@@ -82,8 +83,7 @@ fn darts_at_last(
     }
 }
 
-/// Where an allocation is refused, the answer is want of memory, and the plane and the shape stay as
-/// they were.
+/// If memory runs out, the answer says so, and the plane and the shape stay as they were.
 #[test]
 fn refused_allocations(rt: HostRuntime) {
     let Some(plane) = plane_in(rt.alloc(), TRIANGLE) else {

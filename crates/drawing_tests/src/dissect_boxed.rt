@@ -60,6 +60,7 @@ pub(crate) fn boxes_in(
     boxes_of(rt, alloc, &plane, &shape).expect(rt, "memory")
 }
 
+/// The boxes of a straight edge and of the triangle are those worked out by hand.
 #[test]
 fn boxes_by_hand(rt: HostRuntime) {
     let alloc = rt.alloc();

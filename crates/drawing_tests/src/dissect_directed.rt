@@ -10,7 +10,7 @@ use test_inputs::{plane_in, shape_in};
 use test_tools::records::{EDGE, TRIANGLE};
 use test_tools::same;
 
-/// The directions of a shape, by the second call where the first finds no memory.
+/// The directions of a shape, by the second call if the first one runs out of memory.
 fn headings_at_last(rt: &impl Abort, alloc: Global, plane: &Plane, shape: &Shape) -> Vec<u8> {
     assert!(rt; is_shape(plane, shape));
     let found = match directions_in(plane, shape, DirectionSearch::empty(alloc)) {
@@ -22,7 +22,7 @@ fn headings_at_last(rt: &impl Abort, alloc: Global, plane: &Plane, shape: &Shape
     found.directions
 }
 
-/// Whether a shape of the plane of these bytes has these directions; nothing where memory is wanting before.
+/// Whether a shape of the plane of these bytes has these directions; `None` if memory runs out for the plane.
 fn has_headings(
     rt: &impl Abort,
     alloc: Global,
@@ -46,6 +46,7 @@ const EDGES: [([&[Turn]; 2], [u8; 2]); 4] = [
     ([&[L, L, R, L], &[R, L, R, R]], [0, 0]),
 ];
 
+/// The directions of the darts of an edge are those worked out by hand.
 #[test]
 fn worked_out_by_hand(rt: HostRuntime) {
     for (strings, want) in EDGES {
@@ -55,8 +56,8 @@ fn worked_out_by_hand(rt: HostRuntime) {
     }
 }
 
-/// Where an allocation is refused, the answer is want of memory, and the plane and the shape stay as
-/// they were. The edge of the triangle from 1 to 3 bends once.
+/// If memory runs out, the answer says so, and the plane and the shape stay as they were.
+/// The edge of the triangle from 1 to 3 bends once.
 #[test]
 fn refused_allocations(rt: HostRuntime) {
     let Some(shape) = bent_triangle_in(rt.alloc()) else {

@@ -12,7 +12,7 @@ use test_tools::same;
 
 const TABLE_ROOM: usize = 42;
 
-/// The first number, and the other in all places behind it.
+/// A list of the first number, followed by the other number.
 fn numbers(alloc: Global, first: u32, others: u32) -> Result<Vec<u32>, AllocError>
     ensures size { IfOk result (λ v. vec_len v ≡ 42) }
     ensures first { IfOk result (λ v. slice_index v.items 0 ≡ first) }
@@ -23,7 +23,7 @@ fn numbers(alloc: Global, first: u32, others: u32) -> Result<Vec<u32>, AllocErro
     Ok(list)
 }
 
-/// The same of small numbers.
+/// The same for small numbers.
 fn small_numbers(alloc: Global, first: u8, others: u8) -> Result<Vec<u8>, AllocError>
     ensures size { IfOk result (λ v. vec_len v ≡ 42) }
     ensures first { IfOk result (λ v. slice_index v.items 0 ≡ first) }
@@ -61,20 +61,21 @@ fn edge(alloc: Global) -> Result<DartTable, AllocError>
     })
 }
 
-/// How many angles are as wide.
+/// How many angles have this width.
 fn count_of(angles: &[u8], width: u8) -> usize {
     angles.iter().filter(|angle| **angle == width).count()
 }
 
-/// What the table of four boxes round an edge holds.
+/// Checks the table of four boxes around an edge.
 fn expect_boxes(rt: &impl Abort, table: &DartTable) {
     same!(rt, (table.vertices, table.darts), (10, 26));
     let angles = &table.angle.as_slice()[..table.darts as usize];
     same!(rt, (count_of(angles, 1), count_of(angles, 3)), (16, 4));
 }
 
-// Four boxes lie round the edge: below and above it, and beyond each of its ends. Run with each allocation refused in
-// turn too: the edge is left as it was, and a second call encloses it.
+// If memory runs out, the edge is left as it was, and a second call encloses it.
+// Four boxes lie around the edge: below and above it, and beyond each of its ends. To be run with each allocation
+// refused in turn, too.
 #[test]
 fn refused_memory_leaves_the_edge(rt: HostRuntime) {
     let alloc = rt.alloc();

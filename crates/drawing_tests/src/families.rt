@@ -1,4 +1,4 @@
-//! Graphs whose least bends are known: they are read, shaped, cut and drawn.
+//! Graphs whose fewest bends are known: they are read, shaped, dissected and drawn.
 
 ghost use Rattle.std.specs.Prelude.{◌<◌};
 
@@ -9,7 +9,7 @@ use test_inputs::plane_in;
 use test_tools::records::{EDGE, OCTAHEDRON, TETRAHEDRON, TRIANGLE};
 use test_tools::same;
 
-/// A grid of so many rows and columns, at most 255 places. Neighbours to the north, east, south and west.
+/// A grid of this many rows and columns, at most 255 vertices. Neighbours to the north, east, south and west.
 pub(crate) fn grid(alloc: Global, rows: u8, columns: u8) -> Result<Vec<u8>, AllocError>
     requires columns { 0 < columns }
 {
@@ -35,7 +35,7 @@ pub(crate) fn grid(alloc: Global, rows: u8, columns: u8) -> Result<Vec<u8>, Allo
     Ok(bytes)
 }
 
-/// A neighbour of a vertex on rings of vertices: on which ring, and how far round, less one.
+/// A neighbour of a vertex on rings of vertices: on which ring, and how far around, minus one.
 type Beside = (u8, u8);
 
 /// One ring.
@@ -50,7 +50,7 @@ pub(crate) const ANTIPRISM: [&[Beside]; 2] = [
     &[(1, 2), (0, 2), (0, 1), (1, 0)],
 ];
 
-/// The number of a neighbour of the vertex at a place of a ring of so many.
+/// The number of a neighbour of the vertex at a place of a ring with this many vertices.
 fn number(beside: Beside, place: u8, count: u8) -> u8 {
     let (ring, round) = beside;
     let reached = if round == 0 && place == 0 {
@@ -63,7 +63,7 @@ fn number(beside: Beside, place: u8, count: u8) -> u8 {
     ring.wrapping_mul(count).wrapping_add(reached)
 }
 
-/// One ring or two of so many vertices, each with the neighbours that its ring names, at most 255 in all.
+/// One or two rings of this many vertices, each with the neighbours that its ring names, at most 255 in all.
 pub(crate) fn rings(alloc: Global, rings: &[&[Beside]], count: u8) -> Result<Vec<u8>, AllocError> {
     let mut bytes = Vec::new(alloc);
     bytes.push(if rings.len() == 1 {
@@ -82,7 +82,7 @@ pub(crate) fn rings(alloc: Global, rings: &[&[Beside]], count: u8) -> Result<Vec
     Ok(bytes)
 }
 
-/// A least shape of these bytes has so many bends, and is drawn.
+/// Checks that a least shape of these bytes has this many bends, and is drawn.
 fn expect_drawn(rt: &impl Abort, alloc: Global, bytes: &[u8], bends: u32) {
     let plane = plane_in(alloc, bytes).expect(rt, "a plane");
     let shape = shape_of(rt, alloc, &plane);
@@ -101,6 +101,7 @@ const SOLIDS: [(&[u8], u32); 7] = [
     (&[5, 2, 3, 4, 5, 0, 1, 0, 1, 0, 1, 0, 1, 0], 0),
 ];
 
+/// Known graphs are drawn with their fewest bends.
 #[test]
 fn solids_with_bends(rt: HostRuntime) {
     for (bytes, bends) in SOLIDS {
@@ -108,7 +109,7 @@ fn solids_with_bends(rt: HostRuntime) {
     }
 }
 
-// Paths of 2 to 40 vertices, and grids of 2 to 6 rows and columns.
+// Paths of 2 to 40 vertices and grids of 2 to 6 rows and columns are drawn without bends.
 #[test]
 fn grids_without_bends(rt: HostRuntime) {
     for (columns, most) in [(1, 40), (2, 6), (3, 6), (4, 6), (5, 6), (6, 6)] {
@@ -119,8 +120,8 @@ fn grids_without_bends(rt: HostRuntime) {
     }
 }
 
-/// Rings, the least and the greatest number of vertices of each, and the fewest bends: so many, and so many more
-/// for each vertex of a ring.
+/// Rings, the least and the greatest number of vertices of each, and the fewest bends: the first number, plus the
+/// second one for each vertex of a ring.
 const RINGS: [(&[&[Beside]], [u8; 2], [u32; 2]); 6] = [
     (&CYCLE, [3, 3], [1, 0]),
     (&CYCLE, [4, 40], [0, 0]),
@@ -130,6 +131,7 @@ const RINGS: [(&[&[Beside]], [u8; 2], [u32; 2]); 6] = [
     (&ANTIPRISM, [4, 12], [4, 2]),
 ];
 
+/// Rings of vertices are drawn with their fewest bends.
 #[test]
 fn rings_with_bends(rt: HostRuntime) {
     for (named, [least, most], [bends, more]) in RINGS {

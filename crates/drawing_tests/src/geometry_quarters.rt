@@ -3,6 +3,7 @@
 use geometry::Direction;
 use test_tools::same;
 
+/// Quarter turns lead through the four directions, which have the numbers 0 to 3.
 #[test]
 fn turns_by_quarters(rt: HostRuntime) {
     let round = [

@@ -1,5 +1,4 @@
-//! Shapes that are drawn one after another in memory that is lent: each drawing is the same as in memory of
-//! its own.
+//! Shapes that are drawn one after another with the same buffers: each drawing is the same as with new buffers.
 
 use crate::planes::{bent_triangle_in, boxes_of, expect_drawing, spiral_in};
 use crate::refused::{are_alike, are_same};
@@ -13,7 +12,7 @@ use test_inputs::plane_in;
 use test_tools::records::{EDGE, TRIANGLE};
 use test_tools::same;
 
-/// The memory that all drawings share.
+/// The buffers that all drawings reuse.
 #[derive(Drop)]
 struct Lent {
     boxes: dissect::Scratch,
@@ -21,7 +20,7 @@ struct Lent {
     checks: drawing_check::Scratch,
 }
 
-/// The boxes of a shape in memory that is lent, which are those in memory of its own.
+/// The boxes of a shape, made with reused buffers, and checked to be those with new ones.
 fn boxes_in(
     rt: &impl Abort,
     alloc: Global,
@@ -36,7 +35,7 @@ fn boxes_in(
     boxes
 }
 
-/// The points of boxes in memory that is lent, which are those in memory of its own.
+/// The points of boxes, made with reused buffers, and checked to be those with new ones.
 fn points_in(rt: &impl Abort, alloc: Global, lent: &mut compact::Scratch, boxes: &Boxes) -> Points {
     let points = compact_in(alloc, lent, boxes).expect(rt, "points");
     let own = compact(alloc, boxes).expect(rt, "points");
@@ -44,7 +43,7 @@ fn points_in(rt: &impl Abort, alloc: Global, lent: &mut compact::Scratch, boxes:
     points
 }
 
-/// A shape of a plane is drawn in memory that is lent.
+/// Draws a shape of a plane with reused buffers.
 fn draw_shape_in(rt: &impl Abort, alloc: Global, lent: &mut Lent, plane: &Plane, shape: &Shape) {
     let boxes = boxes_in(rt, alloc, &mut lent.boxes, plane, shape);
     let points = points_in(rt, alloc, &mut lent.points, &boxes);
@@ -52,13 +51,14 @@ fn draw_shape_in(rt: &impl Abort, alloc: Global, lent: &mut Lent, plane: &Plane,
     expect_drawing(rt, alloc, &mut lent.checks, plane, shape, points);
 }
 
-/// The same of the plane of these bytes.
+/// The same for the plane of these bytes.
 fn draw_in(rt: &impl Abort, alloc: Global, lent: &mut Lent, bytes: &[u8], shape: Option<Shape>) {
     let shape = shape.expect(rt, "a shape");
     let plane = plane_in(alloc, bytes).expect(rt, "a plane");
     draw_shape_in(rt, alloc, lent, &plane, &shape);
 }
 
+/// Shapes of several sizes are drawn with the same buffers.
 #[test]
 fn drawings_in_lent_memory(rt: HostRuntime) {
     let alloc = rt.alloc();

@@ -16,7 +16,7 @@ pub(crate) fn shape_of(rt: &impl Abort, alloc: Global, plane: &Plane) -> Shape {
     shape
 }
 
-/// The shape of a single edge that turns to the left so many times, if there is memory.
+/// The shape of a single edge that turns to the left this many times, if there is memory.
 pub(crate) fn spiral_in(alloc: Global, turns: usize) -> Option<Shape> {
     let left = vec![in alloc; Turn::Left; turns].ok()?;
     let right = vec![in alloc; Turn::Right; turns].ok()?;
@@ -39,7 +39,7 @@ pub(crate) fn boxes_of(
     dissect(alloc, plane, shape)
 }
 
-/// The points draw the shape, as a check in memory that is lent finds.
+/// Checks that the points draw the shape, with reused buffers.
 pub(crate) fn expect_drawing(
     rt: &impl Abort,
     alloc: Global,
@@ -64,7 +64,7 @@ pub(crate) fn points_of(rt: &impl Abort, alloc: Global, plane: &Plane, shape: &S
     compact(alloc, &boxes).expect(rt, "points")
 }
 
-/// The shape is cut into boxes and drawn.
+/// Cuts the shape into boxes, and checks its drawing.
 pub(crate) fn draw(rt: &impl Abort, alloc: Global, plane: &Plane, shape: &Shape) {
     let points = points_of(rt, alloc, plane, shape);
     expect_drawing(rt, alloc, &mut Scratch::empty(alloc), plane, shape, points);

@@ -1,6 +1,5 @@
-//! Dissections and coordinates that may find no memory. `checks/refuse-allocations` refuses each allocation
-//! of these tests in turn: a second call answers as without the refusal. Where a refusal comes before the
-//! call, the test ends.
+//! Dissections and coordinates that may run out of memory. `checks/refuse-allocations` refuses each allocation of these
+//! tests in turn: a second call answers as without the refusal. If a refusal comes before the call, the test ends.
 
 use crate::planes::{bent_triangle_in, boxes_of};
 use compact::{CompactFault, compact};
@@ -52,7 +51,7 @@ pub(crate) fn are_same(one: &Boxes, other: &Boxes) -> bool {
     have_same_darts(one, other) && have_same_plane(one, other)
 }
 
-/// The boxes of a shape, by the second call where the first finds no memory.
+/// The boxes of a shape, by the second call if the first one runs out of memory.
 fn dissected_at_last(rt: &impl Abort, alloc: Global, plane: &Plane, shape: &Shape) -> Boxes {
     match boxes_of(rt, alloc, plane, shape) {
         Ok(boxes) => boxes,
@@ -60,15 +59,14 @@ fn dissected_at_last(rt: &impl Abort, alloc: Global, plane: &Plane, shape: &Shap
     }
 }
 
-/// The boxes of the triangle, by the second call where the first finds no memory; nothing where memory is
-/// wanting before.
+/// The boxes of the triangle, by the second call if the first one runs out of memory; `None` if memory runs out before.
 fn boxes_at_last(rt: &impl Abort, alloc: Global) -> Option<Boxes> {
     let plane = plane_in(alloc, TRIANGLE)?;
     let shape = bent_triangle_in(alloc)?;
     Some(dissected_at_last(rt, alloc, &plane, &shape))
 }
 
-/// Whether two dissections are the same, or one of them is wanting.
+/// Whether two dissections are the same, or one of them is missing.
 fn are_same_if_any(one: Option<&Boxes>, other: Option<&Boxes>) -> bool {
     match (one, other) {
         (Some(one), Some(other)) => are_same(one, other),
@@ -76,15 +74,16 @@ fn are_same_if_any(one: Option<&Boxes>, other: Option<&Boxes>) -> bool {
     }
 }
 
+/// The boxes of the triangle are the same at two calls, one of which may run out of memory.
 #[test]
 fn dissections(rt: HostRuntime) {
-    // No more than one allocation is refused.
+    // At most one allocation is refused.
     let first = boxes_at_last(&rt, rt.alloc());
     let second = boxes_at_last(&rt, rt.alloc());
     same!(&rt, are_same_if_any(first.as_ref(), second.as_ref()), true);
 }
 
-/// The points of boxes, by the second call where the first finds no memory.
+/// The points of boxes, by the second call if the first one runs out of memory.
 fn points_at_last(rt: &impl Abort, alloc: Global, boxes: &Boxes) -> Points {
     match compact(alloc, boxes) {
         Ok(points) => points,
@@ -108,13 +107,14 @@ pub(crate) fn are_alike(one: &Points, other: &Points) -> bool {
     one.vertices() == other.vertices()
 }
 
-/// The points of boxes are the same at two calls, in one of which an allocation may be refused.
+/// Checks that the points of boxes are the same at two calls, in one of which an allocation may be refused.
 fn expect_points(rt: &impl Abort, alloc: Global, boxes: &Boxes) {
     let points = points_at_last(rt, alloc, boxes);
     let again = points_at_last(rt, alloc, boxes);
     same!(rt, are_alike(&points, &again), true);
 }
 
+/// The points of the triangle are the same at two calls, one of which may run out of memory.
 #[test]
 fn coordinates(rt: HostRuntime) {
     if let Some(boxes) = boxes_at_last(&rt, rt.alloc()) {

@@ -99,7 +99,7 @@ fn with_a_step(
     shape_from(rt, angles, strings)
 }
 
-/// Least shapes of these bytes, each with one more random step than the one before it, are drawn.
+/// Checks that least shapes of these bytes, each with one more random step than the one before it, are drawn.
 fn expect_steps(rt: &impl Abort, alloc: Global, bytes: &[u8], seed: u64) {
     let plane = plane_in(alloc, bytes).expect(rt, "a plane");
     let mut shape = shape_of(rt, alloc, &plane);
@@ -110,6 +110,7 @@ fn expect_steps(rt: &impl Abort, alloc: Global, bytes: &[u8], seed: u64) {
     }
 }
 
+/// Shapes with superfluous bends are drawn.
 #[test]
 fn steps_are_drawn(rt: HostRuntime) {
     let alloc = rt.alloc();
@@ -125,6 +126,7 @@ fn steps_are_drawn(rt: HostRuntime) {
     }
 }
 
+/// Spirals of up to 5,000 turns are drawn.
 #[test]
 fn spirals_are_drawn(rt: HostRuntime) {
     let plane = plane_in(rt.alloc(), EDGE).expect(&rt, "a plane");

@@ -1,4 +1,4 @@
-//! Compaction by visibility: drawings by hand, known graphs, memory that is lent, and refused allocations.
+//! Compaction by visibility: drawings by hand, known graphs, reused buffers, and refused allocations.
 
 use crate::families::{ANTIPRISM, PRISM, grid, rings};
 use crate::planes::{expect_drawing, points_of, shape_of, spiral_in};
@@ -35,7 +35,7 @@ const BOX_OF_PATHS: [u8; 49] = [
     9, 11, 1, 0, 12, 10, 0, 11, 0, 3, 14, 0, 13, 0, 5, 16, 0, 15, 0,
 ];
 
-/// The corners of its edges, none.
+/// The corners of its edges: none.
 const STRAIGHT: [&[Place]; 16] = [&[]; 16];
 
 /// The box, 6 wide.
@@ -64,7 +64,7 @@ const BOXED: Figure = (
 /// The least length of its edges: twice 5 for the width, twice 5 for the height, and 2 for each path.
 const BOX_LENGTH: u32 = 26;
 
-/// The corners of four edges without any.
+/// The corners of four edges: none.
 const NONE: [&[Place]; 4] = [&[]; 4];
 
 /// Drawings by hand, and what compaction makes of them.
@@ -120,7 +120,7 @@ fn compacted(
     compact_by_visibility_in(alloc, lent, plane, points)
 }
 
-/// Whether these points stand in these places.
+/// Whether these points are at these places.
 fn are_at(points: &[Point], places: &[Place]) -> bool {
     points.len() == places.len()
         && points
@@ -143,7 +143,7 @@ fn is_figure(points: &Points, figure: Figure) -> bool {
     true
 }
 
-/// Whether points that were found are those of a figure, or there are to be none.
+/// Whether the points found are those of a figure, or there are to be none.
 fn is_wanted(found: Option<&Points>, want: Option<Figure>) -> bool {
     match (found, want) {
         (Some(points), Some(figure)) => is_figure(points, figure),
@@ -165,6 +165,7 @@ fn figure_of(
     compacted(rt, alloc, lent, &plane, &points).expect(rt, "memory")
 }
 
+/// Compaction shortens drawings as was found by hand.
 #[test]
 fn figures_by_hand(rt: HostRuntime) {
     let alloc = rt.alloc();
@@ -185,7 +186,7 @@ fn distance(from: Point, to: Point) -> u32 {
     along_x.wrapping_add(from.y.abs_diff(to.y))
 }
 
-/// How long all edges are together.
+/// The total length of all edges.
 fn length_of(plane: &Plane, points: &Points) -> u32 {
     let graph = plane.graph();
     let mut length: u32 = 0;
@@ -206,7 +207,7 @@ fn length_of(plane: &Plane, points: &Points) -> u32 {
     length
 }
 
-/// The point of a vertex, and the origin where there is none.
+/// The point of a vertex, or the origin if there is none.
 fn vertex_of(points: &Points, vertex: u8) -> Point {
     match points.vertices().get(usize::from(vertex).wrapping_sub(1)) {
         Some(point) => *point,
@@ -214,6 +215,7 @@ fn vertex_of(points: &Points, vertex: u8) -> Point {
     }
 }
 
+/// A box is shortened along both axes.
 /// First the path from the top becomes shorter, and then the box narrower, by segments that move together.
 #[test]
 fn boxes_are_shortened_along_both_axes(rt: HostRuntime) {
@@ -226,14 +228,15 @@ fn boxes_are_shortened_along_both_axes(rt: HostRuntime) {
     same!(&rt, length_of(&plane, &shortest), BOX_LENGTH);
 }
 
-/// The memory that the tests lend.
+/// The buffers that the tests reuse.
 #[derive(Drop)]
 struct Lent {
     compaction: Scratch,
     checks: drawing_check::Scratch,
 }
 
-/// The points of a shape are compacted, and those found draw it, with shorter edges. It says whether there are any.
+/// Checks that the points that compaction finds, if any, draw the shape with shorter edges; returns whether there are
+/// any.
 fn expect_shorter(
     rt: &impl Abort,
     alloc: Global,
@@ -252,7 +255,7 @@ fn expect_shorter(
     true
 }
 
-/// The same of a least shape of these bytes.
+/// The same for a least shape of these bytes.
 fn expect_compacted(rt: &impl Abort, alloc: Global, lent: &mut Lent, bytes: &[u8]) -> bool {
     let plane = plane_in(alloc, bytes).expect(rt, "a plane");
     let shape = shape_of(rt, alloc, &plane);
@@ -275,7 +278,7 @@ const TREES: [&[u8]; 3] = [
     ],
 ];
 
-/// The same of prisms and antiprisms.
+/// The same for prisms and antiprisms.
 fn expect_rings(rt: &impl Abort, alloc: Global, lent: &mut Lent) {
     for count in 4..=12 {
         for named in [&PRISM, &ANTIPRISM] {
@@ -285,13 +288,14 @@ fn expect_rings(rt: &impl Abort, alloc: Global, lent: &mut Lent) {
     }
 }
 
-/// The same of a spiral.
+/// The same for a spiral.
 fn expect_spiral(rt: &impl Abort, alloc: Global, lent: &mut Lent) {
     let spiral = spiral_in(alloc, 300).expect(rt, "a shape");
     let plane = plane_in(alloc, EDGE).expect(rt, "a plane");
     let _found = expect_shorter(rt, alloc, lent, &plane, &spiral);
 }
 
+/// What compaction finds for known graphs draws them with shorter edges.
 #[test]
 fn known_graphs_are_compacted(rt: HostRuntime) {
     let alloc = rt.alloc();
@@ -310,7 +314,7 @@ fn known_graphs_are_compacted(rt: HostRuntime) {
     expect_spiral(&rt, alloc, &mut lent);
 }
 
-/// What compaction makes of the first of two calls, or of the second where the first finds no memory.
+/// What the first of two calls of compaction finds, or the second one if the first runs out of memory.
 fn compacted_at_last(
     rt: &impl Abort,
     alloc: Global,
@@ -324,14 +328,14 @@ fn compacted_at_last(
     }
 }
 
-/// The same of a figure of the edge; nothing where memory is wanting before.
+/// The same for a figure of the edge; `None` if memory runs out before.
 fn edge_at_last(rt: &impl Abort, alloc: Global, figure: Figure) -> Option<Option<Points>> {
     let points = points_in(alloc, figure.0, figure.1).ok()?;
     let plane = plane_in(alloc, EDGE)?;
     Some(compacted_at_last(rt, alloc, &plane, &points))
 }
 
-/// How many corners the stairs have. With them there are enough segments that these fall and are set apart.
+/// The number of corners of the stairs: enough that there are segments that fall and are set apart.
 const STAIRS: u32 = 40;
 
 /// The corner with this number of an edge that goes up stairs of this size, first to the right.
@@ -344,7 +348,7 @@ fn stair(number: u32, size: u32) -> Point {
     }
 }
 
-/// Where it ends.
+/// The end of stairs of this size.
 fn landing(size: u32) -> Point {
     Point {
         x: (STAIRS / 2 + 1).saturating_mul(size),
@@ -380,15 +384,17 @@ fn are_small_stairs(points: &Points) -> bool {
     true
 }
 
-/// What compaction makes of stairs of size 3, if memory suffices for them, in the first of two calls or in the second.
+/// What compaction finds for stairs of size 3, by the second call if the first one runs out of memory; `None` if it
+/// runs out before.
 fn stairs_at_last(rt: &impl Abort, alloc: Global) -> Option<Option<Points>> {
     let points = stairs(alloc, 3).ok()?;
     let plane = plane_in(alloc, EDGE)?;
     Some(compacted_at_last(rt, alloc, &plane, &points))
 }
 
-/// `checks/refuse-allocations` refuses each allocation of this test in turn: a second call in the same memory answers as
-/// without the refusal. Where a refusal comes before the call, the test ends.
+/// If memory runs out, a second call with the same buffers answers as without the refusal.
+/// `checks/refuse-allocations` refuses each allocation of this test in turn. If a refusal comes before the call, the
+/// test ends.
 #[test]
 fn refused_allocations(rt: HostRuntime) {
     let (_, figure, want) = BY_HAND[1];

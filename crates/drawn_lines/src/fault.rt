@@ -5,27 +5,29 @@ ghost use Rattle.drawn_lines.specs.declared.fault.LineFault.TheVariants.{Memory}
 use std::alloc::{AllocError, AllocFailed};
 use thiserror::Error;
 
-/// The reason why a line does not describe a drawing, or that memory ran out.
+/// The reason why no drawing was read from a line.
 #[derive(Clone, Copy, Debug, PartialEq, Eq, Error)]
 pub enum LineFault {
-    /// The line is no JSON value.
-    #[error("not JSON")]
+    /// The line is not a JSON value.
+    #[error("the line is not valid JSON")]
     Malformed,
     /// The value has no field `points` with lists of points in `vertices` and `corners`.
-    #[error("no points")]
+    #[error("missing or malformed `points`")]
     Points,
-    /// A number is no integer of its range: 0 to 4,294,967,295 for coordinates and bends, to 65,535 for a face, to 255 for
-    /// angles, 32 bits with sign for prices.
-    #[error("a number is no integer of its range")]
+    /// A number is not an integer in the range of its field.
+    ///
+    /// The ranges are 0 to 4,294,967,295 for coordinates and bends, 0 to 65,535 for a face, 0 to 255
+    /// for angles, and 32 bits with sign for prices.
+    #[error("a number is not an integer in the range of its field")]
     Number,
-    /// `angles` is no list.
-    #[error("angles are no list")]
+    /// `angles` is not a list.
+    #[error("`angles` is not a list")]
     Angles,
-    /// `turns` is no list of texts of the letters L and R.
-    #[error("turns are no list of texts of L and R")]
+    /// `turns` is not a list of strings of the letters L and R.
+    #[error("`turns` is not a list of strings of L and R")]
     Turns,
-    /// `prices` has no lists in `vertices` and `faces`.
-    #[error("prices are no lists")]
+    /// `prices` lacks a list `vertices` or a list `faces`.
+    #[error("`prices` lacks a list `vertices` or `faces`")]
     Prices,
     /// Memory ran out.
     #[error("out of memory")]

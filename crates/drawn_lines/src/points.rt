@@ -14,7 +14,7 @@ use ortho_rep::{Point, Points};
 use serde_json::{Error, Value};
 use std::alloc::Global;
 
-/// The points of a line: those of the field `points` of its JSON value.
+/// The points in the field `points` of the JSON value in a line.
 ///
 /// # Errors
 ///

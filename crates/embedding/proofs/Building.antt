@@ -11,13 +11,6 @@ use Rattle.embedding.proofs.Rotation.{one_dart, reverse_is, after_place, tail_at
 
 -- ---- tables
 
-pub table_none : (n : ℕ) (f : ℕ → ℕ) (table : List ℕ) → n ≡ 0 → table ≡ [] → IsTable n f table
-table_none n f table none empty =
-    record {
-      size = ap length empty ∙ sym none;
-      each = λ d b. absurd (omega arith);
-    }
-
 pub table_push : (n : ℕ) (f : ℕ → ℕ) (table : List ℕ) (x m : ℕ) → m ≡ n + 1 → x ≡ f n → IsTable n f table → IsTable m f (table ++ x ∷ [])
 table_push n f table x m next is t =
     record {

@@ -29,7 +29,7 @@ same_faces n next other_next face other f inside steps is h =
 pub same_degree : (n : ℕ) (face other : ℕ → ℕ) (k : ℕ) → ((d : ℕ) → d < n → other d ≡ face d) → degree_in n other k ≡ degree_in n face k
 same_degree n face other k is = sum_below-same n (λ d. cond (other d == k) 1 0) (λ d. cond (face d == k) 1 0) (λ d b. ap (λ (x : ℕ). cond (x == k) 1 0) (is d b))
 
--- faces and degrees stand behind the rotation
+-- faces and degrees come after the rotation
 pub faced : (rotation faces table : List ℕ) (n count : ℕ) → AreRotations n rotation → length faces ≡ n → HasDegrees (rotation ++ faces) (length faces) (at faces) count table → HasFaces n (next_in rotation) (at faces) count → HasFaceTable n rotation count table
 faced rotation faces table n count tied all behind numbered =
     let front = rotation ++ faces in

@@ -7,7 +7,7 @@ use Rattle.embedding.specs.declared.rules.Rule.TheVariants.{Degree}
 use Rattle.embedding.specs.Lists.{list_of}
 use Rattle.embedding.specs.Darts.{dart_count}
 use Rattle.embedding.specs.Rules.{KeepsBefore}
-use Rattle.embedding.specs.Tables.{IsTable, AreTables}
+use Rattle.embedding.specs.Tables.{AreTables}
 use Rattle.embedding.proofs.Rotation.{darts_even, darts_few, darts_some}
 
 -- the fields' facts, of the lists by another name
@@ -35,12 +35,6 @@ sizes g rules order =
       edges = m;
       even = even;
     }
-
--- what is read from a table
-pub table_read : (n : ℕ) (f : ℕ → ℕ) (table : List ℕ) → IsTable n f table → (d i x : ℕ) → d < n → i ≡ d → x ≡ get_or table i x → x ≡ f d
-table_read n f table is d i x below at read =
-    let inside : i < length table = omega (arith, is.size) in
-    get_or_read table i x inside read 0 ∙ ap (λ (k : ℕ). get_or table k 0) at ∙ is.each d below
 
 -- what is read from the rotation
 pub tie_read : (table : List ℕ) (i x value : ℕ) → i < length table → get_or table i 0 ≡ value → x ≡ get_or table i x → x ≡ value

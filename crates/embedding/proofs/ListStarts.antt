@@ -66,7 +66,7 @@ reading_entry g starts i count r below entry =
       starts_are = r.starts_are;
     }
 
--- behind the last byte all lists are whole
+-- after the last byte all lists are whole
 pub reading_all : (g : List (List ℕ)) (starts : List ℕ) (i count : ℕ) → IsReading g starts i count → length (flat_map ended g) ≤ i → count ≡ length g
 reading_all g starts i count r past =
     elim (cases_lt count (length g)) [
@@ -88,7 +88,7 @@ reading_none g starts size first =
       starts_are = λ k b. let none : k ≡ 0 = omega arith in rw none first;
     }
 
--- what is written behind the last known start changes nothing
+-- what is written after the last known start changes nothing
 pub reading_ahead : (g : List (List ℕ)) (starts : List ℕ) (i count x : ℕ) → IsReading g starts i count → IsReading g (set starts (count + 1) x) i count
 reading_ahead g starts i count x r =
     record {
@@ -101,7 +101,7 @@ reading_ahead g starts i count x r =
           get_or-set_other starts (count + 1) k x 0 other ∙ r.starts_are k b;
     }
 
--- the place behind a byte is written, and counts where the byte is 0
+-- the place after a byte is written, and counts where the byte is 0
 pub reading_step : (g : List (List ℕ)) (starts : List ℕ) (i count n : ℕ) → All IsList g → length g < 256 → IsReading g starts i count → i < length (flat_map ended g) → n ≡ bool_byte (eqb (get_or (flat_map ended g) i 0) 0) → IsReading g (set starts (count + 1) (i + 1)) (i + 1) (count + n)
 reading_step g starts i count n each few r below is =
     elim (cases_eq (get_or (flat_map ended g) i 0) 0) [

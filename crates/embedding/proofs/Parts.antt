@@ -29,7 +29,7 @@ part_of-heads g k below =
         ∙ ap (drop (first_dart ls k)) (drop_at l (heads ls) (length l) refl) in
         ap (take (length (get_or ls k []))) behind ∙ front ls k (omega arith)
 
--- no list begins behind all heads
+-- no list begins after all heads
 pub first_dart-within : (g : List (List ℕ)) (k : ℕ) → first_dart g k ≤ length (heads g)
 first_dart-within [] zero = omega arith
 first_dart-within [] (suc k) = omega arith
@@ -55,7 +55,7 @@ part_between g ends k from to same below is-from is-to =
           ∙ part_of-heads g k below;
     }
 
--- a start, read behind the rotation
+-- a start, read after the rotation
 start_read : (g : List (List ℕ)) {ends table : List ℕ} {count : ℕ} → AreTables g ends count table → (k j x : ℕ) → k ≤ length g → j ≡ 3 * length ends + count + k → x ≡ get_or table j x → x ≡ first_dart g k
 start_read g {ends} {table} {count} kept k j x within at read =
     let inside : j < length table = omega (arith, kept.size, ap length kept.heads_are) in

@@ -48,13 +48,13 @@ bytes_are bytes starts count split g same =
     let sizes = ap length same in
     (omega arith, omega arith)
 
--- an entry of the list stands in the bytes behind where the list begins
+-- an entry of the list is in the bytes after the place where the list begins
 entry_is : (bytes : List ℕ) (g : List (List ℕ)) (k from to i : ℕ) → IsPlace bytes g k from to → i < length (get_or g k []) → get_or bytes (from + i) 0 ≡ get_or (get_or g k []) i 0
 entry_is bytes g k from to i p inside =
     let below : i < to - 1 - from = omega (arith, p.ends) in
     sym (get_or-drop from bytes i 0) ∙ sym (get_or-take (to - 1 - from) (drop from bytes) i 0 below) ∙ ap (λ (l : List ℕ). get_or l i 0) p.part
 
--- behind the first byte of a list that is not empty stands another one
+-- after the first byte of a list that is not empty comes another one
 pub three_entries-some : (bytes : List ℕ) (g : List (List ℕ)) (k place from to : ℕ) → IsPlace bytes g k from to → k ≡ place → 0 < length (get_or g place []) → from + 1 < length bytes
 three_entries-some bytes g k place from to p same some =
     omega (arith, some, ap (λ (j : ℕ). length (get_or g j [])) same, p.ends, p.within)

@@ -88,15 +88,6 @@ flags_others reached v w holds =
       | inr other ↦ inl (sym (get_or-set_other reached v w true false other) ∙ holds)
     ]
 
-pub flags_kept : (reached : List Bool) (v w : ℕ) → length reached ≡ 256 → v < 256 → Holds reached w → Holds (set reached v true) w
-flags_kept reached v w size small holds =
-    elim (cases_eq w v) [
-      | inl e ↦
-          let inside : v < length reached = omega (arith, size) in
-          rw (e, get_or-set_same reached v true false inside) refl
-      | inr other ↦ get_or-set_other reached v w true false other ∙ holds
-    ]
-
 -- from the old flags, the first n entries of the list are flagged
 pub record Reaches (old : List Bool) (line : List ℕ) (had : ℕ) (list : List ℕ) (n : ℕ) (reached : List Bool) (queue : List ℕ) (found : ℕ) : Type 0 where
   pub queue_is : IsQueue reached queue found
@@ -105,17 +96,6 @@ pub record Reaches (old : List Bool) (line : List ℕ) (had : ℕ) (list : List 
   pub kept : (v : ℕ) → Holds old v → Holds reached v
   pub order : (i : ℕ) → i < had → get_or queue i 0 ≡ get_or line i 0
   pub longer : had ≤ found
-
-pub reaches_none : (old : List Bool) (line : List ℕ) (had : ℕ) (list : List ℕ) → IsQueue old line had → Reaches old line had list 0 old line had
-reaches_none old line had list q =
-    record {
-      queue_is = q;
-      listed = λ i below. absurd (omega arith);
-      others = λ v h. inl h;
-      kept = λ v h. h;
-      order = λ i below. refl;
-      longer = omega arith;
-    }
 
 -- what one call flags
 pub record Flags (old : List Bool) (line : List ℕ) (had v : ℕ) (reached : List Bool) (queue : List ℕ) (found : ℕ) : Type 0 where

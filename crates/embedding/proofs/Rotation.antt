@@ -159,7 +159,7 @@ after-inner g d same = cond-true _ _ _ (eq-eqb _ _ same)
 after-last : (g : List (List ℕ)) (d : ℕ) → (tail_of g (d + 1) ≡ tail_of g d → ⊥) → after_of g d ≡ first_below (dart_count g) (λ e. eqb (tail_of g e) (tail_of g d))
 after-last g d apart = cond-false _ _ _ (ne_eqb _ _ apart)
 
--- behind the last dart of a list comes another list, or nothing
+-- after the last dart of a list comes another list, or nothing
 last_apart : (g : List (List ℕ)) (d k i : ℕ) → Stands 1 g d k i → length (get_or g k []) ≤ i + 1 → tail_of g (d + 1) ≡ tail_of g d → ⊥
 last_apart g d k i s last same =
     elim (cases_lt (d + 1) (dart_count g)) [

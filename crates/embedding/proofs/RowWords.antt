@@ -1,5 +1,5 @@
 -- The word of a list, entry by entry, and the columns that its entries have the vertex in.
-use Rattle.std.proofs.Common.{◌≡◌, ◌≢◌, ℕ, ◌+◌, ◌*◌, ◌%◌, ◌^◌, ◌<◌, ◌≤◌, List, [], length, get_or, set, take, refl, sym, ap, ◌∙◌, subst, inl, inr, arith, w64, bit_or}
+use Rattle.std.proofs.Common.{◌≡◌, ◌≢◌, ℕ, ◌+◌, ◌*◌, ◌%◌, ◌^◌, ◌<◌, ◌≤◌, List, [], length, get_or, set, take, sym, ap, ◌∙◌, subst, inl, inr, arith, w64, bit_or}
 use Rattle.std.specs.List.{All, Contains}
 use Rattle.std.proofs.lemmas.List.{get_or_default, get_or-set_same, get_or-set_other, get_or-take, length-set}
 use Rattle.std.proofs.lemmas.Bool.{cases_eq}
@@ -7,7 +7,7 @@ use Rattle.std.proofs.lemmas.Nat.Bits.{bit_at-lt, bit_at_or, bit_at_set_same}
 use Rattle.embedding.specs.Rows.{HasBit, IsRow, IsRows}
 use Rattle.embedding.specs.Lists.{list_of}
 use Rattle.embedding.proofs.EachList.{list_of-add}
-use Rattle.embedding.proofs.RowBits.{bit_of_one, bit_of_or, zero_bits}
+use Rattle.embedding.proofs.RowBits.{bit_of_one, bit_of_or}
 
 -- the word has bits for the first i entries of the list of vertex u alone; these differ, and are other vertices up to n
 pub record IsRead (n u : ℕ) (list : List ℕ) (i row : ℕ) : Type 0 where
@@ -28,16 +28,6 @@ or_left a b v has = omega (arith, has, bit_at_or a b v, bit_at-lt a v, bit_at-lt
 
 below : (k i : ℕ) → k < i + 1 → k ≢ i → k < i
 below k i less other = omega (arith, less, other)
-
-pub read_none : (n u : ℕ) (list : List ℕ) → IsRead n u list 0 0
-read_none n u list =
-    record {
-      seen = λ k b. absurd (omega arith);
-      named = λ v has. absurd (zero_bits 0 v (omega arith) has);
-      range = λ k b. absurd (omega arith);
-      other = λ k b. absurd (omega arith);
-      apart = λ j k a b. absurd (omega arith);
-    }
 
 pub read_more : (n u : ℕ) (list : List ℕ) (i row entry : ℕ) → entry < 64 → entry ≡ get_or list i 0 → entry ≤ n → entry ≢ u → (HasBit row entry → ⊥) → IsRead n u list i row → IsRead n u list (i + 1) (bit_or row (1 * 2 ^ entry % 2 ^ 64))
 read_more n u list i row entry small at range other new m =
@@ -66,13 +56,6 @@ read_more n u list i row entry small at range other new m =
         | inr before ↦ m.apart j k a (below k i b before)
       ];
     }
-
-pub flagged_none : (u : ℕ) (list old : List ℕ) → AreFlagged u list 0 old old
-flagged_none u list old = record {
-  size = refl;
-  flagged = λ k b. absurd (omega arith);
-  kept = λ w v has. has;
-}
 
 pub flagged_more : (u : ℕ) (list : List ℕ) (i entry : ℕ) (old columns : List ℕ) → u < 64 → entry < length columns → entry ≡ get_or list i 0 → AreFlagged u list i old columns → AreFlagged u list (i + 1) old (set columns entry (bit_or (get_or columns entry 0) (1 * 2 ^ u % 2 ^ 64)))
 flagged_more u list i entry old columns small inside at m =
@@ -105,16 +88,6 @@ read_row n u list i row some short past m =
       loop = λ (k, inside, is). m.other k (omega (arith, inside, past)) (get_or_default list k 0 u inside ∙ is);
       multi = λ (j, k, before, inside, same). m.apart j k before (omega (arith, inside, past)) same;
     }
-
-pub read_listed : (n u : ℕ) (list : List ℕ) (i row v : ℕ) → i ≤ length list → IsRead n u list i row → HasBit row v → Contains list v
-read_listed n u list i row v within m has =
-    let (k, before, is) = m.named v has in
-    let inside : k < length list = omega (arith, before, within) in
-    (k, inside, sym (get_or_default list k 0 v inside) ∙ is)
-
-pub flagged_all : (u : ℕ) (list : List ℕ) (i : ℕ) (old columns : List ℕ) → length list ≤ i → AreFlagged u list i old columns → All (λ v. HasBit (get_or columns v 0) u) list
-flagged_all u list i old columns past m k d inside =
-    subst (λ (v : ℕ). HasBit (get_or columns v 0) u) (get_or_default list k 0 d inside) (m.flagged k (omega (arith, inside, past)))
 
 -- where rows and columns are the same up to an end, the rows have what the columns have
 pub answered : (rows columns list : List ℕ) (n end u : ℕ) → n < end → take end rows ≡ take end columns → All (λ v. v ≤ n) list → All (λ v. HasBit (get_or columns v 0) u) list → All (λ v. HasBit (get_or rows v 0) u) list

@@ -1,8 +1,7 @@
 -- The pairs of all lists, and whether each stands in both orders.
-use Rattle.std.proofs.Common.{◌≡◌, ◌↔◌, ◌⊎◌, ℕ, zero, suc, ◌+◌, ◌<◌, ◌≤◌, List, [], length, get_or, sym, ap, ◌∙◌, subst, inl, inr, arith}
+use Rattle.std.proofs.Common.{◌≡◌, ◌↔◌, ◌⊎◌, ℕ, suc, ◌+◌, ◌<◌, ◌≤◌, List, [], length, get_or, sym, ap, ◌∙◌, subst, inl, arith}
 use Rattle.std.specs.List.{Any, All, Contains}
 use Rattle.std.proofs.lemmas.List.{get_or_default}
-use Rattle.std.proofs.lemmas.Bool.{cases_eq}
 use Rattle.planar_code.specs.Stream.{IsList}
 use Rattle.embedding.specs.Lists.{list_of}
 use Rattle.embedding.specs.Pairs.{HasPair}
@@ -25,84 +24,10 @@ adds_none old vertex list =
       added = λ b i _ before _. absurd (omega arith);
     }
 
-pub adds_more : (old : List ℕ) (vertex : ℕ) (list : List ℕ) (n : ℕ) (words next : List ℕ) (v : ℕ) → vertex < 256 → v < 256 → v ≡ get_or list n 0 → HasPair next vertex v → ((a b : ℕ) → a < 256 → b < 256 → (((a ≡ vertex) × (b ≡ v)) → ⊥) → (HasPair next a b ↔ HasPair words a b)) → AddsPairs old vertex list n words → AddsPairs old vertex list (n + 1) next
-adds_more old vertex list n words next v small-u small-v at same others m =
-    record {
-      from = λ a b small-a small-b h.
-          elim (cases_eq a vertex) [
-            | inl u ↦ elim (cases_eq b v) [
-              | inl e ↦ inr (u, (n, omega arith, sym at ∙ sym e))
-              | inr other ↦ earlier a b (m.from a b small-a small-b ((others a b small-a small-b (λ w. other w.1)).0 h))
-            ]
-            | inr other ↦ earlier a b (m.from a b small-a small-b ((others a b small-a small-b (λ w. other w.0)).0 h))
-          ];
-      kept = λ a b small-a small-b h.
-          elim (cases_eq a vertex) [
-            | inl u ↦ elim (cases_eq b v) [
-              | inl e ↦ subst (λ (x : ℕ). HasPair next x b) (sym u) (subst (λ (y : ℕ). HasPair next vertex y) (sym e) same)
-              | inr other ↦ (others a b small-a small-b (λ w. other w.1)).1 (m.kept a b small-a small-b h)
-            ]
-            | inr other ↦ (others a b small-a small-b (λ w. other w.0)).1 (m.kept a b small-a small-b h)
-          ];
-      added = λ b i small-b before e.
-          elim (cases_eq b v) [
-            | inl is ↦ subst (λ (y : ℕ). HasPair next vertex y) (sym is) same
-            | inr other ↦
-                let earlier-i : i < n = below i n before (λ last. other (sym e ∙ ap (λ (k : ℕ). get_or list k 0) last ∙ sym at)) in
-                (others vertex b small-u small-b (λ w. other w.1)).1 (m.added b i small-b earlier-i e)
-          ];
-    }
-  where
-    below : (i n : ℕ) → i < n + 1 → (i ≡ n → ⊥) → i < n
-    below i n b other = omega arith
-
-    earlier : (a b : ℕ) → HasPair old a b ⊎ ((a ≡ vertex) × ((i : ℕ) × (i < n) × (get_or list i 0 ≡ b))) → HasPair old a b ⊎ ((a ≡ vertex) × ((i : ℕ) × (i < n + 1) × (get_or list i 0 ≡ b)))
-    earlier a b (inl h) = inl h
-    earlier a b (inr (u, (i, before, e))) = inr (u, (i, omega arith, e))
-
-pub adds_all : (old : List ℕ) (vertex : ℕ) (list : List ℕ) (n : ℕ) (words : List ℕ) → n ≡ length list → AddsPairs old vertex list n words → (a b : ℕ) → a < 256 → b < 256 → (HasPair words a b ↔ (HasPair old a b ⊎ ((a ≡ vertex) × Contains list b)))
-adds_all old vertex list n words all m a b small-a small-b =
-    (λ h. there (m.from a b small-a small-b h), back)
-  where
-    there : HasPair old a b ⊎ ((a ≡ vertex) × ((i : ℕ) × (i < n) × (get_or list i 0 ≡ b))) → HasPair old a b ⊎ ((a ≡ vertex) × Contains list b)
-    there (inl h) = inl h
-    there (inr (u, (i, before, e))) =
-        let inside : i < length list = omega arith in
-        inr (u, (i, inside, get_or_default list i b 0 inside ∙ e))
-
-    back : HasPair old a b ⊎ ((a ≡ vertex) × Contains list b) → HasPair words a b
-    back (inl h) = m.kept a b small-a small-b h
-    back (inr (u, (i, inside, e))) =
-        subst (λ (x : ℕ). HasPair words x b) (sym u) (m.added b i small-b (omega arith) (get_or_default list i 0 b inside ∙ e))
-
 -- the pairs are those of the first n lists
 abbrev pub HasLists : List (List ℕ) → ℕ → List ℕ → Type 0
 HasLists g n words =
     (a b : ℕ) → a < 256 → b < 256 → (HasPair words a b ↔ ((a ≤ n) × Contains (list_of g a) b))
-
-pub lists_none : (g : List (List ℕ)) (words : List ℕ) → ((a b : ℕ) → a < 256 → b < 256 → HasPair words a b → ⊥) → HasLists g 0 words
-lists_none g words empty a b small-a small-b =
-    (λ h. absurd (empty a b small-a small-b h), λ w. nothing a w.0 w.1)
-  where
-    nothing : (a : ℕ) → a ≤ 0 → Contains (list_of g a) b → HasPair words a b
-    nothing zero small (i, inside, e) = absurd (omega arith)
-    nothing (suc k) small there = absurd (omega arith)
-
-pub lists_more : (g : List (List ℕ)) (n : ℕ) (words next : List ℕ) → ((a b : ℕ) → a < 256 → b < 256 → (HasPair next a b ↔ (HasPair words a b ⊎ ((a ≡ n + 1) × Contains (get_or g n []) b)))) → HasLists g n words → HasLists g (n + 1) next
-lists_more g n words next added has a b small-a small-b =
-    (λ h. forth ((added a b small-a small-b).0 h), λ w. (added a b small-a small-b).1 (back w.0 w.1))
-  where
-    forth : HasPair words a b ⊎ ((a ≡ n + 1) × Contains (get_or g n []) b) → (a ≤ n + 1) × Contains (list_of g a) b
-    forth (inl h) = let old = (has a b small-a small-b).0 h in (omega (arith, old.0), old.1)
-    forth (inr (e, there)) =
-        (omega arith, subst (λ (l : List ℕ). Contains l b) (sym (ap (list_of g) e ∙ list_of-add g n)) there)
-
-    back : a ≤ n + 1 → Contains (list_of g a) b → HasPair words a b ⊎ ((a ≡ n + 1) × Contains (get_or g n []) b)
-    back within there =
-        elim (cases_eq a (n + 1)) [
-          | inl e ↦ inr (e, subst (λ (l : List ℕ). Contains l b) (ap (list_of g) e ∙ list_of-add g n) there)
-          | inr other ↦ inl ((has a b small-a small-b).1 (omega arith, there))
-        ]
 
 -- an entry that lacks its pair breaks the rule
 pub lacks_breaks : (g : List (List ℕ)) (words : List ℕ) (k : ℕ) → All IsList g → length g < 256 → k < length g → HasLists g (length g) words → Any (λ v. HasPair words v (k + 1) → ⊥) (get_or g k []) → Breaks g Asymmetric

@@ -33,18 +33,6 @@ pub record IsPut (old new : ℕ → ℕ) (t c : ℕ) : Type 0 where
   pub put : new t ≡ c
   pub others : (x : ℕ) → x ≢ t → new x ≡ old x
 
-pub nothing_traced : (n : ℕ) (next face : ℕ → ℕ) → ((x : ℕ) → x < n → face x ≡ UNSET) → IsTraced n next face 0 0
-nothing_traced n next face bare = record {
-  few = omega arith;
-  passed = λ x h. absurd (omega arith);
-  flagged = λ x h. inr (bare x h);
-  used = λ k h. absurd (omega arith);
-  closed = λ x h m. absurd (omega arith);
-  behind = λ x h m. absurd (omega arith);
-  least = λ s closed x y hx hy same m. absurd (omega arith);
-  ordered = λ x k h m. absurd (omega arith);
-}
-
 -- a dart that has its number already is passed over
 pub pass_over : (n : ℕ) (next face : ℕ → ℕ) (c d : ℕ) → IsTraced n next face c d → d < n → face d ≢ UNSET → IsTraced n next face c (d + 1)
 pass_over n next face c d t inside named = record {
@@ -57,28 +45,6 @@ pass_over n next face c d t inside named = record {
   least = t.least;
   ordered = t.ordered;
 }
-
--- a dart without a number begins a face
-pub walk_begins : (n : ℕ) (next face : ℕ → ℕ) (c d : ℕ) → IsTraced n next face c d → d < n → n < UNSET → face d ≡ UNSET → IsWalk n next face face c d d
-walk_begins n next face c d t inside few bare = record {
-  traced = t;
-  limit = omega arith;
-  begins = (inside, bare);
-  inside = inside;
-  bare = bare;
-  kept = λ x h m. refl;
-  fresh = λ x h m. inr m;
-  front = λ x h m. absurd (absent x h m);
-  behind = λ x h m ne. absurd (absent x h m);
-  here = λ ne. absurd (ne refl);
-  first = λ ne. absurd (ne refl);
-  reach = λ s closed h. h;
-  along = λ s closed h x hx m. absurd (absent x hx m);
-  onward = λ s closed x hx m h. absurd (absent x hx m);
-}
-  where
-    absent : (x : ℕ) → x < n → face x ≡ c → ⊥
-    absent x h m = elim (t.flagged x h) [ inl a ↦ omega arith | inr a ↦ omega arith ]
 
 -- no number is given twice
 one_number : (x a b : ℕ) → x ≡ a → x ≡ b → a ≢ b → ⊥

@@ -19,7 +19,7 @@ start_of-more (l ∷ ls) (suc k) below =
     let one : suc k + 1 ≡ suc (k + 1) = omega arith in
     rw one (omega (arith, length-append (ended l) (flat_map ended (take (k + 1) ls)), length-append (ended l) (flat_map ended (take k ls)), start_of-more ls k (omega arith)))
 
--- the bytes end behind the last list
+-- the bytes end after the last list
 pub start_of-all : (g : List (List ℕ)) (n : ℕ) → length g ≤ n → start_of g n ≡ length (flat_map ended g)
 start_of-all [] zero past = refl
 start_of-all [] (suc n) past = refl
@@ -58,7 +58,7 @@ part_is g k below =
         ∙ ap (drop (start_of ls k)) (drop_at (ended l) (flat_map ended ls) (length (ended l)) refl) in
         ap (take (length (get_or ls k []))) behind ∙ front ls k (omega arith)
 
--- a byte within a list is an entry, and the one behind it is 0
+-- a byte within a list is an entry, and the one after it is 0
 pub byte_in : (g : List (List ℕ)) (k i : ℕ) → k < length g → All IsList g → start_of g k ≤ i → i < start_of g k + length (get_or g k []) → 0 < get_or (flat_map ended g) i 0
 byte_in g k i below each from to =
     let l = get_or g k [] in

@@ -29,7 +29,7 @@ head_of g d = slice_index (heads g) d
 abbrev pub tail_of : List (List ℕ) → ℕ → ℕ
 tail_of g d = slice_index (tails_from 1 g) d
 
--- the least number below n for which the test is true, and n where there is none
+-- the least number below n for which the test is true, or n if there is none
 abbrev pub first_below : ℕ → (ℕ → Bool) → ℕ
 first_below zero passes = zero
 first_below (suc n) passes = if passes 0 then 0 else suc (first_below n (λ k. passes (suc k)))

@@ -22,7 +22,7 @@ pub record IsRotation (g : List (List ℕ)) (n : ℕ) (rotation : List ℕ) : Ty
   pub afters : (d : ℕ) → d < n → slice_index rotation (2 * d + 1) ≡ after_of g d
 
 -- the lists g of a graph keep the first seven rules, and the tables are theirs: in one stand the rotation, the faces of all
--- darts, the degrees of so many faces and the starts
+-- darts, the degrees of `count` faces and the starts
 pub record AreTables (g : List (List ℕ)) (ends : List ℕ) (count : ℕ) (table : List ℕ) : Type 0 where
   pub rules : KeepsBefore g 8
   pub order : length g < 256

@@ -3,13 +3,13 @@
 use crate::rules::Rule;
 use thiserror::Error;
 
-/// The reason why a record has no graph.
+/// The reason why the graph of a record was not read.
 #[derive(Debug, Clone, Copy, PartialEq, Eq, Error)]
 pub enum ReadFault {
-    /// The record breaks this rule of the first seven, and none before it.
-    #[error("a rule is broken: {}", .0.word())]
+    /// The first rule that the record breaks. `Graph::read` tests the first seven.
+    #[error("the graph breaks rule {}", .0.word())]
     Rule(Rule),
-    /// There was no memory for the graph.
+    /// Memory ran out for the graph.
     #[error("out of memory")]
     Memory,
 }

@@ -15,7 +15,7 @@ use planar_code::Record;
 /// How many numbers the rotation of a graph has at most: two for each dart.
 const MAX_ROTATION: usize = 2 * MAX_DARTS;
 
-/// Whether vertices less edges plus faces are not two, of lists that keep the first seven rules. Both sides are doubled,
+/// Whether vertices minus edges plus faces is not 2, for lists that keep the first seven rules. Both sides are doubled,
 /// since an edge is two darts.
 fn breaks_genus(lists: &Lists<'_>) -> bool
     requires rules { KeepsBefore lists.now 8 }

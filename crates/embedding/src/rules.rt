@@ -2,7 +2,7 @@
 
 ghost use Rattle.std.specs.Prelude.{◌≡◌};
 
-/// A rule that graphs must obey, in the order in which they are checked.
+/// A rule that graphs must obey; the variants are in the order in which they are checked.
 ///
 /// A record is refused with the first one that it breaks.
 #[derive(Debug, Clone, Copy, PartialEq, Eq)]
@@ -21,7 +21,7 @@ pub enum Rule {
     Degree,
     /// Not every vertex is reached from the first one.
     Disconnected,
-    /// Vertices less edges plus faces are not two.
+    /// Euler's formula fails: vertices minus edges plus faces is not 2.
     Genus,
 }
 

@@ -1,6 +1,6 @@
 -- The meaning of a drawing for its shape, and of the cause in its place.
-use Rattle.std.specs.Prelude.{◌≡◌, ◌*◌, Result, Ok, Err, length}
-use Rattle.faces.specs.Planes.{PlaneModel, vertices, darts}
+use Rattle.std.specs.Prelude.{Result, Ok, Err}
+use Rattle.faces.specs.Planes.{PlaneModel}
 use Rattle.ortho_rep.specs.Shapes.{ShapeModel}
 use Rattle.ortho_rep.specs.Points.{PointsModel}
 use Rattle.dissect.specs.Boxes.{BoxesModel}
@@ -8,7 +8,7 @@ use Rattle.dissect.specs.Boxed.{IsBoxed}
 use Rattle.dissect.specs.Monotone.{AreLeastPoints, FitsNoGrid}
 use Rattle.drawing_check.specs.declared.fault.CheckFault.{CheckFault}
 use Rattle.drawing_check.specs.declared.fault.CheckFault.TheVariants as fault
-use Rattle.drawing_check.specs.Draws.{Draws}
+use Rattle.drawing_check.specs.Draws.{HasPoints, Draws}
 use Rattle.drawing_check.specs.Regions.{HasRegions}
 use Rattle.drawing_check.specs.Faults.{IsFirstFault}
 use Rattle.entries.specs.declared.cause.Cause.{Cause}
@@ -35,11 +35,6 @@ pub record IsCause (plane : PlaneModel) (shape : ShapeModel) (cause : Cause) : T
   pub boxes : BoxesModel
   pub boxed : IsBoxed plane shape boxes
   pub shown : ShowsCause plane shape boxes cause
-
--- there is a point for each vertex, and a list of corners for each edge
-pub record HasPoints (plane : PlaneModel) (points : PointsModel) : Type 0 where
-  pub vertex_count : length points.vertices ≡ vertices plane
-  pub edge_count : 2 * length points.corners ≡ darts plane
 
 -- the points draw the shape of the plane
 pub record IsDrawingOf (plane : PlaneModel) (shape : ShapeModel) (points : PointsModel) : Type 0 where

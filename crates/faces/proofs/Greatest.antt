@@ -1,6 +1,5 @@
 -- The greatest of the faces that were looked at.
-use Rattle.std.proofs.Common.{◌≡◌, ℕ, ◌+◌, ◌<◌, ◌≤◌, inl, inr, sym, ap, subst, arith}
-use Rattle.std.proofs.lemmas.Bool.{cases_eq}
+use Rattle.std.proofs.Common.{◌≡◌, ℕ, ◌+◌, ◌<◌, ◌≤◌, sym, subst, arith}
 use Rattle.faces.specs.Faces.{degree_in}
 use Rattle.faces.specs.Greatest.{IsFirstGreatest}
 
@@ -18,32 +17,4 @@ best_first n face most is =
         first = λ k b. absurd (omega (arith, b));
       };
       is = is;
-    }
-
-pub best_kept : (n : ℕ) (face : ℕ → ℕ) (end best most wide : ℕ) → wide ≡ degree_in n face end → wide ≤ most → IsBest n face end best most → IsBest n face (end + 1) best most
-best_kept n face end best most wide here less b =
-    record {
-      greatest = record {
-        named = omega (arith, b.greatest.named);
-        most = λ k below. elim (cases_eq k end) [
-          | inl last ↦ omega (arith, ap (degree_in n face) last, here, less, b.is)
-          | inr other ↦ b.greatest.most k (omega (arith, below, other))
-        ];
-        first = b.greatest.first;
-      };
-      is = b.is;
-    }
-
-pub best_new : (n : ℕ) (face : ℕ → ℕ) (end best most wide : ℕ) → wide ≡ degree_in n face end → most < wide → IsBest n face end best most → IsBest n face (end + 1) end wide
-best_new n face end best most wide here more b =
-    record {
-      greatest = record {
-        named = omega arith;
-        most = λ k below. elim (cases_eq k end) [
-          | inl last ↦ omega (arith, ap (degree_in n face) last)
-          | inr other ↦ omega (arith, b.greatest.most k (omega (arith, below, other)), here, more, b.is)
-        ];
-        first = λ k below. omega (arith, b.greatest.most k below, here, more, b.is);
-      };
-      is = here;
     }

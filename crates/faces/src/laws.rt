@@ -47,7 +47,7 @@ pub fn darts_are_connected()
 
 /// Any two faces of a plane are connected in the dual graph.
 ///
-/// A set of faces that holds with the face of each dart the face across it holds them all, if it holds one.
+/// A nonempty set of faces is all of them if, with the face of each dart, it contains the face across the dart.
 pub fn faces_are_connected()
     ensures { (p : PlaneModel) → IsPlane p → (t : ℕ → Bool)
         → ((d : ℕ) → d < darts p → t (face_at p d) ≡ true → t (face_at p (reverse_dart p d)) ≡ true)

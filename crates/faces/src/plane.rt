@@ -38,11 +38,11 @@ impl Model for Plane {
     ghost invariant = { λ p. IsPlane (model_of p.graph p.numbering.0.0 p.numbering.0.1 p.outer) };
 }
 
-/// The reason why a graph is not a plane. Each variant returns the graph unchanged.
+/// The reason why no plane was returned. Each variant returns the graph unchanged.
 #[derive(Debug, Drop, Error)]
 pub enum TraceFault {
-    /// The number of vertices less edges plus faces is not two.
-    #[error("vertices less edges plus faces are not two")]
+    /// The graph is not embedded in the plane: vertices minus edges plus faces is not 2.
+    #[error("not a planar embedding: V - E + F is not 2")]
     Genus(Graph),
     /// Out of memory. Since a graph keeps its faces, no call returns this.
     #[error("out of memory")]
@@ -78,7 +78,7 @@ impl Plane {
     ///
     /// # Errors
     ///
-    /// `Genus` returns the graph exactly if its vertices less its edges plus its faces are not two. `Memory` is never
+    /// `Genus` returns the graph exactly if its vertices minus its edges plus its faces is not 2. `Memory` is never
     /// returned.
     pub fn trace(alloc: Global, graph: Graph) -> Result<Plane, TraceFault>
         ensures graph { IfOk result (λ p. p.lists ≡ graph) }
@@ -146,7 +146,7 @@ impl Plane {
         self.graph.face_of(dart)
     }
 
-    /// The least dart of a face. The time is linear in its number.
+    /// The least dart of a face. The time is linear in the number of that dart.
     pub fn least_dart(&self, face: u16) -> u16
         requires { face < self.now.faces }
         ensures inside { result < darts self.now }

@@ -1,5 +1,6 @@
 pub mod VertexDegrees
 pub mod Flowing
 pub mod GrowingLists
+pub mod WrittenLists
 pub mod Faultless
 pub mod OuterSet

@@ -88,7 +88,7 @@ vertex_has_dart p plane v one most =
 abbrev leaving : PlaneModel → ℕ → ℕ → ℕ
 leaving p v d = if tail p d == v then 1 else 0
 
--- so many darts arrive at a vertex as leave it
+-- as many darts arrive at a vertex as leave it
 pub vertex_degree-leaving : (p : PlaneModel) → HasEnds p → (v : ℕ) → vertex_degree p v ≡ sum_below (darts p) (λ d. if tail p d == v then 1 else 0)
 vertex_degree-leaving p ends v =
     sym (sum_below-turned (darts p) (reverse_dart p) (λ d. if head p d == v then 1 else 0) ends.reverse_dart_in_range ends.reverse_dart_back)
@@ -99,7 +99,7 @@ cases_one : (b : Bool) → (if b then 1 else 0) ≤ 1
 cases_one true = omega arith
 cases_one false = omega arith
 
--- what is 1 at so many places behind one another, and else 0, sums to as many of them as lie below n
+-- what is 1 at `len` consecutive places, and else 0, sums to as many of them as lie below n
 counted : (n first len : ℕ) (f : ℕ → ℕ) → ((d : ℕ) → d < n → first ≤ d → d < first + len → f d ≡ 1) →
     ((d : ℕ) → d < n → (d < first) ⊎ (first + len ≤ d) → f d ≡ 0) → sum_below n f ≡ min (n - first) len
 counted zero first len f ones zeros = omega arith
@@ -151,12 +151,12 @@ vertex_degree-degree p plane (suc k) some within =
               ]
         ]
 
--- what is at most 1, and 0 but at four places behind one another, sums to at most 4
+-- what is at most 1, and 0 except at four consecutive places, sums to at most 4
 near_few : (n first : ℕ) (f : ℕ → ℕ) → ((d : ℕ) → f d ≤ 1) →
     ((d : ℕ) → d < n → ((first ≤ d) × (d < first + 4)) ⊎ (f d ≡ 0)) → sum_below n f ≤ 4
 near_few n first f ones near = omega (arith, capped n first f ones near)
   where
-    -- below n at most so many of the four places are passed
+    -- the part of the four places that is below n bounds the sum
     capped : (n first : ℕ) (f : ℕ → ℕ) → ((d : ℕ) → f d ≤ 1) →
         ((d : ℕ) → d < n → ((first ≤ d) × (d < first + 4)) ⊎ (f d ≡ 0)) → sum_below n f ≤ min (n - first) 4
     capped zero first f ones near = omega arith
@@ -185,7 +185,7 @@ arrivals_most p plane v =
           omega (arith, vertex_degree-leaving p ends v, few p v k vertex short)
     ]
   where
-    -- those that leave it stand behind one another
+    -- those that leave it are consecutive
     few : (p : PlaneModel) (v k : ℕ) → suc k ≡ v → length (get_or p.lists k []) ≤ 4 →
         sum_below (darts p) (λ d. if tail p d == v then 1 else 0) ≤ 4
     few p v k vertex short =

@@ -22,7 +22,7 @@ fn degree_of(plane: &Plane, vertex: u8) -> u8
     plane.graph().neighbours(vertex).len() as u8
 }
 
-/// What a face supplies: the right angles by which it turns to the left, less its degree.
+/// The supply of a face: the right angles by which it turns to the left, minus its degree.
 fn face_supply(plane: &Plane, face: u16) -> i32
     requires { face < plane.now.faces }
     ensures { result
@@ -32,7 +32,9 @@ fn face_supply(plane: &Plane, face: u16) -> i32
     turn - i32::from(plane.degree(face))
 }
 
-/// The supply of each node: those of the vertices, followed by those of the faces. Reuses the buffer of `old`.
+/// Returns the supply of each node of the plane's flow network: of all vertices, then of all faces.
+///
+/// Reuses the buffer of `old`.
 pub fn supplies_of(old: Vec<i32>, plane: &Plane) -> Result<Vec<i32>, AllocError>
     ensures nodes { IfOk result (λ s. length s.items ≡ vertices plane.now + plane.now.faces) }
     ensures at_vertex { IfOk result (λ s. (v : ℕ) → 1 ≤ v → v ≤ vertices plane.now
@@ -53,7 +55,7 @@ pub fn supplies_of(old: Vec<i32>, plane: &Plane) -> Result<Vec<i32>, AllocError>
     Ok(supplies)
 }
 
-/// What the crossing arc of a dart may carry: nothing where its edge is to stay straight.
+/// The capacity of the crossing arc of a dart: 0 if its edge is to stay straight, else unlimited.
 fn cap_across(plane: &Plane, straight: &[bool], dart: u16) -> Cap
     requires { dart < darts plane.now }
     ensures { result ≡ crossing_cap (is_straight plane.now straight.now dart) }
@@ -65,9 +67,9 @@ fn cap_across(plane: &Plane, straight: &[bool], dart: u16) -> Cap
     }
 }
 
-/// The arcs: the corner arcs of all darts, followed by their crossing arcs. Reuses the buffer of `old`.
+/// Returns the arcs of the plane's flow network: the corner arcs of all darts, then the crossing arcs of all darts.
 ///
-/// The edges of marked darts are to stay straight.
+/// The crossing arcs of edges that are marked in `straight` have capacity 0. Reuses the buffer of `old`.
 pub fn arcs_of(old: Vec<Arc>, plane: &Plane, straight: &[bool]) -> Result<Vec<Arc>, AllocError>
     ensures arcs { IfOk result (λ a. length a.items ≡ darts plane.now + darts plane.now) }
     ensures corner { IfOk result (λ a. (d : ℕ) → d < darts plane.now
@@ -77,24 +79,58 @@ pub fn arcs_of(old: Vec<Arc>, plane: &Plane, straight: &[bool]) -> Result<Vec<Ar
         → slice_index_or a.items (darts plane.now + d) no_arc
         ≡ record { from = vertices plane.now + face_at plane.now d; to = vertices plane.now + face_at plane.now (reverse_dart plane.now d); cap = crossing_cap (is_straight plane.now straight.now d); cost = 1 }) }
 {
+    let mut arcs = resized(old, 2 * usize::from(plane.graph().darts()))?;
+    write_arcs(&mut arcs, plane, straight);
+    Ok(arcs)
+}
+
+/// A list of so many arcs, to be overwritten, in the buffer of `old`. If that is too small, it allocates exactly as many.
+fn resized(old: Vec<Arc>, count: usize) -> Result<Vec<Arc>, AllocError>
+    ensures { IfOk result (λ a. length a.items ≡ count) }
+{
+    let mut arcs = old;
+    arcs.reserve_exact(count.saturating_sub(arcs.len()))?;
+    let none = Arc {
+        from: 0,
+        to: 0,
+        cap: Cap::Any,
+        cost: 0,
+    };
+    arcs.resize(count, none)?;
+    Ok(arcs)
+}
+
+/// Writes the corner arcs of all darts, followed by their crossing arcs.
+fn write_arcs(arcs: &mut [Arc], plane: &Plane, straight: &[bool])
+    requires { length arcs.old ≡ darts plane.now + darts plane.now }
+    ensures arcs { length arcs.new ≡ darts plane.now + darts plane.now }
+    ensures corner { (d : ℕ) → d < darts plane.now
+        → slice_index_or arcs.new d no_arc
+        ≡ record { from = head plane.now d - 1; to = vertices plane.now + face_at plane.now d; cap = AtMost 3; cost = 0 } }
+    ensures crossing { (d : ℕ) → d < darts plane.now
+        → slice_index_or arcs.new (darts plane.now + d) no_arc
+        ≡ record { from = vertices plane.now + face_at plane.now d; to = vertices plane.now + face_at plane.now (reverse_dart plane.now d); cap = crossing_cap (is_straight plane.now straight.now d); cost = 1 } }
+{
     let graph = plane.graph();
     let first_face = u32::from(graph.vertices());
-    let mut arcs = emptied(old, 2 * graph.darts() as usize)?;
-    'corners: for dart in 0..graph.darts() {
-        arcs.push(Arc {
-            from: u32::from(graph.head(dart)) - 1,
-            to: first_face + u32::from(plane.face_of(dart)),
+    let count = usize::from(graph.darts());
+    'write: for dart in 0..graph.darts() {
+        let vertex = u32::from(graph.head(dart)) - 1;
+        let face = first_face + u32::from(plane.face_of(dart));
+        let across = first_face + u32::from(plane.face_of(graph.reverse(dart)));
+        let cap = cap_across(plane, straight, dart);
+        let place = usize::from(dart);
+        arcs[place] = Arc {
+            from: vertex,
+            to: face,
             cap: Cap::AtMost(3),
             cost: 0,
-        })?;
-    }
-    'crossings: for dart in 0..graph.darts() {
-        arcs.push(Arc {
-            from: first_face + u32::from(plane.face_of(dart)),
-            to: first_face + u32::from(plane.face_of(graph.reverse(dart))),
-            cap: cap_across(plane, straight, dart),
+        };
+        arcs[count + place] = Arc {
+            from: face,
+            to: across,
+            cap,
             cost: 1,
-        })?;
+        };
     }
-    Ok(arcs)
 }

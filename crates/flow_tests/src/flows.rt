@@ -75,6 +75,7 @@ pub(crate) const FREE_WAY: [(u32, u32, Cap, u32); 3] = [
     (1, 2, Cap::Any, 0),
 ];
 
+/// Units take arcs without cost before the expensive one.
 #[test]
 fn units_take_the_free_way_first(rt: HostRuntime) {
     let network = network(&rt, rt.alloc(), &[2, 0, -2], &FREE_WAY).expect(&rt, "a network");
@@ -104,6 +105,7 @@ fn work_of(rt: &impl Abort, alloc: Global, network: &Network) -> (u32, u64) {
     (solved.searches(), solved.looks())
 }
 
+/// The number of looks is exactly the one counted by hand.
 /// Each search finds one unit's end. It scans the first node, which has one residual arc, and the second one, which has
 /// one for each unit and one back. In all it looks at two more than there are units, whichever end it finds.
 #[test]
@@ -114,9 +116,9 @@ fn looks_are_told_exactly(rt: HostRuntime) {
     }
 }
 
-/// Of two nodes equally near to the first one the one that only it leads to has the lesser score, and is found. The
-/// first search therefore looks at two residual arcs, and that of the second node at one. Had it found the other one,
-/// the second search would have to go back along its unit, and look at five.
+/// Of two nodes equally near to the first one, the one with the lesser score is found: only the first node leads to it.
+/// The first search therefore looks at two residual arcs, and that of the second node at one. Had it found the other
+/// one, the second search would have to go back along its unit, and look at five.
 #[test]
 fn the_least_score_is_found(rt: HostRuntime) {
     for (first, second) in [(2, 3), (3, 2)] {
@@ -163,6 +165,7 @@ const COSTS: [(&[i32], &[(u32, u32, Cap, u32)], Result<u64, SolveFault>); 13] = 
     (&[2048, -2048], &[(0, 1, Cap::Any, 1)], Ok(2048)),
 ];
 
+/// The least costs of small networks are those found by hand, also with unusual arcs.
 #[test]
 fn special_arcs_serve(rt: HostRuntime) {
     for (supplies, arcs, expected) in COSTS {
@@ -179,6 +182,7 @@ const FAULTS: [(&[i32], (u32, u32, Cap, u32), NetFault); 4] = [
     (&[2048, -2048], (0, 1, Cap::Any, 2), NetFault::BadCost),
 ];
 
+/// A network with several faults is refused with the first one.
 #[test]
 fn the_first_fault_is_named(rt: HostRuntime) {
     for (supplies, arc, expected) in FAULTS {
@@ -187,10 +191,11 @@ fn the_first_fault_is_named(rt: HostRuntime) {
     }
 }
 
+/// The faults of networks and solutions have their messages.
 #[test]
 fn faults_say_what_is_wrong(rt: HostRuntime) {
     let text = format!(in rt.alloc(); "{}, {}", NetFault::BadEnd, SolveFault::Memory);
-    let want = "an arc has an end that is no node, out of memory";
+    let want = "arc endpoint out of range, out of memory";
     same!(&rt, text.expect(&rt, "memory").as_str(), want);
 }
 
@@ -265,6 +270,7 @@ fn expect_random(
     same!(rt, (count, found, slow), (count, due, expected));
 }
 
+/// The least costs of random networks are those that other solvers found.
 #[test]
 fn random_networks_cost_what_other_solvers_found(rt: HostRuntime) {
     let mut random = Random { state: 20_261_122 };

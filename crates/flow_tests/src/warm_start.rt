@@ -48,6 +48,7 @@ fn moved(
     warm_start.shift(from, to, amount)
 }
 
+// Moved supplies have the least cost of the moved network, or no flow.
 // At first a unit takes the expensive arc. Then the first node supplies one unit less, so that none has to. In the end
 // the second node demands two units, and the one arc to it carries only one.
 #[test]

@@ -132,13 +132,6 @@ pub record AreFlagged (table : List ℕ) (xs : List Rectangle) (i : ℕ) : Type 
   pub behind : (x y : ℕ) → bit_at (get_or table y 0) x ≡ 1 → (m : ℕ) × (m < i) × Covers (at xs m) x y
   pub apart : (m n : ℕ) → m < n → n < i → AreApart (at xs m) (at xs n)
 
-pub none_flagged : (table : List ℕ) (xs : List Rectangle) → ((y : ℕ) → get_or table y 0 ≡ 0) → AreFlagged table xs 0
-none_flagged table xs none = record {
-  flagged = λ m x y lt cover. absurd (omega (arith, lt));
-  behind = λ x y one. absurd (omega (arith, one, ap (λ (n : ℕ). bit_at n x) (none y), bit_at-zero x));
-  apart = λ m n lt below. absurd (omega (arith, below));
-}
-
 covers_or_not : (r : Rectangle) (x y : ℕ) → Covers r x y ⊎ (Covers r x y → ⊥)
 covers_or_not r x y =
     ⊎_elim

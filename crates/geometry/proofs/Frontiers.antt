@@ -16,14 +16,6 @@ pub record IsFrontier (frontier : List ℕ) (xs : List Rectangle) (i : ℕ) : Ty
   pub behind : (y : ℕ) → 0 < get_or frontier y 0 → (m : ℕ) × (m < i) × HasRow (at xs m) y × (get_or frontier y 0 ≡ (at xs m).right + 1)
   pub apart : (m n : ℕ) → m < n → n < i → AreApart (at xs m) (at xs n)
 
-pub IsFrontier-none : (frontier : List ℕ) (xs : List Rectangle) → ((y : ℕ) → get_or frontier y 0 ≡ 0) → IsFrontier frontier xs 0
-IsFrontier-none frontier xs none =
-    record {
-      past = λ m y lt row. absurd (omega arith);
-      behind = λ y some. absurd (let zero = none y in omega arith);
-      apart = λ m n lt below. absurd (omega arith);
-    }
-
 -- Whether a row is one of a rectangle's.
 has_row : (r : Rectangle) (y : ℕ) → HasRow r y ⊎ (HasRow r y → ⊥)
 has_row r y =

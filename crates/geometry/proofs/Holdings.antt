@@ -35,9 +35,6 @@ IsSweepDictionary-taken before after k u s =
       disjoint = λ i j r t lt e f. s.disjoint i j r t lt (taken before after k u i r e) (taken before after k u j t f);
     }
 
-pub Clears-none : (held : ℕ → Option Rectangle) (new : Rectangle) → Clears held held new
-Clears-none held new = record { kept = λ k r e. e; stays = λ k r e reaches. e }
-
 pub Clears-taken : (before mid after : ℕ → Option Rectangle) (k : ℕ) (new found : Rectangle) → Clears before mid new → mid k ≡ Some found → found.right < new.left → IsUpdate mid after k None → Clears before after new
 Clears-taken before mid after k new found c there ends u =
     record {
@@ -69,22 +66,6 @@ pub record IsSwept (held : ℕ → Option Rectangle) (xs : List Rectangle) (i : 
   pub among : (k : ℕ) (r : Rectangle) → held k ≡ Some r → (m : ℕ) × (m < i) × (at xs m ≡ r)
   pub live : (m j : ℕ) → m < i → i ≤ j → j < length xs → (at xs j).left ≤ (at xs m).right → held (at xs m).bottom ≡ Some (at xs m)
   pub apart : (m n : ℕ) → m < n → n < i → AreApart (at xs m) (at xs n)
-
-pub IsSwept-none : (held : ℕ → Option Rectangle) (xs : List Rectangle) → ((k : ℕ) → held k ≡ None) → IsSwept held xs 0
-IsSwept-none held xs none =
-    record {
-      dictionary = record {
-        keyed = λ k r e. absurd (nothing k r e);
-        filled = λ k r e. absurd (nothing k r e);
-        disjoint = λ j k r s lt e f. absurd (nothing k s f);
-      };
-      among = λ k r e. absurd (nothing k r e);
-      live = λ m j lt ge within reaches. absurd (omega arith);
-      apart = λ m n lt below. absurd (omega arith);
-    }
-  where
-    nothing : (k : ℕ) (r : Rectangle) → held k ≡ Some r → ⊥
-    nothing k r e = let no_entry = none k in cc
 
 -- The new one is apart from all before it: those that still reach it are held, and above or below it.
 apart_new : (held room : ℕ → Option Rectangle) (xs : List Rectangle) (i : ℕ) → IsSwept held xs i → i < length xs → Clears held room (at xs i) → IsFree room (at xs i) → (m : ℕ) → m < i → AreApart (at xs m) (at xs i)

@@ -11,7 +11,7 @@ one_left North = refl
 one_left West = refl
 one_left South = refl
 
--- so many of them
+-- n of them
 pub quarters_of_lefts : (n : ℕ) (d : Direction) → quarters (left_quarters n d) ≡ (quarters d + n) % 4
 quarters_of_lefts zero East = refl
 quarters_of_lefts zero North = refl

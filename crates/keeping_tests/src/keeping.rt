@@ -1,9 +1,9 @@
-//! Least shapes among those that keep edges straight, and the best outer face among those that are not barred, beside bends
-//! that were found by hand or by another program.
+//! Least shapes among those that keep edges straight, and the best outer face among those that are not barred, compared
+//! with bends that were found by hand or by another program.
 
 use embedding::MAX_DARTS;
 use faces::Plane;
-use ortho_rep::{ShapeFault, best_shape_keeping, certify_keeping, is_shape, least_shape_keeping};
+use ortho_rep::{SolveFault, best_shape_keeping, certify_keeping, is_shape, least_shape_keeping};
 use std::alloc::Global;
 use std::process::Abort;
 use test_inputs::{Case, L, ONE_BEND, R, plane_in, prices_in, shape_in};
@@ -26,13 +26,13 @@ const ALL: [bool; MAX_DARTS] = [true; MAX_DARTS];
 type Figures = (u32, (bool, bool));
 
 /// The figures of a least shape that keeps the edges of marked darts straight.
-fn figures_keeping(alloc: Global, plane: &Plane, straight: &[bool]) -> Result<Figures, ShapeFault> {
+fn figures_keeping(alloc: Global, plane: &Plane, straight: &[bool]) -> Result<Figures, SolveFault> {
     let (shape, prices) = least_shape_keeping(alloc, plane, straight)?;
     let proved = certify_keeping(plane, straight, &shape, &prices);
     Ok((shape.bends(), (is_shape(plane, &shape), proved)))
 }
 
-/// Sees that so many bends are needed, or that there is no shape.
+/// Checks that this many bends are needed, or that there is no shape.
 fn expect_bends(
     rt: &impl Abort,
     alloc: Global,
@@ -41,11 +41,14 @@ fn expect_bends(
     bends: Option<u32>,
 ) {
     let plane = plane_in(alloc, record).expect(rt, "a plane");
-    let want = bends.map_or(Err(ShapeFault::NoShape), |bends| Ok((bends, (true, true))));
+    let want = bends.map_or(
+        Err(SolveFault::Infeasible),
+        |bends| Ok((bends, (true, true))),
+    );
     same!(rt, figures_keeping(alloc, &plane, straight), want);
 }
 
-/// Records, marks, and how many bends are needed; `None` where there is no shape.
+/// Records, marks, and how many bends are needed; `None` if there is no shape.
 ///
 /// A grid needs no bend, nor does a square. A triangle without bends would turn three times at most; with one edge
 /// free it needs the bend there, whichever that is. No face of three darts goes without a bend, and a cube needs four.
@@ -64,6 +67,7 @@ const BENDS: [(&[u8], &[bool], Option<u32>); 12] = [
     (CUBE, &ALL, None),
 ];
 
+/// Shapes that keep edges straight have the bends found by hand.
 #[test]
 fn bends_by_hand(rt: HostRuntime) {
     for (record, straight, bends) in BENDS {
@@ -87,6 +91,7 @@ const OF_AN_ORACLE: [(&[u8], &[bool], Option<u32>); 12] = [
     (SIX, &[true; 5], None),
 ];
 
+/// Shapes that keep edges straight have the bends that networkx found.
 #[test]
 fn bends_of_an_oracle(rt: HostRuntime) {
     for (record, straight, bends) in OF_AN_ORACLE {
@@ -104,7 +109,7 @@ fn best_keeping(
     plane: &mut Plane,
     straight: &[bool],
     barred: &[bool],
-) -> Result<Best, ShapeFault> {
+) -> Result<Best, SolveFault> {
     let (shape, prices) = best_shape_keeping(alloc, plane, straight, barred)?;
     let proved = certify_keeping(plane, straight, &shape, &prices);
     let tests = (is_shape(plane, &shape), proved);
@@ -114,8 +119,8 @@ fn best_keeping(
 /// A record, marks of darts, and marks of faces.
 type Asked = (&'static [u8], &'static [bool], &'static [bool]);
 
-/// What is asked, and the bends and the face that networkx's network simplex found over all faces; `None` where there is
-/// no shape.
+/// A record and its marks, and the bends and the face that networkx's network simplex found over all faces; `None` if
+/// there is no shape.
 const BEST_OF_AN_ORACLE: [(Asked, Option<(u32, u16)>); 16] = [
     ((&GRID, &ALL, &[]), Some((0, 0))),
     ((&GRID, &ALL, &[true]), None),
@@ -138,11 +143,12 @@ const BEST_OF_AN_ORACLE: [(Asked, Option<(u32, u16)>); 16] = [
     ((TRIANGLE, &ALL, &[]), None),
 ];
 
+/// The best outer face that is not barred, and its bends, are those that networkx found.
 #[test]
 fn best_faces_of_an_oracle(rt: HostRuntime) {
     for ((record, straight, barred), found) in BEST_OF_AN_ORACLE {
         let mut plane = plane_in(rt.alloc(), record).expect(&rt, "a plane");
-        let want = found.map_or(Err(ShapeFault::NoShape), |(bends, face)| {
+        let want = found.map_or(Err(SolveFault::Infeasible), |(bends, face)| {
             Ok((bends, face, (true, true)))
         });
         let got = best_keeping(rt.alloc(), &mut plane, straight, barred);
@@ -174,6 +180,7 @@ const PROVED: [(Case<'static>, &[bool], bool); 7] = [
     (STEP, &[true], false),
 ];
 
+/// Prices prove a shape least among those that keep edges straight exactly if this was found by hand.
 #[test]
 fn prices_by_hand(rt: HostRuntime) {
     for (case, straight, proved) in PROVED {

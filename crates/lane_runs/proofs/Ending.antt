@@ -9,20 +9,13 @@ use Rattle.ruled_lanes.specs.TicketSeats.{all_drawn, has_ended, IsSeatOf}
 use Rattle.lanes.specs.Opening.{Meaning}
 use Rattle.lanes.specs.Files.{HasFile}
 use Rattle.lanes.specs.Notes.{Note}
-use Rattle.lane_runs.specs.declared.fault.RunFault.{RunFault}
-use Rattle.lane_runs.specs.declared.fault.RunFault.TheVariants.{Memory, LaneLost, Thread, Refused}
-use Rattle.lane_runs.specs.Faults.{IsOfLanes, HoldsOnRunFault}
+use Rattle.lanes.specs.declared.fault.RunFault.{RunFault}
+use Rattle.lanes.specs.Faults.{HoldsOnFault}
 use Rattle.lane_runs.specs.Running.{LeavesConsumer}
 
-pub ended_so : {F : Type 0} (gave_up : F → Type 0) (holds : List Note → Type 0) (fault : RunFault F) (ns : List Note) → IsOfLanes fault → holds ns → HoldsOnRunFault gave_up holds fault
-ended_so gave_up holds (Refused refusal) ns is has = absurd is
-ended_so gave_up holds Memory ns is has = (ns, has)
-ended_so gave_up holds LaneLost ns is has = (ns, has)
-ended_so gave_up holds Thread ns is has = (ns, has)
-
-pub all_ended : {C F : Type 0} (holds : C → List Note → Type 0) (gave_up : C → F → Type 0) (choice : Choice) (meaning : ℕ → Meaning) (tickets : Tickets) (lanes count : ℕ) (consumer : C) (result : Result (Vec Seat Global) (RunFault F))
+pub all_ended : {C F : Type 0} (holds : C → List Note → Type 0) (gave_up : C → RunFault F → Type 0) (choice : Choice) (meaning : ℕ → Meaning) (tickets : Tickets) (lanes count : ℕ) (consumer : C) (result : Result (Vec Seat Global) (RunFault F))
     → lanes ≡ count → IfOk result (λ seats. vec_len seats ≡ lanes) → IfOk result (λ seats. All (λ s. IsSeatOf tickets s × (has_ended s ≡ true)) seats.items)
     → IfOk result (λ seats. (ns : List Note) × holds consumer ns × ((file : ℕ) → times file (all_drawn seats.items) ≡ 1 → HasFile choice (meaning file) file ns))
-    → IfErr result (HoldsOnRunFault (gave_up consumer) (holds consumer)) → LeavesConsumer holds gave_up choice meaning tickets count consumer result
+    → IfErr result (HoldsOnFault (gave_up consumer) (holds consumer)) → LeavesConsumer holds gave_up choice meaning tickets count consumer result
 all_ended holds gave_up choice meaning tickets lanes count consumer (Ok seats) same many are told ended = (many ∙ same, are, told)
 all_ended holds gave_up choice meaning tickets lanes count consumer (Err fault) same many are told ended = ended

@@ -19,7 +19,6 @@ use Rattle.lanes.specs.Notes.{About, Note, End, notes, GoOn, IsStopped}
 use Rattle.lanes.specs.Opening.{Meaning}
 use Rattle.lanes.specs.Keeping.{KeepsFile}
 use Rattle.lanes.specs.Files.{HasDrawn, TellsDrawn}
-use Rattle.lane_runs.specs.declared.fault.LaneFault.{LaneFault}
 
 module _ {A : Type 0} where
   -- both ends of a link that has room for this many messages, and to which nothing was given
@@ -59,7 +58,7 @@ module _ {A M : Type 0} where
 
   -- a lane returns the end of the fan at its own number, where one stop came last, whatever happened in the lane, or
   -- none if a give of the stop was refused; and if it was not refused, its seat if nothing was lost
-  pub record LeavesLane {R : Type 0} (about : A → About) (choice : Choice) (meaning : ℕ → Meaning) (tickets : Tickets) (giver after : LaneGiver (Message A M)) (stop : Result R (Closed (Message A M))) (seat : Result Seat LaneFault) : Type 0 where
+  pub record LeavesLane {R F : Type 0} (about : A → About) (choice : Choice) (meaning : ℕ → Meaning) (tickets : Tickets) (giver after : LaneGiver (Message A M)) (stop : Result R (Closed (Message A M))) (seat : Result Seat F) : Type 0 where
     pub to_same : GivesToSameLane giver after
     pub stopped : OnOk stop (IsStopped (notes about (given_at after)))
     pub refused : IfErr stop (λ closed. (handed_back closed ≡ Stop) × GoOn (notes about (given_at after)))

@@ -1,4 +1,3 @@
-pub mod Faults
 pub mod Lanes
 pub mod Running
 pub mod Accepting

@@ -16,8 +16,8 @@ use Rattle.lanes.specs.Notes.{About, Note}
 use Rattle.lanes.specs.Opening.{Meaning}
 use Rattle.lanes.specs.Files.{HasFile}
 use Rattle.lane_runs.specs.Lanes.{TellsSeat}
-use Rattle.lane_runs.specs.declared.fault.RunFault.{RunFault}
-use Rattle.lane_runs.specs.Faults.{HoldsOnRunFault}
+use Rattle.lanes.specs.declared.fault.RunFault.{RunFault}
+use Rattle.lanes.specs.Faults.{HoldsOnFault}
 
 -- each element fits its number; the first has this one
 abbrev pub AreNumbered : {X : Type 0} → (ℕ → X → Type 0) → ℕ → List X → Type 0
@@ -58,13 +58,13 @@ module _ {E M : Type 0} where
 
 -- What a run does to a consumer, and which seats it returns: this many, all of these tickets, each of which has drawn
 -- until none remained; then the consumer holds notes that say all of each file that was drawn once.
-abbrev pub LeavesConsumer : {C F : Type 0} → (C → List Note → Type 0) → (C → F → Type 0) → Choice → (ℕ → Meaning) → Tickets → ℕ → C
+abbrev pub LeavesConsumer : {C F : Type 0} → (C → List Note → Type 0) → (C → RunFault F → Type 0) → Choice → (ℕ → Meaning) → Tickets → ℕ → C
     → Result (Vec Seat Global) (RunFault F) → Type 0
 LeavesConsumer holds gave_up choice meaning tickets count consumer (Ok seats) =
     (vec_len seats ≡ count) × All (λ s. IsSeatOf tickets s × (has_ended s ≡ true)) seats.items
     × ((ns : List Note) × holds consumer ns
     × ((file : ℕ) → times file (all_drawn seats.items) ≡ 1 → HasFile choice (meaning file) file ns))
-LeavesConsumer holds gave_up choice meaning tickets count consumer (Err fault) = HoldsOnRunFault (gave_up consumer) (holds consumer) fault
+LeavesConsumer holds gave_up choice meaning tickets count consumer (Err fault) = HoldsOnFault (gave_up consumer) (holds consumer) fault
 
 -- a run starts with seats of these tickets that have drawn nothing, the ends of an unused fan, a giver for each seat
 -- and the others, and a consumer that holds nothing
@@ -80,7 +80,7 @@ pub record StartsRun {C E : Type 0} (holds : C → List Note → Type 0) (ticket
   pub empty : holds consumer []
 
 -- a run leaves the part of the consumer that stays the same unchanged, does this to the rest, and returns these seats
-pub record LeavesRun {C F : Type 0} (holds : C → List Note → Type 0) (gave_up : C → F → Type 0) (stays_same : C → C → Type 0) (choice : Choice) (meaning : ℕ → Meaning) (tickets : Tickets) (count : ℕ) (consumer after : C)
+pub record LeavesRun {C F : Type 0} (holds : C → List Note → Type 0) (gave_up : C → RunFault F → Type 0) (stays_same : C → C → Type 0) (choice : Choice) (meaning : ℕ → Meaning) (tickets : Tickets) (count : ℕ) (consumer after : C)
     (ran : Result (Vec Seat Global) (RunFault F)) : Type 0 where
   pub ended : LeavesConsumer holds gave_up choice meaning tickets count after ran
   pub stays : stays_same consumer after

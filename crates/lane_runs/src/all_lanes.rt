@@ -6,17 +6,16 @@ ghost use Rattle.lanes.specs.Notes.{Note};
 ghost use Rattle.lanes.specs.Files.{AreToldWhole};
 ghost use Rattle.lane_runs.specs.Lanes.{StartsLane};
 ghost use Rattle.lane_runs.specs.Running.{StartsRun, LeavesRun};
-ghost use Rattle.lane_runs.specs.Faults.{HoldsOnRunFault};
+ghost use Rattle.lanes.specs.Faults.{HoldsOnFault};
 ghost use Rattle.lane_runs.specs.Accepting.{AcceptsFiles, AcceptsAll};
 
-use crate::fault::{LaneFault, RunFault};
 use crate::lane::Lane;
 use crate::lane_kind::LaneKind;
 use crate::new_fan::{Fan, new_fan};
 use crate::run::Run;
-use crate::running::{LanePromise, LaneReturn, Running};
+use crate::running::{LaneFault, LanePromise, LaneReturn, Running};
 use crate::shared::Shared;
-use lanes::{Consumer, Gate, Message, Opener};
+use lanes::{Consumer, Gate, Message, Opener, RunFault};
 use ruled_lanes::{LaneGiver, Seat, Tickets};
 use std::snapshot::Snapshot;
 use std::sync::Wait;
@@ -32,7 +31,7 @@ use std::thread::{Scope, Threads};
 /// # Errors
 ///
 /// `Memory`: no memory for links, the fan, tickets, buffers, or the lists of lanes. `LaneLost`: an end of a link or of
-/// the fan was gone. `Thread`: a thread could not be started. `Refused`: the consumer refused a message.
+/// the fan was gone. `Thread`: a thread could not be started. Otherwise the fault is the consumer's.
 pub fn run_lanes<
     L: LaneKind,
     C: Consumer<L::Entry, L::End>,
@@ -44,7 +43,7 @@ pub fn run_lanes<
     requires accepts { AcceptsFiles L.accepts L.ends (O.meaning run.now.opener.now) }
     ensures told { IfOk result.1 (λ _. (ns : List Note) × C.holds result.0 ns
         × AreToldWhole run.now.choice (O.meaning run.now.opener.now) run.now.files ns) }
-    ensures failed { IfErr result.1 (HoldsOnRunFault (C.gave_up result.0) (C.holds result.0)) }
+    ensures failed { IfErr result.1 (HoldsOnFault (C.gave_up result.0) (C.holds result.0)) }
     ensures stays { C.stays consumer result.0 }
 {
     let Ok((tickets, seats)) = Tickets::new(run.alloc, run.files, run.lanes) else {
@@ -114,7 +113,7 @@ impl<'s, R: Threads + Wait + Sync, O: Opener, G: Gate, L: LaneKind + 's> Shared<
         } = fan;
         match self.start_lanes(scope, seats, givers) {
             Ok(running) => self.finish_lanes(gatherer, running, idle, consumer),
-            Err(fault) => Err(RunFault::from(fault)),
+            Err(fault) => Err(fault.of_any_consumer()),
         }
     }
 
@@ -143,10 +142,8 @@ impl<'s, R: Threads + Wait + Sync, O: Opener, G: Gate, L: LaneKind + 's> Shared<
             let Some(seat) = seats.pop() else {
                 unreachable!()
             };
-            match self.start_lane(scope, Lane { seat, giver }) {
-                Ok(started) => running.push_reserved(started),
-                Err(fault) => return Err(fault),
-            }
+            let started = self.start_lane(scope, Lane { seat, giver })?;
+            running.push_reserved(started);
         }
         Ok(running)
     }

@@ -9,13 +9,12 @@ ghost use Rattle.lanes.specs.Files.{HasFile};
 ghost use Rattle.lanes.specs.Fans.{untagged, HaveStopped};
 ghost use Rattle.lane_runs.specs.Lanes.{TellsSeat};
 ghost use Rattle.lane_runs.specs.Running.{AreNumbered, IsIdle, IsRunning};
-ghost use Rattle.lane_runs.specs.Faults.{HoldsOnRunFault};
+ghost use Rattle.lanes.specs.Faults.{HoldsOnFault};
 
-use crate::fault::{LaneFault, RunFault};
 use crate::lane::Lane;
-use crate::running::{LaneReturn, Running};
+use crate::running::{LaneFault, LaneReturn, Running};
 use crate::shared::Shared;
-use lanes::{Consumer, Gate, GatherFault, Message, Numbered, Opener, gather};
+use lanes::{Consumer, Gate, Message, Numbered, Opener, RunFault, gather};
 use ruled_lanes::{Gatherer, LaneGiver, Seat};
 use std::sync::Wait;
 use std::thread::Threads;
@@ -30,10 +29,9 @@ fn join_lane<E: Numbered, M: Drop + Send, R: Threads, O: Opener>(
         lane.seat (given_at lane.giver)) }
 {
     let LaneReturn { giver, stop, seat } = handle.join(rt);
-    match stop {
-        Ok(()) => {}
-        Err(_) => return Err(LaneFault::LaneLost),
-    }
+    let Ok(()) = stop else {
+        return Err(LaneFault::LaneLost);
+    };
     match seat {
         Ok(seat) => Ok(Lane { seat, giver }),
         Err(fault) => Err(fault),
@@ -68,14 +66,10 @@ impl<R: Threads + Wait + Sync, O: Opener, G: Gate, L> Shared<'_, R, O, G, L> {
             return Err(LaneFault::Memory);
         };
         for handle in running {
-            match join_lane(self.run.rt, handle) {
-                Ok(lane) => {
-                    let Lane { seat, giver } = lane;
-                    seats.push_reserved(seat);
-                    givers.push_reserved(giver);
-                }
-                Err(fault) => return Err(fault),
-            }
+            let lane = join_lane(self.run.rt, handle)?;
+            let Lane { seat, giver } = lane;
+            seats.push_reserved(seat);
+            givers.push_reserved(giver);
         }
         gatherer.settle(self.run.rt, givers);
         Ok(seats)
@@ -102,19 +96,14 @@ impl<R: Threads + Wait + Sync, O: Opener, G: Gate, L> Shared<'_, R, O, G, L> {
         ensures seats { IfOk result (λ seats. All (λ s. IsSeatOf self.now.tickets.now s × (has_ended s ≡ true)) seats.items) }
         ensures told { IfOk result (λ seats. (ns : List Note) × C.holds consumer.new ns
             × ((file : ℕ) → times file (all_drawn seats.items) ≡ 1 → HasFile self.now.run.now.choice (O.meaning self.now.run.now.opener.now file) file ns)) }
-        ensures failed { IfErr result (HoldsOnRunFault (C.gave_up consumer.new) (C.holds consumer.new)) }
+        ensures failed { IfErr result (HoldsOnFault (C.gave_up consumer.new) (C.holds consumer.new)) }
         ensures stays { C.stays consumer.old consumer.new }
     {
         let lanes = running.len() as u32;
-        let gatherer = match gather(self.run.rt, self.run.alloc, gatherer, lanes, consumer) {
-            Ok(gatherer) => gatherer,
-            Err(GatherFault::Memory) => return Err(RunFault::Memory),
-            Err(GatherFault::LaneLost) => return Err(RunFault::LaneLost),
-            Err(GatherFault::Refused(refusal)) => return Err(RunFault::Refused(refusal)),
-        };
+        let gatherer = gather(self.run.rt, self.run.alloc, gatherer, lanes, consumer)?;
         match self.join_lanes(gatherer, running, idle) {
             Ok(seats) => Ok(seats),
-            Err(fault) => Err(RunFault::from(fault)),
+            Err(fault) => Err(fault.of_any_consumer()),
         }
     }
 }

@@ -10,15 +10,14 @@ ghost use Rattle.lanes.specs.Stages.{IsHandedOn};
 ghost use Rattle.lane_runs.specs.Lanes.{TellsSeat, StartsToRead, StartsLane, LeavesLane};
 ghost use Rattle.lane_runs.specs.Accepting.{AcceptsAll};
 
-use crate::fault::LaneFault;
 use crate::lane_kind::LaneKind;
 use crate::links::settle_lane;
 use crate::read_stage::Reading;
-use crate::running::LaneReturn;
+use crate::running::{LaneFault, LaneReturn};
 use crate::shared::Shared;
 use crate::stages::{LastStage, MiddleStage, Stages, new_stages};
 use crate::starting::{Started, StartedRead, start_stage};
-use lanes::{Gate, Message, Numbered, Opener, run_last_stage};
+use lanes::{Gate, Message, Numbered, Opener, StageWork, run_until_stop};
 use ruled_lanes::{LaneGiver, Seat, Taker};
 use std::sync::Wait;
 use std::thread::{Scope, Threads};
@@ -75,55 +74,53 @@ impl<'s, R: Threads + Wait + Sync, O: Opener, G: Gate, L: LaneKind + 's> Shared<
             read,
             embed,
             shape,
-            draw,
+            draw: LastStage { scratch, taker },
         } = stages;
-        match self.start_stages(scope, read, embed, shape) {
-            Ok(started) => {
-                let LastStage { scratch, taker } = draw;
-                let drew = run_last_stage(run.rt, run.alloc, run.gate, scratch, taker, giver);
-                match started.join(run.rt, drew) {
-                    Some(seat) => Ok(seat),
-                    None => Err(LaneFault::LaneLost),
-                }
-            }
-            Err(fault) => Err(fault),
+        let Some(started) = self.start_stages(scope, read, embed, shape) else {
+            return Err(LaneFault::Thread);
+        };
+        let work = StageWork { lane, scratch };
+        let drew = run_until_stop(run.rt, run.alloc, run.gate, work, taker, giver);
+        match started.join(run.rt, drew) {
+            Some(seat) => Ok(seat),
+            None => Err(LaneFault::LaneLost),
         }
     }
 
-    /// Starts the first three stages of a lane, each in a thread of its own.
+    /// Starts the first three stages of a lane, each in a thread of its own; `None` if one could not be started.
     fn start_stages<'e>(
         &'s self,
         scope: &'s Scope<'s, &'e ()>,
         read: Reading<L::Framed, L::End>,
         embed: MiddleStage<L::Framed, L::End>,
         shape: MiddleStage<L::Embedded, L::End>,
-    ) -> Result<StartedStages<L, O>, LaneFault>
+    ) -> Option<StartedStages<L, O>>
         requires read { StartsToRead self.now.tickets.now read.seat (vec_len read.buffer) read.giver
             × AcceptsAll L.accepts L.ends (O.meaning self.now.run.now.opener.now) }
         requires embed { (taken embed.taker ≡ []) × (given embed.giver ≡ []) }
         requires shape { (taken shape.taker ≡ []) × (given shape.giver ≡ []) }
-        ensures choice { IfOk result (λ started. started.read.promise.choice ≡ self.now.run.now.choice) }
-        ensures opener { IfOk result (λ started. started.read.promise.opener.value ≡ self.now.run.now.opener.now) }
-        ensures tickets { IfOk result (λ started. started.read.promise.tickets.value ≡ self.now.tickets.now) }
-        ensures giver { IfOk result (λ started. started.read.promise.giver.value ≡ read.giver) }
-        ensures embed_taker { IfOk result (λ started. started.embed.promise.taker.value ≡ embed.taker) }
-        ensures embed_giver { IfOk result (λ started. started.embed.promise.giver.value ≡ embed.giver) }
-        ensures shape_taker { IfOk result (λ started. started.shape.promise.taker.value ≡ shape.taker) }
-        ensures shape_giver { IfOk result (λ started. started.shape.promise.giver.value ≡ shape.giver) }
+        ensures choice { IfSome result (λ started. started.read.promise.choice ≡ self.now.run.now.choice) }
+        ensures opener { IfSome result (λ started. started.read.promise.opener.value ≡ self.now.run.now.opener.now) }
+        ensures tickets { IfSome result (λ started. started.read.promise.tickets.value ≡ self.now.tickets.now) }
+        ensures giver { IfSome result (λ started. started.read.promise.giver.value ≡ read.giver) }
+        ensures embed_taker { IfSome result (λ started. started.embed.promise.taker.value ≡ embed.taker) }
+        ensures embed_giver { IfSome result (λ started. started.embed.promise.giver.value ≡ embed.giver) }
+        ensures shape_taker { IfSome result (λ started. started.shape.promise.taker.value ≡ shape.taker) }
+        ensures shape_giver { IfSome result (λ started. started.shape.promise.giver.value ≡ shape.giver) }
     {
         let run = self.run;
         let lane = read.lane;
         // The first stage comes last: a lane that could not be started has drawn no file.
-        let Ok(embed) = start_stage(scope, run.rt, run.alloc, run.gate, lane, embed) else {
-            return Err(LaneFault::Thread);
+        let Some(embed) = start_stage(scope, run.rt, run.alloc, run.gate, lane, embed) else {
+            return None;
         };
-        let Ok(shape) = start_stage(scope, run.rt, run.alloc, run.gate, lane, shape) else {
-            return Err(LaneFault::Thread);
+        let Some(shape) = start_stage(scope, run.rt, run.alloc, run.gate, lane, shape) else {
+            return None;
         };
-        let Ok(read) = self.start_read(scope, read) else {
-            return Err(LaneFault::Thread);
+        let Some(read) = self.start_read(scope, read) else {
+            return None;
         };
-        Ok(StartedStages { read, embed, shape })
+        Some(StartedStages { read, embed, shape })
     }
 }
 

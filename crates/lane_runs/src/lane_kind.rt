@@ -8,7 +8,7 @@ use planar_code::Record;
 use std::alloc::{AllocError, Global};
 use streams::SourceEnd;
 
-/// The scratch of each stage of a lane after the first.
+/// The scratches of the second, third and fourth stage of a lane.
 #[derive(Drop)]
 pub struct LaneScratch<E: Drop, S: Drop, D: Drop> {
     pub embed: E,
@@ -16,7 +16,7 @@ pub struct LaneScratch<E: Drop, S: Drop, D: Drop> {
     pub draw: D,
 }
 
-/// The scratch of each stage of a lane of this kind.
+/// The `LaneScratch` of a lane of this kind.
 pub type ScratchOf<L> = LaneScratch<
     <<L as LaneKind>::Framed as Staged>::Scratch,
     <<L as LaneKind>::Embedded as Staged>::Scratch,

@@ -3,7 +3,6 @@
 #![tactic(auto)]
 
 mod all_lanes;
-mod fault;
 mod joining;
 mod lane;
 mod lane_kind;
@@ -18,6 +17,5 @@ mod stages;
 mod starting;
 
 pub use all_lanes::run_lanes;
-pub use fault::RunFault;
 pub use lane_kind::{LaneKind, LaneScratch, ScratchOf};
 pub use run::Run;

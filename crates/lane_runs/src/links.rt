@@ -56,7 +56,7 @@ pub fn new_links<L: LaneKind>(alloc: Global, capacity: u32) -> Result<Links<L>, 
     })
 }
 
-/// Settles the links of a lane: proves that the messages of the last stage say all that those of the first do.
+/// Consumes the links of a lane; proves that the messages of the last stage say all that those of the first do.
 ///
 /// It takes the ends that the stages returned.
 pub fn settle_lane<L: LaneKind, R: Wait>(

@@ -16,7 +16,7 @@ pub struct Fan<E: Numbered, M: Drop + Send> {
     pub gatherer: Gatherer<Message<E, M>>,
 }
 
-/// A new fan with room for `capacity` messages, of which the first `lanes` lanes run.
+/// A new fan with room for `capacity` messages; its first `lanes` lanes are to run.
 ///
 /// The givers are in the order of their lanes.
 pub fn new_fan<E: Numbered, M: Drop + Send>(

@@ -47,6 +47,7 @@ impl<R: Wait, O: Opener, G: Gate, L: LaneKind> Shared<'_, R, O, G, L> {
             rt: self.run.rt,
             gate: self.run.gate,
             kind: self.kind,
+            pauses: self.run.pauses,
             lane,
             giver,
             filling: Filling::new(self.run.alloc),
@@ -68,7 +69,8 @@ impl<R: Wait, O: Opener, G: Gate, L: LaneKind> Shared<'_, R, O, G, L> {
         unreachable!()
     }
 
-    /// Reads one drawn file, and gives its records and one end.
+    /// Reads one drawn file, and gives its records and one end. Before it is opened, and before each further read of it,
+    /// it blocks as long as the file is paused.
     fn read_drawn(
         &self,
         file: u32,
@@ -84,18 +86,12 @@ impl<R: Wait, O: Opener, G: Gate, L: LaneKind> Shared<'_, R, O, G, L> {
         ensures same { GivesToSame gives.old.giver gives.new.giver }
     {
         let run = self.run;
-        let end = match read_file(run.opener, run.alloc, file, run.choice, buffer, gives) {
-            Ok(end) => end,
-            Err(gone) => return Err(gone),
-        };
-        let Ok(()) = gives.give_all() else {
-            return Err(Gone);
-        };
+        run.pauses.wait(run.rt, file);
+        let end = read_file(run.opener, run.alloc, file, run.choice, buffer, gives)?;
+        gives.give_all()?;
         let mark = end.mark;
         let known = self.kind.end(file, end);
-        let Ok(()) = gives.giver.give(run.rt, Message::End(file, mark, known)) else {
-            return Err(Gone);
-        };
+        gives.giver.give(run.rt, Message::End(file, mark, known))?;
         Ok(())
     }
 }

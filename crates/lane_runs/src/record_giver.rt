@@ -6,7 +6,7 @@ ghost use Rattle.lanes.specs.Notes.{notes, notes_of_items};
 
 use crate::lane_kind::LaneKind;
 use common::Choice;
-use lanes::{Filling, Gate, Gone, Keep, Message, Stage};
+use lanes::{Filling, Gate, Gone, Keep, Message, Pauses, Stage};
 use planar_code::Record;
 use ruled_lanes::Giver;
 use std::alloc::Global;
@@ -15,14 +15,15 @@ use std::sync::Wait;
 /// The number of bytes of records from which on a message takes no more.
 const MOST_BYTES: usize = 4096;
 
-/// A `Keep` that passes the gate for each record, and gives messages of several.
+/// A `Keep` that calls the gate for each record, and sends the records in messages of several.
 ///
-/// No record waits for the next read of its file.
+/// No record waits for the next read of its file. Before that it blocks as long as the file is paused.
 #[derive(Drop)]
 pub struct RecordGiver<'s, R, G, L: LaneKind> {
     pub rt: &'s R,
     pub gate: &'s G,
     pub kind: &'s L,
+    pub pauses: &'s Pauses,
     pub lane: u32,
     pub giver: Giver<Message<L::Framed, L::End>>,
     /// The records of the next message.
@@ -53,26 +54,19 @@ impl<R: Wait, G: Gate, L: LaneKind> Keep for RecordGiver<'_, R, G, L> {
         self.gate.pass(self.lane, Stage::Read, ordinal);
         self.bytes = self.bytes.saturating_add(rec.bytes().len());
         let item = self.kind.framed(file, ordinal, rec, choice);
-        match self.filling.add(self.rt, &mut self.giver, item) {
-            Ok(()) => {}
-            Err(gone) => return Err(gone),
-        }
+        self.filling.add(self.rt, &mut self.giver, item)?;
         if self.filling.items.len() < self.most && self.bytes < MOST_BYTES {
             return Ok(());
         }
         self.bytes = 0;
-        match self.filling.give(self.rt, &mut self.giver) {
-            Ok(()) => Ok(()),
-            Err(gone) => Err(gone),
-        }
+        self.filling.give(self.rt, &mut self.giver)
     }
 
-    fn pass_on(&mut self) -> Result<(), Gone> {
+    fn pass_on(&mut self, file: u32) -> Result<(), Gone> {
         self.bytes = 0;
-        match self.filling.give(self.rt, &mut self.giver) {
-            Ok(()) => Ok(()),
-            Err(gone) => Err(gone),
-        }
+        self.filling.give(self.rt, &mut self.giver)?;
+        self.pauses.wait(self.rt, file);
+        Ok(())
     }
 
     ghost accepts_on = { λ _ _ _ _ _ _ accepts. accepts };
@@ -83,7 +77,7 @@ impl<R: Wait, G: Gate, L: LaneKind> Keep for RecordGiver<'_, R, G, L> {
 }
 
 impl<R: Wait, G: Gate, L: LaneKind> RecordGiver<'_, R, G, L> {
-    /// Gives the records that are not given yet.
+    /// Sends the records that were not sent yet.
     pub fn give_all(&mut self) -> Result<(), Gone>
         ensures told { OnOk result (notes L.Framed.about (given self.new.giver)
             ≡ notes L.Framed.about (given self.old.giver) ++ notes_of_items L.Framed.about self.old.filling.items.items) }
@@ -91,9 +85,6 @@ impl<R: Wait, G: Gate, L: LaneKind> RecordGiver<'_, R, G, L> {
         ensures same { GivesToSame self.old.giver self.new.giver }
     {
         self.bytes = 0;
-        match self.filling.give(self.rt, &mut self.giver) {
-            Ok(()) => Ok(()),
-            Err(gone) => Err(gone),
-        }
+        self.filling.give(self.rt, &mut self.giver)
     }
 }

@@ -3,9 +3,10 @@ ghost use Rattle.std.specs.Prelude.{◌≤◌, ◌<◌};
 ghost use Rattle.ruled_lanes.specs.declared.limits.TheConstants.{LANES, MAX_CAPACITY, MAX_TICKETS};
 
 use common::Choice;
+use lanes::Pauses;
 use std::alloc::Global;
 
-/// The parameters of a run of lanes over the first files of an opener: everything but its kind and its consumer.
+/// The parameters of a run: runtime, opener, gate, numbers of files, lanes and messages, and choice of outer faces.
 #[derive(Drop)]
 pub struct Run<'r, R, O, G> {
     /// The runtime, which starts threads and lets them wait.
@@ -14,13 +15,15 @@ pub struct Run<'r, R, O, G> {
     pub alloc: Global,
     /// The opener of the files.
     pub opener: &'r O,
+    /// The pauses of the files' reading.
+    pub pauses: &'r Pauses,
     /// The gate that each stage passes once for each record.
     pub gate: &'r G,
     /// The number of files to read.
     pub files: u32,
     /// The number of lanes that read them.
     pub lanes: u32,
-    /// The number of messages for which a link has room, and for which the fan has.
+    /// The number of messages for which each link and the fan have room.
     pub capacity: u32,
     /// The rule by which the outer face of each plane is chosen.
     pub choice: Choice,

@@ -2,12 +2,15 @@
 ghost use Rattle.ruled_lanes.specs.FanEnds.{given_at};
 ghost use Rattle.lane_runs.specs.Lanes.{LeavesLane};
 
-use crate::fault::LaneFault;
 use common::Choice;
-use lanes::{Message, Numbered, Opener};
+use lanes::{Message, Numbered, Opener, RunFault};
 use ruled_lanes::{Closed, LaneGiver, Seat, Tickets};
+use std::convert::Infallible;
 use std::snapshot::Snapshot;
 use std::thread::{Promise, PromisedHandle};
+
+/// The fault of a lane, which has no consumer.
+pub type LaneFault = RunFault<Infallible>;
 
 /// The return value of a lane's thread: its end of the fan, the result of giving its stop, and its seat or its fault.
 #[derive(Drop)]

@@ -1,11 +1,10 @@
 //! Starting stages in threads of their own.
-ghost use Rattle.std.specs.Prelude.{◌≡◌, [], IfOk, IfSome, vec_len};
+ghost use Rattle.std.specs.Prelude.{◌≡◌, [], IfSome, vec_len};
 ghost use Rattle.ruled_lanes.specs.LinkEnds.{given, taken};
 ghost use Rattle.lanes.specs.Stages.{HandedOnAll};
 ghost use Rattle.lane_runs.specs.Lanes.{ReadsSeat, StartsToRead};
 ghost use Rattle.lane_runs.specs.Accepting.{AcceptsAll};
 
-use crate::fault::LaneFault;
 use crate::lane_kind::LaneKind;
 use crate::read_stage::Reading;
 use crate::shared::Shared;
@@ -59,18 +58,18 @@ pub type Started<A, M> = PromisedHandle<
 >;
 
 impl<'s, R: Threads + Wait + Sync, O: Opener, G: Gate, L: LaneKind + 's> Shared<'s, R, O, G, L> {
-    /// Starts the first stage of a lane in a thread of its own.
+    /// Starts the first stage of a lane in a thread of its own; `None` if the thread could not be started.
     pub fn start_read<'e>(
         &'s self,
         scope: &'s Scope<'s, &'e ()>,
         reading: Reading<L::Framed, L::End>,
-    ) -> Result<StartedRead<L::Framed, L::End, O>, LaneFault>
+    ) -> Option<StartedRead<L::Framed, L::End, O>>
         requires { StartsToRead self.now.tickets.now reading.seat (vec_len reading.buffer) reading.giver
             × AcceptsAll L.accepts L.ends (O.meaning self.now.run.now.opener.now) }
-        ensures choice { IfOk result (λ started. started.promise.choice ≡ self.now.run.now.choice) }
-        ensures opener { IfOk result (λ started. started.promise.opener.value ≡ self.now.run.now.opener.now) }
-        ensures tickets { IfOk result (λ started. started.promise.tickets.value ≡ self.now.tickets.now) }
-        ensures giver { IfOk result (λ started. started.promise.giver.value ≡ reading.giver) }
+        ensures choice { IfSome result (λ started. started.promise.choice ≡ self.now.run.now.choice) }
+        ensures opener { IfSome result (λ started. started.promise.opener.value ≡ self.now.run.now.opener.now) }
+        ensures tickets { IfSome result (λ started. started.promise.tickets.value ≡ self.now.tickets.now) }
+        ensures giver { IfSome result (λ started. started.promise.giver.value ≡ reading.giver) }
     {
         let promise = ReadPromise {
             choice: self.run.choice,
@@ -85,13 +84,13 @@ impl<'s, R: Threads + Wait + Sync, O: Opener, G: Gate, L: LaneKind + 's> Shared<
                     × AcceptsAll L.accepts L.ends (O.meaning self.now.run.now.opener.now) }
             { self.read_stage(reading) },
         ) {
-            Ok(started) => Ok(started),
-            Err(_) => Err(LaneFault::Thread),
+            Ok(started) => Some(started),
+            Err(_) => None,
         }
     }
 }
 
-/// Starts a stage of this lane in a thread of its own.
+/// Starts a stage of this lane in a thread of its own; `None` if the thread could not be started.
 pub fn start_stage<'s, 'e, R: Wait + Sync, G: Gate, A: Staged + 's, M: Drop + Send + 's>(
     scope: &'s Scope<'s, &'e ()>,
     rt: &'s R,
@@ -99,11 +98,11 @@ pub fn start_stage<'s, 'e, R: Wait + Sync, G: Gate, A: Staged + 's, M: Drop + Se
     gate: &'s G,
     lane: u32,
     stage: MiddleStage<A, M>,
-) -> Result<Started<A, M>, LaneFault>
+) -> Option<Started<A, M>>
     requires none_taken { taken stage.taker ≡ [] }
     requires none_given { given stage.giver ≡ [] }
-    ensures taker { IfOk result (λ started. started.promise.taker.value ≡ stage.taker) }
-    ensures giver { IfOk result (λ started. started.promise.giver.value ≡ stage.giver) }
+    ensures taker { IfSome result (λ started. started.promise.taker.value ≡ stage.taker) }
+    ensures giver { IfSome result (λ started. started.promise.giver.value ≡ stage.giver) }
 {
     let MiddleStage {
         scratch,
@@ -121,7 +120,7 @@ pub fn start_stage<'s, 'e, R: Wait + Sync, G: Gate, A: Staged + 's, M: Drop + Se
             requires { (taken taker ≡ []) × (given giver ≡ []) }
         { run_stage(rt, alloc, gate, work, taker, giver) },
     ) {
-        Ok(started) => Ok(started),
-        Err(_) => Err(LaneFault::Thread),
+        Ok(started) => Some(started),
+        Err(_) => None,
     }
 }

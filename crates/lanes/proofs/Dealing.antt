@@ -68,7 +68,7 @@ module _ {A M : Type 0} where
   }
 
 module _ {A B M : Type 0} where
-  -- over a link and a stage behind it
+  -- over a link and the stage after it
   pub stage_tells : (about : A → About) (next_about : B → About) (choice : Choice) (meaning : ℕ → Meaning) (drawn : List ℕ) (given taken : List (Message A M)) (gave : List (Message B M))
       → Settles taken given → IsHandedOn about next_about taken gave → TellsDrawn about choice meaning drawn given → TellsDrawn next_about choice meaning drawn gave
   stage_tells about next_about choice meaning drawn given taken gave settled passed tells =

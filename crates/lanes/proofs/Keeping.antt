@@ -54,6 +54,3 @@ keeps_unopened choice to_come fails meaning fault file before opens is = record 
 -- a file for which there was no memory
 pub keeps_wanting : (choice : Choice) (meaning : Meaning) (file : ℕ) (before : List Note) → KeepsFile choice meaning file before before 0 (Ended ending.Memory)
 keeps_wanting choice meaning file before = record { records = []; counted = refl; kept = sym (append-nil before); found = found_nothing (known_of meaning) (fails_of meaning) [] refl }
-
-pub keeps_nothing : (choice : Choice) (told : Option (List ℕ)) (fails : Bool) (file : ℕ) (before : List Note) → KeepsSource choice told fails file before before 0 (Ended ending.Memory)
-keeps_nothing choice told fails file before = record { records = []; counted = refl; kept = sym (append-nil before); found = found_nothing told fails [] refl }

@@ -1,10 +1,8 @@
 -- More messages of a stage.
+use Rattle.std.specs.Prelude.{Result, Ok, Err, OnOk, OnErr}
 use Rattle.std.proofs.Common.{◌≡◌, ℕ, List, [], ◌∷◌, ◌++◌, refl, sym, ap, subst, ◌∙◌, append_assoc, append-nil}
 use Rattle.std.proofs.lemmas.List.{map-append}
-use Rattle.streams.specs.declared.frames.Mark.{Mark}
 use Rattle.lanes.specs.declared.message.Message.{Message}
-use Rattle.lanes.specs.declared.message.Message.TheVariants as message
-use Rattle.lanes.specs.declared.batch.Batch.{Batch}
 use Rattle.lanes.specs.Notes.{About, Note, Item, End, Stop, notes_of_items, notes_of, notes, GoOn}
 
 -- notes without a stop
@@ -33,31 +31,11 @@ module _ {A M : Type 0} where
   notes-after about before after m more =
       ap (notes about) more ∙ notes-append about before (m ∷ []) ∙ ap (λ l. notes about before ++ l) (append-nil (notes_of about m))
 
-  -- they go on where those of the message do
-  pub goes_on : (about : A → About) (before after : List (Message A M)) (m : Message A M) → GoOn (notes about before)
-      → after ≡ before ++ m ∷ [] → GoOn (notes_of about m) → GoOn (notes about after)
-  goes_on about before after m on more goes = subst GoOn (sym (notes-after about before after m more)) (going_both (notes about before) (notes_of about m) on goes)
-
-  pub goes_item : (about : A → About) (before after : List (Message A M)) (m : Message A M) (item : A) → GoOn (notes about before)
-      → after ≡ before ++ m ∷ [] → m ≡ message.Item item → GoOn (notes about after)
-  goes_item about before after m item on more is = goes_on about before after m on more (subst (λ x. GoOn (notes_of about x)) (sym is) tt)
-
-  pub goes_items : (about : A → About) (before after : List (Message A M)) (m : Message A M) (batch : Batch A) → GoOn (notes about before)
-      → after ≡ before ++ m ∷ [] → m ≡ message.Items batch → GoOn (notes about after)
-  goes_items about before after m batch on more is =
-      goes_on about before after m on more (subst (λ x. GoOn (notes_of about x)) (sym is) (going_items about batch.items.items))
-
-  pub goes_end : (about : A → About) (before after : List (Message A M)) (m : Message A M) (file : ℕ) (mark : Mark) (known : M) → GoOn (notes about before)
-      → after ≡ before ++ m ∷ [] → m ≡ message.End file mark known → GoOn (notes about after)
-  goes_end about before after m file mark known on more is = goes_on about before after m on more (subst (λ x. GoOn (notes_of about x)) (sym is) tt)
-
-module _ {A B M : Type 0} where
-  -- a message was taken, and what it tells was given
-  pub passed_on : (about : A → About) (next_about : B → About) (took took' : List (Message A M)) (gave gave' : List (Message B M)) (x : Message A M) (ns : List Note)
-      → notes next_about gave ≡ notes about took → took' ≡ took ++ x ∷ [] → notes next_about gave' ≡ notes next_about gave ++ ns → ns ≡ notes_of about x
-      → notes next_about gave' ≡ notes about took'
-  passed_on about next_about took took' gave gave' x ns same more_taken more_given told =
-      more_given ∙ ap (λ l. l ++ ns) same ∙ ap (λ l. notes about took ++ l) told ∙ sym (notes-after about took took' x more_taken)
+  -- a message was taken, and its content was told
+  pub passed_on : (about : A → About) (took took' : List (Message A M)) (told told' : List Note) (x : Message A M) (ns : List Note)
+      → told ≡ notes about took → took' ≡ took ++ x ∷ [] → told' ≡ told ++ ns → ns ≡ notes_of about x → told' ≡ notes about took'
+  passed_on about took took' told told' x ns same more_taken more_told is =
+      more_told ∙ ap (λ l. l ++ ns) same ∙ ap (λ l. notes about took ++ l) is ∙ sym (notes-after about took took' x more_taken)
 
 module _ {A B : Type 0} where
   -- the work was done on one record more, which waits or was given
@@ -76,3 +54,8 @@ module _ {A B : Type 0} where
 -- what is told goes on where what is added does
 pub going_told : (before after more : List Note) → after ≡ before ++ more → GoOn more → GoOn before → GoOn after
 going_told before after more is goes on = subst GoOn (sym is) (going_both before more on goes)
+
+-- so also if a message may have been refused
+pub going_anyhow : {R E : Type 0} (result : Result R E) (before after more : List Note) → OnOk result (after ≡ before ++ more) → OnErr result (after ≡ before) → GoOn more → GoOn before → GoOn after
+going_anyhow (Ok _) before after more is same goes on = going_told before after more is goes on
+going_anyhow (Err _) before after more is same goes on = subst GoOn (sym same) on

@@ -3,7 +3,7 @@ pub mod Numbering
 pub mod Opening
 pub mod Files
 pub mod Fans
-pub mod Gathering
+pub mod Faults
 pub mod Keeping
 pub mod MemFiles
 pub mod MemReads

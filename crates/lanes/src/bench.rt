@@ -48,15 +48,9 @@ impl<A: Staged, R: Wait, G: Gate> Bench<'_, A, R, G> {
         let Batch { mut items, home } = batch;
         for item in items.drain(..) {
             let next = self.work_on(item);
-            match self.filling.add(self.rt, to, next) {
-                Ok(()) => {}
-                Err(gone) => return Err(gone),
-            }
+            self.filling.add(self.rt, to, next)?;
         }
         home.send(self.rt, items);
-        match self.filling.give(self.rt, to) {
-            Ok(()) => Ok(()),
-            Err(gone) => Err(gone),
-        }
+        self.filling.give(self.rt, to)
     }
 }

@@ -9,8 +9,10 @@ ghost use Rattle.lanes.specs.Files.{AreToldWhole, AreReady};
 ghost use Rattle.lanes.specs.Stops.{drafts_stop};
 
 use crate::consumer::Consumer;
+use crate::fault::RunFault;
 use crate::numbered::Numbered;
 use std::alloc::{AllocError, Global};
+use std::convert::Infallible;
 use streams::Mark;
 
 /// The entries of one file received so far, and its mark if it has ended.
@@ -42,7 +44,7 @@ impl<E: Numbered> Drafts<E> {
         Ok(Drafts { files: drafts })
     }
 
-    /// Returns the drafts, which are ready if everything about their files was received.
+    /// Returns the draft of each file; it is complete if everything about the file was received.
     pub fn into_ready(self) -> Vec<Draft<E>>
         ensures count { vec_len result ≡ vec_len self.files }
         ensures ready { (choice : Choice) (meaning : ℕ → Meaning) (ns : List Note) → AreDrafts E.about 0 ns self.files.items
@@ -53,7 +55,7 @@ impl<E: Numbered> Drafts<E> {
 }
 
 impl<E: Numbered, M: Drop> Consumer<E, M> for Drafts<E> {
-    type Refusal = AllocError;
+    type Refusal = Infallible;
 
     ghost holds = { λ d ns. AreDrafts E.about 0 ns d.files.items };
 
@@ -63,19 +65,21 @@ impl<E: Numbered, M: Drop> Consumer<E, M> for Drafts<E> {
 
     ghost passed_on = { λ _. ⊤ };
 
-    fn item(&mut self, item: E) -> Result<(), AllocError>
+    fn item(&mut self, item: E) -> Result<(), RunFault<Infallible>>
         ensures taken { OnOk result ((ns : List Note) → AreDrafts E.about 0 ns self.old.files.items
             → AreDrafts E.about 0 (ns ++ Item (E.about item) ∷ []) self.new.files.items) }
         ensures stays { vec_len self.new.files ≡ vec_len self.old.files }
     {
         let file = item.file() as usize;
         if file < self.files.len() {
-            self.files[file].entries.push(item)?;
+            let Ok(()) = self.files[file].entries.push(item) else {
+                return Err(RunFault::Memory);
+            };
         }
         Ok(())
     }
 
-    fn end(&mut self, file: u32, mark: Mark, _known: M) -> Result<(), AllocError>
+    fn end(&mut self, file: u32, mark: Mark, _known: M) -> Result<(), RunFault<Infallible>>
         ensures taken { OnOk result ((ns : List Note) → AreDrafts E.about 0 ns self.old.files.items
             → AreDrafts E.about 0 (ns ++ End file mark ∷ []) self.new.files.items) }
         ensures stays { vec_len self.new.files ≡ vec_len self.old.files }
@@ -91,7 +95,7 @@ impl<E: Numbered, M: Drop> Consumer<E, M> for Drafts<E> {
         true
     }
 
-    fn flush(&mut self) -> Result<(), AllocError>
+    fn flush(&mut self) -> Result<(), RunFault<Infallible>>
         ensures same { self.new ≡ self.old }
     {
         Ok(())

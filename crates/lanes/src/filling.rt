@@ -1,4 +1,4 @@
-//! The items that the next message of a stage takes along.
+//! The items that a stage has collected for its next message.
 ghost use Rattle.std.specs.Prelude.{◌≡◌, ◌∷◌, ◌++◌, [], OnOk, IfSome, IfNone};
 ghost use Rattle.lanes.specs.Notes.{About, Item, notes_of, notes_of_items, GoOn};
 
@@ -16,10 +16,10 @@ pub const MOST_ITEMS: usize = 16;
 /// The number of lists that a stage fills in turn.
 const LISTS: usize = 4;
 
-/// The maximum number of items of a stage that are in lists, in messages of several or in those being filled.
+/// The maximum number of items in the lists of a stage: those in messages, and those being filled.
 pub const MOST_IN_LISTS: usize = LISTS * MOST_ITEMS;
 
-/// The items that the next message of a stage takes along, and the lists of earlier messages that have returned.
+/// The items that a stage has collected for its next message, and empty lists of earlier messages to reuse.
 ///
 /// A stage fills a few lists in turn, so that the records that wait in messages of several are no more than those in a
 /// full link of messages of one.
@@ -33,7 +33,7 @@ pub struct Filling<T: Drop> {
 }
 
 impl<T: Drop> Filling<T> {
-    /// No items. Without memory no list returns.
+    /// No items yet. If memory runs out, it works without reusing lists.
     pub fn new(alloc: Global) -> Filling<T>
         ensures { result.items.items ≡ [] }
     {
@@ -49,7 +49,7 @@ impl<T: Drop> Filling<T> {
         }
     }
 
-    /// Adds an item. Where there is no room for that, all of them are given at once.
+    /// Adds an item; if there is no room for it, sends the items so far and this one at once.
     pub fn add<M: Drop, R: Wait, O: Outlet<T, M>>(
         &mut self,
         rt: &R,
@@ -66,17 +66,11 @@ impl<T: Drop> Filling<T> {
             self.items.push_reserved(item);
             return Ok(());
         }
-        match self.give(rt, to) {
-            Ok(()) => {}
-            Err(gone) => return Err(gone),
-        }
-        match to.tell(rt, Message::Item(item)) {
-            Ok(()) => Ok(()),
-            Err(gone) => Err(gone),
-        }
+        self.give(rt, to)?;
+        to.tell(rt, Message::Item(item))
     }
 
-    /// Gives the items in one message, where there are any.
+    /// Sends the collected items in one message, if there are any.
     pub fn give<M: Drop, R: Wait, O: Outlet<T, M>>(
         &mut self,
         rt: &R,
@@ -87,17 +81,13 @@ impl<T: Drop> Filling<T> {
         ensures going { GoOn (O.told to.old) → GoOn (O.told to.new) }
         ensures stays { O.stays to.old to.new }
     {
-        let message = match self.next_message() {
-            Some(message) => message,
-            None => return Ok(()),
-        };
-        match to.tell(rt, message) {
-            Ok(()) => Ok(()),
-            Err(gone) => Err(gone),
+        match self.next_message() {
+            Some(message) => to.tell(rt, message),
+            None => Ok(()),
         }
     }
 
-    /// The items in one message, where there are any: one item alone without a list.
+    /// The items in one message, or `None` if there are none; a single item needs no list.
     fn next_message<M: Drop>(&mut self) -> Option<Message<T, M>>
         ensures told { IfSome result (λ message. (about : T → About) → notes_of about message ≡ notes_of_items about self.old.items.items) }
         ensures nothing { IfNone result (self.old.items.items ≡ []) }

@@ -39,12 +39,12 @@ pub trait Keep {
             ++ Item (record { file = file; ordinal = ordinal; bytes = rec; choice = choice }) ∷ []) }
         ensures stays { stays self.old self.new };
 
-    /// Called once all records were kept that one read completed, so that none waits for the next read.
+    /// Called once all records of a file were kept that one read completed, so that none waits for the next read.
     ///
     /// # Errors
     ///
     /// A reason of the implementation, as of `keep`.
-    fn pass_on(&mut self) -> Result<(), Self::Refusal>
+    fn pass_on(&mut self, file: u32) -> Result<(), Self::Refusal>
         ensures kept { OnOk result (kept self.new ≡ kept self.old) }
         ensures stays { stays self.old self.new };
 

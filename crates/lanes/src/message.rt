@@ -10,8 +10,9 @@ pub enum Message<T: Drop, M: Drop> {
     Item(T),
     /// What is known so far of several records, in order.
     Items(Batch<T>),
-    /// A file has ended with this mark, after all records read of it were given; the last field is what else is known
-    /// of that end.
+    /// The file with this number has ended with this mark; the last field is what else is known of that end.
+    ///
+    /// It is sent after all records read of the file.
     End(u32, Mark, M),
     /// No more messages follow.
     Stop,

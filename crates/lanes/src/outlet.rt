@@ -7,12 +7,18 @@ ghost use Rattle.lanes.specs.Notes.{About, Note, notes, notes_of};
 
 use crate::message::Message;
 use crate::numbered::Numbered;
-use ruled_lanes::{Giver, LaneGiver};
+use ruled_lanes::{Closed, Giver, LaneGiver};
 use std::sync::Wait;
 
 /// The error that the other end of a link or of the fan was gone.
 #[derive(Clone, Copy, Debug)]
 pub struct Gone;
+
+impl<T: Drop> From<Closed<T>> for Gone {
+    fn from(_refused: Closed<T>) -> Gone {
+        Gone
+    }
+}
 
 /// The end of a link, or of the fan at one lane, to which a stage gives its messages.
 ///
@@ -49,10 +55,7 @@ impl<T: Numbered, M: Drop> Outlet<T, M> for Giver<Message<T, M>> {
         ensures refused { OnErr result (notes T.about (given self.new) ≡ notes T.about (given self.old)) }
         ensures stays { GivesToSame self.old self.new }
     {
-        let Ok(()) = self.give(rt, message) else {
-            return Err(Gone);
-        };
-        Ok(())
+        Ok(self.give(rt, message)?)
     }
 
     ghost stays_itself = { λ x. refl };
@@ -72,10 +75,7 @@ impl<T: Numbered, M: Drop> Outlet<T, M> for LaneGiver<Message<T, M>> {
         ensures refused { OnErr result (notes T.about (given_at self.new) ≡ notes T.about (given_at self.old)) }
         ensures stays { GivesToSameLane self.old self.new }
     {
-        let Ok(()) = self.give(rt, message) else {
-            return Err(Gone);
-        };
-        Ok(())
+        Ok(self.give(rt, message)?)
     }
 
     ghost stays_itself = { λ x. (refl, refl) };

@@ -6,7 +6,7 @@ use std::sync::atomic::{AtomicU64, Ordering};
 /// A value that is no file's number.
 const NO_FILE: u64 = u32::MAX as u64;
 
-/// The number of the first file whose reading pauses, in one atomic word that all read stages share.
+/// An atomic word that all read stages share: the number of the first file whose reading is paused.
 ///
 /// One thread writes it. A pause has no influence on what is read.
 #[derive(Drop)]

@@ -43,7 +43,7 @@ impl<K: Keep> Receiver for Places<'_, K> {
             }
             ordinal += 1;
         }
-        match self.keep.pass_on() {
+        match self.keep.pass_on(self.file) {
             Ok(()) => Ok(()),
             Err(refusal) => Err(refusal),
         }

@@ -13,15 +13,16 @@ const NAPS: u32 = 5;
 /// The length of the first nap, in microseconds. Each is twice as long as the one before, so the five take 30 to 480.
 const NAP: u64 = 30;
 
-/// One end of a queue on which buffers return from one thread to another, or of none. The items in the queue have no
-/// influence on results: they are only buffers to be reused.
+/// One end of a queue that returns buffers from one thread to another, or an end without a queue.
+///
+/// The items in the queue have no influence on results: they are only buffers to be reused.
 #[derive(Drop)]
 pub struct ReturnQueue<T: Drop> {
     queue: Option<Arc<ArrayQueue<T>>>,
 }
 
 impl<T: Drop> ReturnQueue<T> {
-    /// No queue: what is sent is dropped, and nothing arrives.
+    /// An end without a queue: what is sent is dropped, and nothing arrives.
     pub fn none() -> ReturnQueue<T> {
         ReturnQueue { queue: None }
     }
@@ -67,7 +68,7 @@ impl<T: Drop> ReturnQueue<T> {
         }
     }
 
-    /// The item that has returned first, if there is any.
+    /// Takes the oldest item off the queue, or returns `None` at once if there is none.
     pub fn receive<R: Wait>(&self, rt: &R) -> Option<T> {
         match &self.queue {
             Some(queue) => queue.pop(rt),
@@ -75,7 +76,7 @@ impl<T: Drop> ReturnQueue<T> {
         }
     }
 
-    /// The item that returns first. If there is none, its thread naps a few times, for about a millisecond in all.
+    /// Takes the oldest item off the queue, or returns `None` if none arrives within about a millisecond of naps.
     pub fn await_item<R: Wait>(&self, rt: &R) -> Option<T> {
         let Some(queue) = &self.queue else {
             return None;

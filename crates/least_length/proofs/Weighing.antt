@@ -17,7 +17,7 @@ at_starts wires x = sum_below (length wires) (λ i. x (wire_at wires i).from * 1
 abbrev pub at_ends : List Wire → (ℕ → ℕ) → ℕ
 at_ends wires x = sum_below (length wires) (λ i. x (wire_at wires i).to * 1)
 
--- the coordinates of the segments that are before in pairs, and of those that are behind, each times the weight
+-- the coordinates of the segments that are first in pairs, and of those that are second, each times the weight
 abbrev pub before_weighed : List Sight → (ℕ → ℕ) → ℕ
 before_weighed sights x = sum_below (length sights) (λ i. x (sight_at sights i).before * (sight_at sights i).weight)
 

@@ -78,7 +78,7 @@ pub fn find_shortest(
     write_certified(scratch, segments, wires, coordinates)
 }
 
-/// Writes coordinates of least total length into `coordinates`, and returns whether any shorter than now were found.
+/// Looks for coordinates that shorten the wires; if it finds any, writes those of least total length and returns true.
 ///
 /// Exactly as [`find_shortest`], but also false if the wires are no shorter than with the segments' own coordinates.
 pub fn find_shorter(
@@ -100,8 +100,9 @@ pub fn find_shorter(
     Ok(measure(wires, coordinates.as_slice()) < measure_own(segments, wires))
 }
 
-/// Computes coordinates and weights in balance; false if there are too many segments or pairs, if a wire has an end that
-/// is no segment or a level above all segments, or if the search fails.
+/// Searches for coordinates, and for weights in balance; returns false if there are too many segments or pairs, if a
+/// wire has an end that is no segment or a level above all segments, or if the search fails. If true, the weights may
+/// still not be in balance, since the search stops after `MAX_PULLS` pulls on a segment; they are tested later.
 fn balance(scratch: &mut Scratch, segments: &[Segment], wires: &[Wire]) -> Result<bool, AllocError>
     requires { length wires.now ≤ MAX_WIRES }
     ensures { IfOk result (λ found. found ≡ true → ((i : ℕ) → i < length wires.now → HasEnds segments.now (wire_at wires.now i))) }

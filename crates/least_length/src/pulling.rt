@@ -66,8 +66,8 @@ impl Pulling {
         self.moved
     }
 
-    /// Computes weights in balance at each segment, and coordinates with which weighted pairs are adjacent; returns
-    /// whether it succeeded.
+    /// Searches for weights in balance at each segment, and coordinates with which weighted pairs are adjacent; returns
+    /// false if there are too many pairs or units cannot be sent. Balance is not proved, and missed after `MAX_PULLS`.
     ///
     /// The segments are in the order of their coordinates, and no level is above `top`.
     pub(crate) fn balance(
@@ -136,8 +136,8 @@ impl Pulling {
         Ok(())
     }
 
-    /// Sends units that pull a segment up to others, until no more pull it up than down, or `MAX_PULLS` have gone;
-    /// returns false if one cannot be sent.
+    /// Sends units that pull a segment up to others, until no more pull it up than down, or `MAX_PULLS` times.
+    /// Returns false if a send fails, and true otherwise: also if units are left after `MAX_PULLS` sends.
     fn relieve(&mut self, root: u16) -> Result<bool, AllocError>
         requires ready { IsReady self.old }
         requires root { root < vec_len self.old.coordinates }
@@ -155,8 +155,8 @@ impl Pulling {
         Ok(true)
     }
 
-    /// Sends units that pull a segment up along pairs to one that is pulled down; returns false if there is none, or a
-    /// weight has no room. If no pair leads on, all segments reached move up together until one does.
+    /// Sends units that pull a segment up along pairs to one that is pulled down. If no pair leads on, those reached
+    /// move up together until one does. Returns false if none is reached, or a coordinate or a weight has no room.
     fn send(&mut self, root: u16) -> Result<bool, AllocError>
         requires ready { IsReady self.old }
         requires root { root < vec_len self.old.coordinates }

@@ -6,7 +6,7 @@ use crate::balance::Balance;
 use crate::pulling::Pulling;
 use std::alloc::Global;
 
-/// Buffers that the computations on one axis after another reuse. Their contents between two calls do not matter.
+/// The buffers of a search or a certificate, reused for the next one. Their contents between two calls do not matter.
 #[derive(Drop)]
 pub struct Scratch {
     pub(crate) balance: Balance,

@@ -78,6 +78,7 @@ const OF_BOX: [(&[u16], &[(u16, u16, u32)], bool); 13] = [
     (&[0, 1, 2, 2, 3], &[], false),
 ];
 
+/// Only the shortest coordinates of a line are certified.
 #[test]
 fn rows_on_a_line_close_up(rt: HostRuntime) {
     let weights = [(0, 1, 1), (1, 2, 1)];
@@ -87,6 +88,7 @@ fn rows_on_a_line_close_up(rt: HostRuntime) {
     }
 }
 
+/// Only right coordinates and weights certify the box.
 #[test]
 fn a_box_is_held_apart_by_one_side(rt: HostRuntime) {
     for (coordinates, weights, wanted) in OF_BOX {
@@ -95,6 +97,7 @@ fn a_box_is_held_apart_by_one_side(rt: HostRuntime) {
     }
 }
 
+/// Weights that certify one drawing do not certify another.
 #[test]
 fn weights_are_of_one_drawing(rt: HostRuntime) {
     let lighter = [(0, 1, 1), (1, 2, 1), (2, 4, 1), (3, 4, 1)];

@@ -151,6 +151,7 @@ pub(crate) fn length_of(wires: &[Wire], coordinates: &[u16]) -> u32 {
     total
 }
 
+/// The least lengths are those found by hand.
 #[test]
 fn least_lengths_are_those_by_hand(rt: HostRuntime) {
     for (drawn, wanted) in DRAWINGS {

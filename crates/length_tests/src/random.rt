@@ -13,8 +13,8 @@ const LEAST: [u32; 10] = [
 /// Numbers of segments, and the least length of a drawing with this many.
 const LARGE_LEAST: [(u16, u32); 3] = [(300, 2_637), (600, 10_923), (1_000, 30_318)];
 
-/// The size of a drawing: how many segments, on how many levels and each on how many at most, and how many wires are
-/// tried.
+/// The size of a drawing: the number of segments, the number of levels, the greatest number of levels of a segment, and
+/// the number of wires that are tried.
 #[derive(Clone, Copy)]
 struct Size {
     count: u16,
@@ -146,6 +146,7 @@ fn hundred(lent: &mut Lent, first: u64) -> Result<u32, AllocError> {
     Ok(total)
 }
 
+/// The least lengths of small random drawings are those that LEMON found.
 #[test]
 fn random_drawings_are_as_short_as_by_lemon(rt: HostRuntime) {
     let mut lent = Lent::empty(rt.alloc());
@@ -163,6 +164,7 @@ fn large(lent: &mut Lent, count: u16) -> Result<u32, AllocError> {
     lent.least_length()
 }
 
+/// The least lengths of large random drawings are those that LEMON found.
 #[test]
 fn large_drawings_are_as_short_as_by_lemon(rt: HostRuntime) {
     let mut lent = Lent::empty(rt.alloc());

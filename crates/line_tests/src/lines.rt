@@ -9,7 +9,7 @@ use std::alloc::Global;
 const TRIANGLE: &str =
     "{\"points\":{\"vertices\":[[0,1],[1,1],[0,0]],\"corners\":[[],[],[[1,0]]]},\"bends\":1}";
 
-/// Lines that say no points, and why.
+/// Lines without points, and why they are refused.
 const REFUSED: [(&str, LineFault); 12] = [
     ("", LineFault::Malformed),
     ("{\"points\":", LineFault::Malformed),
@@ -43,13 +43,14 @@ const REFUSED: [(&str, LineFault); 12] = [
     ),
 ];
 
-/// The points of the vertices, in pairs with whether they are the list that is wanted, and the corners of the last edge.
+/// Whether a line has these points of vertices and three edges, the last of which has these corners.
 fn says(alloc: Global, line: &str, vertices: &[Point], last: &[Point]) -> Result<bool, LineFault> {
     let points = points_of_line(alloc, line.as_bytes())?;
     let edges = points.edge_count();
     Ok(points.vertices() == vertices && edges == 3 && points.corners(2) == last)
 }
 
+/// The points of a line are read in their order.
 #[test]
 fn points_come_in_order(rt: HostRuntime) {
     let vertices = [
@@ -61,6 +62,7 @@ fn points_come_in_order(rt: HostRuntime) {
     assert!(rt; said == Ok(true));
 }
 
+/// A line without points is refused with the reason.
 #[test]
 fn lines_without_points_are_refused(rt: HostRuntime) {
     for (line, fault) in REFUSED {
@@ -86,6 +88,7 @@ fn claims(
     Ok((bends_in(&value)?, outer_in(&value)?, angle, turn))
 }
 
+/// The claims of a line are read, and missing ones are `None`.
 #[test]
 fn claims_are_read(rt: HostRuntime) {
     let line = "{\"angles\":[3],\"turns\":[\"RL\",\"\"],\"bends\":2,\"outer\":7}";
@@ -93,6 +96,7 @@ fn claims_are_read(rt: HostRuntime) {
     assert!(rt; claims(rt.alloc(), TRIANGLE) == Ok((Some(1), None, None, None)));
 }
 
+/// A malformed claim is refused with the fault of its field.
 #[test]
 fn claims_are_refused(rt: HostRuntime) {
     for (line, fault) in [

@@ -1,10 +1,10 @@
 //! How long each stage takes, from a record to a checked drawing.
 
-ghost use Rattle.std.specs.Prelude.{◌≡◌, ◌*◌, IfOk, length};
+ghost use Rattle.std.specs.Prelude.{IfOk};
 ghost use Rattle.compact.specs.Monotone.{AreLeastPoints};
 ghost use Rattle.dissect.specs.Boxed.{IsBoxed};
-ghost use Rattle.faces.specs.Planes.{darts, vertices};
 ghost use Rattle.ortho_rep.specs.Representation.{IsShape};
+ghost use Rattle.drawing_check.specs.Draws.{HasPoints};
 
 use crate::files::{plane_of, records_of};
 use anyhow::{Result, bail, ensure};
@@ -223,8 +223,7 @@ fn timed_check<R: AllocGlobal + Clock>(
     points: Points,
 ) -> Result<Duration>
     requires shape { IsShape plane.now shape.now }
-    requires vertices { length points.vertices ≡ vertices plane.now }
-    requires corners { 2 * length points.corners ≡ darts plane.now }
+    requires points { HasPoints plane.now points }
 {
     let start = Instant::now(rt)?;
     if let Err((fault, _)) = check(rt.alloc(), plane, shape, points) {

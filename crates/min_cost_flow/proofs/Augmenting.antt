@@ -18,8 +18,8 @@ use Rattle.std.specs.Prelude.{length, slice_index_or}
 use Rattle.min_cost_flow.specs.Excess.{IsWithinCaps, Carries}
 use Rattle.min_cost_flow.specs.Residual.{IsMoved}
 use Rattle.networks.specs.declared.residual.Residual.{Residual}
-use Rattle.networks.specs.ResidualArcs.{end_at, cost_at, reverse_at, capacity_at, StartsAt, number_of, HasResidualArcs, units_of, IsCosted, AreResidualArcs, carried}
-use Rattle.networks.specs.Residuals.{IsResidualNetwork, IsSetTo, flow_of}
+use Rattle.networks.specs.ResidualArcs.{end_at, cost_at, reverse_at, capacity_at, StartsAt, number_of, HasResidualArcs, units_of, AreResidualArcs, carried}
+use Rattle.networks.specs.Residuals.{IsResidualNetwork, flow_of}
 use Rattle.min_cost_flow.specs.Path.{IsTight, HasTightPath, path_node, IsOnPath}
 use Rattle.min_cost_flow.specs.Round.{IsLess, carrying}
 use Rattle.min_cost_flow.specs.declared.state.Solver.{Solver}
@@ -135,14 +135,6 @@ is_paired net r v k n s b st =
       back_cost = subst (λ (t : ℕ). HasUnitCost r t) (sym e) (cost_in net r o.arc (opposite o.back) n s o.inside);
       capacity = omega (arith, both_fit net reverse forward (capacity_at r.capacities.items) r.arcs.items o.arc o.back f o.inside, s.limits o.arc o.inside);
     }
-
--- what fits along one residual arc changes no other cost
-pub still_costs : (r r' : Residual) (k units j : ℕ) (z : ℤ) → IsSetTo r r' k units → IsCosted r.arcs.items r.capacities.items j z → IsCosted r'.arcs.items r'.capacities.items j z
-still_costs r r' k units j z s h =
-    elim (cases_eq j k) [
-      | inl q ↦ subst (λ (t : ℕ). IsCosted r'.arcs.items r'.capacities.items t z) (sym q) (s.cost z (subst (λ (t : ℕ). IsCosted r.arcs.items r.capacities.items t z) q h))
-      | inr ne ↦ s.costs j ne ∙ h ∙ ap (λ (t : ℕ). cond (eqb t 0) (z +ℤ SATURATED) z) (sym (s.others j ne))
-    ]
 
 -- ---- what a push keeps
 

@@ -420,13 +420,6 @@ moved_more p p₀ p' q order j bound put done i b =
       | inr ne ↦ put.others (order i) ne ∙ done i (below_other order i j b ne)
     ]
 
-pub cleared_stays : (p p' : ℕ → ℤ) (u v : ℕ) → IsPut p p' u far → p v ≡ far → p' v ≡ far
-cleared_stays p p' u v put h =
-    elim (cases_eq v u) [
-      | inl t ↦ ap p' t ∙ put.here
-      | inr ne ↦ put.others v ne ∙ h
-    ]
-
 both_far : (a : ℤ) → a ≤ℤ far → far ≤ℤ a → a ≡ far
 both_far a h k = omega (arith, ints)
 

@@ -110,14 +110,14 @@ pub record IsSentAlong (net : NetworkModel) (s s' : Solver) : Type 0 where
   pub less : IsLess net (excess_at s) (excess_at s')
   pub carrying : carrying net (flow_in s') ≤ carrying net (flow_in s) + places_in s (last_node s) + 1
 
--- so many units fit along the path, and are within the excess where it starts and the deficit where it ends
+-- `amount` units fit along the path, and are within the excess where it starts and the deficit where it ends
 pub record IsFitting (s : Solver) (root amount : ℕ) : Type 0 where
   pub found : amount ≤ capacity_at s.residual.capacities.items s.found
   pub remaining : pos amount ≤ℤ excess_at s root
   pub short : (excess_at s (end_at s.residual.arcs.items s.found) +ℤ pos amount) ≤ℤ pos 0
   pub fits : (v : ℕ) → IsOnPath (previous_of s.residual.arcs.items s.residual.capacities.items (predecessors_in s)) (places_in s) (last_node s) v → 0 < places_in s v → amount ≤ capacity_into s.residual.capacities.items (predecessors_in s) v
 
--- so many units can go along the path, and no more
+-- `amount` units can go along the path, and no more
 pub record IsBottleneck (s : Solver) (root amount : ℕ) : Type 0 where
   pub some : 0 < amount
   pub fitting : IsFitting s root amount
@@ -139,7 +139,7 @@ pub record IsPaired (r : Residual) (k : ℕ) : Type 0 where
   pub back_cost : HasUnitCost r (reverse_at r.capacities.items k)
   pub capacity : capacity_at r.capacities.items k + capacity_at r.capacities.items (reverse_at r.capacities.items k) < 2 ^ 32
 
--- so many units went along residual arc k: less fits along it, and as much more along its reverse
+-- `amount` units went along residual arc k: less fits along it, and as much more along its reverse
 pub record IsPushedAlong (r r' : Residual) (k amount : ℕ) : Type 0 where
   pub first : r'.first ≡ r.first
   pub forward : r'.forward ≡ r.forward

@@ -55,6 +55,13 @@ impl Solved {
         self.potential[node as usize]
     }
 
+    /// The potentials, by node.
+    pub fn potentials(&self) -> &[i32]
+        ensures { result.now ≡ self.now.potential }
+    {
+        &self.potential
+    }
+
     /// The number of searches for a path.
     pub fn searches(&self) -> u32
         ensures { result ≡ self.now.searches }
@@ -62,7 +69,7 @@ impl Solved {
         self.searches
     }
 
-    /// The number of looks at residual arcs, in all searches.
+    /// The number of times that the searches examined a residual arc.
     pub fn looks(&self) -> u64
         ensures { result ≡ self.now.looks }
     {

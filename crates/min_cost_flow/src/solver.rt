@@ -102,7 +102,7 @@ impl Solver {
     }
 
     /// Augment: sends along the path as much as can go, at least one unit.
-    pub(crate) fn augment(&mut self, root: usize)
+    fn augment(&mut self, root: usize)
         requires { (net : NetworkModel) × CanAugment net self.old root }
         ensures sent { (net : NetworkModel) → CanAugment net self.old root → IsSentAlong net self.old self.new }
         ensures work { (self.new.searches ≡ self.old.searches) × (self.new.looks ≡ self.old.looks) }
@@ -139,7 +139,7 @@ impl Solver {
     }
 }
 
-/// The reason why there is no solution.
+/// The reason why no solution was returned.
 #[derive(Clone, Copy, Debug, PartialEq, Eq, Error)]
 pub enum SolveFault {
     /// No flow meets the supplies.
@@ -295,9 +295,8 @@ fn score_nodes(network: &Network, scores: &mut [i32])
     requires { IsNetwork network.now }
 {
     let supplies = network.supplies();
-    for (score, supply) in scores.iter_mut().zip(supplies) {
-        *score = *supply;
-    }
+    let scored = scores.len().min(supplies.len());
+    scores[..scored].copy_from_slice(&supplies[..scored]);
     for arc in network.arcs() {
         if arc.cost == 0 {
             if let Some(score) = scores.get_mut(arc.to as usize) {

@@ -12,7 +12,7 @@ pub struct Nodes {
     pub potential: Vec<i32>,
     /// How many units a node still has to send; below 0, its deficit.
     pub excess: Vec<i32>,
-    /// Of nodes that are as near the one with the least score is taken.
+    /// Of nodes at the same distance the one with the least score is taken.
     pub score: Vec<i32>,
 }
 

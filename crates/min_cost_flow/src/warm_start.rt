@@ -47,7 +47,7 @@ impl WarmStart {
         Ok(WarmStart { network, solver })
     }
 
-    /// Raises the supply of node `from` by `amount`, lowers that of `to` as much, and updates the flow at least cost.
+    /// Raises the supply of node `from` by `amount`, lowers that of `to` as much, and updates the flow to least cost.
     ///
     /// `None` if there is no flow any more; the old one is then gone too. It allocates nothing.
     pub fn shift(self, from: u32, to: u32, amount: u32) -> Option<WarmStart>
@@ -73,7 +73,7 @@ impl WarmStart {
         &self.network
     }
 
-    /// A copy of the flow and its potentials, with no work counted.
+    /// A copy of the flow and its potentials, whose counts of searches and looks are 0.
     ///
     /// # Errors
     /// `AllocError` if there is no memory for them.

@@ -1,4 +1,4 @@
--- What is left at each node once one has so many units more, and another so many less.
+-- What is left at each node once one has some units more, and another as many fewer.
 use Rattle.std.proofs.Common.{◌≡◌, ◌<◌, ◌≤◌, Bool, true, false, ℕ, length, List, cond, eqb, sym, ◌∙◌, subst, inl, inr, get_or, arith}
 use mir.Syntax.{w32}
 use mir.Val.{of_z, to_z}

@@ -38,7 +38,7 @@ behind n first arcs p e s q predecessor order place scanned ordered reached radi
       | inr h ↦ h
     ]
 
--- ---- labels that fall behind those that are ordered
+-- ---- labels that fall after those that are ordered
 
 lesser : (a x b : ℤ) → a ≡ x → x <ℤ b → a ≤ℤ b
 lesser a x b h l = omega (arith, ints)
@@ -62,7 +62,7 @@ put_lower q q' v w x put less =
       | inr ne ↦ same_le (q' w) (q w) (put.others w ne)
     ]
 
--- a residual arc from a scanned node serves a node, whose place is behind
+-- a residual arc from a scanned node serves a node, whose place comes after
 pub offered_entered : (n : ℕ) (first : List ℕ) (arcs : List ResidualArc) (p : ℕ → ℤ) (s : ℕ) (q q' : ℕ → ℤ) (place place' : ℕ → ℕ) (scanned : ℕ) (radius : ℤ) (k v : ℕ) (x : ℤ) → IsCandidate n first arcs p s q place scanned radius k v x → q' v ≡ x → AreLowered n scanned q place q' place' → scanned ≤ place' v → HasPredecessor n first arcs q' place' scanned v k
 offered_entered n first arcs p s q q' place place' scanned radius k v x o here kept behind =
     let same : (q' o.start ≡ q o.start) × (place' o.start ≡ place o.start) = kept.same o.start o.node o.labelled o.are_scanned in
@@ -537,21 +537,11 @@ reached_fits n first arcs p e s q predecessor order place scanned ordered reache
 pub offer_end : (n : ℕ) (first : List ℕ) (arcs : List ResidualArc) (p : ℕ → ℤ) (s : ℕ) (q : ℕ → ℤ) (place : ℕ → ℕ) (scanned : ℕ) (radius : ℤ) (k v : ℕ) (x : ℤ) → IsGraph n first arcs → IsCandidate n first arcs p s q place scanned radius k v x → v < n
 offer_end n first arcs p s q place scanned radius k v x g o = subst (λ (i : ℕ). i < n) o.arrives (g.end o.start k o.node o.leaves)
 
-pub offer_number : (n : ℕ) (first : List ℕ) (arcs : List ResidualArc) (p : ℕ → ℤ) (s : ℕ) (q : ℕ → ℤ) (place : ℕ → ℕ) (scanned : ℕ) (radius : ℤ) (k v : ℕ) (x : ℤ) → IsGraph n first arcs → IsCandidate n first arcs p s q place scanned radius k v x → k < 8192
-offer_number n first arcs p s q place scanned radius k v x g o = omega (arith, g.inside o.start o.node, o.leaves.below, g.few)
-
 pub at_radius : (q p x a radius : ℤ) → q ≡ x → a ≡ x -ℤ p → a ≡ radius → (q -ℤ p) ≤ℤ radius
 at_radius q p x a radius h k l = omega (arith, ints)
 
 pub offer_below : (n : ℕ) (first : List ℕ) (arcs : List ResidualArc) (p e : ℕ → ℤ) (s : ℕ) (q : ℕ → ℤ) (predecessor order place : ℕ → ℕ) (scanned ordered reached : ℕ) (radius : ℤ) (k v : ℕ) (x : ℤ) → IsReached n first arcs p e s q predecessor order place scanned ordered reached radius → IsCandidate n first arcs p s q place scanned radius k v x → v < n → x <ℤ far
 offer_below n first arcs p e s q predecessor order place scanned ordered reached radius k v x r o b = not_far x (q v) o.less (r.most v b)
-
-nothing_between : (x pv a bound : ℤ) → a ≡ x -ℤ pv → bound ≤ℤ a → (x -ℤ pv) <ℤ bound → ⊥
-nothing_between x pv a bound h k m = omega (arith, ints)
-
--- an offer that is no nearer than the bound is served
-pub offered_least : (x pv qv a bound : ℤ) → x <ℤ qv → a ≡ x -ℤ pv → bound ≤ℤ a → (x -ℤ pv) <ℤ bound → qv ≤ℤ x
-offered_least x pv qv a bound l h k m = absurd (nothing_between x pv a bound h k m)
 
 -- ---- what a residual arc of the node that is scanned offers
 
@@ -744,7 +734,7 @@ next_node n first arcs p e s q predecessor order place scanned ordered reached r
       high = r.here (order scanned) (r.node scanned b) l (omega arith);
     }
 
--- the same after labels that fall behind it
+-- the same once labels after it fall
 pub next_kept : (n : ℕ) (p : ℕ → ℤ) (s : ℕ) (q q' : ℕ → ℤ) (place place' : ℕ → ℕ) (scanned : ℕ) (radius : ℤ) (u : ℕ) → IsNext n p s q place scanned radius u → AreLowered n (scanned + 1) q place q' place' → IsNext n p s q' place' scanned radius u
 next_kept n p s q q' place place' scanned radius u x kept =
     let at : place u ≡ scanned = x.stands in

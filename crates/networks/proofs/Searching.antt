@@ -161,7 +161,7 @@ listed g s t step o nonnegative m =
       at = r.at t.ordered w;
     }
 
--- the same at the radius, where it was put behind those that are ordered
+-- the same at the radius, where it was put after those that are ordered
 pub node_labelled : (g : SearchInput) (s t u : Search) (step : Candidate) (away : ℤ) → HasCandidate g s step → pos 0 ≤ℤ excess_of g step.end → IsLabelled s t step → away ≡ step.label -ℤ potential_of g step.end → away ≡ t.radius → IsSwapped (orders t) (places t) (orders u) (places u) step.end (places t step.end) t.ordered → SameBesideOrder t u → u.ordered ≡ t.ordered + 1 → IsRelaxed g s u
 node_labelled g s t u step away o nonnegative m at same swap z up =
     let h = o.search in

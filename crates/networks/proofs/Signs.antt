@@ -24,15 +24,6 @@ label_fits z (a, b) = grind (arith, ints)
 pub is_less : (z k : ℤ) → SFits w32 z → lt_z (to_z w32 (of_z w32 z)) k ≡ true → z <ℤ k
 is_less z k f h = plain_lt z k (subst (λ (t : ℤ). lt_z t k ≡ true) (to_z-of_z w32 z f) h)
 
-pub is_no_less : (z k : ℤ) → SFits w32 z → lt_z (to_z w32 (of_z w32 z)) k ≡ false → k ≤ℤ z
-is_no_less z k f h = plain_ge z k (subst (λ (t : ℤ). lt_z t k ≡ false) (to_z-of_z w32 z f) h)
-
-pub both_less : (z k : ℤ) → SFits w32 z → SFits w32 k → lt_z (to_z w32 (of_z w32 z)) (to_z w32 (of_z w32 k)) ≡ true → z <ℤ k
-both_less z k f g h = is_less z k f (subst (λ (t : ℤ). lt_z (to_z w32 (of_z w32 z)) t ≡ true) (to_z-of_z w32 k g) h)
-
-pub both_no_less : (z k : ℤ) → SFits w32 z → SFits w32 k → lt_z (to_z w32 (of_z w32 z)) (to_z w32 (of_z w32 k)) ≡ false → k ≤ℤ z
-both_no_less z k f g h = is_no_less z k f (subst (λ (t : ℤ). lt_z (to_z w32 (of_z w32 z)) t ≡ false) (to_z-of_z w32 k g) h)
-
 -- the same of labels
 pub label_under : (z a k : ℤ) → to_z w16 (of_z w16 z) ≡ a → SFits w16 k → lt_z (to_z w16 (of_z w16 z)) (to_z w16 (of_z w16 k)) ≡ true → a <ℤ k
 label_under z a k e g h = plain_lt a k (rw (e, to_z-of_z w16 k g) at h)

@@ -55,7 +55,7 @@ pub record IsNetwork (net : NetworkModel) : Type 0 where
   pub supplies : HasSuppliesInRange net
   pub costs : HasUnitCosts net
 
--- so many units more at one place, and so many less at another
+-- k units more at one place, and k fewer at another
 abbrev pub raised : List ℤ → ℕ → ℕ → List ℤ
 raised units v k = slice_set units v (slice_index_or units v (pos 0) +ℤ pos k)
 

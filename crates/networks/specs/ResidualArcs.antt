@@ -61,7 +61,7 @@ pub record HasResidualArcs (net : NetworkModel) (first : List ℕ) (reverse : �
   pub alone : (i j : ℕ) (b c : Bool) → i < arc_count net → j < arc_count net → number_of reverse forward i b ≡ number_of reverse forward j c → (i ≡ j) × (b ≡ c)
   pub undone : (i : ℕ) → i < arc_count net → reverse (reverse (numbers forward i)) ≡ numbers forward i
 
--- how many units a capacity stands for; where there is no limit it never runs out
+-- how many units a capacity represents; without a limit it never runs out
 abbrev pub units_of : Cap → ℕ
 units_of (AtMost k) = k
 units_of Any = 2 ^ 30

@@ -27,7 +27,7 @@ pub record HasNumber (r : Residual) (k : ℕ) : Type 0 where
   pub arc : k < length r.arcs.items
   pub room : k < length r.capacities.items
 
--- so many units fit along residual arc k now, and all else stays
+-- `units` units fit along residual arc k now, and all else stays
 pub record IsSetTo (r r' : Residual) (k units : ℕ) : Type 0 where
   pub first : r'.first ≡ r.first
   pub forward : r'.forward ≡ r.forward

@@ -25,7 +25,7 @@ IsWithinFar z = ((pos 0 -ℤ far) ≤ℤ z) × (z ≤ℤ far)
 abbrev pub IsArcCost : ℤ → Type 0
 IsArcCost c = ((negsuc 0 ≤ℤ c) × (c ≤ℤ pos 1)) ⊎ (((SATURATED -ℤ pos 1) ≤ℤ c) × (c ≤ℤ (SATURATED +ℤ pos 1)))
 
--- so many nodes, and the residual arcs of each
+-- n nodes, and the residual arcs of each
 pub record IsGraph (n : ℕ) (first : List ℕ) (arcs : List ResidualArc) : Type 0 where
   pub nodes : n ≤ MAX_NODES
   pub few : length arcs ≤ MAX_RESIDUAL_ARCS
@@ -228,7 +228,7 @@ pub record IsReordered (g : SearchInput) (s s' : Search) : Type 0 where
   pub reached : s'.reached ≡ s.reached
   pub bound : s'.bound ≡ s.bound
 
--- the node at place j of the order waits behind those that are ordered
+-- the node at place j of the order waits after those that are ordered
 pub record IsWaiting (g : SearchInput) (s : Search) (j : ℕ) : Type 0 where
   pub search : IsSearch g s
   pub behind : s.ordered ≤ j
@@ -314,7 +314,7 @@ pub record HasEnd (s : Search) (step : Candidate) : Type 0 where
   pub node : step.end < length s.visits.now
   pub number : step.number < MAX_RESIDUAL_ARCS
 
--- a node stands in the order behind those that are ordered, and can change places with the first behind them
+-- a node comes in the order after those that are ordered, and can change places with the first after them
 pub record CanAdvance (s : Search) (v : ℕ) : Type 0 where
   pub few : length s.visits.now ≤ MAX_NODES
   pub node : v < length s.visits.now
@@ -344,7 +344,7 @@ pub record IsSwapped (order place order' place' : ℕ → ℕ) (v from to : ℕ)
   pub instead : order to ≢ v → place' (order to) ≡ from
   pub stay : (w : ℕ) → w ≢ v → w ≢ order to → place' w ≡ place w
 
--- a node has got a label and the residual arc by which it was reached, and where it had no label a place behind
+-- a node has got a label and the residual arc by which it was reached, and if it had no label a place after
 -- all others
 pub record IsLabelled (s s' : Search) (step : Candidate) : Type 0 where
   pub label : IsPut (labels s) (labels s') step.end step.label

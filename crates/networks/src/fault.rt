@@ -15,18 +15,18 @@ pub enum NetFault {
     /// There are more than 1,024 supplies or 4,096 arcs.
     #[error("more than 1024 nodes or 4096 arcs")]
     TooLarge,
-    /// An end of an arc is no node.
-    #[error("an arc has an end that is no node")]
+    /// An endpoint of an arc is out of range: no node has its number.
+    #[error("arc endpoint out of range")]
     BadEnd,
     /// A supply is above 2,048 in absolute value.
     #[error("a supply is above 2048 in absolute value")]
     BadSupply,
     /// An arc costs neither 0 nor 1.
-    #[error("an arc costs neither 0 nor 1")]
+    #[error("the cost of an arc is neither 0 nor 1")]
     BadCost,
 }
 
-/// Whether an arc has an end that is no node, one node for each supply.
+/// Whether an endpoint of an arc is out of range, where each supply is that of a node.
 pub(crate) fn has_bad_end(supplies: &[i32], arcs: &[Arc]) -> bool
     ensures some { result ≡ true → HasFault (net_of supplies.now arcs.now) NetFault.BadEnd }
     ensures none { result ≡ false → HasEnds (net_of supplies.now arcs.now) }

@@ -47,7 +47,7 @@ pub struct Search<'a> {
     pub reached: usize,
     /// The distance of the nodes that are scanned now.
     pub radius: i32,
-    /// The distance of the nearest node found with a deficit, or `FAR` where none was found.
+    /// The distance of the nearest node found with a deficit, or `FAR` if none was found.
     pub bound: i32,
     /// The residual arc that leads to that node.
     pub found: usize,

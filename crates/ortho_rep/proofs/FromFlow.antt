@@ -252,11 +252,6 @@ prove_of_potentials {marks} p net x q ends is flow fit = λ d b.
     (keeps_of_flow p net x ends is flow d b)
     corner.0 corner.1 crossing.0 crossing.1
 
--- a corner carries at most three units
-pub corner_few : {marks : List Bool} (p : PlaneModel) (net : NetworkModel) (x : ℕ → ℕ) (d : ℕ) → IsKeepingNet p marks net → Flow net x → d < darts p → x d ≤ 3
-corner_few p net x d is flow b =
-    subst (λ (arc : Arc). IsWithinCap arc.cap (x d)) (is.corner d b) (flow.within d (omega (arith, is.arcs)))
-
 -- a least-cost flow crosses no edge both ways: each crossing that is used gains what the bend costs
 pub one_sided_of_flow : {marks : List Bool} (p : PlaneModel) (net : NetworkModel) (x : ℕ → ℕ) (q : ℕ → ℤ) → HasEnds p → IsKeepingNet p marks net → Flow net x → HasPotentials net x q → (d : ℕ) → d < darts p → 0 < x (darts p + d) → x (darts p + reverse_dart p d) ≡ 0
 one_sided_of_flow {marks} p net x q ends is flow fit d b left =

@@ -1,5 +1,5 @@
 -- A representation that keeps edges straight is a flow in the network where nothing crosses them: a corner arc carries a
--- dart's angle less one, a crossing arc its left turns. So where there is no flow, there is no such representation.
+-- dart's angle less one, a crossing arc its left turns. So if there is no flow, there is no such representation.
 use Rattle.std.proofs.Common.{◌≡◌, ◌≤◌, ◌<◌, ℕ, ◌+◌, ◌-◌, Bool, true, false, cond, eqb, ltb, List, refl, sym, ap, ◌∙◌, subst, inl, inr, arith}
 use Rattle.std.specs.Prelude.{ℤ, pos, ◌+ℤ◌, ◌-ℤ◌}
 use Rattle.std.proofs.lemmas.Bool.{cases_lt, lt-ltb, le-ltb, cond-true, cond-false}
@@ -108,6 +108,6 @@ flow_of_rep p net a s ends is rep keeps = record {
   meets = meets_supplies p net a s ends is rep;
 }
 
--- where there is no flow, no representation keeps these edges straight
+-- if there is no flow, no representation keeps these edges straight
 pub none_without_flow : {marks : List Bool} (p : PlaneModel) (net : NetworkModel) → HasEnds p → IsKeepingNet p marks net → HasNoFlow net → HasNoneKeeping p marks
 none_without_flow p net ends is no_flow = λ a s rep keeps. no_flow (units_of p a s) (flow_of_rep p net a s ends is rep keeps)

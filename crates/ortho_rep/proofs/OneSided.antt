@@ -15,7 +15,7 @@ use Rattle.ortho_rep.specs.Repeats.{turns_in, HaveShapes}
 abbrev pub straight : DartShape
 straight = record { angle = 0; turn = Left; count = 0 }
 
--- a value of each item, where one more is put behind a list
+-- a value of each item, if one more is appended to a list
 mapped-more : {A : Type 0} (f : DartShape → A) (items : List DartShape) (one : DartShape) (n : ℕ) (none : A) (values : ℕ → A) → length items ≡ n →
     ((d : ℕ) → d < n → get_or (map f items) d none ≡ values d) → f one ≡ values n →
     (d : ℕ) → d < n + 1 → get_or (map f (items ++ one ∷ [])) d none ≡ values d

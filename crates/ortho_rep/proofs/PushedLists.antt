@@ -2,7 +2,7 @@
 use Rattle.std.proofs.Common.{◌≡◌, ◌≤◌, ◌<◌, ℕ, zero, suc, ◌+◌, ◌-◌, List, [], ◌∷◌, ◌++◌, length, get_or, take, drop, refl, sym, ap, ◌∙◌, subst, inl, inr, length-append, arith}
 use Rattle.std.specs.Prelude.{slice_range}
 use Rattle.std.proofs.lemmas.Bool.{cases_eq}
-use Rattle.std.proofs.lemmas.List.{get_or_append_left, get_or_at, drop-append-le, drop_at, take-append-le, take_all, length-drop, append_assoc}
+use Rattle.std.proofs.lemmas.List.{get_or_append_left, get_or_at, drop-append-le, drop_at, take-append-le, take_all, length-drop}
 use Rattle.ortho_rep.specs.Storage.{slices_at, AreStarts}
 use Rattle.ortho_rep.proofs.Pieces.{length-slices_at, get_or-slices_at}
 
@@ -15,12 +15,12 @@ pub record IsConcatenated {A : Type 0} (starts : List ℕ) (items : List A) (n :
   pub pieces : (k : ℕ) → k < n → (slice_of : List A) → IsPiece k slice_of →
       slice_range items (get_or starts k 0) (get_or starts (k + 1) 0) ≡ slice_of
 
--- a piece stays where more is put behind it
+-- a piece stays if more is appended
 pub slice_range-append : {A : Type 0} (xs ys : List A) (a b : ℕ) → a ≤ b → b ≤ length xs → slice_range (xs ++ ys) a b ≡ slice_range xs a b
 slice_range-append xs ys a b h k =
     ap (take (b - a)) (drop-append-le a xs ys (omega arith)) ∙ take-append-le (b - a) (drop a xs) ys (omega (arith, length-drop a xs))
 
--- and what is put behind is a piece
+-- and what is appended is a piece
 slice_range-behind : {A : Type 0} (xs ys : List A) → slice_range (xs ++ ys) (length xs) (length (xs ++ ys)) ≡ ys
 slice_range-behind xs ys =
     ap (take (length (xs ++ ys) - length xs)) (drop_at xs ys (length xs) refl) ∙ take_all (length (xs ++ ys) - length xs) ys (omega (arith, length-append xs ys))
@@ -77,7 +77,7 @@ concatenated-more {A} starts items more n IsPiece is this =
       ];
     }
 
--- what is put behind a list is one piece
+-- what is appended to a list is one piece
 one_behind : {A : Type 0} (items more other : List A) → items ++ more ≡ items ++ other → more ≡ other
 one_behind items more other same =
     sym (drop_at items more (length items) refl) ∙ ap (drop (length items)) same ∙ drop_at items other (length items) refl
@@ -88,15 +88,6 @@ pub concatenated-pushed : {A : Type 0} (starts starts' : List ℕ) (items items'
     IsConcatenated starts' items' (n + 1) IsPiece
 concatenated-pushed starts starts' items items' more n m IsPiece is all each long longer =
     rw (longer, long, all) (concatenated-more starts items more n IsPiece is (λ slice_of h. one_behind items more slice_of (sym all ∙ each slice_of h)))
-
--- one piece more, which comes in two parts
-pub concatenated-two : {A : Type 0} (starts starts' : List ℕ) (items middle items' one two : List A) (n m : ℕ) (piece_at : ℕ → List A) →
-    IsConcatenated starts items n (λ k slice_of. slice_of ≡ piece_at k) → one ++ two ≡ piece_at n → middle ≡ items ++ one → items' ≡ middle ++ two → m ≡ length items' →
-    starts' ≡ starts ++ m ∷ [] → IsConcatenated starts' items' (n + 1) (λ k slice_of. slice_of ≡ piece_at k)
-concatenated-two {A} starts starts' items middle items' one two n m piece_at is this first second long longer =
-    let all : items' ≡ items ++ (one ++ two) = second ∙ ap (λ (z : List A). z ++ two) first ∙ append_assoc items one two in
-    concatenated-pushed starts starts' items items' (one ++ two) n m (λ k slice_of. slice_of ≡ piece_at k) is all
-    (λ slice_of h. all ∙ ap (λ (z : List A). items ++ z) (this ∙ sym h)) long longer
 
 -- so the list can be cut there
 pub concatenated-AreStarts : {A : Type 0} (starts : List ℕ) (items : List A) (n : ℕ) (IsPiece : ℕ → List A → Type 0) → IsConcatenated starts items n IsPiece → AreStarts starts items

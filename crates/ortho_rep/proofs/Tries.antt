@@ -1,6 +1,5 @@
 -- The best of the faces that were tried.
-use Rattle.std.proofs.Common.{◌≡◌, ◌≤◌, ◌<◌, ◌+◌, ◌-◌, ◌*◌, ℕ, max, ◌⊎◌, inl, inr, List, [], length, slice_index, set, replicate, get_or-set_other, get_or-set_same, sym, ap, ◌∙◌, subst, below_more, arith}
-use Rattle.std.proofs.lemmas.Bool.{cases_eq}
+use Rattle.std.proofs.Common.{◌≡◌, ◌≤◌, ◌<◌, ◌+◌, ◌-◌, ◌*◌, ℕ, ◌⊎◌, inl, inr, List, [], replicate, sym, ap, ◌∙◌, subst, below_more, arith}
 use Rattle.std.proofs.lemmas.List.{get_or-replicate}
 use Rattle.std.specs.Prelude.{ℤ, pos, ◌+ℤ◌, ◌-ℤ◌, ◌*ℤ◌}
 use borrow.Author.Differences.{up, down}
@@ -73,10 +72,6 @@ best_of p incumbent is all = record {
 pub moved_again : (p q r : PlaneModel) (outer face : ℕ) → q ≡ with_outer p outer → r ≡ with_outer q face → r ≡ with_outer p face
 moved_again p q r outer face first second = second ∙ ap (λ (m : PlaneModel). with_outer m face) first
 
--- it is the plane, with the outer face that it has then
-pub turned_own : (p q : PlaneModel) (face : ℕ) → q ≡ with_outer p face → q ≡ with_outer p q.outer
-turned_own p q face once = once ∙ sym (ap (λ (m : PlaneModel). with_outer p m.outer) once)
-
 -- what is known of faces of the plane with another outer face is known of the plane, and the other way
 pub incumbent_moved : (p q : PlaneModel) (outer : ℕ) (incumbent : Incumbent) → q ≡ with_outer p outer → IsIncumbent q incumbent → IsIncumbent p incumbent
 incumbent_moved p q outer incumbent outer_moved is =
@@ -147,33 +142,10 @@ bound_of_potentials p net bends ps face bound own other ends outer inside is sho
     let priced : bends_of (darts p) (strings_of p x) + 8 * up other + 8 * down own ≤ bends_of (darts p) s + 8 * up own + 8 * down other = rw (of_own, of_other) more in
     omega (arith, ints, priced, sum, bends_are_cost p net x ends is shown.flow, shown.costs)
 
--- bounds of the plane with another outer face are bounds of the plane, and the other way
-pub bounds_moved : (p q : PlaneModel) (outer : ℕ) (bounds : List ℕ) → q ≡ with_outer p outer → AreBounds q bounds → AreBounds p bounds
-bounds_moved p q outer bounds outer_moved are =
-    let was = subst (λ (m : PlaneModel). AreBounds m bounds) outer_moved are in
-    record { each = was.each }
-
-pub bounds_moving : (p q : PlaneModel) (outer : ℕ) (bounds : List ℕ) → q ≡ with_outer p outer → AreBounds p bounds → AreBounds q bounds
-bounds_moving p q outer bounds outer_moved are =
-    let will : AreBounds (with_outer p outer) bounds = record { each = are.each } in
-    subst (λ (m : PlaneModel). AreBounds m bounds) (sym outer_moved) will
-
 -- to begin with, no bends are needed
 pub no_bounds : (p : PlaneModel) (n : ℕ) → p.faces ≤ n → AreBounds p (replicate n 0)
 no_bounds p n few = record {
   each = λ f b a s rep. omega (arith, get_or-replicate {A = ℕ} n f 0 0 (omega arith));
-}
-
--- one bound is raised
-pub bound_raised : (p : PlaneModel) (bounds : List ℕ) (face bound : ℕ) → face < length bounds → AreBounds p bounds → NeedsBends (with_outer p face) bound → AreBounds p (set bounds face (max (slice_index bounds face) bound))
-bound_raised p bounds face bound inside are needs = record {
-  each = λ f b.
-      let most = max (slice_index bounds face) bound in
-      elim (cases_eq f face) [
-        | inl e ↦ subst (λ (k : ℕ). NeedsBends (with_outer p k) (slice_index (set bounds face most) k)) (sym e)
-            (λ a s rep. omega (arith, get_or-set_same bounds face most 0 inside, are.each face (omega arith) a s rep, needs a s rep))
-        | inr ne ↦ λ a s rep. omega (arith, get_or-set_other bounds face f most 0 ne, are.each f b a s rep)
-      ];
 }
 
 -- a plane with another outer face is one

@@ -6,11 +6,11 @@ use Rattle.faces.specs.Planes.{PlaneModel, HasGreatestOuter, darts, with_outer}
 use Rattle.ortho_rep.specs.declared.turn.Turn.{Turn}
 use Rattle.ortho_rep.specs.Representation.{Rep, bends_of}
 
--- some representation of p with its outer face has so many bends
+-- some representation of p with its outer face has this number of bends
 abbrev pub HasRep : PlaneModel → ℕ → Type 0
 HasRep p bends = (a : ℕ → ℕ) × (s : ℕ → List Turn) × (Rep p a s) × (bends_of (darts p) s ≡ bends)
 
--- each representation of p with its outer face has at least so many bends
+-- each representation of p with its outer face has at least this number of bends
 abbrev pub NeedsBends : PlaneModel → ℕ → Type 0
 NeedsBends p bends = (a : ℕ → ℕ) (s : ℕ → List Turn) → Rep p a s → bends ≤ bends_of (darts p) s
 

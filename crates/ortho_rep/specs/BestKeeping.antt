@@ -7,11 +7,11 @@ use Rattle.ortho_rep.specs.declared.best.Incumbent.{Incumbent}
 use Rattle.ortho_rep.specs.Representation.{Rep, bends_of}
 use Rattle.ortho_rep.specs.Keeping.{Keeps, HasNoneKeeping}
 
--- some representation of p with its outer face keeps these edges straight and has so many bends
+-- some representation of p with its outer face keeps these edges straight and has this number of bends
 abbrev pub HasRepKeeping : PlaneModel → List Bool → ℕ → Type 0
 HasRepKeeping p marks bends = (a : ℕ → ℕ) × (s : ℕ → List Turn) × (Rep p a s) × (Keeps p marks s) × (bends_of (darts p) s ≡ bends)
 
--- each representation that does has at least so many
+-- each representation that keeps them straight has at least this number
 abbrev pub NeedsBendsKeeping : PlaneModel → List Bool → ℕ → Type 0
 NeedsBendsKeeping p marks bends = (a : ℕ → ℕ) (s : ℕ → List Turn) → Rep p a s → Keeps p marks s → bends ≤ bends_of (darts p) s
 
@@ -34,7 +34,7 @@ pub record IsBestKeeping (p : PlaneModel) (marks barred : List Bool) : Type 0 wh
 abbrev pub HasNoFace : PlaneModel → List Bool → List Bool → Type 0
 HasNoFace p marks barred = (f : ℕ) → f < p.faces → IsOpen barred f → HasNoneKeeping (with_outer p f) marks
 
--- the face f is no better than one with so many bends
+-- the face f is no better than `face`, with which this number of bends is needed
 pub record IsNoBetterKeeping (p : PlaneModel) (marks : List Bool) (bends face f : ℕ) : Type 0 where
   pub fewest : NeedsBendsKeeping (with_outer p f) marks bends
   pub first : HasRepKeeping (with_outer p f) marks bends → face ≤ f
@@ -51,12 +51,12 @@ abbrev pub IsTriedBefore : PlaneModel → List Bool → List Bool → ℕ → Op
 IsTriedBefore p marks barred n (Some incumbent) = IsBestBefore p marks barred n incumbent
 IsTriedBefore p marks barred n None = (f : ℕ) → f < n → IsOpen barred f → HasNoneKeeping (with_outer p f) marks
 
--- how many bends are needed with the plane's outer face, where there is a representation
+-- how many bends are needed with the plane's outer face, or `None` if there is no representation
 abbrev pub IsCounted : PlaneModel → List Bool → Option ℕ → Type 0
 IsCounted p marks (Some bends) = HasRepKeeping p marks bends × NeedsBendsKeeping p marks bends
 IsCounted p marks None = HasNoneKeeping p marks
 
--- the better one of the best face so far and a face with which so many bends are needed, if there is a representation
+-- the better one of the best face so far and `face`, with which this number of bends is needed, or none will do
 abbrev pub better_of : Option Incumbent → ℕ → Option ℕ → Option Incumbent
 better_of best face None = best
 better_of None face (Some bends) = Some (record { face = face; bends = bends })

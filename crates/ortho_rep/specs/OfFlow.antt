@@ -5,7 +5,7 @@ use Rattle.faces.specs.Planes.{PlaneModel, darts, reverse_dart}
 use Rattle.ortho_rep.specs.declared.turn.Turn.{Turn}
 use Rattle.ortho_rep.specs.declared.turn.Turn.TheVariants.{Left, Right}
 
--- so many left turns and then so many right turns
+-- l left turns and then r right turns
 abbrev pub lefts_then_rights : ℕ → ℕ → List Turn
 lefts_then_rights l r = replicate l Left ++ replicate r Right
 

@@ -19,7 +19,7 @@ pub record AreRepeats (darts : List DartShape) : Type 0 where
   pub few : length darts ≤ MAX_DARTS
   pub short : All (λ dart. dart.count ≤ MAX_REPEATS) darts
 
--- so many darts have the angles a and the strings s
+-- the first n darts have the angles a and the strings s
 pub record HaveShapes (a : ℕ → ℕ) (s : ℕ → List Turn) (n : ℕ) (found : List DartShape) : Type 0 where
   pub count : length found ≡ n
   pub angle : (d : ℕ) → d < n → angle_at (shape_in found) d ≡ a d

@@ -22,7 +22,7 @@ pub record IsNoWorse (incumbent other : Incumbent) : Type 0 where
   pub fewer : incumbent.bends ≤ other.bends
   pub first : incumbent.bends ≡ other.bends → incumbent.face ≤ other.face
 
--- the face f is no better than one with so many bends: at least as many are needed with it, and where as few
+-- the face f is no better than `face`, with this number of bends: at least as many are needed with it, and if as few
 -- suffice it has no lesser number
 pub record IsNoBetter (p : PlaneModel) (bends face f : ℕ) : Type 0 where
   pub fewest : NeedsBends (with_outer p f) bends

@@ -272,8 +272,8 @@ fn bound(plane: &Plane, moving: &Moving, bends: u64, potentials: &[i32], face: u
     moved_bound(bends, own, other)
 }
 
-/// So many bends, and eight more for each unit by which the other potential is above the own one, or eight
-/// fewer for each by which it is below, but not less than 0.
+/// `bends`, plus eight for each unit by which the other potential is above the own one, or minus eight
+/// for each unit by which it is below, but at least 0.
 fn moved_bound(bends: u64, own: i32, other: i32) -> u64
     requires few { bends < 2 ^ 48 }
     ensures { (result ≡ 0) ⊎ (pos result ≡ pos bends +ℤ pos 8 *ℤ (other -ℤ own)) }

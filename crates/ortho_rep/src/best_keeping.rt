@@ -8,13 +8,13 @@ ghost use Rattle.ortho_rep.specs.Prices.{IsProofKeeping};
 ghost use Rattle.ortho_rep.specs.BestKeeping.{IsBestKeeping, HasNoFace, IsTriedBefore, IsCounted, better_of};
 
 use crate::best::Incumbent;
-use crate::fault::ShapeFault;
 use crate::least::least_shape_keeping_in;
 use crate::prices::Prices;
 use crate::scratch::Scratch;
 use crate::shape::Shape;
 use faces::Plane;
 use flow_network::has_mark;
+use min_cost_flow::SolveFault;
 use std::alloc::{AllocError, Global};
 
 /// Makes the best face that is not barred the outer one; returns a least shape that keeps marked edges straight.
@@ -26,20 +26,20 @@ use std::alloc::{AllocError, Global};
 ///
 /// # Errors
 ///
-/// `NoShape` exactly if, memory aside, no face that is not barred has a shape that keeps these edges straight; `Memory`
+/// `Infeasible` exactly if, memory aside, no face that is not barred has a shape that keeps these edges straight; `Memory`
 /// if memory runs out for the network, its flow, the shape or the prices. The plane is then unchanged.
 pub fn best_shape_keeping(
     alloc: Global,
     plane: &mut Plane,
     straight: &[bool],
     barred: &[bool],
-) -> Result<(Shape, Prices), ShapeFault>
+) -> Result<(Shape, Prices), SolveFault>
     ensures outer_moved { OnOk result (plane.new ≡ with_outer plane.old plane.new.outer) }
     ensures best { OnOk result (IsBestKeeping plane.new straight.now barred.now) }
     ensures shape { IfOk result (λ found. IsShape plane.new found.0) }
     ensures least { IfOk result (λ found. IsLeastKeeping plane.new straight.now found.0) }
     ensures proof { IfOk result (λ found. IsProofKeeping plane.new straight.now found.0 found.1) }
-    ensures none { IfErr result (λ fault. fault ≡ ShapeFault.NoShape → HasNoFace plane.old straight.now barred.now) }
+    ensures none { IfErr result (λ fault. fault ≡ SolveFault.Infeasible → HasNoFace plane.old straight.now barred.now) }
     ensures unchanged { OnErr result (plane.new ≡ plane.old) }
 {
     let outer = plane.outer();
@@ -60,20 +60,20 @@ fn best_found(
     plane: &mut Plane,
     straight: &[bool],
     barred: &[bool],
-) -> Result<(Shape, Prices), ShapeFault>
+) -> Result<(Shape, Prices), SolveFault>
     ensures outer_moved { plane.new ≡ with_outer plane.old plane.new.outer }
     ensures best { OnOk result (IsBestKeeping plane.new straight.now barred.now) }
     ensures shape { IfOk result (λ found. IsShape plane.new found.0) }
     ensures least { IfOk result (λ found. IsLeastKeeping plane.new straight.now found.0) }
     ensures proof { IfOk result (λ found. IsProofKeeping plane.new straight.now found.0 found.1) }
-    ensures none { IfErr result (λ fault. fault ≡ ShapeFault.NoShape → HasNoFace plane.old straight.now barred.now) }
+    ensures none { IfErr result (λ fault. fault ≡ SolveFault.Infeasible → HasNoFace plane.old straight.now barred.now) }
 {
     match best_face(alloc, scratch, plane, straight, barred)? {
         Some(incumbent) => {
             plane.set_outer(incumbent.face);
             least_shape_keeping_in(alloc, scratch, plane, straight)
         }
-        None => Err(ShapeFault::NoShape),
+        None => Err(SolveFault::Infeasible),
     }
 }
 
@@ -119,8 +119,8 @@ fn bends_with(
             prices.give_back(scratch);
             Ok(Some(bends))
         }
-        Err(ShapeFault::NoShape) => Ok(None),
-        Err(ShapeFault::Memory) => Err(AllocError),
+        Err(SolveFault::Infeasible) => Ok(None),
+        Err(SolveFault::Memory) => Err(AllocError),
     }
 }
 

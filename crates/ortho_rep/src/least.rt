@@ -4,7 +4,7 @@
 ghost use Rattle.std.specs.Prelude.{◌≡◌, ◌+◌, ◌<◌, ◌≤◌, ◌++◌, [], ℕ, Bool, List, OnOk, IfOk, IfErr, length, map, replicate, slice_index, slice_index_or, vec_len, ◌^◌};
 ghost use Rattle.std.specs.List.{range_with_len};
 ghost use Rattle.faces.specs.Planes.{darts, vertices};
-ghost use Rattle.networks.specs.Flow.{HasNoFlow, Solves, amounts, at_nodes};
+ghost use Rattle.networks.specs.Flow.{Solves, amounts, at_nodes};
 ghost use Rattle.flow_network.specs.FaceNet.{IsKeepingNet, IsSomeNetOf};
 ghost use Rattle.ortho_rep.specs.declared.turn.TheConstants.{MAX_REPEATS};
 ghost use Rattle.ortho_rep.specs.OfFlow.{angles_of, strings_of};
@@ -13,7 +13,6 @@ ghost use Rattle.ortho_rep.specs.Representation.{IsShape, IsLeast};
 ghost use Rattle.ortho_rep.specs.Keeping.{IsLeastKeeping, HasNoneKeeping};
 ghost use Rattle.ortho_rep.specs.Prices.{IsProof, IsProofKeeping};
 
-use crate::fault::ShapeFault;
 use crate::prices::Prices;
 use crate::repeats::DartShape;
 use crate::scratch::{Scratch, ShapeLists};
@@ -22,7 +21,7 @@ use crate::turn::Turn;
 use common::emptied;
 use faces::Plane;
 use flow_network::FaceNet;
-use min_cost_flow::{Network, SolveFault, Solved, solve_in};
+use min_cost_flow::{SolveFault, Solved, solve_in};
 use std::alloc::{AllocError, Global};
 use std::mem;
 
@@ -61,8 +60,8 @@ pub fn least_shape_in(
 {
     match least_shape_keeping_in(alloc, scratch, plane, &[]) {
         Ok(solution) => Ok(solution),
-        Err(ShapeFault::Memory) => Err(AllocError),
-        Err(ShapeFault::NoShape) => unreachable!(),
+        Err(SolveFault::Memory) => Err(AllocError),
+        Err(SolveFault::Infeasible) => unreachable!(),
     }
 }
 
@@ -73,18 +72,18 @@ pub fn least_shape_in(
 ///
 /// # Errors
 ///
-/// `NoShape` exactly if no representation keeps these edges straight, memory aside, and `Memory` if memory runs out for
+/// `Infeasible` exactly if no representation keeps these edges straight, memory aside, and `Memory` if memory runs out for
 /// the network, its flow, the shape or the prices.
 pub fn least_shape_keeping(
     alloc: Global,
     plane: &Plane,
     straight: &[bool],
-) -> Result<(Shape, Prices), ShapeFault>
+) -> Result<(Shape, Prices), SolveFault>
     ensures shape { IfOk result (λ found. IsShape plane.now found.0) }
     ensures least { IfOk result (λ found. IsLeastKeeping plane.now straight.now found.0) }
     ensures proof { IfOk result (λ found. IsProofKeeping plane.now straight.now found.0 found.1) }
-    ensures none { IfErr result (λ fault. fault ≡ ShapeFault.NoShape → HasNoneKeeping plane.now straight.now) }
-    ensures always { straight.now ≡ [] → IfErr result (λ fault. fault ≡ ShapeFault.Memory) }
+    ensures none { IfErr result (λ fault. fault ≡ SolveFault.Infeasible → HasNoneKeeping plane.now straight.now) }
+    ensures always { straight.now ≡ [] → IfErr result (λ fault. fault ≡ SolveFault.Memory) }
 {
     let mut scratch = Scratch::empty(alloc);
     least_shape_keeping_in(alloc, &mut scratch, plane, straight)
@@ -102,17 +101,17 @@ pub fn least_shape_keeping_in(
     scratch: &mut Scratch,
     plane: &Plane,
     straight: &[bool],
-) -> Result<(Shape, Prices), ShapeFault>
+) -> Result<(Shape, Prices), SolveFault>
     ensures shape { IfOk result (λ found. IsShape plane.now found.0) }
     ensures least { IfOk result (λ found. IsLeastKeeping plane.now straight.now found.0) }
     ensures proof { IfOk result (λ found. IsProofKeeping plane.now straight.now found.0 found.1) }
-    ensures none { IfErr result (λ fault. fault ≡ ShapeFault.NoShape → HasNoneKeeping plane.now straight.now) }
-    ensures always { straight.now ≡ [] → IfErr result (λ fault. fault ≡ ShapeFault.Memory) }
+    ensures none { IfErr result (λ fault. fault ≡ SolveFault.Infeasible → HasNoneKeeping plane.now straight.now) }
+    ensures always { straight.now ≡ [] → IfErr result (λ fault. fault ≡ SolveFault.Memory) }
 {
     // Only the proof needs this: `graph` says that the plane is one.
     let _graph = plane.graph();
     let net = FaceNet::build_keeping_in(alloc, &mut scratch.net, plane, straight)?;
-    let solved = least_flow(alloc, &mut scratch.solver, net.network())?;
+    let solved = solve_in(alloc, &mut scratch.solver, net.network())?;
     let made = shape_in(alloc, &mut scratch.lists, plane, &net, &solved)?;
     solved.give_back(&mut scratch.solver);
     net.give_back(&mut scratch.net);
@@ -145,22 +144,6 @@ pub(crate) fn shape_in(
         Shape::of_darts(darts),
         Prices::concatenated(prices, usize::from(vertices)),
     ))
-}
-
-/// A flow of least cost in a network; `NoShape` where it has no flow.
-fn least_flow(
-    alloc: Global,
-    scratch: &mut min_cost_flow::Scratch,
-    network: &Network,
-) -> Result<Solved, ShapeFault>
-    ensures solves { IfOk result (λ solved. Solves network.now solved) }
-    ensures none { IfErr result (λ fault. fault ≡ ShapeFault.NoShape → HasNoFlow network.now) }
-{
-    match solve_in(alloc, scratch, network) {
-        Ok(solved) => Ok(solved),
-        Err(SolveFault::Memory) => Err(ShapeFault::Memory),
-        Err(SolveFault::Infeasible) => Err(ShapeFault::NoShape),
-    }
 }
 
 /// What the crossing arc of a dart carries.
@@ -223,7 +206,7 @@ fn dart_shape(plane: &Plane, net: &FaceNet, solved: &Solved, dart: u16) -> DartS
     }
 }
 
-/// The potentials of the vertices followed by those of the faces, in the buffer of one list.
+/// The potentials of the vertices followed by those of the faces, as in the network, in the buffer of one list.
 fn prices_in(
     lent: Vec<i32>,
     plane: &Plane,
@@ -235,14 +218,8 @@ fn prices_in(
     ensures { IfOk result (λ prices. prices.items
         ≡ map (at_nodes solved.now.potential) (range_with_len 0 (vertices plane.now + plane.now.faces))) }
 {
-    let vertices = plane.graph().vertices();
-    let faces = plane.face_count();
-    let mut prices = emptied(lent, usize::from(vertices) + usize::from(faces))?;
-    for place in 0..vertices {
-        prices.push(solved.potential(net.vertex_node(place + 1)))?;
-    }
-    for face in 0..faces {
-        prices.push(solved.potential(net.face_node(face)))?;
-    }
+    let potentials = solved.potentials();
+    let mut prices = emptied(lent, potentials.len())?;
+    prices.extend_from_slice(potentials)?;
     Ok(prices)
 }

@@ -5,7 +5,6 @@
 mod best;
 mod best_keeping;
 mod certificate;
-mod fault;
 mod flat_points;
 mod least;
 mod lists;
@@ -21,9 +20,9 @@ mod turn;
 pub use best::best_shape;
 pub use best_keeping::best_shape_keeping;
 pub use certificate::{certify, certify_keeping};
-pub use fault::ShapeFault;
 pub use least::{least_shape, least_shape_in, least_shape_keeping, least_shape_keeping_in};
 pub use lists::FlatLists;
+pub use min_cost_flow::SolveFault;
 pub use points::{MAX_COORDINATE, Point, Points};
 pub use prices::Prices;
 pub use repeats::DartShape;

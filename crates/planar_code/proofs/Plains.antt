@@ -1,9 +1,9 @@
 -- The plain splitter goes list by list and record by record.
-use Rattle.std.proofs.Common.{◌≡◌, ◌≢◌, ℕ, ◌+◌, ◌-◌, ◌<◌, ◌≤◌, List, [], ◌∷◌, ◌++◌, inl, inr, length, take, drop, get_or, refl, sym, ap, subst, ◌∙◌, arith, append_assoc, append-nil, length-append}
+use Rattle.std.proofs.Common.{◌≡◌, ◌≢◌, ℕ, ◌+◌, ◌-◌, ◌<◌, ◌≤◌, List, [], ◌∷◌, ◌++◌, inl, inr, length, take, drop, get_or, sym, ap, subst, ◌∙◌, arith, append_assoc, append-nil, length-append}
 use Rattle.std.specs.List.{concat}
 use Rattle.std.proofs.lemmas.List.{take-append-drop, take_rest, length-drop}
 use Rattle.std.proofs.Math.Seq.{take-add}
-use Rattle.std.proofs.lemmas.List.Elements.{All-push, All-nil}
+use Rattle.std.proofs.lemmas.List.Elements.{All-push}
 use Rattle.planar_code.specs.declared.TheConstants.{MAX_RECORDS}
 use Rattle.planar_code.specs.declared.ending.Ending.{Ending}
 use Rattle.planar_code.specs.declared.ending.Ending.TheVariants as ending
@@ -56,10 +56,6 @@ module _ (body : List ℕ) (records : List (List ℕ)) (rest : List ℕ) (h : Ha
         few = omega (arith, room);
       })
 
--- no records yet
-pub has_split-none : (body : List ℕ) → HasSplit body [] body
-has_split-none body = record { concatenated = refl; each = All-nil IsRecord; few = omega arith }
-
 -- the list after the first bytes of a record ends there
 pub ends-next : (bytes : List ℕ) (at remaining n : ℕ) → at ≤ length bytes → EndsList (take at bytes) remaining (take (length bytes - at) (drop at bytes)) (end.After n) → (at + n ≤ length bytes) × (1 < remaining → IsStarted (take (at + n) bytes) (remaining - 1) 0) × (remaining ≡ 1 → IsRecord (take (at + n) bytes))
 ends-next bytes at remaining n within h =
@@ -68,10 +64,6 @@ ends-next bytes at remaining n within h =
       (λ more. subst (λ z. IsStarted z (remaining - 1) 0) (sym (take-add at n bytes)) (e.2 more)),
       (λ last. subst IsRecord (sym (take-add at n bytes)) (e.3 last)),
     )
-
--- the bytes from a place on, after those before it, are all
-pub ends-whole : (bytes : List ℕ) (at : ℕ) → take at bytes ++ take (length bytes - at) (drop at bytes) ≡ bytes
-ends-whole bytes at = ap (λ z. take at bytes ++ z) (take_rest bytes at) ∙ take-append-drop at bytes
 
 -- no bytes are left
 pub none-remaining : (rest : List ℕ) → length rest ≡ 0 → rest ≡ []

@@ -12,7 +12,7 @@ use Rattle.planar_code.specs.FramerState.{FramerState, Early, After, Goes, HasNo
 use Rattle.planar_code.specs.Framer.{framer_state_at, IsBefore}
 use Rattle.planar_code.specs.Step.{FramerSteps}
 use Rattle.planar_code.proofs.Scanning.{take-first}
-use Rattle.planar_code.proofs.LeadsTo.{goes_more, goes_whole, goes_early, goes_with_header, fails_many, fails_large, fails_oversize, fails_header}
+use Rattle.planar_code.proofs.LeadsTo.{goes_more, goes_whole, goes_early, goes_with_header, fails_many, fails_large, fails_oversize}
 
 early-runs : (front : List ℕ) → HasNotFailed (Early front)
 early-runs front f e = cc
@@ -44,11 +44,6 @@ step-with_header passed records rest text before some last same =
       subst (Goes (Early (take passed HEADER)) (take 1 text) []) state
           (subst (λ z. Goes (Early (take passed HEADER)) z [] (After 0 [])) (sym (take-first text some)) (goes_with_header passed (get_or text 0 0) last same)),
     )
-
--- a byte that is not the header's
-pub step-header : (passed records : ℕ) (rest text : List ℕ) (new : FramerState) → IsBefore (phase.Header passed) records rest → 0 < length text → (get_or text 0 0 ≡ get_or HEADER passed 0 → ⊥) → FramerSteps (framer_state_at (phase.Header passed) records rest) text new (Err fault.Header)
-step-header passed records rest [] new before some other = absurd (omega arith)
-step-header passed records rest (x ∷ text) new before some other = fails_header passed x text before.0 other
 
 -- a byte after the last record
 pub step-many : (records : ℕ) (rest text : List ℕ) (new : FramerState) → records ≡ MAX_RECORDS → 0 < length text → FramerSteps (After records rest) text new (Err fault.Many)

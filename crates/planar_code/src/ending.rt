@@ -13,7 +13,7 @@ pub enum Ending {
     Large,
     /// A neighbour list has more than 254 entries.
     Oversize,
-    /// Memory ran out for a record, whatever the bytes are.
+    /// Memory ran out for a record; this can happen with any bytes.
     Memory,
     /// More bytes follow the millionth record.
     Many,

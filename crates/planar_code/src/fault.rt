@@ -6,10 +6,10 @@ use thiserror::Error;
 #[derive(Clone, Copy, Debug, PartialEq, Eq, Hash, Error)]
 pub enum FeedFault {
     /// A byte differs from the header.
-    #[error("the stream does not begin with the planar code header")]
+    #[error("the input does not begin with >>planar_code<<")]
     Header,
     /// A record begins with byte 0.
-    #[error("a record begins with byte 0")]
+    #[error("a record begins with byte 0; the two-byte form is not supported")]
     Large,
     /// A neighbour list has a 255th entry.
     #[error("a neighbour list has more than 254 entries")]
@@ -18,7 +18,7 @@ pub enum FeedFault {
     #[error("out of memory")]
     Memory,
     /// A byte follows the last of 1,000,000 records.
-    #[error("there are more than 1000000 records")]
+    #[error("more than 1000000 records")]
     Many,
 }
 

@@ -64,7 +64,7 @@ pub fn records_begin()
         → (later : List (List ℕ)) × (all ≡ records ++ later) }
 {}
 
-/// If a framer has not failed, more bytes of its stream may come.
+/// The stream of a framer that has not failed can go on with more bytes.
 pub fn running_may_go_on()
     ensures { (state : FramerState) (stream : List ℕ) (records : List (List ℕ))
         → HasNotFailed state

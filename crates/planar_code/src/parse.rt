@@ -13,10 +13,10 @@ use thiserror::Error;
 #[derive(Clone, Copy, Debug, PartialEq, Eq, Hash, Error)]
 pub enum ParseFault {
     /// The bytes are a proper prefix of a record, or there are none.
-    #[error("the bytes end before the record does")]
+    #[error("the record is incomplete")]
     Unfinished,
     /// The first byte is 0, which is not a valid number of vertices. A framer calls this fault `Large`.
-    #[error("the record begins with byte 0")]
+    #[error("the record begins with byte 0; the two-byte form is not supported")]
     Order,
     /// A neighbour list has a 255th entry.
     #[error("a neighbour list has more than 254 entries")]

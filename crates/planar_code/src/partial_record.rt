@@ -13,7 +13,7 @@ use std::marker::Model;
 /// The maximum number of bytes of a record: its first byte, and 255 lists of 254 entries and a 0.
 pub(crate) const MAX_BYTES: usize = 65_026;
 
-/// The bytes of the partial record, with room for the longest record.
+/// The bytes of a record that is only partly read, with room for the longest record.
 ///
 /// If there are any, `remaining` lists are not yet ended, including the partial one, which has `entries` entries so
 /// far.

@@ -10,13 +10,13 @@ use crate::record::Record;
 use crate::{HEADER, MAX_LIST, MAX_RECORDS};
 use std::alloc::{AllocError, Global};
 
-/// The place where the first list or record in some bytes ends, or the reason why there is none.
+/// Where the first list or record in some bytes ends, or why it does not.
 pub enum End {
-    /// After this many bytes.
+    /// It ends after this many bytes.
     After(usize),
-    /// Not yet: it has not ended.
+    /// The bytes end before it does.
     Truncated,
-    /// Nowhere, since a list has more than 254 entries.
+    /// A list has more than 254 entries.
     Oversize,
 }
 

@@ -12,8 +12,7 @@ use crate::fault::FeedFault;
 pub enum Scan {
     /// The record ends after this many bytes.
     Whole(usize),
-    /// The record is still partial after all of them: this many lists remain, and the partial list has this many
-    /// entries.
+    /// The record is still partial: `remaining` lists are not yet ended, and the partial one has `entries` entries.
     Open { remaining: u8, entries: u8 },
 }
 

@@ -1,16 +1,25 @@
 //! `planarbend`: draws the graphs of planar_code files with the fewest bends.
 #![tactic(auto)]
 
-use commands::{ErrorConsole, OutputSink, SharedTerminal, StandardInput, run};
+use commands::{ErrorConsole, OutputSink, SharedTerminal, SystemFiles, if_open, place_holder, run};
 use std::io;
 use std::io::IsTerminal;
 use std::process::ExitCode;
 
 fn main(rt: HostRuntime) -> ExitCode {
-    let input = StandardInput::new(rt.stdin());
+    let files = SystemFiles {
+        rt: &rt,
+        input: if_open(rt.stdin()),
+    };
+    // Held to the end: otherwise a file that is opened later could be taken for a stream that is closed.
+    let _held = (
+        place_holder(&rt, rt.stdin()),
+        place_holder(&rt, rt.stdout()),
+        place_holder(&rt, rt.stderr()),
+    );
     let console = ErrorConsole::new(&rt, rt.stderr());
     let is_terminal = rt.stdout().is_terminal();
     let mut out = OutputSink::new(SharedTerminal::new(io::writer(&rt), is_terminal, &console));
     let mut err = OutputSink::new(rt.stderr());
-    run(&rt, &input, &console, &mut out, &mut err)
+    run(&rt, &files, &console, &mut out, &mut err)
 }

@@ -12,13 +12,10 @@ use Rattle.ortho_rep.specs.Points.{PointsModel}
 use Rattle.ortho_rep.specs.Prices.{PricesModel, IsProof}
 use Rattle.ortho_rep.specs.Representation.{IsShape, IsLeast, bends_of}
 use Rattle.ortho_rep.specs.Best.{IsChosen}
-use Rattle.drawing_check.specs.Draws.{Draws}
-use Rattle.drawing_check.specs.Regions.{HasRegions}
-use Rattle.entries.specs.Drawn.{HasPoints}
 use Rattle.conditions.specs.declared.conditions.Conditions.{Conditions}
 use Rattle.conditions.specs.Chosen.{IsKept}
+use Rattle.answers.specs.Drawings.{IsDrawing}
 use Rattle.answers.specs.Kept.{AreDrawnStraight}
-use Rattle.entries.specs.Lengths.{IsNear, IsNoLonger}
 use Rattle.planarbend_c.specs.declared.counts.Counts.{Counts}
 use Rattle.planarbend_c.specs.declared.laid.Layout.{Layout}
 use Rattle.planarbend_c.specs.declared.lists.DartTurns.{DartTurns}
@@ -26,17 +23,6 @@ use Rattle.planarbend_c.specs.declared.lists.GridPoint.{GridPoint}
 use Rattle.planarbend_c.specs.Held.{ListsModel, HasRoom, Holds}
 
 -- ---- what is found
-
--- points and corners for the whole plane, which draw the shape
-pub record IsDrawing (plane : PlaneModel) (shape : ShapeModel) (points : PointsModel) : Type 0 where
-  pub whole : HasPoints plane points
-  pub draws : Draws plane shape points
-  -- the regions are the faces, each on the left of its darts, and the outer one is outside
-  pub regions : HasRegions plane points
-  -- the edges are together no longer than in a quick drawing of the same shape
-  pub no_longer : IsNoLonger plane shape points
-  -- for n vertices and b bends each coordinate is less than 3n + 2b + 5
-  pub near : IsNear plane shape points
 
 -- points that draw the shape, where a drawing is asked for
 abbrev pub IsDrawnIfAsked : PlaneModel → ShapeModel → Option PointsModel → Type 0
@@ -92,7 +78,7 @@ pub record IsFoundKeeping (conditions : Conditions) (choice : Choice) (bytes : L
 
 -- ---- how it is told
 
--- so many turns to the left, and so many to the right
+-- these numbers of turns to the left and to the right
 abbrev pub both_turns : ℕ → ℕ → DartTurns
 both_turns left right = record { left = left; right = right }
 
@@ -155,7 +141,7 @@ pub record HavePointRoom (counts : Counts) (lists : ListsModel) : Type 0 where
   pub starts : HasRoom lists.corner_starts (counts.edges + 1)
   pub corners : HasRoom lists.corners counts.corners
 
--- each list has room for what is counted; those of points need some only where there is a drawing
+-- each list has room for what is counted; those of points need some only if there is a drawing
 pub record HaveRoom (drawn : Bool) (counts : Counts) (lists : ListsModel) : Type 0 where
   pub angles : HasRoom lists.angles (2 * counts.edges)
   pub turns : HasRoom lists.turns (2 * counts.edges)

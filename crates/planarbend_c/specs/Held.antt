@@ -25,7 +25,7 @@ contents lists = record {
   corners = lists.corners.now;
 }
 
--- a list has room for so many items, or is left out
+-- a list has room for `count` items, or is left out
 abbrev pub HasRoom : {A : Type 0} → List A → ℕ → Type 0
 HasRoom list count = 0 < length list → count ≤ length list
 

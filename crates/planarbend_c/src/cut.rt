@@ -5,7 +5,7 @@ ghost use Rattle.planarbend_c.specs.Cuts.{HoldsCut, HoldsMarks, cut_contents};
 
 use conditions::Unkept;
 
-/// The output of a call if no shape keeps the edges straight: marks of a cut that proves it.
+/// The output lists of a call in which no shape keeps the edges straight: marks of a cut that proves it.
 ///
 /// The cut is a set of vertices and faces that turn more than can leave it.
 ///
@@ -14,7 +14,7 @@ use conditions::Unkept;
 pub struct CutLists<'a> {
     pub vertices: &'a mut [u8],
     pub faces: &'a mut [u8],
-    /// The number of the outer face with which it is so.
+    /// The number of the outer face for which the cut proves it.
     pub outer: u32,
 }
 

@@ -7,7 +7,7 @@ ghost use Rattle.conditions.specs.declared.conditions.Conditions.{Conditions};
 ghost use Rattle.ortho_rep.specs.Prices.{HasPrices};
 ghost use Rattle.entries.specs.declared.cause.Cause.TheVariants.{Wide};
 ghost use Rattle.entries.specs.Drawn.{IsCause};
-ghost use Rattle.answers.specs.Kept.{IsKeptPlane, IsKeptFault};
+ghost use Rattle.answers.specs.Kept.{IsKeptPlane, IsUnkept};
 ghost use Rattle.planarbend_c.specs.Cuts.{cut_contents};
 ghost use Rattle.planarbend_c.specs.Found.{IsDrawnIfAsked, AreStraightIfAsked, IsFoundKeeping, finding, finding_of};
 ghost use Rattle.planarbend_c.specs.Faults.{IsKeepingFault};
@@ -16,7 +16,7 @@ use crate::cut::{CutLists, put_cut};
 use crate::laid::Layout;
 use crate::layout::parsed;
 use crate::outcome::Outcome;
-use answers::{KeptFault, KeptPlane, RecordScratch};
+use answers::{KeptPlane, RecordScratch};
 use common::{Choice, DrawingKind};
 use compact::CompactFault;
 use conditions::{Conditions, KeepFault};
@@ -64,8 +64,10 @@ fn laid_keeping(
 {
     let mut scratch = RecordScratch::empty(alloc);
     let kept = match scratch.shape_keeping(alloc, rec, conditions, choice) {
-        Ok(kept) => kept,
-        Err(fault) => return Err(unkept(fault, cut)),
+        Ok(Ok(kept)) => kept,
+        Ok(Err(fault)) => return Err(unkept(fault, cut)),
+        Err(ReadFault::Rule(rule)) => return Err(Outcome::Refused(rule)),
+        Err(ReadFault::Memory) => return Err(Outcome::Memory),
     };
     match drawn_keeping(alloc, &mut scratch, &kept, kind) {
         Ok(drawing) => Ok(laid_kept(kept, drawing)),
@@ -93,22 +95,20 @@ fn laid_kept(kept: KeptPlane, drawing: Option<Points>) -> Layout
     }
 }
 
-/// The outcome of a call if a record has no shape that keeps the conditions for this reason. If none keeps the edges
-/// straight, the cut is written.
-fn unkept(fault: KeptFault, cut: &mut CutLists<'_>) -> Outcome
+/// The outcome of a call if the plane of a record has no shape that keeps the conditions for this reason. If none keeps
+/// the edges straight, the cut is written.
+fn unkept(fault: KeepFault, cut: &mut CutLists<'_>) -> Outcome
     ensures { (conditions : Conditions) (choice : Choice) (bytes : List ℕ) → IsRecord bytes
-        → IsKeptFault conditions choice bytes fault → IsKeepingFault conditions choice bytes (cut_contents cut.new) result }
+        → IsUnkept conditions choice bytes fault → IsKeepingFault conditions choice bytes (cut_contents cut.new) result }
 {
     match fault {
-        KeptFault::Record(ReadFault::Rule(rule)) => Outcome::Refused(rule),
-        KeptFault::Record(ReadFault::Memory) => Outcome::Memory,
-        KeptFault::Conditions(KeepFault::NoShape(why)) => {
+        KeepFault::NoShape(why) => {
             put_cut(cut, &why);
             Outcome::NoShape
         }
-        KeptFault::Conditions(KeepFault::NoEdge) => Outcome::NoEdge,
-        KeptFault::Conditions(KeepFault::NoOuter) => Outcome::NoOuter,
-        KeptFault::Conditions(KeepFault::Memory) => Outcome::Memory,
+        KeepFault::NoEdge => Outcome::NoEdge,
+        KeepFault::NoOuter => Outcome::NoOuter,
+        KeepFault::Memory => Outcome::Memory,
     }
 }
 

@@ -60,12 +60,12 @@ pub(crate) const STAR: Figure = Figure {
 /// The corners of four edges without bends.
 pub(crate) const FOUR: [&[Place]; 4] = [&[]; 4];
 
-/// The shape of a figure, or nothing where memory is refused.
+/// The shape of a figure; `None` if memory runs out.
 pub(crate) fn shape_in(alloc: Global, figure: &Figure) -> Option<Shape> {
     test_inputs::shape_in(alloc, figure.angles, figure.strings)
 }
 
-/// What `check` answers where its conditions hold.
+/// The result of `check`, once its conditions are seen to hold.
 pub(crate) fn answer(
     rt: &impl Abort,
     alloc: Global,
@@ -79,7 +79,7 @@ pub(crate) fn answer(
     check(alloc, plane, shape, points)
 }
 
-/// The fault that `check` finds, if any, and the one that it then finds with the points that come back.
+/// The fault that `check` finds, if any, and the one that a second call finds with the points returned.
 fn faults_of(
     rt: &impl Abort,
     alloc: Global,
@@ -96,7 +96,7 @@ fn faults_of(
     }
 }
 
-/// The same of points at these places, or nothing where memory is refused before.
+/// The same for points at these places; `None` if memory runs out before.
 pub(crate) fn faults_at(
     rt: &impl Abort,
     alloc: Global,
@@ -187,7 +187,7 @@ const DRAWINGS: [(&Figure, &[Place], &[&[Place]], Option<CheckFault>); 15] = [
         &FOUR,
         Some(CheckFault::WrongTurn),
     ),
-    // A corner where nothing turns, and one too few.
+    // A corner at which the edge does not turn, and one corner too few.
     (
         &EDGE,
         &[(0, 0), (2, 0)],
@@ -202,6 +202,7 @@ const DRAWINGS: [(&Figure, &[Place], &[&[Place]], Option<CheckFault>); 15] = [
     ),
 ];
 
+/// Each drawing has the first fault that was found by hand, also at a second call.
 #[test]
 fn drawings_by_hand(rt: HostRuntime) {
     for (figure, vertices, corners, fault) in DRAWINGS {
@@ -210,8 +211,8 @@ fn drawings_by_hand(rt: HostRuntime) {
     }
 }
 
-// Run with each allocation refused in turn too: where memory is wanting, a second call draws the points that
-// come back.
+// If memory runs out, the points come back, and a second call accepts them.
+// To be run with each allocation refused in turn, too.
 #[test]
 fn refused_memory_gives_the_points_back(rt: HostRuntime) {
     let vertices = [(0, 0), (3, 0), (3, 3), (1, 3), (1, 1)];
@@ -239,7 +240,7 @@ const FAULTS: [(&[Place], CheckFault); 3] = [
     ),
 ];
 
-// The first three conditions are named, whatever memory there is.
+// The first three conditions are checked without taking memory.
 #[test]
 fn three_conditions_need_no_memory(rt: HostRuntime) {
     for (vertices, fault) in FAULTS {

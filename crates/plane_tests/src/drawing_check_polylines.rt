@@ -40,7 +40,7 @@ fn line_of(number: usize) -> [Place; 5] {
     line
 }
 
-/// 1 where the second number is greater, -1 where it is less, and else 0.
+/// 1 if the second number is greater, -1 if it is smaller, 0 if they are equal.
 fn way(from: u32, to: u32) -> i8 {
     if from < to {
         1
@@ -58,8 +58,8 @@ fn meet(one: [Place; 2], other: [Place; 2]) -> bool {
     a.min(c) <= e.max(g) && e.min(g) <= a.max(c) && b.min(d) <= f.max(h) && f.min(h) <= b.max(d)
 }
 
-/// The first condition that a line breaks which is to turn to the left at each place. (Two parts that follow one
-/// another at a right angle have only their end in common.)
+/// The first condition broken by a line that is to turn to the left at each place. (Two parts that follow one another
+/// at a right angle have only their end in common.)
 fn plain_fault(line: [Place; 5]) -> Option<CheckFault> {
     let [a, b, c, d, e] = line;
     if line
@@ -100,6 +100,7 @@ fn place_of(found: Option<CheckFault>) -> usize {
     }
 }
 
+// Each line has the fault that the plain reading finds.
 // How often each answer comes was counted by a program that lists all places of a line.
 #[test]
 fn lines_have_the_plain_fault(rt: HostRuntime) {

@@ -8,15 +8,16 @@ use test_inputs::record_of;
 use test_tools::records::{EDGE, OCTAHEDRON, STAR, TETRAHEDRON, TRIANGLE};
 use test_tools::same;
 
+/// The faults of records and graphs have their messages.
 #[test]
 fn faults_have_messages(rt: HostRuntime) {
     let rule = ReadFault::Rule(Rule::Multi);
     let text = format!(in rt.alloc(); "{rule}, {}, {}", ReadFault::Memory, ParseFault::Long);
-    let want = "a rule is broken: multi, out of memory, more bytes follow the record";
+    let want = "the graph breaks rule multi, out of memory, more bytes follow the record";
     same!(&rt, text.expect(&rt, "memory").as_str(), want);
 }
 
-/// Whether a graph with so many edges was read; if not, there was no memory.
+/// Checks that a graph with this many edges was read, or that memory ran out; returns whether it was read.
 fn is_read(rt: &impl Abort, graph: Result<Graph, ReadFault>, edges: u16) -> bool {
     match graph {
         Ok(graph) => {
@@ -30,7 +31,7 @@ fn is_read(rt: &impl Abort, graph: Result<Graph, ReadFault>, edges: u16) -> bool
     }
 }
 
-/// Reads a record twice. Where one allocation is refused, the other reading succeeds.
+/// Reads a record twice. If an allocation of one reading is refused, the other reading succeeds.
 fn read_twice(rt: &impl Abort, alloc: Global, bytes: &[u8], edges: u16) {
     let Some(record) = record_of(alloc, bytes) else {
         return;
@@ -40,6 +41,7 @@ fn read_twice(rt: &impl Abort, alloc: Global, bytes: &[u8], edges: u16) {
     assert!(rt; first || second);
 }
 
+/// If memory runs out, the fault says so, and a second reading succeeds.
 /// To be run with each allocation refused in turn.
 #[test]
 fn refused_memory_is_told(rt: HostRuntime) {
@@ -50,7 +52,7 @@ fn refused_memory_is_told(rt: HostRuntime) {
     read_twice(&rt, rt.alloc(), STAR, 4);
 }
 
-/// A record that breaks a rule is refused with it, whatever memory there is.
+/// A record that breaks a rule is refused with it, without taking memory.
 #[test]
 fn broken_rules_take_no_memory(rt: HostRuntime) {
     let Some(record) = record_of(rt.alloc(), &[2, 2, 2, 0, 1, 1, 0]) else {
@@ -86,7 +88,7 @@ fn expect_triangle(rt: &impl Abort, graph: &Graph) {
     }
 }
 
-/// What is read off a record and a graph takes no memory.
+/// Reading off records and graphs takes no memory.
 #[test]
 fn readers_take_no_memory(rt: HostRuntime) {
     let Some(record) = record_of(rt.alloc(), TRIANGLE) else {

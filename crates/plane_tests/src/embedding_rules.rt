@@ -7,7 +7,7 @@ use test_inputs::{read, record_of};
 use test_tools::records::{EDGE, TETRAHEDRON, TETRAHEDRON_ON_A_TORUS};
 use test_tools::same;
 
-/// The rule that a graph's faces break, if any.
+/// The rule that the faces of a graph break, if any.
 fn broken_by_faces(alloc: Global, graph: Graph) -> Result<Option<Rule>, AllocError> {
     match Plane::trace(alloc, graph) {
         Ok(_) => Ok(None),
@@ -16,7 +16,7 @@ fn broken_by_faces(alloc: Global, graph: Graph) -> Result<Option<Rule>, AllocErr
     }
 }
 
-/// The rule that a record is refused with, if any, where there is memory.
+/// The rule that a record is refused with, if any; an error if memory runs out.
 fn broken(alloc: Global, bytes: &[u8]) -> Result<Option<Rule>, AllocError> {
     match read(alloc, bytes) {
         Ok(graph) => broken_by_faces(alloc, graph),
@@ -55,6 +55,7 @@ const RECORDS: [(&[u8], Option<Rule>); 16] = [
     ),
 ];
 
+/// Each record is refused with the first rule that it breaks.
 #[test]
 fn each_rule_is_named(rt: HostRuntime) {
     for (bytes, rule) in RECORDS {
@@ -62,7 +63,8 @@ fn each_rule_is_named(rt: HostRuntime) {
     }
 }
 
-/// The same rules are found without a graph. `checks/refuse-allocations` sees that this takes no memory.
+/// The same rules are found without a graph.
+/// `checks/refuse-allocations` tests that this takes no memory.
 #[test]
 fn rules_are_found_in_no_memory(rt: HostRuntime) {
     for (bytes, rule) in RECORDS {
@@ -112,7 +114,8 @@ fn torus(alloc: Global, columns: u8, rows: u8) -> Result<Vec<u8>, AllocError> {
     Ok(bytes)
 }
 
-/// A grid on a torus has as many faces as vertices. This one has as many edges as a graph has at most.
+/// A grid on a torus breaks the last rule, since it has as many faces as vertices.
+/// This one has as many edges as a graph can have.
 #[test]
 fn a_large_torus_breaks_the_last_rule(rt: HostRuntime) {
     let bytes = torus(rt.alloc(), 15, 17).expect(&rt, "memory");
@@ -121,6 +124,7 @@ fn a_large_torus_breaks_the_last_rule(rt: HostRuntime) {
     same!(&rt, broken(rt.alloc(), &bytes), Ok(Some(Rule::Genus)));
 }
 
+/// Each rule has its word.
 #[test]
 fn rules_have_their_words(rt: HostRuntime) {
     let words = [

@@ -10,7 +10,7 @@ use test_tools::records::{
 };
 use test_tools::same;
 
-/// How many vertices, edges and faces there are, which face is the outer one, and its degree.
+/// The numbers of vertices, edges and faces, the outer face, and its degree.
 fn counts(plane: &Plane) -> (u8, u16, u16, u16, u16) {
     (
         plane.graph().vertices(),
@@ -21,12 +21,13 @@ fn counts(plane: &Plane) -> (u8, u16, u16, u16, u16) {
     )
 }
 
-/// The same for a record, where there is memory and it is one of a plane.
+/// The counts of the plane of a record; `None` if memory runs out or the graph is not planar as embedded.
 fn counts_of(alloc: Global, bytes: &[u8]) -> Option<(u8, u16, u16, u16, u16)> {
     let plane = plane_in(alloc, bytes)?;
     Some(counts(&plane))
 }
 
+/// Known planes have their numbers of vertices, edges and faces, and their outer face.
 #[test]
 fn known_planes_have_their_counts(rt: HostRuntime) {
     let known = [
@@ -42,7 +43,7 @@ fn known_planes_have_their_counts(rt: HostRuntime) {
     }
 }
 
-/// The plane of a graph, by the second call where the first finds no memory.
+/// The plane of a graph, by the second call if the first one runs out of memory.
 fn plane_at_last(rt: &impl Abort, alloc: Global, graph: Graph) -> Plane {
     let graph = match Plane::trace(alloc, graph) {
         Ok(plane) => return plane,
@@ -52,8 +53,8 @@ fn plane_at_last(rt: &impl Abort, alloc: Global, graph: Graph) -> Plane {
     Plane::trace(alloc, graph).ok().expect(rt, "a plane")
 }
 
-// To be run with each allocation refused in turn. A refused one may come before the walk, where it ends the
-// test, or in it, and then the graph that comes back gives the plane.
+// If memory runs out, the graph comes back, and a second call finds its plane.
+// To be run with each allocation refused in turn. A refusal before the walk ends the test.
 #[test]
 fn memory_hands_the_graph_back(rt: HostRuntime) {
     if let Ok(graph) = read(rt.alloc(), TRIANGLE) {
@@ -77,7 +78,7 @@ fn expect_triangle(rt: &impl Abort, mut plane: Plane) {
     same!(rt, (plane.outer(), plane.degree(1)), (1, 3));
 }
 
-/// A graph that is no plane is refused as such, whatever memory there is.
+/// A graph that is not planar as embedded is refused without taking memory.
 #[test]
 fn tori_take_no_memory(rt: HostRuntime) {
     let Ok(graph) = read(rt.alloc(), TETRAHEDRON_ON_A_TORUS) else {

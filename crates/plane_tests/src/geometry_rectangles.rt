@@ -16,8 +16,8 @@ fn are_filled(rectangles: &[Rectangle]) -> bool
         .all(|r| r.left <= r.right && r.bottom <= r.top)
 }
 
-// A rectangle from its left and right columns and its bottom and top rows, moved to the right and up by so
-// many columns and rows, or as far as it can be.
+// A rectangle from its left and right columns and its bottom and top rows, moved right and up by these numbers of
+// columns and rows, or as far as possible.
 fn rectangle(sides: [u32; 4], by: [u32; 2]) -> Rectangle {
     let [left, right, bottom, top] = sides;
     let [across, up] = by;
@@ -60,7 +60,7 @@ const CASES: [([[u32; 4]; 3], bool); 8] = [
     ),
 ];
 
-/// Looks at an answer, and counts one where none is given.
+/// Checks an answer; returns 1 if memory ran out for it, otherwise 0.
 fn count_lacking(rt: &impl Abort, found: Result<bool, AllocError>, apart: bool) -> u8 {
     match found {
         Ok(found) => {
@@ -71,9 +71,10 @@ fn count_lacking(rt: &impl Abort, found: Result<bool, AllocError>, apart: bool) 
     }
 }
 
-// Rectangles, all but the last in few rows and columns, which are flagged by bits, the same a thousand columns
-// to the right, which go into a table, and a thousand rows up, which go into a map. Run with each allocation
-// refused in turn too: then one answer is not given, and the others are right.
+// Rectangles that are apart are told from others, by bits, by a table and by a map.
+// All but the last are in few rows and columns, which are flagged by bits. Moved a thousand columns to the right they
+// go into a table, and moved a thousand rows up into a map. To be run with each allocation refused in turn, too: one
+// answer is then missing, and the others are right.
 #[test]
 fn tells_what_is_apart(rt: HostRuntime) {
     let mut lacking = 0u8;

@@ -1,4 +1,4 @@
-//! Files that are cut behind each byte and fed in two pieces, beside a plain reading of the whole.
+//! Files that are cut after each byte and fed in two pieces, compared with a plain reading of the whole.
 
 use planar_code::{Ending, Framer, HEADER, Record};
 use std::alloc::Global;
@@ -6,7 +6,7 @@ use std::process::Abort;
 use test_tools::records::{EDGE, OCTAHEDRON, STAR, TETRAHEDRON, TETRAHEDRON_ON_A_TORUS, TRIANGLE};
 use test_tools::same;
 
-/// Behind which place the record ends that begins here, or else how the text ends.
+/// The end of the record that begins here, or else how the text ends.
 fn end_of_record(text: &[u8], start: usize) -> Result<usize, Ending> {
     let (mut lists, mut entries) = (0u32, 0u32);
     for (place, byte) in text.iter().enumerate().skip(start) {
@@ -28,7 +28,7 @@ fn end_of_record(text: &[u8], start: usize) -> Result<usize, Ending> {
     Err(Ending::Truncated)
 }
 
-/// Behind which places the records of a text end, and how the text ends.
+/// The ends of the records of a text, and how the text ends.
 fn read_plainly(rt: &impl Abort, alloc: Global, text: &[u8]) -> (Vec<usize>, Ending) {
     let mut ends = Vec::new(alloc);
     let mut start = HEADER.len();
@@ -57,7 +57,7 @@ fn feed_both(rt: &impl Abort, alloc: Global, one: &[u8], two: &[u8]) -> (Vec<Rec
     (records, framer.finish())
 }
 
-/// The records are the parts of the text that end in these places.
+/// Checks that the records are the parts of the text that end in these places.
 fn are_parts(rt: &impl Abort, records: &[Record], text: &[u8], ends: &[usize]) {
     same!(rt, records.len(), ends.len());
     let mut start = HEADER.len();
@@ -78,7 +78,7 @@ fn divide(rt: &impl Abort, alloc: Global, text: &[u8]) {
     }
 }
 
-/// Cuts the header and these bytes behind each byte.
+/// Cuts the header and these bytes after each byte.
 fn cut(rt: &impl Abort, alloc: Global, bytes: &[u8]) {
     let text = [HEADER.as_slice(), bytes]
         .concat(alloc)
@@ -109,6 +109,7 @@ const FILES: [&[u8]; 17] = [
     &[2, 2, 0, 1, 0, 3, 2, 3, 0, 3, 1, 0, 1, 2, 0],
 ];
 
+/// A file that is cut after any byte and fed in two pieces has the records and the ending of the plain reading.
 #[test]
 fn files_are_cut_anywhere(rt: HostRuntime) {
     for bytes in FILES {
@@ -116,7 +117,8 @@ fn files_are_cut_anywhere(rt: HostRuntime) {
     }
 }
 
-/// A record of most vertices, whose first list has 255 entries: it is at fault at its last byte, and cut before that.
+/// A record whose first list has 255 entries is at fault at its last byte, and cut before that.
+/// It has the greatest number of vertices.
 #[test]
 fn a_long_list_is_cut_anywhere(rt: HostRuntime) {
     let mut bytes = [1; 256];

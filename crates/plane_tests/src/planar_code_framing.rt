@@ -6,7 +6,7 @@ use std::process::Abort;
 use test_tools::records::TRIANGLE;
 use test_tools::same;
 
-/// How many records the framer finds in a text, and how it ends.
+/// The number of records that the framer finds in a text, and how the text ends.
 fn framed(rt: &impl Abort, alloc: Global, text: &[u8]) -> (usize, Ending) {
     let piece = text.to_vec(alloc).expect(rt, "memory");
     let pieces = vec![in alloc; piece].expect(rt, "memory");
@@ -14,13 +14,13 @@ fn framed(rt: &impl Abort, alloc: Global, text: &[u8]) -> (usize, Ending) {
     (records.len(), ending)
 }
 
-/// The same of the plain splitter.
+/// The same by the plain splitter.
 fn divided(rt: &impl Abort, alloc: Global, text: &[u8]) -> (usize, Ending) {
     let (records, ending) = split(alloc, text).expect(rt, "memory");
     (records.len(), ending)
 }
 
-/// Sees that both find so many records and this ending.
+/// Checks that both find this many records and this ending.
 fn expect(rt: &impl Abort, alloc: Global, text: &[u8], want: (usize, Ending)) {
     same!(rt, framed(rt, alloc, text), want);
     same!(rt, divided(rt, alloc, text), want);
@@ -47,6 +47,7 @@ const TEXTS: [(&[u8], usize, Ending); 9] = [
     (b">>planar_code<<\x01\x00\x02\x00\x00", 2, Ending::Complete),
 ];
 
+/// The framer and the splitter find the records of each text and how it ends.
 #[test]
 fn tells_the_endings(rt: HostRuntime) {
     for (text, count, ending) in TEXTS {
@@ -54,7 +55,7 @@ fn tells_the_endings(rt: HostRuntime) {
     }
 }
 
-/// A file of one triangle, cut behind each byte: in the header, right behind it, in the record, and not at all.
+/// A file of one triangle is cut after each byte: in the header, right after it, in the record, and not at all.
 #[test]
 fn a_triangle_is_cut_anywhere(rt: HostRuntime) {
     let text = [HEADER.as_slice(), TRIANGLE].concat(rt.alloc());
@@ -71,10 +72,10 @@ fn a_triangle_is_cut_anywhere(rt: HostRuntime) {
     }
 }
 
-/// A piece, what the feed of it answers, and how many records there are by then.
+/// A piece, the result of feeding it, and the number of records by then.
 type Feed<'a> = (&'a [u8], Result<(), FeedFault>, usize);
 
-/// Feeds these pieces to one framer, which then ends so.
+/// Feeds these pieces to one framer, and checks the results and the ending.
 fn expect_feeds(rt: &impl Abort, alloc: Global, feeds: &[Feed<'_>], ending: Ending) {
     let mut framer = Framer::new(alloc).expect(rt, "memory");
     let mut out = Vec::new(alloc);
@@ -85,8 +86,8 @@ fn expect_feeds(rt: &impl Abort, alloc: Global, feeds: &[Feed<'_>], ending: Endi
     same!(rt, framer.finish(), ending);
 }
 
-/// Pieces that end in the header and in a record; a piece with another header, and one behind it; a record that is
-/// kept before a fault in the same piece.
+/// Pieces that end in the header and in a record; a piece with another header, and one after it; a record that is kept
+/// before a fault in the same piece.
 const FEEDS: [(&[Feed<'static>], Ending); 3] = [
     (
         &[
@@ -113,6 +114,7 @@ const FEEDS: [(&[Feed<'static>], Ending); 3] = [
     ),
 ];
 
+/// Each piece that is fed has its own result.
 #[test]
 fn pieces_are_answered_one_by_one(rt: HostRuntime) {
     for (feeds, ending) in FEEDS {
@@ -120,7 +122,7 @@ fn pieces_are_answered_one_by_one(rt: HostRuntime) {
     }
 }
 
-/// Sees that a million records of one vertex and then these bytes are a million records, and end so.
+/// Checks that a million records of one vertex followed by these bytes are a million records with this ending.
 fn expect_a_million(rt: &impl Abort, alloc: Global, bytes: &[u8], ending: Ending) {
     let mut text = HEADER.to_vec(alloc).expect(rt, "memory");
     for _ in 0..1_000_000 {
@@ -130,7 +132,7 @@ fn expect_a_million(rt: &impl Abort, alloc: Global, bytes: &[u8], ending: Ending
     expect(rt, alloc, &text, (1_000_000, ending));
 }
 
-/// Nothing behind a million records, a byte 0, a record that is begun, and a whole one.
+/// What follows a million records: nothing, a byte 0, a record that is begun, and a whole one.
 const BEHIND_A_MILLION: [(&[u8], Ending); 4] = [
     (&[], Ending::Complete),
     (&[0], Ending::Many),
@@ -138,6 +140,7 @@ const BEHIND_A_MILLION: [(&[u8], Ending); 4] = [
     (&[1, 0], Ending::Many),
 ];
 
+/// A stream may have a million records, and no byte may follow them.
 #[test]
 fn a_million_records_are_most(rt: HostRuntime) {
     for (bytes, ending) in BEHIND_A_MILLION {
@@ -145,7 +148,7 @@ fn a_million_records_are_most(rt: HostRuntime) {
     }
 }
 
-/// A refused growth is answered by its name, and leaves a beginning of the records.
+/// If memory runs out, the feed says so, and a beginning of the records stays.
 #[test]
 fn names_a_want_of_memory(rt: HostRuntime) {
     let alloc = rt.alloc();

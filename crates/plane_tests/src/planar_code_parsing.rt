@@ -1,16 +1,17 @@
-//! Bytes that are one record, and bytes that are none, also where allocations are refused.
+//! Bytes that are one record, and bytes that are not, also if allocations are refused.
 
 use planar_code::{ParseFault, Record};
 use std::alloc::Global;
 use test_tools::records::{STAR, TRIANGLE};
 use test_tools::same;
 
-/// Why these bytes are no record, if they are none.
+/// Why these bytes are not one record; `None` if they are.
 fn fault_of(alloc: Global, bytes: &[u8]) -> Option<ParseFault> {
     Record::parse(alloc, bytes).err()
 }
 
-/// To be run with each allocation refused in turn: the next call has memory.
+/// If memory runs out, the fault says so, and a second call succeeds.
+/// To be run with each allocation refused in turn.
 #[test]
 fn refused_memory_is_told(rt: HostRuntime) {
     for bytes in [TRIANGLE, STAR] {
@@ -21,7 +22,7 @@ fn refused_memory_is_told(rt: HostRuntime) {
     }
 }
 
-/// Bytes that are no record are refused by their fault, whatever memory there is.
+/// Bytes that are not one record are refused with their fault, without taking memory.
 #[test]
 fn faults_take_no_memory(rt: HostRuntime) {
     let cases: [(&[u8], ParseFault); 5] = [

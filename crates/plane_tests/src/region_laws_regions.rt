@@ -1,5 +1,5 @@
-//! Whether the regions of drawings by hand are the faces: of their own plane, of one that is embedded otherwise, and under
-//! each choice of the outer face.
+//! Whether the regions of drawings by hand are the faces: of their own plane, of another embedding, and under each
+//! choice of the outer face.
 
 use crate::drawing_check_faults::{FOUR, Figure, PATH, SQUARE, STAR, TRIANGLE, answer, shape_in};
 use drawing_check::has_regions;
@@ -156,7 +156,7 @@ fn regions(
     has_regions(alloc, &other, &drawing).ok()
 }
 
-/// Drawings, records of planes, and whether the regions are the faces where the outer one is face 0, 1, and so on.
+/// Drawings, records of planes, and whether the regions are the faces if the outer one is face 0, 1, and so on.
 const ROWS: [(&Drawn, &[u8], &[bool]); 10] = [
     (&NESTED_DRAWN, &NESTED_RECORD, &[true, false, false]),
     (&NESTED_DRAWN, &TURNED_OUT, &[false, false, false]),
@@ -171,7 +171,7 @@ const ROWS: [(&Drawn, &[u8], &[bool]); 10] = [
     (&PATH_DRAWN, records::PATH, &[true]),
 ];
 
-/// Whether the outer face lies on the west of a drawing, where the outer one is this face of its own plane.
+/// Whether the outer face lies on the west of a drawing, if it is this face of the drawing's own plane.
 fn outside(rt: &impl Abort, alloc: Global, drawn: &Drawn, outer: u16) -> Option<bool> {
     let plane = plane_with(rt, alloc, drawn.figure.record, drawn.outer)?;
     let shape = shape_in(alloc, drawn.figure)?;
@@ -183,7 +183,7 @@ fn outside(rt: &impl Abort, alloc: Global, drawn: &Drawn, outer: u16) -> Option<
     Some(outside_is_outer(&other, &drawing))
 }
 
-/// Drawings, and which face lies outside.
+/// Drawings, and whether face 0, 1, and so on lies outside.
 const OUTSIDES: [(&Drawn, &[bool]); 6] = [
     (&NESTED_DRAWN, &[true, false, false]),
     (&BLOCKS_DRAWN, &[false, false, true]),
@@ -193,6 +193,7 @@ const OUTSIDES: [(&Drawn, &[bool]); 6] = [
     (&PATH_DRAWN, &[true]),
 ];
 
+/// The face outside each drawing is the one found by hand.
 #[test]
 fn outsides_by_hand(rt: HostRuntime) {
     for (drawn, due) in OUTSIDES {
@@ -205,6 +206,7 @@ fn outsides_by_hand(rt: HostRuntime) {
     }
 }
 
+/// The regions of a drawing are the faces of a plane exactly if this was found by hand.
 #[test]
 fn regions_by_hand(rt: HostRuntime) {
     for (drawn, record, due) in ROWS {
@@ -217,7 +219,8 @@ fn regions_by_hand(rt: HostRuntime) {
     }
 }
 
-// Run with each allocation refused in turn too: what is answered is right.
+// Answers about regions are right if memory suffices for them.
+// To be run with each allocation refused in turn, too.
 #[test]
 fn regions_without_memory(rt: HostRuntime) {
     if let Some(has) = regions(&rt, rt.alloc(), &NESTED_DRAWN, &NESTED_RECORD, 0) {

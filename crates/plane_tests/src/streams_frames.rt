@@ -16,7 +16,7 @@ const EDGES: &[u8] = b">>planar_code<<\x02\x02\x00\x01\x00\x02\x02\x00\x01\x00";
 
 const BOTH: &[u8] = b">>planar_code<<\x02\x02\x00\x01\x00\x03\x02\x03\x00\x03\x01\x00\x01\x02\x00";
 
-/// What is found in these bytes, read in pieces of at most so many, over a link of this capacity.
+/// What is found in these bytes, read in pieces of at most this many, over a link of this capacity.
 fn found_in<R: AllocGlobal + Threads + Wait + Sync>(
     rt: &R,
     capacity: u32,
@@ -30,8 +30,8 @@ fn found_in<R: AllocGlobal + Threads + Wait + Sync>(
     run_frames(rt, rt.alloc(), source, capacity).ok()
 }
 
-/// Reads these bytes in pieces of several sizes, over links of several capacities, and looks at the text of what
-/// was found.
+/// Reads these bytes in pieces of several sizes, over links of several capacities, and checks the report of what was
+/// found.
 fn check<R: AllocGlobal + Threads + Wait + Sync + Abort>(rt: &R, bytes: &[u8], report: &str) {
     for capacity in [1, 2, 64] {
         for most in [1, 2, 7, 65_536] {
@@ -61,6 +61,7 @@ const ENDINGS: [(&[u8], &str); 7] = [
     ),
 ];
 
+/// The report does not depend on the size of the pieces read or on the capacity of the link.
 #[test]
 fn finds_the_same_in_pieces_of_every_size(rt: HostRuntime) {
     for (bytes, report) in ENDINGS {
@@ -73,7 +74,7 @@ fn finds_the_same_in_pieces_of_every_size(rt: HostRuntime) {
     check(&rt, &long, "end oversize records=0\n");
 }
 
-/// How many records are found in these bytes where the source fails at a read, the mark, and how many reads there were.
+/// The number of records found in these bytes if the source fails at a read, the mark, and the number of reads.
 fn found_before<R: AllocGlobal + Threads + Wait + Sync>(
     rt: &R,
     bytes: &'static [u8],
@@ -90,6 +91,7 @@ fn found_before<R: AllocGlobal + Threads + Wait + Sync>(
     Some((count, found.mark(), reads.load(Ordering::SeqCst)))
 }
 
+/// The records that were read before a failing read are kept.
 #[test]
 fn keeps_what_came_before_a_failing_read(rt: HostRuntime) {
     for fails_at in 0..26u32 {
@@ -100,7 +102,7 @@ fn keeps_what_came_before_a_failing_read(rt: HostRuntime) {
     }
 }
 
-/// A source is read once for each byte up to the one with the fault, and not again.
+/// A source is read once for each byte up to the faulty one, and not again.
 #[test]
 fn reads_once_up_to_a_fault(rt: HostRuntime) {
     let bytes = b">>planar_code<<\x02\x02\x00\x01\x00\x00\x02\x02\x00\x01\x00";
@@ -108,7 +110,7 @@ fn reads_once_up_to_a_fault(rt: HostRuntime) {
     same!(&rt, found, Some((1, Mark::Ended(Ending::Large), 21)));
 }
 
-/// Writes what was found into a writer, and looks at the answer and at what is written.
+/// Writes what was found into a writer, and checks the result and what is written.
 fn check_writer(
     rt: &impl Abort,
     found: &Frames,
@@ -124,8 +126,8 @@ fn check_writer(
 
 const OF_AN_EDGE: &[u8] = b"record 1 n=2 bytes=5\nend complete records=1\n";
 
-/// A writer that takes so many bytes a write has a beginning where it fails, and where it takes nothing, and
-/// else the whole text.
+/// Checks that a writer that takes this many bytes a write holds a beginning if it fails or takes nothing, and
+/// otherwise the whole text.
 fn check_most(rt: &impl Abort, found: &Frames, most: usize) {
     for fails in [false, true] {
         for room in 0..OF_AN_EDGE.len() {
@@ -138,6 +140,7 @@ fn check_most(rt: &impl Abort, found: &Frames, most: usize) {
     check_writer(rt, found, narrow, Ok(()), OF_AN_EDGE);
 }
 
+/// A writer that fails holds a beginning of the text.
 #[test]
 fn writes_a_beginning_before_a_fault(rt: HostRuntime) {
     let found = found_in(&rt, 1, &EDGES[..20], 9).expect(&rt, "an answer");
@@ -146,7 +149,7 @@ fn writes_a_beginning_before_a_fault(rt: HostRuntime) {
     }
 }
 
-/// The mark tells want of memory behind a beginning of two records, or that the file has both.
+/// Checks that the mark says that memory ran out after a beginning of two records, or that the file has both.
 fn check_records(rt: &impl Abort, found: &Frames) {
     match found.mark() {
         Mark::Ended(Ending::Memory) => assert!(rt; found.records().len() < 2),
@@ -159,15 +162,15 @@ fn check_records(rt: &impl Abort, found: &Frames) {
     check_lines(rt, found);
 }
 
-/// The report is written, whatever memory there is.
+/// Checks that the report is written without taking memory.
 fn check_lines(rt: &impl Abort, found: &Frames) {
     let mut sink = IoSink::new(Narrow::new(80, 80, true));
     same!(rt, write_frames(found, &mut sink), Ok(()));
     same!(rt, sink.into_writer().text().ends_with(b"\n"), true);
 }
 
-/// With each allocation refused in turn, a run ends in a mark or a fault that names it. Where a
-/// thread is started or an end is given up for it, the fault may name that instead.
+/// With each allocation refused in turn, a run ends in a mark or a fault that says that memory ran out.
+/// If it ran out while a thread was started or an end was dropped, the fault may name that instead.
 #[test]
 fn names_want_of_memory(rt: HostRuntime) {
     let Ok(bytes) = BOTH.to_vec(rt.alloc()) else {

@@ -1,5 +1,5 @@
 -- The text of books is that of their entries' lines.
-use Rattle.std.proofs.Common.{◌≡◌, ℕ, ◌+◌, List, [], ◌∷◌, ◌++◌, map, length, append-nil, append_assoc, refl, sym, ap, ◌∙◌}
+use Rattle.std.proofs.Common.{◌≡◌, ℕ, ◌+◌, List, [], ◌∷◌, ◌++◌, map, length, refl, ap, ◌∙◌}
 use Rattle.common.specs.declared.choice.Choice.{Choice}
 use Rattle.lanes.specs.Notes.{About, numbered}
 use Rattle.lanes.specs.Opening.{Meaning}
@@ -11,17 +11,12 @@ use Rattle.reports.specs.declared.form.Form.TheVariants.{Report, Json}
 use Rattle.reports.specs.Report.{numbered_texts, entry_line, end_line, file_line, book_text}
 use Rattle.reports.specs.Json.{entry_json, end_json, book_json}
 use Rattle.reports.specs.Forms.{text_in}
-use Rattle.printing.specs.FormLines.{line_in, lines_in, book_in}
+use Rattle.printing.specs.FormLines.{lines_in, book_in}
 
 -- the text of a book in this form
 abbrev pub book_text_in : Form → ℕ → BookModel → List ℕ
 book_text_in Report number book = book_text number book
 book_text_in Json number book = book_json number book
-
--- one line more
-pub lines-next : (form : Form) (entries : List Entry) (entry : Entry) → lines_in form (entries ++ entry ∷ []) ≡ lines_in form entries ++ line_in form entry
-lines-next form [] entry = append-nil (line_in form entry)
-lines-next form (first ∷ entries) entry = ap (λ l. line_in form first ++ l) (lines-next form entries entry) ∙ sym (append_assoc (line_in form first) _ _)
 
 -- the entries of one file from one place on
 report_lines : (choice : Choice) (file ordinal : ℕ) (entries : List Entry) (records : List (List ℕ)) → map about_of entries ≡ numbered choice file ordinal records

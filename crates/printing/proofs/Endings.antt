@@ -1,4 +1,4 @@
--- Any records, as many as a file may have, are those of some bytes that end as a file of so many may.
+-- Any records, as many as a file may have, are those of some bytes that end as a file of as many may.
 use Rattle.std.proofs.Common.{◌≡◌, ◌≢◌, ℕ, ◌+◌, ◌<◌, ◌≤◌, Bool, false, true, List, [], ◌∷◌, ◌++◌, Option, None, Some, inl, inr, length, All, replicate, refl, sym, ap, subst, ◌∙◌, arith, append_assoc, append-nil, length-append}
 use Rattle.std.specs.Prelude.{⊤}
 use Rattle.std.proofs.Math.Logic.{∥∥₁_map}
@@ -27,7 +27,7 @@ use Rattle.printing.specs.Spelt.{IsSpelt}
 use Rattle.lanes.specs.Opening.{Silent, IsFoundAt, IsEndAt}
 use Rattle.printing.proofs.ToldEnds.{mark_or_memory}
 
--- some file of so many records, at most 1,000,000, has this mark
+-- some file of `count` records, at most 1,000,000, has this mark
 abbrev pub MayEnd : Mark → ℕ → Type 0
 MayEnd Io count = ⊤
 MayEnd (Ended ending.Complete) count = ⊤
@@ -153,7 +153,7 @@ found_any records mark all few may =
     let stands = stands_after HEADER [] records all (omega (arith, few)) standing-header in
     found_at stands.0 records mark stands.1 may
 
--- records of a file that tells nothing, with its mark or that of want of memory
+-- records of a file of which nothing is known, with its mark or `Memory`
 pub found_unknown : (records : List (List ℕ)) (count : ℕ) (was : Option Mark) → All IsRecord records → length records ≤ MAX_RECORDS → count ≡ length records
     → ((mark : Mark) → was ≡ Some mark → ∥ IsEndAt Silent count mark ∥₁) → ∥ IsFoundAt Silent records (mark_or_memory was) ∥₁
 found_unknown records count None all few same ends = merely (found_any records (Ended ending.Memory) all few tt)

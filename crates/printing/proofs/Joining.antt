@@ -36,7 +36,7 @@ concatenated_next chunks i chunk text below is says =
     ap concatenated (take_more chunks i chunk below ∙ ap (λ p. take i chunks ++ p ∷ []) (sym is))
     ∙ concatenated_more (take i chunks) chunk ∙ ap (λ l. concatenated (take i chunks) ++ l) (sym says)
 
--- the chunks up to some place, and those behind it
+-- the chunks up to some place, and those after it
 pub concatenated_rest : (chunks : List (Vec ℕ Global)) (i : ℕ) → concatenated (take i chunks) ++ concatenated (drop i chunks) ≡ concatenated chunks
 concatenated_rest chunks i =
     sym (flat_map-append (λ (p : Vec ℕ Global). p.items) (take i chunks) (drop i chunks)) ∙ ap concatenated (take-append-drop i chunks)

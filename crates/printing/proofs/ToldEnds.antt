@@ -12,7 +12,7 @@ use Rattle.streams.specs.Marks.{IsMarked, IsBeginningOf}
 use Rattle.streams.specs.Reading.{IsFoundIn}
 use Rattle.streams.specs.Placing.{IsAt, IsPlaced, EachAt}
 
--- the mark of a book of a file: that of want of memory where it has none
+-- the mark of a book of a file, which is `Memory` if the file has none
 abbrev pub mark_or_memory : Option Mark → Mark
 mark_or_memory None = Ended ending.Memory
 mark_or_memory (Some mark) = mark
@@ -33,7 +33,7 @@ each_merely : (fits : ℕ → List ℕ → Type 0) (first : ℕ) (records : List
 each_merely fits first [] each = merely tt
 each_merely fits first (bytes ∷ records) each = both each.0 (each_merely fits (first + 1) records each.1)
 
--- records at places in a row, the first behind a front
+-- records at places in a row, the first after a front
 in_row : (all front rest : List (List ℕ)) (first : ℕ) (records : List (List ℕ)) → all ≡ front ++ rest → length front ≡ first → EachAt (IsAt all) first records → IsBeginningOf records rest
 in_row all front rest first [] parts count each = (rest, refl)
 in_row all front rest first (bytes ∷ records) parts count each =
@@ -86,11 +86,11 @@ found_known told fails records mark each others count f = record {
   marked = marked_as f.bytes f.fails records others mark (subst (λ t. EachAt (IsPlaced (Some t)) 0 records) f.gave.0 each) count f.marked;
 }
 
--- a file that has not ended ends for want of memory
+-- a file that has not ended ends with `Memory`
 found_wanting : (told : List ℕ) (fails : Bool) (records : List (List ℕ)) → EachAt (IsPlaced (Some told)) 0 records → IsFoundIn (Some told) fails records (Ended ending.Memory)
 found_wanting told fails records each = record { bytes = told; fails = fails; gave = (refl, refl); marked = placed_first told records each }
 
--- its records so far, with its mark or that of want of memory
+-- its records so far, with its mark or `Memory`
 pub found_closed : (told : List ℕ) (fails : Bool) (records : List (List ℕ)) (count : ℕ) (was : Option Mark) → count ≡ length records
     → EachAt (λ place bytes. ∥ IsPlaced (Some told) place bytes ∥₁) 0 records
     → ((mark : Mark) → was ≡ Some mark → ∥ ((others : List (List ℕ)) × (length others ≡ count) × IsFoundIn (Some told) fails others mark) ∥₁)

@@ -1,26 +1,27 @@
 -- What has been written of what has arrived, and what is buffered.
-use Rattle.std.specs.Prelude.{◌≡◌, ℕ, zero, suc, ◌+◌, ◌<◌, ◌≤◌, ◌⊎◌, Bool, true, false, List, [], ◌++◌, length, Option, None, Some, slice_index_or, ⊤}
+use Rattle.std.specs.Prelude.{◌≡◌, ℕ, zero, suc, ◌+◌, ◌<◌, ◌≤◌, ◌⊎◌, Bool, true, false, List, [], ◌++◌, length, Option, None, Some, slice_index_or, ⊤, Result, OnOk, IfErr}
 use Rattle.streams.specs.declared.frames.Mark.{Mark}
 use Rattle.streams.specs.Sink.{AppendsPrefix, IsInTransit}
 use Rattle.reports.specs.declared.form.Form.{Form}
 use Rattle.printing.specs.FormLines.{preamble_in, lines_in, end_in}
-use Rattle.streams.specs.declared.faults.BatchFault.{BatchFault}
-use Rattle.streams.specs.declared.faults.BatchFault.TheVariants.{Memory, LaneLost}
-use Rattle.printing.specs.declared.fault.TextFault.{TextFault}
-use Rattle.printing.specs.declared.fault.TextFault.TheVariants.{Run, Write}
+use Rattle.streams.specs.declared.output.SinkFault.{SinkFault}
+use Rattle.lanes.specs.declared.fault.RunFault.{RunFault}
+use Rattle.lanes.specs.declared.fault.RunFault.TheVariants.{Memory, LaneLost, Thread, Refused}
 use Rattle.printing.specs.declared.waiting.Waiting.{Waiting}
 use Rattle.printing.specs.Came.{Came, HasMark}
 
--- memory ran out, or no lane gives such a message: a run that began has no other fault by its text
-abbrev pub IsOfText : BatchFault → Type 0
-IsOfText Memory = ⊤
-IsOfText LaneLost = ⊤
-IsOfText _ = ⊥
+-- The sink has failed exactly if the message was refused for that. Otherwise memory ran out, or no lane gives such a
+-- message.
+abbrev pub GivesUp : Bool → RunFault SinkFault → Type 0
+GivesUp failed (Refused fault) = failed ≡ true
+GivesUp failed Memory = failed ≡ false
+GivesUp failed LaneLost = failed ≡ false
+GivesUp failed Thread = ⊥
 
--- the sink has failed exactly if the message was refused for that
-abbrev pub GivesUp : Bool → TextFault → Type 0
-GivesUp failed Write = failed ≡ true
-GivesUp failed (Run fault) = (failed ≡ false) × IsOfText fault
+-- the sink has not failed where all went well, and otherwise exactly if the message was refused for that
+pub record TellsFailure {A : Type 0} (failed : Bool) (result : Result A (RunFault SinkFault)) : Type 0 where
+  pub stands : OnOk result (failed ≡ false)
+  pub gave_up : IfErr result (GivesUp failed)
 
 -- whatever text was in transit, it is now in transit followed by `more`
 abbrev pub GoesOn : Option (List ℕ) → List ℕ → Option (List ℕ) → List ℕ → List ℕ → Type 0

@@ -1,14 +1,14 @@
 //! Text that grows without being moved, in chunks.
-ghost use Rattle.std.specs.Prelude.{◌≡◌, ◌++◌, [], false, OnOk, OnErr, IfErr};
+ghost use Rattle.std.specs.Prelude.{◌≡◌, ◌++◌, [], false, OnOk, OnErr};
 ghost use Rattle.printing.specs.Concatenated.{concatenated};
-ghost use Rattle.printing.specs.Written.{GoesOn, IsPartlyAdded, GivesUp};
+ghost use Rattle.printing.specs.Written.{GoesOn, IsPartlyAdded, TellsFailure};
 
-use crate::fault::TextFault;
 use crate::writing::put;
+use lanes::RunFault;
 use std::alloc::{AllocError, Global};
 use std::marker::Model;
 use std::mem;
-use streams::{Sink, TextBuffer};
+use streams::{Sink, SinkFault, TextBuffer};
 
 /// The minimum capacity of a chunk, in bytes.
 const CHUNK: usize = 16_384;
@@ -79,12 +79,11 @@ impl Chunks {
         &self,
         buffer: &mut TextBuffer,
         sink: &mut S,
-    ) -> Result<(), TextFault>
+    ) -> Result<(), RunFault<SinkFault>>
         requires { S.failed sink.old ≡ false }
         ensures put { OnOk result (GoesOn (S.taken sink.old) buffer.old (S.taken sink.new) buffer.new self.now) }
         ensures partial { OnErr result (IsPartlyAdded (S.taken sink.old) buffer.old (S.taken sink.new) self.now) }
-        ensures stands { OnOk result (S.failed sink.new ≡ false) }
-        ensures gave_up { IfErr result (λ fault. GivesUp (S.failed sink.new) fault) }
+        ensures stands { TellsFailure (S.failed sink.new) result }
     {
         put_each(self.full.as_slice(), buffer, sink)?;
         put(buffer, sink, self.last.as_slice())
@@ -96,12 +95,11 @@ fn put_each<S: Sink>(
     chunks: &[Vec<u8>],
     buffer: &mut TextBuffer,
     sink: &mut S,
-) -> Result<(), TextFault>
+) -> Result<(), RunFault<SinkFault>>
     requires { S.failed sink.old ≡ false }
     ensures put { OnOk result (GoesOn (S.taken sink.old) buffer.old (S.taken sink.new) buffer.new (concatenated chunks.now)) }
     ensures partial { OnErr result (IsPartlyAdded (S.taken sink.old) buffer.old (S.taken sink.new) (concatenated chunks.now)) }
-    ensures stands { OnOk result (S.failed sink.new ≡ false) }
-    ensures gave_up { IfErr result (λ fault. GivesUp (S.failed sink.new) fault) }
+    ensures stands { TellsFailure (S.failed sink.new) result }
 {
     for chunk in chunks {
         put(buffer, sink, chunk.as_slice())?;

@@ -4,7 +4,6 @@
 
 mod chunks;
 mod drawn_texts;
-mod fault;
 mod line;
 mod lines;
 mod meant;
@@ -17,7 +16,6 @@ mod writing;
 
 pub use chunks::Chunks;
 pub use drawn_texts::{books_are_drawn, lines_tell_drawings};
-pub use fault::TextFault;
 pub use line::Line;
 pub use meant::{KnownEnd, Meant, known_end};
 pub use pace::Pace;

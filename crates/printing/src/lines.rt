@@ -97,7 +97,7 @@ pub fn lacking_text(
     }
 }
 
-/// The line before the lines of a file in this format: the file's first line in the report, and an empty one in JSON.
+/// The line before the graphs of a file: the first line of the file in the report, and an empty text in JSON.
 pub fn preamble_line(form: Form, file: u32) -> ReportLine
     ensures { result ≡ preamble_in form (file + 1) }
 {

@@ -6,7 +6,7 @@ ghost use Rattle.lanes.specs.Opening.{Meaning, Silent, IsEndAt};
 use std::marker::{Brand, PhantomData};
 use streams::{Mark, SourceEnd};
 
-/// The meaning of each file of a run: what is known of it in advance. It exists only in proofs.
+/// What is known in advance of each file of a run, its meaning. It exists only in proofs.
 pub trait Meant {
     ghost meaning: { ℕ → Meaning };
 }

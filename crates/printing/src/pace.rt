@@ -8,7 +8,7 @@ use lanes::Pauses;
 /// alone.
 const QUARTER: usize = 4;
 
-/// The limit on buffered text of files that are not current yet, and the pauses of their reading.
+/// A limit on the buffered text of later files, and the pauses by which their reading is held to it.
 #[derive(Drop)]
 pub struct Pace<'p> {
     pub pauses: &'p Pauses,

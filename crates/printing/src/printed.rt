@@ -62,9 +62,9 @@ impl<J: Meant + Send + Sync> Numbered for Printed<J> {
     }
 }
 
-/// The output line of a record for which this was found; `None` if memory ran out, for its points or for the line.
+/// Returns the output line of a record with the result `found`; `None` if memory ran out, for the points or the line.
 ///
-/// The record has this place in this file, and the line is in this format.
+/// The record is number `ordinal`, from 0, of the file with index `file`. The line has the format `form`.
 pub fn found_line(
     alloc: Global,
     form: Form,

@@ -1,5 +1,5 @@
 //! The lines of a run on their way to a sink: a reorder buffer, since lines of several files arrive mixed.
-ghost use Rattle.std.specs.Prelude.{◌≡◌, ◌+◌, ◌<◌, ◌≤◌, ◌≢◌, ◌↔◌, ◌∷◌, ◌++◌, ℕ, List, [], Option, None, Some, Err, true, false, IfOk, OnOk, IfErr, IsTrue, IsSome, slice_index_or, length, OnErr, ◌⊎◌};
+ghost use Rattle.std.specs.Prelude.{◌≡◌, ◌+◌, ◌<◌, ◌≤◌, ◌≢◌, ◌↔◌, ◌∷◌, ◌++◌, ℕ, List, [], Option, None, Some, Err, true, false, IfOk, OnOk, IsTrue, IsSome, slice_index_or, length, OnErr, ◌⊎◌};
 ghost use Rattle.streams.specs.declared.frames.Mark.{Mark};
 ghost use Rattle.common.specs.declared.choice.Choice.{Choice};
 ghost use Rattle.lanes.specs.Notes.{Note, Item, End};
@@ -10,21 +10,21 @@ ghost use Rattle.printing.specs.FormLines.{line_in};
 ghost use Rattle.printing.specs.declared.waiting.Waiting.{Waiting};
 ghost use Rattle.printing.specs.Came.{Came, HasEntryMore};
 ghost use Rattle.printing.specs.Orders.{IsNext};
-ghost use Rattle.printing.specs.Written.{IsPartialText, GivesUp};
+ghost use Rattle.printing.specs.Written.{IsPartialText, TellsFailure};
 ghost use Rattle.printing.specs.Holding.{form_of, choice_of, files_of, IsFlushed, LinesWrite, LinesRemain, LinesHold, ArePartialLines, ArePartialLinesAt, AreLinesOf, StandAt};
 ghost use Rattle.printing.specs.Whole.{HaveFiles, IsAllWritten};
 
-use crate::fault::TextFault;
 use crate::lines::{lacking_text, preamble_line};
 use crate::meant::{KnownEnd, Meant};
 use crate::printed::Printed;
 use crate::waiting::{Waiting, count_one, keep_line, keep_mark, none_come, take_lines};
 use crate::writing::{put, put_end, put_preamble};
 use common::Choice;
+use lanes::RunFault;
 use planar_code::{Ending, MAX_RECORDS};
 use reports::Form;
 use std::alloc::{AllocError, Global};
-use streams::{BatchFault, Mark, Sink, SourceEnd, TextBuffer, WriteFault};
+use streams::{Mark, Sink, SinkFault, SourceEnd, TextBuffer, WriteFault};
 
 /// A reorder buffer for the lines of a run, which go to a sink file after file.
 ///
@@ -102,21 +102,20 @@ impl Lines {
     ///
     /// # Errors
     ///
-    /// `Write` exactly if the sink has then failed; `Memory` if there was no memory for a line that has to be buffered
+    /// `Refused` exactly if the sink has then failed; `Memory` if there was no memory for a line that has to be buffered
     /// or that reports a lack of memory; `LaneLost` if no lane gives such a message.
     pub(crate) fn line<S: Sink, J: Meant>(
         &mut self,
         alloc: Global,
         sink: &mut S,
         printed: Printed<J>,
-    ) -> Result<(), TextFault>
+    ) -> Result<(), RunFault<SinkFault>>
         requires { S.failed sink.old ≡ false }
         ensures held { OnOk result ((start : Option (List ℕ)) (ns : List Note) → LinesHold J.meaning start (S.taken sink.old) self.old ns
             → LinesHold J.meaning start (S.taken sink.new) self.new (ns ++ Item (record { file = printed.file; ordinal = printed.ordinal; bytes = printed.rec.value; choice = printed.choice }) ∷ [])) }
         ensures partial { OnErr result ((start : Option (List ℕ)) (ns : List Note) → LinesHold J.meaning start (S.taken sink.old) self.old ns
             → ArePartialLinesAt J.meaning start (S.taken sink.new) self.new ns (Item (record { file = printed.file; ordinal = printed.ordinal; bytes = printed.rec.value; choice = printed.choice }))) }
-        ensures stands { OnOk result (S.failed sink.new ≡ false) }
-        ensures gave_up { IfErr result (λ fault. GivesUp (S.failed sink.new) fault) }
+        ensures stands { TellsFailure (S.failed sink.new) result }
         ensures same { AreLinesOf self.old self.new }
     {
         let Printed {
@@ -130,7 +129,7 @@ impl Lines {
             meant: _,
         } = printed;
         if form != self.form || choice != self.choice || !self.is_next(file, ordinal) {
-            return Err(TextFault::Run(BatchFault::LaneLost));
+            return Err(RunFault::LaneLost);
         }
         match line {
             Some(line) => self.add(alloc, sink, file, line.as_slice()),
@@ -142,7 +141,7 @@ impl Lines {
     ///
     /// # Errors
     ///
-    /// `Write` exactly if the sink has then failed; `Memory` if there was no memory for a line; `LaneLost` if no lane
+    /// `Refused` exactly if the sink has then failed; `Memory` if there was no memory for a line; `LaneLost` if no lane
     /// gives such a message.
     pub(crate) fn end<S: Sink, J: Meant>(
         &mut self,
@@ -151,21 +150,20 @@ impl Lines {
         file: u32,
         mark: Mark,
         known: KnownEnd<J>,
-    ) -> Result<(), TextFault>
+    ) -> Result<(), RunFault<SinkFault>>
         requires { S.failed sink.old ≡ false }
         ensures held { OnOk result ((start : Option (List ℕ)) (ns : List Note) → LinesHold J.meaning start (S.taken sink.old) self.old ns
             → LinesHold J.meaning start (S.taken sink.new) self.new (ns ++ End file mark ∷ [])) }
         ensures partial { OnErr result ((start : Option (List ℕ)) (ns : List Note) → LinesHold J.meaning start (S.taken sink.old) self.old ns
             → ArePartialLinesAt J.meaning start (S.taken sink.new) self.new ns (End file mark)) }
-        ensures stands { OnOk result (S.failed sink.new ≡ false) }
-        ensures gave_up { IfErr result (λ fault. GivesUp (S.failed sink.new) fault) }
+        ensures stands { TellsFailure (S.failed sink.new) result }
         ensures same { AreLinesOf self.old self.new }
     {
         if known.file != file || known.mark != mark {
-            return Err(TextFault::Run(BatchFault::LaneLost));
+            return Err(RunFault::LaneLost);
         }
         if !self.is_to_come(file) || !keep_mark(&mut self.waiting, file, known.count, mark) {
-            return Err(TextFault::Run(BatchFault::LaneLost));
+            return Err(RunFault::LaneLost);
         }
         self.flawless = is_flawless_with(self.flawless, mark);
         self.advance(alloc, sink)
@@ -182,21 +180,20 @@ impl Lines {
     ///
     /// # Errors
     ///
-    /// `Write` exactly if the sink has then failed. There is no other error.
-    pub(crate) fn flush<S: Sink>(&mut self, sink: &mut S) -> Result<(), TextFault>
+    /// `Refused` exactly if the sink has then failed. There is no other error.
+    pub(crate) fn flush<S: Sink>(&mut self, sink: &mut S) -> Result<(), RunFault<SinkFault>>
         requires { S.failed sink.old ≡ false }
         ensures held { OnOk result ((meaning : ℕ → Meaning) (start : Option (List ℕ)) (ns : List Note)
             → LinesHold meaning start (S.taken sink.old) self.old ns → LinesHold meaning start (S.taken sink.new) self.new ns) }
         ensures partial { OnErr result ((meaning : ℕ → Meaning) (start : Option (List ℕ)) (ns : List Note)
             → LinesHold meaning start (S.taken sink.old) self.old ns → ArePartialLines meaning start (S.taken sink.new) self.new ns) }
         ensures flushed { OnOk result (IsFlushed self.new) }
-        ensures stands { OnOk result (S.failed sink.new ≡ false) }
-        ensures gave_up { IfErr result (λ fault. GivesUp (S.failed sink.new) fault) }
+        ensures stands { TellsFailure (S.failed sink.new) result }
         ensures same { AreLinesOf self.old self.new }
     {
         match self.buffer.flush(sink) {
             Ok(()) => Ok(()),
-            Err(_) => Err(TextFault::Write),
+            Err(_) => Err(RunFault::Refused(SinkFault)),
         }
     }
 
@@ -249,7 +246,7 @@ impl Lines {
         sink: &mut S,
         file: u32,
         line: &[u8],
-    ) -> Result<(), TextFault>
+    ) -> Result<(), RunFault<SinkFault>>
         requires stands { S.failed sink.old ≡ false }
         requires from { self.old.current ≤ file }
         requires below { file < length self.old.waiting.items }
@@ -259,8 +256,7 @@ impl Lines {
         ensures partial { OnErr result ((start : Option (List ℕ)) (before after : ℕ → Came) (entry : Entry)
             → line_in self.old.form entry ≡ line.now → HasEntryMore file entry before after → LinesWrite start (S.taken sink.old) self.old before
             → IsPartialText self.old.form start (S.taken sink.new) (files_of self.old) before ⊎ IsPartialText self.old.form start (S.taken sink.new) (files_of self.old) after) }
-        ensures stands { OnOk result (S.failed sink.new ≡ false) }
-        ensures gave_up { IfErr result (λ fault. GivesUp (S.failed sink.new) fault) }
+        ensures stands { TellsFailure (S.failed sink.new) result }
         ensures same { StandAt self.old self.new }
     {
         count_one(&mut self.waiting, file)?;
@@ -279,7 +275,7 @@ impl Lines {
         sink: &mut S,
         file: u32,
         ordinal: u32,
-    ) -> Result<(), TextFault>
+    ) -> Result<(), RunFault<SinkFault>>
         requires stands { S.failed sink.old ≡ false }
         requires from { self.old.current ≤ file }
         requires below { file < length self.old.waiting.items }
@@ -290,8 +286,7 @@ impl Lines {
             → entry.file ≡ file → entry.ordinal ≡ ordinal → entry.answer ≡ Answer.NoMemory → HasEntryMore file entry before after
             → LinesWrite start (S.taken sink.old) self.old before
             → IsPartialText self.old.form start (S.taken sink.new) (files_of self.old) before ⊎ IsPartialText self.old.form start (S.taken sink.new) (files_of self.old) after) }
-        ensures stands { OnOk result (S.failed sink.new ≡ false) }
-        ensures gave_up { IfErr result (λ fault. GivesUp (S.failed sink.new) fault) }
+        ensures stands { TellsFailure (S.failed sink.new) result }
         ensures current { self.new.current ≡ self.old.current }
         ensures lacking { OnOk result (self.new.flawless ≡ false) }
         ensures same { AreLinesOf self.old self.new }
@@ -301,12 +296,12 @@ impl Lines {
                 self.flawless = false;
                 self.add(alloc, sink, file, line.as_slice())
             }
-            Err(_) => Err(TextFault::Run(BatchFault::Memory)),
+            Err(_) => Err(RunFault::Memory),
         }
     }
 
     /// Ends the current file and moves on, as long as the current file has its mark.
-    fn advance<S: Sink>(&mut self, alloc: Global, sink: &mut S) -> Result<(), TextFault>
+    fn advance<S: Sink>(&mut self, alloc: Global, sink: &mut S) -> Result<(), RunFault<SinkFault>>
         requires { S.failed sink.old ≡ false }
         ensures written { OnOk result ((start : Option (List ℕ)) (came : ℕ → Came)
             → LinesWrite start (S.taken sink.old) self.old came → LinesWrite start (S.taken sink.new) self.new came) }
@@ -314,8 +309,7 @@ impl Lines {
             → LinesWrite start (S.taken sink.old) self.old came → IsPartialText self.old.form start (S.taken sink.new) (files_of self.old) came) }
         ensures unended { OnOk result ((other : Waiting) → self.new.current < length self.new.waiting.items
             → (slice_index_or self.new.waiting.items self.new.current other).mark ≡ None) }
-        ensures stands { OnOk result (S.failed sink.new ≡ false) }
-        ensures gave_up { IfErr result (λ fault. GivesUp (S.failed sink.new) fault) }
+        ensures stands { TellsFailure (S.failed sink.new) result }
         ensures flawless { self.new.flawless ≡ self.old.flawless }
         ensures same { AreLinesOf self.old self.new }
     {
@@ -340,7 +334,12 @@ impl Lines {
     }
 
     /// Ends the current file with its mark and moves on to the next file.
-    fn leave<S: Sink>(&mut self, alloc: Global, sink: &mut S, mark: Mark) -> Result<(), TextFault>
+    fn leave<S: Sink>(
+        &mut self,
+        alloc: Global,
+        sink: &mut S,
+        mark: Mark,
+    ) -> Result<(), RunFault<SinkFault>>
         requires stands { S.failed sink.old ≡ false }
         requires below { self.old.current < length self.old.waiting.items }
         requires mark { (other : Waiting) → (slice_index_or self.old.waiting.items self.old.current other).mark ≡ Some mark }
@@ -348,14 +347,13 @@ impl Lines {
             → LinesWrite start (S.taken sink.old) self.old came → LinesWrite start (S.taken sink.new) self.new came) }
         ensures partial { OnErr result ((start : Option (List ℕ)) (came : ℕ → Came)
             → LinesWrite start (S.taken sink.old) self.old came → IsPartialText self.old.form start (S.taken sink.new) (files_of self.old) came) }
-        ensures stands { OnOk result (S.failed sink.new ≡ false) }
-        ensures gave_up { IfErr result (λ fault. GivesUp (S.failed sink.new) fault) }
+        ensures stands { TellsFailure (S.failed sink.new) result }
         ensures current { OnOk result (self.new.current ≡ self.old.current + 1) }
         ensures flawless { self.new.flawless ≡ self.old.flawless }
         ensures same { AreLinesOf self.old self.new }
     {
         let Some(next) = self.current.checked_add(1) else {
-            return Err(TextFault::Run(BatchFault::LaneLost));
+            return Err(RunFault::LaneLost);
         };
         let count = self.waiting[self.current as usize].count;
         let end = SourceEnd { count, mark };
@@ -369,15 +367,14 @@ impl Lines {
     }
 
     /// Writes what has arrived of the current file.
-    fn begin<S: Sink>(&mut self, alloc: Global, sink: &mut S) -> Result<(), TextFault>
+    fn begin<S: Sink>(&mut self, alloc: Global, sink: &mut S) -> Result<(), RunFault<SinkFault>>
         requires stands { S.failed sink.old ≡ false }
         requires below { self.old.current < length self.old.waiting.items }
         ensures begun { OnOk result ((start : Option (List ℕ)) (came : ℕ → Came)
             → LinesRemain start (S.taken sink.old) self.old came → LinesWrite start (S.taken sink.new) self.new came) }
         ensures partial { OnErr result ((start : Option (List ℕ)) (came : ℕ → Came)
             → LinesRemain start (S.taken sink.old) self.old came → IsPartialText self.old.form start (S.taken sink.new) (files_of self.old) came) }
-        ensures stands { OnOk result (S.failed sink.new ≡ false) }
-        ensures gave_up { IfErr result (λ fault. GivesUp (S.failed sink.new) fault) }
+        ensures stands { TellsFailure (S.failed sink.new) result }
         ensures same { StandAt self.old self.new }
     {
         put_preamble(&mut self.buffer, sink, self.form, self.current)?;

@@ -9,15 +9,14 @@ ghost use Rattle.printing.specs.Stops.{held_stop};
 ghost use Rattle.printing.specs.Holding.{form_of, files_of, IsFlushed, LinesHold, ArePartialLines, AreLinesOf};
 ghost use Rattle.printing.specs.Whole.{HaveFiles, IsAllWritten};
 
-use crate::fault::TextFault;
 use crate::meant::{KnownEnd, Meant};
 use crate::pace::Pace;
 use crate::printed::Printed;
 use crate::run_lines::Lines;
-use lanes::Consumer;
+use lanes::{Consumer, RunFault};
 use std::alloc::Global;
 use std::snapshot::Snapshot;
-use streams::{Mark, Sink, WriteFault};
+use streams::{Mark, Sink, SinkFault, WriteFault};
 
 /// A consumer of the lanes' messages that streams the text of a run to a sink.
 ///
@@ -93,7 +92,7 @@ impl<S: Sink> Texts<'_, S, Lines> {
 }
 
 impl<S: Sink, J: Meant + Send + Sync> Consumer<Printed<J>, KnownEnd<J>> for Texts<'_, S, Lines> {
-    type Refusal = TextFault;
+    type Refusal = SinkFault;
 
     ghost holds = { λ t ns. (S.failed t.sink.now ≡ false) × LinesHold J.meaning (S.taken t.start.value) (S.taken t.sink.now) t.lines ns };
 
@@ -104,13 +103,18 @@ impl<S: Sink, J: Meant + Send + Sync> Consumer<Printed<J>, KnownEnd<J>> for Text
 
     ghost passed_on = { λ t. IsFlushed t.lines };
 
-    fn item(&mut self, item: Printed<J>) -> Result<(), TextFault> {
+    fn item(&mut self, item: Printed<J>) -> Result<(), RunFault<SinkFault>> {
         let taken = self.lines.line(self.alloc, self.sink, item);
         self.keep_pace(taken.is_ok());
         taken
     }
 
-    fn end(&mut self, file: u32, mark: Mark, known: KnownEnd<J>) -> Result<(), TextFault> {
+    fn end(
+        &mut self,
+        file: u32,
+        mark: Mark,
+        known: KnownEnd<J>,
+    ) -> Result<(), RunFault<SinkFault>> {
         let taken = self.lines.end(self.alloc, self.sink, file, mark, known);
         self.keep_pace(taken.is_ok());
         taken
@@ -120,7 +124,7 @@ impl<S: Sink, J: Meant + Send + Sync> Consumer<Printed<J>, KnownEnd<J>> for Text
         self.lines.is_flushed()
     }
 
-    fn flush(&mut self) -> Result<(), TextFault> {
+    fn flush(&mut self) -> Result<(), RunFault<SinkFault>> {
         let flushed = self.lines.flush(self.sink);
         self.keep_pace(flushed.is_ok());
         flushed

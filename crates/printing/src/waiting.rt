@@ -3,10 +3,10 @@ ghost use Rattle.std.specs.Prelude.{◌≡◌, ◌<◌, IfOk, IfErr, OnOk, All, 
 ghost use Rattle.printing.specs.Waits.{ChangesAt, IsNothing, IsCountedOne, GetsLine, GetsMark, IsTaken, IsUnmarked};
 
 use crate::chunks::Chunks;
-use crate::fault::TextFault;
+use lanes::RunFault;
 use std::alloc::{AllocError, Global};
 use std::mem;
-use streams::{BatchFault, Mark};
+use streams::{Mark, SinkFault};
 
 /// The buffered lines and the state of a file that has not been written completely.
 #[derive(Drop)]
@@ -36,11 +36,11 @@ pub(crate) fn none_come(alloc: Global, files: u32) -> Result<Vec<Waiting>, Alloc
 }
 
 /// Counts one more entry of a file. `LaneLost` if there are too many to count.
-pub(crate) fn count_one(waiting: &mut Vec<Waiting>, file: u32) -> Result<(), TextFault>
+pub(crate) fn count_one(waiting: &mut Vec<Waiting>, file: u32) -> Result<(), RunFault<SinkFault>>
     requires { file < length waiting.old.items }
     ensures count { length waiting.new.items ≡ length waiting.old.items }
     ensures counted { OnOk result (ChangesAt file IsCountedOne waiting.old.items waiting.new.items) }
-    ensures astray { IfErr result (λ fault. fault ≡ TextFault.Run BatchFault.LaneLost) }
+    ensures astray { IfErr result (λ fault. fault ≡ RunFault.LaneLost) }
 {
     let here = &mut waiting[file as usize];
     match here.count.checked_add(1) {
@@ -48,7 +48,7 @@ pub(crate) fn count_one(waiting: &mut Vec<Waiting>, file: u32) -> Result<(), Tex
             here.count = count;
             Ok(())
         }
-        None => Err(TextFault::Run(BatchFault::LaneLost)),
+        None => Err(RunFault::LaneLost),
     }
 }
 
@@ -58,16 +58,16 @@ pub(crate) fn keep_line(
     waiting: &mut Vec<Waiting>,
     file: u32,
     line: &[u8],
-) -> Result<usize, TextFault>
+) -> Result<usize, RunFault<SinkFault>>
     requires { file < length waiting.old.items }
     ensures count { length waiting.new.items ≡ length waiting.old.items }
     ensures kept { OnOk result (ChangesAt file (GetsLine line.now) waiting.old.items waiting.new.items) }
-    ensures memory { IfErr result (λ fault. fault ≡ TextFault.Run BatchFault.Memory) }
+    ensures memory { IfErr result (λ fault. fault ≡ RunFault.Memory) }
 {
     let here = &mut waiting[file as usize];
     match here.lines.push(alloc, line) {
         Ok(more) => Ok(more),
-        Err(_) => Err(TextFault::Run(BatchFault::Memory)),
+        Err(_) => Err(RunFault::Memory),
     }
 }
 

@@ -1,29 +1,28 @@
 //! Writing text to a sink through a buffer.
-ghost use Rattle.std.specs.Prelude.{◌≡◌, ◌+◌, false, OnOk, OnErr, IfErr};
+ghost use Rattle.std.specs.Prelude.{◌≡◌, ◌+◌, false, OnOk, OnErr};
 ghost use Rattle.printing.specs.FormLines.{preamble_in, end_in};
-ghost use Rattle.printing.specs.Written.{GoesOn, IsPartlyAdded, GivesUp};
+ghost use Rattle.printing.specs.Written.{GoesOn, IsPartlyAdded, TellsFailure};
 
-use crate::fault::TextFault;
 use crate::lines::{end_text, preamble_line};
+use lanes::RunFault;
 use reports::{Form, push_line};
 use std::alloc::Global;
-use streams::{BatchFault, Sink, SourceEnd, TextBuffer};
+use streams::{Sink, SinkFault, SourceEnd, TextBuffer};
 
 /// Writes `text` to the sink through the buffer.
 pub(crate) fn put<S: Sink>(
     buffer: &mut TextBuffer,
     sink: &mut S,
     text: &[u8],
-) -> Result<(), TextFault>
+) -> Result<(), RunFault<SinkFault>>
     requires { S.failed sink.old ≡ false }
     ensures put { OnOk result (GoesOn (S.taken sink.old) buffer.old (S.taken sink.new) buffer.new text.now) }
     ensures partial { OnErr result (IsPartlyAdded (S.taken sink.old) buffer.old (S.taken sink.new) text.now) }
-    ensures stands { OnOk result (S.failed sink.new ≡ false) }
-    ensures gave_up { IfErr result (λ fault. GivesUp (S.failed sink.new) fault) }
+    ensures stands { TellsFailure (S.failed sink.new) result }
 {
     match push_line(buffer, sink, text) {
         Ok(()) => Ok(()),
-        Err(_) => Err(TextFault::Write),
+        Err(_) => Err(RunFault::Refused(SinkFault)),
     }
 }
 
@@ -33,12 +32,11 @@ pub(crate) fn put_preamble<S: Sink>(
     sink: &mut S,
     form: Form,
     file: u32,
-) -> Result<(), TextFault>
+) -> Result<(), RunFault<SinkFault>>
     requires { S.failed sink.old ≡ false }
     ensures put { OnOk result (GoesOn (S.taken sink.old) buffer.old (S.taken sink.new) buffer.new (preamble_in form (file + 1))) }
     ensures partial { OnErr result (IsPartlyAdded (S.taken sink.old) buffer.old (S.taken sink.new) (preamble_in form (file + 1))) }
-    ensures stands { OnOk result (S.failed sink.new ≡ false) }
-    ensures gave_up { IfErr result (λ fault. GivesUp (S.failed sink.new) fault) }
+    ensures stands { TellsFailure (S.failed sink.new) result }
 {
     put(buffer, sink, preamble_line(form, file).as_slice())
 }
@@ -51,15 +49,14 @@ pub(crate) fn put_end<S: Sink>(
     form: Form,
     file: u32,
     end: SourceEnd,
-) -> Result<(), TextFault>
+) -> Result<(), RunFault<SinkFault>>
     requires { S.failed sink.old ≡ false }
     ensures put { OnOk result (GoesOn (S.taken sink.old) buffer.old (S.taken sink.new) buffer.new (end_in form (file + 1) end.mark end.count)) }
     ensures partial { OnErr result (IsPartlyAdded (S.taken sink.old) buffer.old (S.taken sink.new) (end_in form (file + 1) end.mark end.count)) }
-    ensures stands { OnOk result (S.failed sink.new ≡ false) }
-    ensures gave_up { IfErr result (λ fault. GivesUp (S.failed sink.new) fault) }
+    ensures stands { TellsFailure (S.failed sink.new) result }
 {
     match end_text(alloc, form, file, end.mark, end.count) {
         Ok(text) => put(buffer, sink, text.as_slice()),
-        Err(_) => Err(TextFault::Run(BatchFault::Memory)),
+        Err(_) => Err(RunFault::Memory),
     }
 }

@@ -110,6 +110,7 @@ const VERDICTS: [Row; 16] = [
     ),
 ];
 
+/// The command `check` gives the verdict on each line, and its report and status.
 #[test]
 fn judges_each_line(rt: HostRuntime) {
     make_files(&rt);
@@ -164,6 +165,7 @@ where
     same!(rt, ran.err.as_slice(), said.as_bytes());
 }
 
+/// A file that cannot be read is named on standard error.
 #[test]
 fn names_what_cannot_be_read(rt: HostRuntime) {
     make_files(&rt);
@@ -184,6 +186,7 @@ const LINES_FROM_INPUT: [Row; 3] = [
     ("check check.pc - --json", GOOD_JSON, 0),
 ];
 
+/// Either the graphs or the lines can come from standard input.
 #[test]
 fn reads_either_file_from_standard_input(rt: HostRuntime) {
     make_files(&rt);
@@ -234,12 +237,14 @@ const HELP: [(&str, &str); 4] = [
     ("help", "  check   Check drawings"),
 ];
 
+/// Invalid command lines of `check` are refused with status 2, and its help is shown.
 #[test]
 fn refuses_other_command_lines(rt: HostRuntime) {
     check_said(&rt, &REFUSED, 2);
     check_said(&rt, &HELP, 0);
 }
 
+/// A failed write of the report leaves a beginning of it, and the fault is printed.
 #[test]
 fn names_a_failed_write(rt: HostRuntime) {
     make_files(&rt);

@@ -74,6 +74,7 @@ where
     }
 }
 
+/// Every combination of options is taken, with 1, 21 and 256 files.
 #[test]
 fn takes_each_combination_of_options(rt: HostRuntime) {
     make_file(&rt, "all.pc", &[HEADER, EDGE]);
@@ -124,6 +125,7 @@ where
     expect_report(rt, &run(rt, line.as_str()), said.as_bytes(), 0);
 }
 
+/// Files with names of 1 to 255 bytes are opened.
 #[test]
 fn opens_names_of_each_length(rt: HostRuntime) {
     for length in 1..=255 {

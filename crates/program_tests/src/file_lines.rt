@@ -67,6 +67,7 @@ const SEVERAL: [Line; 2] = [
     ),
 ];
 
+/// Each file that cannot be read has a line on standard error with the system's reason.
 #[test]
 fn names_files_that_cannot_be_read(rt: HostRuntime) {
     fs::create_dir_all(&rt, "lines_folder").expect(&rt, "a folder");
@@ -176,6 +177,7 @@ where
     check_lines(rt, &[("layout kind", said), ("frames kind", said)], status);
 }
 
+/// A file in another format has a line with a hint at that format; other files have none.
 #[test]
 fn says_what_a_file_looks_like(rt: HostRuntime) {
     for (parts, said) in KINDS {

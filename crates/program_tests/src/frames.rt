@@ -43,6 +43,7 @@ const FILES: [(&[&[u8]], &str, u8); 10] = [
     (&[HEADER, &[255], &[1; 255]], "end oversize records=0\n", 3),
 ];
 
+/// The report has a line for each record, and one for the end of the file.
 #[test]
 fn reports_records_and_the_ending(rt: HostRuntime) {
     for (parts, report, status) in FILES {
@@ -66,6 +67,7 @@ fn expect_end(rt: &impl Abort, ran: &Ran<Vec<u8>>, end: &[u8], status: u8) {
     same!(rt, (is_end, ran.status), (true, status));
 }
 
+/// A file may have a million records, and reading stops at a byte after them.
 #[test]
 fn stops_after_a_million_records(rt: HostRuntime) {
     let bytes = million_records(rt.alloc()).expect(&rt, "memory");
@@ -85,6 +87,7 @@ const CANNOT_BE_READ: [Row; 3] = [
     ("frames frames_folder/missing.pc", UNREAD, 3),
 ];
 
+/// A file that cannot be read has the mark `io`.
 #[test]
 fn marks_what_cannot_be_read(rt: HostRuntime) {
     fs::create_dir_all(&rt, "frames_folder").expect(&rt, "a folder");
@@ -111,6 +114,7 @@ const HELP: [(&str, &str); 4] = [
     ("--help layout", ALL),
 ];
 
+/// Invalid command lines of `frames` are refused with status 2, and its help is shown.
 #[test]
 fn answers_command_lines(rt: HostRuntime) {
     check_said(&rt, &REFUSED, 2);
@@ -129,6 +133,7 @@ const ONE_EDGE: Case = Case {
     may_begin: false,
 };
 
+/// A failed write of the report leaves a beginning of it, and the fault is printed.
 #[test]
 fn names_a_failed_write(rt: HostRuntime) {
     let words = words_for(&rt, &ONE_EDGE).expect(&rt, "a file");
@@ -191,7 +196,7 @@ fn line_of(fault: Fault) -> Narrow {
     err.into_writer()
 }
 
-/// The line and the status of each fault.
+/// Each fault has its line and its status.
 #[test]
 fn tells_each_fault_in_a_line(rt: HostRuntime) {
     for (fault, line, status) in FAULTS {
@@ -200,6 +205,7 @@ fn tells_each_fault_in_a_line(rt: HostRuntime) {
     }
 }
 
+/// With each allocation refused in turn, `frames` writes its report or says what ran out of memory.
 #[test]
 fn names_want_of_memory(rt: HostRuntime) {
     check_wants(&rt, &ONE_EDGE);

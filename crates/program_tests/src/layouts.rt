@@ -3,7 +3,7 @@
 
 use crate::shared::{
     Case, NoConsole, Ran, Row, check_failed_write, check_rows, check_said, check_wants,
-    expect_report, holds, make_file, no_input, run, run_into, words_for,
+    expect_report, holds, make_file, run, run_into, words_for,
 };
 use std::alloc::{AllocError, Global};
 use std::fs;
@@ -103,6 +103,7 @@ const BODIES: [(&[u8], &str, u8); 3] = [
     ),
 ];
 
+/// The report has a line for each graph, and one for the end of the file.
 #[test]
 fn reports_each_graph_and_the_ending(rt: HostRuntime) {
     for (record, said) in RECORDS {
@@ -123,7 +124,7 @@ const BEST: &str = "file 1\n\
     graph 2 ok n=10 m=17 f=9 bends=8 drawn=yes\n\
     end complete graphs=2\n";
 
-/// A record that goes on for more bytes than a list may have, and its beginning.
+/// A list that is too long is marked, and a file cut in it is marked as cut.
 #[test]
 fn marks_lists_that_are_too_long(rt: HostRuntime) {
     let mut long = [1; 256];
@@ -132,6 +133,7 @@ fn marks_lists_that_are_too_long(rt: HostRuntime) {
     check_body(&rt, &long, b"file 1\nend oversize graphs=0\n", 3);
 }
 
+/// A cycle of 255 vertices is drawn without bends.
 #[test]
 fn reports_a_cycle_of_most_vertices(rt: HostRuntime) {
     let body = longest_cycle(rt.alloc()).expect(&rt, "memory");
@@ -141,6 +143,7 @@ fn reports_a_cycle_of_most_vertices(rt: HostRuntime) {
 /// The report of a file that could not be read.
 pub const UNREAD: &str = "file 1\nend io graphs=0\n";
 
+/// A folder and a missing file have the mark `io`.
 #[test]
 fn marks_files_that_cannot_be_read(rt: HostRuntime) {
     fs::create_dir_all(&rt, "layout_folder").expect(&rt, "a folder");
@@ -236,7 +239,7 @@ const REPORTS: [Row; 24] = [
     ("layout torus.pc --json", TORUS, 0),
 ];
 
-/// Each file by itself, several, and files that are missing.
+/// Files are reported one by one, several at once, and if some are missing.
 #[test]
 fn reports_files(rt: HostRuntime) {
     for (name, parts) in FILES {
@@ -245,7 +248,7 @@ fn reports_files(rt: HostRuntime) {
     check_rows(&rt, &REPORTS);
 }
 
-/// The line of a single edge, but for its points and prices.
+/// The JSON line of a single edge has its parts before and after its points and prices.
 #[test]
 fn shows_an_edge_as_json(rt: HostRuntime) {
     make_file(&rt, "json_edge.pc", &[HEADER, EDGE]);
@@ -343,6 +346,7 @@ fn line_of(alloc: Global, files: u32) -> Result<String, AllocError> {
     Ok(line)
 }
 
+/// Invalid command lines of `layout` are refused with status 2, and its help shows a pipe.
 #[test]
 fn refuses_other_command_lines(rt: HostRuntime) {
     check_said(&rt, &REFUSED, 2);
@@ -371,17 +375,18 @@ const ONE_EDGE: Case = Case {
     may_begin: false,
 };
 
-/// An output that refuses each write, as a file does that was opened for reading: the run ends with status 1.
+/// A run whose output refuses each write ends with status 1.
+/// This output is a file that was opened for reading.
 #[test]
 fn ends_where_the_output_refuses(rt: HostRuntime) {
     let words = words_for(&rt, &ONE_EDGE).expect(&rt, "a file");
     let out = fs::open(&rt, "case.pc").expect(&rt, "a file");
     let err = fs::open(&rt, "case.pc").expect(&rt, "a file");
-    let input = no_input(rt.alloc());
-    let ran = run_into(&rt, words.as_slice(), &input, &NoConsole, out, err);
+    let ran = run_into(&rt, words.as_slice(), None, &NoConsole, out, err);
     same!(&rt, ran.status, 1);
 }
 
+/// A failed write of the report leaves a beginning of it, and the fault is printed.
 #[test]
 fn names_a_failed_write(rt: HostRuntime) {
     let words = words_for(&rt, &ONE_EDGE).expect(&rt, "a file");
@@ -390,6 +395,7 @@ fn names_a_failed_write(rt: HostRuntime) {
     }
 }
 
+/// With each allocation refused in turn, `layout` writes its report or says what ran out of memory.
 #[test]
 fn names_want_of_memory(rt: HostRuntime) {
     check_wants(&rt, &ONE_EDGE);
@@ -408,6 +414,7 @@ const ONE_VERTEX: Case = Case {
     may_begin: true,
 };
 
+/// With each allocation refused in turn, `layout --json` writes its lines or says what ran out of memory.
 #[test]
 fn json_names_want_of_memory(rt: HostRuntime) {
     check_wants(&rt, &ONE_VERTEX);

@@ -6,6 +6,7 @@ use test_tools::records::{EDGE, HEADER, TRIANGLE};
 
 const VERSION: &str = "planarbend 1.0.0\nproved with rattle-kit-13 logic dac8208d650f15bf\n";
 
+/// The option `--version` prints the version if it comes first.
 #[test]
 fn prints_the_version(rt: HostRuntime) {
     check_rows(&rt, &[("--version", VERSION, 0)]);
@@ -57,6 +58,7 @@ const REFUSED: [(&str, &str); 5] = [
     ("layout short --drawing=short", NEEDS_JSON),
 ];
 
+/// Options may stand between files, and their values are not taken as files.
 #[test]
 fn takes_options_out_of_the_files(rt: HostRuntime) {
     make_file(&rt, "edge.pc", &[HEADER, EDGE]);
@@ -84,6 +86,7 @@ const BEHIND_DASHES: [Row; 10] = [
     ),
 ];
 
+/// All arguments after `--` are files.
 #[test]
 fn takes_words_behind_dashes_as_files(rt: HostRuntime) {
     check_rows(&rt, &BEHIND_DASHES);

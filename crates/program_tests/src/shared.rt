@@ -1,9 +1,8 @@
 //! Runs of the whole command, which the tests share.
 
-use commands::{Console, FilesAndInput, SystemFiles, command};
-use lanes::MemOpener;
+use commands::{Console, SystemFiles, command};
 use std::alloc::{AllocError, Global};
-use std::io::Write;
+use std::io::{Read, Write};
 use std::process::Abort;
 use std::rt::Files;
 use std::sync::Wait;
@@ -18,6 +17,21 @@ pub struct Ran<W> {
     pub status: u8,
     pub out: W,
     pub err: W,
+}
+
+/// A standard input with these bytes, of which a read returns at most 7.
+#[derive(Clone, Copy)]
+pub struct Input<'a> {
+    pub bytes: &'a [u8],
+}
+
+impl Read for Input<'_> {
+    fn read(&mut self, buf: &mut [u8]) -> io::Result<usize> {
+        let count = self.bytes.len().min(7).min(buf.len());
+        buf[..count].copy_from_slice(&self.bytes[..count]);
+        self.bytes = &self.bytes[count..];
+        Ok(count)
+    }
 }
 
 /// A console that shows nothing.
@@ -36,11 +50,11 @@ impl Console for NoConsole {
     fn show(&self, _text: &[u8]) {}
 }
 
-/// Runs the command with these arguments, on this standard input, with this console and these writers.
+/// Runs the command with these arguments, on this standard input or a closed one, with this console and these writers.
 pub fn run_into<R: Files + AllocGlobal + Threads + Wait + Sync, C: Console + Sync, W: Write>(
     rt: &R,
     words: &[String],
-    input: &MemOpener,
+    input: Option<Input<'_>>,
     console: &C,
     out: W,
     err: W,
@@ -51,10 +65,7 @@ where
 {
     let mut out = IoSink::new(out);
     let mut err = IoSink::new(err);
-    let files = FilesAndInput {
-        files: &SystemFiles { rt },
-        input,
-    };
+    let files = SystemFiles { rt, input };
     let status = command(rt, words, &files, console, &mut out, &mut err);
     Ran {
         status,
@@ -72,16 +83,11 @@ pub fn words_of(alloc: Global, line: &str) -> Result<Vec<String>, AllocError> {
     Ok(list)
 }
 
-/// A standard input that cannot be read.
-pub fn no_input(alloc: Global) -> MemOpener {
-    MemOpener::new(Vec::new(alloc), 1)
-}
-
 /// Runs the command with these arguments, on this standard input and with this console.
 pub fn run_words<R: Files + AllocGlobal + Threads + Wait + Sync, C: Console + Sync>(
     rt: &R,
     words: &[String],
-    input: &MemOpener,
+    input: Option<Input<'_>>,
     console: &C,
 ) -> Ran<Vec<u8>>
 where
@@ -96,7 +102,7 @@ where
 pub fn run_on<R: Files + AllocGlobal + Threads + Wait + Sync + Abort, C: Console + Sync>(
     rt: &R,
     line: &str,
-    input: &MemOpener,
+    input: Option<Input<'_>>,
     console: &C,
 ) -> Ran<Vec<u8>>
 where
@@ -107,7 +113,7 @@ where
     run_words(rt, words.as_slice(), input, console)
 }
 
-/// Runs a command line, with a standard input that cannot be read and a console that shows nothing.
+/// Runs a command line, with a closed standard input and a console that shows nothing.
 pub fn run<R: Files + AllocGlobal + Threads + Wait + Sync + Abort>(
     rt: &R,
     line: &str,
@@ -116,7 +122,7 @@ where
     R::File: Send,
     R::Dir: Send,
 {
-    run_on(rt, line, &no_input(rt.alloc()), &NoConsole)
+    run_on(rt, line, None, &NoConsole)
 }
 
 /// Runs the command with these arguments, with room for only `out` and `err` bytes in its writers.
@@ -130,12 +136,11 @@ where
     R::File: Send,
     R::Dir: Send,
 {
-    let input = no_input(rt.alloc());
     let (out, err) = (
         Narrow::new(out, usize::MAX, true),
         Narrow::new(err, usize::MAX, true),
     );
-    run_into(rt, words, &input, &NoConsole, out, err)
+    run_into(rt, words, None, &NoConsole, out, err)
 }
 
 /// Checks that a run wrote this report, with this status. With status 0 it wrote nothing else.

@@ -1,6 +1,6 @@
 //! Runs of `layout` in several lanes, which must open their files in parallel.
 
-use crate::shared::{NoConsole, make_file, no_input, run_words, words_of};
+use crate::shared::{NoConsole, make_file, run_words, words_of};
 use std::alloc::{Allocator, Global};
 use std::fs::{Metadata, OpenOptions};
 use std::io;
@@ -105,8 +105,7 @@ where
         ran_out: AtomicBool::new(false),
     };
     let words = words_of(rt.alloc(), line).expect(rt, "memory");
-    let input = no_input(rt.alloc());
-    let status = run_words(&crowd, words.as_slice(), &input, &NoConsole).status;
+    let status = run_words(&crowd, words.as_slice(), None, &NoConsole).status;
     let ran_out = crowd.ran_out.load(Ordering::SeqCst);
     same!(rt, (status, ran_out), (0, false));
 }

@@ -3,11 +3,10 @@
 
 use crate::layouts::{EDGELESS, UNREAD};
 use crate::shared::{
-    NoConsole, Ran, Row, check_rows, check_said, expect_report, make_file, run_on,
+    Input, NoConsole, Ran, Row, check_rows, check_said, expect_report, make_file, run_on,
 };
 use commands::{Console, Meter, Progress, is_input};
-use lanes::{Gate, MemOpener, Stage};
-use std::alloc::{AllocError, Global};
+use lanes::{Gate, Stage};
 use std::process::Abort;
 use std::rt::Files;
 use std::sync::Wait;
@@ -15,13 +14,6 @@ use std::sync::atomic::{AtomicU64, Ordering};
 use std::thread::Threads;
 use test_tools::records::{EDGE, HEADER, TRIANGLE};
 use test_tools::same;
-
-/// A standard input with these parts, of which a read returns at most 7 bytes.
-fn input_of(alloc: Global, parts: &[&[u8]]) -> Result<MemOpener, AllocError> {
-    let mut files = Vec::new(alloc);
-    files.push(parts.concat(alloc)?)?;
-    Ok(MemOpener::new(files, 7))
-}
 
 /// Runs the command line of each row on a standard input with these parts, and checks the report and the status.
 pub fn check_on<R: Files + AllocGlobal + Threads + Wait + Sync + Abort>(
@@ -34,8 +26,9 @@ where
     R::Dir: Send,
 {
     for (line, report, status) in rows {
-        let input = input_of(rt.alloc(), parts).expect(rt, "memory");
-        let ran = run_on(rt, line, &input, &NoConsole);
+        let bytes = parts.concat(rt.alloc()).expect(rt, "memory");
+        let input = Input { bytes: &bytes };
+        let ran = run_on(rt, line, Some(input), &NoConsole);
         expect_report(rt, &ran, report.as_bytes(), *status);
     }
 }
@@ -65,6 +58,7 @@ const INPUTS: [(&[&[u8]], Row); 3] = [
     (&[HEADER, EDGE, &[2, 2, 0, 1]], ("frames -- -", CUT, 3)),
 ];
 
+/// The argument `-` reads standard input as a file.
 #[test]
 fn reads_standard_input(rt: HostRuntime) {
     check_on(&rt, &[HEADER, EDGE, TRIANGLE], &OF_BOTH);
@@ -99,6 +93,7 @@ const BESIDE_FILES: [Row; 2] = [
     ),
 ];
 
+/// Standard input has its place among files, and `./-` is a file.
 #[test]
 fn reads_standard_input_beside_files(rt: HostRuntime) {
     make_file(&rt, "-", &[HEADER, TRIANGLE]);
@@ -118,6 +113,7 @@ const READ_TWICE: [(&str, &str); 5] = [
     ("frames - -", "unexpected argument '-' found\n"),
 ];
 
+/// Standard input that is named twice is refused.
 #[test]
 fn reads_standard_input_once(rt: HostRuntime) {
     check_said(&rt, &READ_TWICE, 2);
@@ -189,9 +185,10 @@ where
     R::Dir: Send,
 {
     let five = [HEADER, EDGE, EDGE, EDGE, EDGE, EDGE];
-    let input = input_of(rt.alloc(), &five).expect(rt, "memory");
+    let bytes = five.concat(rt.alloc()).expect(rt, "memory");
     let console = Ticking::new(terminal, 100, wanted);
-    expect_five(rt, &run_on(rt, line, &input, &console));
+    let input = Input { bytes: &bytes };
+    expect_five(rt, &run_on(rt, line, Some(input), &console));
     same!(rt, console.counts(), (wanted.len() as u64, 0));
 }
 
@@ -221,6 +218,7 @@ const TOLD: [(&str, bool, &[&str]); 5] = [
     ("layout --progress - --progress", false, &APART),
 ];
 
+/// Progress is shown if `--progress` is given and there is a terminal, or if it is given twice.
 #[test]
 fn tells_how_far_it_is(rt: HostRuntime) {
     for (line, terminal, wanted) in TOLD {
@@ -241,6 +239,7 @@ fn lines_of(graphs: u32, step: u64) -> u64 {
     console.counts().0
 }
 
+/// At most four lines of progress are written in a second.
 #[test]
 fn tells_at_most_four_lines_a_second(rt: HostRuntime) {
     for (graphs, step, lines) in [
@@ -268,6 +267,7 @@ fn last_line_of(graphs: u32, wanted: &str) -> (u64, u64) {
     console.counts()
 }
 
+/// The last line of progress counts each graph.
 #[test]
 fn counts_each_graph(rt: HostRuntime) {
     for (graphs, wanted) in [

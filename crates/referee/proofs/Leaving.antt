@@ -8,8 +8,8 @@ use Rattle.ortho_rep.specs.Edges.{is_lesser}
 use Rattle.drawing_check.specs.Paths.{path_along, point_of}
 use Rattle.drawing_check.specs.Draws.{direction_between, direction_of, leaving}
 use Rattle.drawing_check.proofs.Leaving.{point_of-end, leaving-lesser, leaving-reverse_dart}
-use Rattle.referee.specs.declared.route.Route.{Route}
-use Rattle.referee.specs.Routes.{path_of}
+use Rattle.drawing_check.specs.declared.route.Route.{Route}
+use Rattle.drawing_check.specs.Routes.{path_of}
 
 pub leaves_out : (p : PlaneModel) (points : PointsModel) (d : ℕ) (route : Route) (q : Point) (v : Direction) → is_lesser p d ≡ true → path_of route ≡ path_along p points d → q ≡ point_of (path_of route) 1 → v ≡ direction_between route.start q → v ≡ leaving p points d
 leaves_out p points d route q v lesser is_path is_q is_v =

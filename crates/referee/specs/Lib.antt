@@ -1,4 +1,3 @@
 pub mod Drawings
-pub mod Routes
 pub mod Claims
 pub mod Taken

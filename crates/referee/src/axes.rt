@@ -3,11 +3,11 @@
 ghost use Rattle.std.specs.Prelude.{◌↔◌, IsTrue, OnOk, OnErr};
 ghost use Rattle.drawing_check.specs.Draws.{IsAxis, IsOnAxes, AreOnAxes};
 ghost use Rattle.drawing_check.specs.Paths.{paths};
-ghost use Rattle.referee.specs.Routes.{path_of};
+ghost use Rattle.drawing_check.specs.Routes.{path_of};
 ghost use Rattle.referee.specs.Drawings.{HasPoints};
 
 use crate::fault::Fault;
-use crate::route::{Route, route_of};
+use drawing_check::{Route, route_of};
 use faces::Plane;
 use ortho_rep::{Point, Points};
 

@@ -30,19 +30,19 @@ pub struct Claims {
 #[derive(Clone, Copy, Debug, PartialEq, Eq, Error)]
 pub enum FalseClaim {
     /// The angles are not those of the drawing.
-    #[error("the angles are not those of the drawing")]
+    #[error("the claimed angles are not those of the drawing")]
     Angles,
     /// The turns are not those of the drawing.
-    #[error("the turns are not those of the drawing")]
+    #[error("the claimed turns are not those of the drawing")]
     Turns,
     /// The prices do not prove that the drawing has the fewest bends.
-    #[error("the prices do not prove the bends fewest")]
+    #[error("the claimed prices do not prove that the bends are fewest")]
     Prices,
     /// The drawing has another number of bends.
-    #[error("the drawing has another number of bends")]
+    #[error("the claimed number of bends is not that of the drawing")]
     Bends,
     /// The drawing has another outer face.
-    #[error("the drawing has another outer face")]
+    #[error("the claimed outer face is not that of the drawing")]
     Outer,
 }
 

@@ -6,7 +6,7 @@ ghost use Rattle.drawing_check.specs.Draws.{leaving};
 ghost use Rattle.drawing_check.specs.Routes.{direction_at};
 ghost use Rattle.referee.specs.Drawings.{HasPoints};
 
-use crate::route::{direction_from, route_of};
+use drawing_check::{direction_from, route_of};
 use faces::Plane;
 use geometry::Direction;
 use ortho_rep::Points;

@@ -13,34 +13,34 @@ use thiserror::Error;
 #[derive(Clone, Copy, Debug, PartialEq, Eq, Error)]
 pub enum Fault {
     /// There is not one point for each vertex.
-    #[error("not one point for each vertex")]
+    #[error("the number of points differs from the number of vertices")]
     Vertices,
     /// There is not one list of corners for each edge.
-    #[error("not one list of corners for each edge")]
+    #[error("the number of corner lists differs from the number of edges")]
     Edges,
     /// An edge has more than 1,000,000 corners.
     #[error("edge {edge} has more than 1,000,000 corners")]
     Long { edge: u16 },
     /// A coordinate of a vertex is above 65,535.
-    #[error("vertex {vertex} lies out of the grid")]
+    #[error("vertex {vertex} has a coordinate above 65535")]
     VertexOutOfGrid { vertex: u8 },
     /// A coordinate of a corner is above 65,535. Corners are numbered from 0.
-    #[error("corner {corner} of edge {edge} lies out of the grid")]
+    #[error("corner {corner} of edge {edge} has a coordinate above 65535")]
     CornerOutOfGrid { edge: u16, corner: usize },
     /// The points with the numbers `part` and `part + 1` of an edge's path are equal, or differ in both coordinates.
-    #[error("part {part} of edge {edge} is not parallel to an axis")]
+    #[error("segment {part} of edge {edge} has length 0 or is not parallel to an axis")]
     NotAxis { edge: u16, part: usize },
     /// The edge does not turn at this corner by a quarter: it goes straight on, or back.
     #[error("edge {edge} does not turn at corner {corner}")]
     NoTurn { edge: u16, corner: usize },
     /// The edges at this vertex do not leave it in the clockwise order of the record.
-    #[error("the edges at vertex {vertex} are not in the order of the record")]
+    #[error("the edges at vertex {vertex} are not in the clockwise order of the record")]
     Embedding { vertex: u8 },
-    /// There is no face that can be the outer one: whichever it were, some face would not turn as it must.
-    #[error("no face is the outer one")]
+    /// No face can be the outer one: with each choice, some face does not turn as it must.
+    #[error("no face can be the outer face")]
     Outer,
     /// Two edges meet, or an edge meets itself or a vertex that is not its end, or two vertices are at one point.
-    #[error("a point is met twice")]
+    #[error("edges or vertices overlap")]
     Meet,
     /// Memory ran out; this says nothing of the points.
     #[error("out of memory")]

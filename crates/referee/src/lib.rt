@@ -12,7 +12,6 @@ mod fewest;
 mod grid;
 mod judge;
 mod outer_face;
-mod route;
 mod scratch;
 mod shape_of;
 mod turns;

@@ -1,4 +1,4 @@
-//! Memory for verdicts, which is used again.
+//! Buffers for verdicts, which are reused.
 
 use std::alloc::Global;
 

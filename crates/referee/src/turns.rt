@@ -10,11 +10,11 @@ ghost use Rattle.ortho_rep.specs.Shapes.{ShapeModel};
 ghost use Rattle.ortho_rep.specs.Edges.{is_lesser, edge_number};
 ghost use Rattle.drawing_check.specs.Draws.{turned, IsTurning, TurnAsSaid};
 ghost use Rattle.drawing_check.specs.Paths.{path_along};
-ghost use Rattle.referee.specs.Routes.{path_of};
+ghost use Rattle.drawing_check.specs.Routes.{path_of};
 ghost use Rattle.referee.specs.Drawings.{HasPoints};
 
 use crate::fault::Fault;
-use crate::route::{Route, direction_from, route_of};
+use drawing_check::{Route, direction_from, route_of};
 use faces::Plane;
 use geometry::Direction;
 use ortho_rep::{Points, Turn};

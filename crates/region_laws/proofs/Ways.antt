@@ -1,8 +1,7 @@
 -- Darts that are walked in steps of length 1 along the axes, and where these steps meet.
-use Rattle.std.proofs.Common.{◌≡◌, ◌≢◌, ◌<◌, ℕ, suc, ◌+◌, ◌-◌, Bool, true, refl, sym, ap, ◌∙◌, subst, arith}
+use Rattle.std.proofs.Common.{◌≡◌, ◌≢◌, ◌<◌, ℕ, suc, ◌+◌, ◌-◌, Bool, true, sym, ap, ◌∙◌, subst, arith}
 use Rattle.embedding.specs.Darts.{IsOneToOne}
 use Rattle.geometry.specs.declared.direction.Direction.{Direction}
-use Rattle.geometry.specs.declared.direction.Direction.TheVariants.{East, North, West, South}
 use Rattle.geometry.specs.Directions.{opposite_of, left_of, left_quarters}
 use Rattle.region_laws.proofs.Weights.{IsStep, step_start}
 
@@ -54,12 +53,6 @@ pub record AreWays (w : Ways) : Type 0 where
       → w.x d i ≡ w.x e j → w.y d i ≡ w.y e j → w.way d i ≡ w.way e j → (d ≡ e) × (i ≡ j)
   pub free_inside : (d i : ℕ) → d < w.darts → i + 1 < w.steps d → IsFree w (w.way d i) (w.way d (i + 1)) (w.x d (i + 1)) (w.y d (i + 1))
   pub free_at : (d i : ℕ) → d < w.darts → i + 1 ≡ w.steps d → IsFree w (w.way d i) (w.way (w.next d) 0) (w.x d (i + 1)) (w.y d (i + 1))
-
-pub opposite_twice : (q : Direction) → opposite_of (opposite_of q) ≡ q
-opposite_twice East = refl
-opposite_twice North = refl
-opposite_twice West = refl
-opposite_twice South = refl
 
 module _ (w : Ways) (are : AreWays w) where
   -- a step and one that ends where it ends, with its direction

@@ -1,13 +1,13 @@
 -- The westmost upright part is the first one in its rows, and tells whether the regions are the faces.
 use Rattle.std.proofs.Common.{◌≡◌, ◌≤◌, ◌<◌, ◌⊎◌, ◌↔◌, ℕ, zero, suc, ◌+◌, Bool, true, false, cond, eqb, ltb, List, [], ◌∷◌, ◌++◌, length, reverse, Option, Some, None, refl, sym, ap, ◌∙◌, subst, inl, inr, arith}
 use Rattle.std.proofs.lemmas.Bool.{cases_lt, cases_eq, cases_Bool, cond-true, cond-false, lt-ltb, le-ltb, eq-eqb, ne_eqb}
-use Rattle.faces.specs.Planes.{PlaneModel, IsPlane, HasEnds, darts, vertices, tail, head, reverse_dart, face_at}
+use Rattle.faces.specs.Planes.{PlaneModel, IsPlane, HasEnds, darts, vertices, reverse_dart, face_at}
 use Rattle.faces.proofs.Ends.{plane_ends}
 use Rattle.ortho_rep.specs.Shapes.{ShapeModel}
 use Rattle.ortho_rep.specs.Representation.{IsShape}
 use Rattle.ortho_rep.specs.declared.points.Point.{Point}
-use Rattle.ortho_rep.specs.Points.{PointsModel, vertex_point, corners_at}
-use Rattle.ortho_rep.specs.Edges.{is_lesser, edge_number}
+use Rattle.ortho_rep.specs.Points.{PointsModel}
+use Rattle.ortho_rep.specs.Edges.{is_lesser}
 use Rattle.drawing_check.specs.Paths.{path_along, dart_path, point_of}
 use Rattle.drawing_check.specs.Draws.{Draws}
 use Rattle.drawing_check.specs.Regions.{PassesNorth, HasRegions}
@@ -185,21 +185,14 @@ westmost_kept p points d greater =
     ap (westmost_below p points) up ∙ cond-false (is_lesser p d) (with_edge p points (westmost_below p points d) d) (westmost_below p points d) greater
 
 -- what is found along the lesser dart of an edge
-pub edge_is : (p : PlaneModel) (points : PointsModel) (west result : Option Upright) (d r e left right : ℕ) (start end : Point) (corners : List Point)
-    → HasEnds p → d < darts p → r ≡ reverse_dart p d → e ≡ edge_number p d → left ≡ face_at p d → right ≡ face_at p r
-    → start ≡ vertex_point points (head p r) → end ≡ vertex_point points (head p d) → corners ≡ corners_at points e
-    → result ≡ with_path left right west (start ∷ (corners ++ end ∷ [])) → result ≡ with_edge p points west d
-edge_is p points west result d r e left right start end corners ends d_in is_r is_e is_left is_right is_start is_end is_corners found =
-    let from : start ≡ vertex_point points (tail p d) =
-    is_start ∙ ap (λ (k : ℕ). vertex_point points (head p k)) is_r ∙ ap (vertex_point points) (ends.reverse_dart_head d d_in) in
+pub edge_is : (p : PlaneModel) (points : PointsModel) (west result : Option Upright) (d r left right : ℕ) (path : List Point)
+    → r ≡ reverse_dart p d → left ≡ face_at p d → right ≡ face_at p r → path ≡ path_along p points d
+    → result ≡ with_path left right west path → result ≡ with_edge p points west d
+edge_is p points west result d r left right path is_r is_left is_right is_path found =
     found
-    ∙ ap (λ (k : ℕ). with_path k right west (start ∷ (corners ++ end ∷ []))) is_left
-    ∙ ap (λ (k : ℕ). with_path (face_at p d) k west (start ∷ (corners ++ end ∷ []))) (is_right ∙ ap (face_at p) is_r)
-    ∙ ap (λ (q : Point). with_path (face_at p d) (face_at p (reverse_dart p d)) west (q ∷ (corners ++ end ∷ []))) from
-    ∙ ap (λ (l : List Point). with_path (face_at p d) (face_at p (reverse_dart p d)) west (vertex_point points (tail p d) ∷ (l ++ end ∷ [])))
-    (is_corners ∙ ap (corners_at points) is_e)
-    ∙ ap (λ (q : Point). with_path (face_at p d) (face_at p (reverse_dart p d)) west
-    (vertex_point points (tail p d) ∷ (corners_at points (edge_number p d) ++ q ∷ []))) is_end
+    ∙ ap (λ (k : ℕ). with_path k right west path) is_left
+    ∙ ap (λ (k : ℕ). with_path (face_at p d) k west path) (is_right ∙ ap (face_at p) is_r)
+    ∙ ap (with_path (face_at p d) (face_at p (reverse_dart p d)) west) is_path
 
 -- ---- in a drawing
 

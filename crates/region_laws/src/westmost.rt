@@ -1,15 +1,16 @@
 //! The westmost upright part of a drawing, which determines whether the regions are the faces.
 
-ghost use Rattle.std.specs.Prelude.{◌≡◌, ◌*◌, ◌<◌, ◌↔◌, ◌∷◌, ◌++◌, [], length, IsTrue};
-ghost use Rattle.faces.specs.Planes.{darts, vertices, reverse_dart, face_at};
+ghost use Rattle.std.specs.Prelude.{◌≡◌, ◌<◌, ◌↔◌, IsTrue};
+ghost use Rattle.faces.specs.Planes.{darts, reverse_dart, face_at};
 ghost use Rattle.ortho_rep.specs.Shapes.{ShapeModel};
 ghost use Rattle.ortho_rep.specs.Representation.{IsShape};
 ghost use Rattle.ortho_rep.specs.Edges.{edge_number, is_lesser};
-ghost use Rattle.drawing_check.specs.Draws.{Draws};
+ghost use Rattle.drawing_check.specs.Draws.{Draws, HasPoints};
 ghost use Rattle.drawing_check.specs.Regions.{HasRegions};
+ghost use Rattle.drawing_check.specs.Routes.{path_of};
 ghost use Rattle.region_laws.specs.Westmost.{further_west, with_part, with_path, with_edge, westmost_below, face_on_west};
 
-use drawing_check::Drawing;
+use drawing_check::{Drawing, Route, route_of};
 use faces::Plane;
 use ortho_rep::{Point, Points};
 
@@ -33,8 +34,7 @@ struct Sides {
 /// O(s) time for s parts of edges, and allocates nothing. The answer means nothing for points that draw no shape of the
 /// plane; `has_regions` of `drawing_check` requires no shape.
 pub fn outside_is_outer(plane: &Plane, drawing: &Drawing) -> bool
-    requires vertices { length drawing.now.vertices ≡ vertices plane.now }
-    requires corners { 2 * length drawing.now.corners ≡ darts plane.now }
+    requires points { HasPoints plane.now drawing.now }
     ensures { (shape : ShapeModel) → IsShape plane.now shape → Draws plane.now shape drawing.now
         → IsTrue result ↔ HasRegions plane.now drawing.now }
 {
@@ -46,8 +46,7 @@ pub fn outside_is_outer(plane: &Plane, drawing: &Drawing) -> bool
 
 /// The face on the west of the westmost upright part, and that of dart 0 if all parts are level.
 fn westmost_face(plane: &Plane, points: &Points) -> u16
-    requires vertices { length points.now.vertices ≡ vertices plane.now }
-    requires corners { 2 * length points.now.corners ≡ darts plane.now }
+    requires points { HasPoints plane.now points.now }
     ensures { result ≡ face_on_west (westmost_below plane.now points.now (darts plane.now)) (face_at plane.now 0) }
 {
     // Only the proof needs this: `graph` says that there is a dart.
@@ -60,8 +59,7 @@ fn westmost_face(plane: &Plane, points: &Points) -> u16
 
 /// The westmost upright part of all edges, the first one met if several lie furthest west.
 fn westmost(plane: &Plane, points: &Points) -> Option<Upright>
-    requires vertices { length points.now.vertices ≡ vertices plane.now }
-    requires corners { 2 * length points.now.corners ≡ darts plane.now }
+    requires points { HasPoints plane.now points.now }
     ensures { result ≡ westmost_below plane.now points.now (darts plane.now) }
 {
     let graph = plane.graph();
@@ -90,37 +88,30 @@ fn with_edge(
     requires lesser { IsTrue (is_lesser plane.now dart) }
     requires reverse { reverse ≡ reverse_dart plane.now dart }
     requires number { edge ≡ edge_number plane.now dart }
-    requires vertices { length points.now.vertices ≡ vertices plane.now }
-    requires corners { 2 * length points.now.corners ≡ darts plane.now }
+    requires points { HasPoints plane.now points.now }
     ensures { result ≡ with_edge plane.now points.now west dart }
 {
-    let graph = plane.graph();
-    let start = points.vertex(graph.head(reverse));
-    let end = points.vertex(graph.head(dart));
+    // Only the proof needs this: `graph` says where darts end.
+    let _graph = plane.graph();
+    let route = route_of(plane, points, dart, reverse, edge);
     let sides = Sides {
         left: plane.face_of(dart),
         right: plane.face_of(reverse),
     };
-    with_path(west, start, points.corners(edge), end, &sides)
+    with_path(west, &route, &sides)
 }
 
-/// The westmost of a part and those from one point by the corners to another.
-fn with_path(
-    west: Option<Upright>,
-    start: Point,
-    corners: &[Point],
-    end: Point,
-    sides: &Sides,
-) -> Option<Upright>
-    ensures { result ≡ with_path sides.now.left sides.now.right west (start ∷ (corners.now ++ end ∷ [])) }
+/// The westmost of a part and those of a path.
+fn with_path(west: Option<Upright>, route: &Route<'_>, sides: &Sides) -> Option<Upright>
+    ensures { result ≡ with_path sides.now.left sides.now.right west (path_of route.now) }
 {
     let mut so_far = west;
-    let mut from = start;
-    for corner in corners {
+    let mut from = route.start;
+    for corner in route.corners {
         so_far = with_part(so_far, from, *corner, sides);
         from = *corner;
     }
-    with_part(so_far, from, end, sides)
+    with_part(so_far, from, route.end, sides)
 }
 
 /// The westmost of a part and that from one point to another, if it is upright.

@@ -1,4 +1,4 @@
--- Texts put one behind another, and the text of an array, item by item.
+-- Texts put one after another, and the text of an array, item by item.
 use Rattle.std.proofs.Common.{◌≡◌, ℕ, ◌+◌, ◌<◌, zero, suc, Bool, true, false, ◌||◌, List, [], ◌∷◌, ◌++◌, length, map, take, nat_lt, refl, sym, ap, ◌∙◌, add-one, append_assoc, append-nil, arith}
 use Rattle.std.proofs.lemmas.Bool.{lt-ltb}
 use Rattle.std.specs.List.{range_with_len}
@@ -20,11 +20,11 @@ use Rattle.entries.specs.declared.cause.Cause.TheVariants.{Wide, OutOfGrid, NotA
 use Rattle.entries.specs.CauseWords.{word_of}
 use Rattle.reports.specs.LineData.{array_of, letter_of}
 
--- one text behind another
+-- one text after another
 pub then : (a b c xs ys : List ℕ) → b ≡ a ++ xs → c ≡ b ++ ys → c ≡ a ++ (xs ++ ys)
 then a b c xs ys first second = second ∙ ap (λ (t : List ℕ). t ++ ys) first ∙ append_assoc a xs ys
 
--- the items without the brackets, behind a comma where something stands before
+-- the items without the brackets, after a comma if something comes before
 abbrev pub front : Bool → List Data → List ℕ
 front later [] = []
 front later (d ∷ ds) = comma_if later ++ (compact_text d ++ front true ds)
@@ -55,14 +55,14 @@ ends later [] = refl
 ends later (d ∷ ds) =
     ap (λ (t : List ℕ). comma_if later ++ (compact_text d ++ t)) (ends true ds) ∙ shift later (compact_text d) (front true ds) (93 ∷ [])
 
--- these items of an array stand behind its beginning
+-- these items of an array come after its beginning
 abbrev pub Lists : List ℕ → List ℕ → List Data → Type 0
 Lists start now ds = now ≡ start ++ front false ds
 
 pub none_yet : (start : List ℕ) → Lists start start []
 none_yet start = sym (append-nil start)
 
--- one item more, behind a comma where there are some
+-- one item more, after a comma if there are some
 pub one_more : (start now next : List ℕ) (ds : List Data) (d : Data) (all : List Data) (later : Bool)
     → Lists start now ds → next ≡ now ++ (comma_if later ++ compact_text d) → later ≡ is_some ds → ds ++ d ∷ [] ≡ all → Lists start next all
 one_more start now next ds d all later lists adds some is =

@@ -65,7 +65,7 @@ point_data point = array_of natural (point.x ∷ point.y ∷ [])
 abbrev pub corners_data : PointsModel → ℕ → Data
 corners_data points e = array_of point_data (corners_at points e)
 
--- the points behind a reference, or the cause
+-- the points to which a reference leads, or the cause
 abbrev pub points_in : Result (Bor PointsModel) Cause → Result PointsModel Cause
 points_in (Ok points) = Ok points.now
 points_in (Err cause) = Err cause

@@ -47,7 +47,7 @@ impl ReportLine {
         line
     }
 
-    /// The line of the graph with this number, which is drawn.
+    /// The line of a graph that is drawn, with this number.
     pub fn of_drawn(number: u64, plane: &Plane, shape: &Shape) -> ReportLine
         ensures { (prices : PricesModel) (points : PointsModel) → result ≡ graph_line number (Laid plane.now shape.now prices (Drawn points)) }
     {

@@ -1,5 +1,5 @@
 -- A pass that stands for more and more seats, from the last to the first.
-use Rattle.std.proofs.Common.{◌≡◌, ◌+◌, ◌<◌, ◌≤◌, min, subst, ℕ, Bool, List, [], ◌∷◌, ◌++◌, length, cond, count_by, refl, All, sym, ap, ◌∙◌, append_assoc, append-nil, arith}
+use Rattle.std.proofs.Common.{◌≡◌, ◌+◌, ◌<◌, ◌≤◌, min, subst, ℕ, Bool, List, [], ◌∷◌, ◌++◌, length, cond, count_by, refl, All, ap, ◌∙◌, append_assoc, arith}
 use Rattle.std.proofs.lemmas.List.Elements.{All-head, All-tail}
 use Rattle.std.proofs.lemmas.List.Sums.{sum_by-cons}
 use Rattle.ruled_lanes.specs.declared.dealing.Seat.{Seat}
@@ -13,9 +13,6 @@ use Rattle.ruled_lanes.proofs.Deals.{closes}
 -- of all seats the view stands for the last ones, and not for the first, the rest
 abbrev pub HasPooled : List Seat → List Seat → Draws → Type 0
 HasPooled all rest v = (done : List Seat) × (all ≡ rest ++ done) × IsPool done v
-
-pub first_pooled : (all rest : List Seat) (s : Seat) → all ≡ rest ++ s ∷ [] → HasPooled all rest s.pass.me.0
-first_pooled all rest s popped = (s ∷ [], popped, (s.one_share, omega (arith, s.ends, sum_by-cons (λ (r : Seat). cond (has_ended r) 1 0) s []), sym (append-nil (drawn s))))
 
 pub one_pooled : (all before rest : List Seat) (s : Seat) (v w : Draws) → before ≡ rest ++ s ∷ []
     → w ≡ draws v.limit (v.shares + s.pass.me.0.shares) (v.ends + s.pass.me.0.ends) (s.pass.me.0.drawn ++ v.drawn) → HasPooled all before v → HasPooled all rest w

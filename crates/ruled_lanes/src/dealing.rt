@@ -145,7 +145,7 @@ impl Tickets {
         None
     }
 
-    /// The final value of the shared word: how many numbers were drawn plus how many seats have ended.
+    /// Consumes the tickets and all seats; returns how many numbers were drawn plus how many seats have ended.
     ///
     /// The numbers drawn are those below both that value and the limit, each once. It allocates nothing and never
     /// waits.

@@ -66,7 +66,7 @@ impl<T: Drop> LaneGiver<T> {
         LaneGiver { sender, pass, lane }
     }
 
-    /// The number of its lane, below `LANES`.
+    /// The number of the lane at which this end gives, below `LANES`.
     pub fn lane(&self) -> u32
         ensures lane { result ≡ lane_of self.now }
         ensures in_range { result < LANES }
@@ -270,9 +270,11 @@ impl<T: Drop> Gatherer<T> {
         sender.learn_as::<EachLane>(pass);
     }
 
-    /// Consumes all ends of a fan; proves that each lane's items taken, then those still held, are the items given.
+    /// Consumes all ends of a fan, and proves that no lane's items were lost, repeated or reordered.
     ///
-    /// No item carries a number other than those of the fan's lanes. The items that the fan held are dropped. It
+    /// The items given at a lane are those taken from it, followed by those that the fan still holds.
+    ///
+    /// No item carries a number other than those of the fan's lanes. The items that the fan still holds are dropped. It
     /// allocates nothing, and though it is passed `rt`, it never waits.
     pub fn settle<R: Wait>(self, _rt: &R, mut givers: Vec<LaneGiver<T>>)
         requires some { 1 ≤ vec_len givers }

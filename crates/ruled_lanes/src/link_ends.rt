@@ -155,9 +155,10 @@ impl<T: Drop> Taker<T> {
         self.wait_and_receive(rt)
     }
 
-    /// Consumes both ends of a link; proves that the items taken, then the items still held, are the items given.
+    /// Consumes both ends of a link, and proves that no item was lost, repeated or reordered.
     ///
-    /// The items that it held are dropped. It allocates nothing, and though it is passed `rt`, it never waits.
+    /// The items given are those taken, followed by those that the link still holds; these are dropped. It allocates
+    /// nothing, and though it is passed `rt`, it never waits.
     pub fn settle<R: Wait>(self, _rt: &R, giver: Giver<T>)
         requires ends { AreEnds giver self }
         ensures settled { Settles (taken self) (given giver) }

@@ -1,4 +1,4 @@
-//! How tests look at answers of ends, and at threads that have one.
+//! How tests look at the answers of ends, and at threads that have one.
 
 use ruled_lanes::Closed;
 use std::process::Abort;

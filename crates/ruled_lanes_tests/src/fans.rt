@@ -44,6 +44,7 @@ fn all_givers_are_taken_in(rt: HostRuntime) {
     gatherer.settle(&rt, givers);
 }
 
+/// Items are returned to their givers if the gatherer is gone.
 #[test]
 fn the_gatherer_is_gone(rt: HostRuntime) {
     let (mut givers, gatherer) = fan_in(rt.alloc(), 4).expect(&rt, "memory");
@@ -110,6 +111,7 @@ fn gather_through<R: Threads + Wait + Abort + Copy + Send + 'static>(
     }
 }
 
+/// All lanes can give at once, and the items of each arrive in order.
 #[test]
 fn all_lanes_give_at_once(rt: HostRuntime) {
     for capacity in [1, 3, MAX_CAPACITY] {
@@ -117,6 +119,7 @@ fn all_lanes_give_at_once(rt: HostRuntime) {
     }
 }
 
+/// Givers that wait for room are refused when the gatherer is dropped.
 #[test]
 fn givers_that_wait_are_refused(rt: HostRuntime) {
     let (givers, mut gatherer) = fan_in(rt.alloc(), 1).expect(&rt, "memory");

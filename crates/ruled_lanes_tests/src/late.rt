@@ -28,6 +28,7 @@ fn gathered(rt: &impl Wait, mut gatherer: Gatherer<u32>) -> u32 {
     }
 }
 
+/// A take waits for a giver that is two seconds late.
 #[test]
 fn takes_wait_for_late_givers(rt: HostRuntime) {
     let (mut giver, taker) = ruled_lanes::link(rt.alloc(), 1).expect(&rt, "memory");

@@ -30,6 +30,7 @@ pub(crate) fn give_below(rt: &impl Wait, mut giver: Giver<u32>, count: u32) -> u
     count
 }
 
+/// Messages arrive after their giver is gone, and then no more.
 #[test]
 fn the_giver_is_gone(rt: HostRuntime) {
     let (giver, taker) = link(rt.alloc(), 4).expect(&rt, "memory");
@@ -37,6 +38,7 @@ fn the_giver_is_gone(rt: HostRuntime) {
     take_below(&rt, taker, 3);
 }
 
+/// A message is returned to its giver if the taker is gone.
 #[test]
 fn the_taker_is_gone(rt: HostRuntime) {
     let (mut giver, taker) = link(rt.alloc(), 4).expect(&rt, "memory");
@@ -58,6 +60,7 @@ fn pass_through<R: Threads + Wait + Abort + Copy + Send + 'static>(
     joins(&rt, child, 1000, 1000);
 }
 
+/// A giver that waits for room is refused when the taker is dropped.
 #[test]
 fn a_giver_that_waits_is_refused(rt: HostRuntime) {
     let (giver, mut taker) = link(rt.alloc(), 1).expect(&rt, "memory");
@@ -67,6 +70,7 @@ fn a_giver_that_waits_is_refused(rt: HostRuntime) {
     joins(&rt, child, 1, 2);
 }
 
+/// A thousand messages arrive in order between two threads.
 #[test]
 fn a_thousand_in_order(rt: HostRuntime) {
     for capacity in [1, 2, MAX_CAPACITY] {
@@ -85,6 +89,7 @@ fn refused_memory_is_told(rt: HostRuntime) {
     same!(&rt, taker.take(&rt), Ok(5));
 }
 
+/// The errors of links have their messages.
 #[test]
 fn messages(rt: HostRuntime) {
     let (mut giver, taker) = link(rt.alloc(), 1).expect(&rt, "memory");

@@ -1,10 +1,11 @@
-//! Calls that allocate nothing. `checks/refuse-allocations` refuses each allocation of these tests in turn: those are
-//! all of the calls that make the ends, where a test then ends.
+//! Calls that allocate nothing. `checks/refuse-allocations` refuses each allocation of these tests in turn: all of them
+//! are in the calls that make the ends, and a refused one ends the test.
 
 use ruled_lanes::{Tickets, fan_in, link};
 use std::test::*;
 use test_tools::same;
 
+/// The calls on a link allocate nothing.
 #[test]
 fn a_link_takes_no_memory(rt: HostRuntime) {
     if let Ok((mut giver, mut taker)) = link(rt.alloc(), 2) {
@@ -15,6 +16,7 @@ fn a_link_takes_no_memory(rt: HostRuntime) {
     }
 }
 
+/// The calls on a fan allocate nothing.
 #[test]
 fn a_fan_takes_no_memory(rt: HostRuntime) {
     if let Ok((mut givers, mut gatherer)) = fan_in(rt.alloc(), 2) {
@@ -26,6 +28,7 @@ fn a_fan_takes_no_memory(rt: HostRuntime) {
     }
 }
 
+/// The calls on tickets allocate nothing.
 #[test]
 fn tickets_take_no_memory(rt: HostRuntime) {
     if let Ok((tickets, mut seats)) = Tickets::new(rt.alloc(), 1, 1) {

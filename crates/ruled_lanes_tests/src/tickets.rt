@@ -42,6 +42,7 @@ fn refused_memory_is_told(rt: HostRuntime) {
     same!(&rt, tickets.close(seats), 5);
 }
 
+/// No number is drawn of none.
 #[test]
 fn nothing_to_draw(rt: HostRuntime) {
     let (tickets, mut seats) = Tickets::new(rt.alloc(), 0, 1).expect(&rt, "memory");
@@ -93,11 +94,13 @@ fn deals<R: Abort + AllocGlobal + Threads + Sync>(rt: &R, lanes: u32, word: u32)
     same!(rt, sum.load(Ordering::SeqCst), 32_640);
 }
 
+/// Four threads draw each number once.
 #[test]
 fn four_threads_draw_each_number_once(rt: HostRuntime) {
     deals(&rt, 4, 260);
 }
 
+/// Eight threads draw each number once.
 #[test]
 fn eight_threads_draw_each_number_once(rt: HostRuntime) {
     deals(&rt, 8, 264);

@@ -12,7 +12,7 @@ use Rattle.common.specs.declared.choice.Choice.{Choice}
 use Rattle.lanes.specs.Opening.{Meaning, known_of, fails_of}
 use Rattle.entries.specs.Books.{BookModel, IsBook}
 
--- a mark that is none of want of memory
+-- a mark that does not say that memory ran out
 split_by : (bytes : List ℕ) (fails : Bool) (records : List (List ℕ)) (end : Ending) → Ended end ≢ Ended ending.Memory
     → IsMarked bytes fails records (Ended end) → (IsInterrupted bytes fails → ⊥) × IsSplit bytes records end
 split_by bytes fails records ending.Complete has is = is

@@ -75,7 +75,7 @@ end_on a b (inr (off, line)) = inl (
   ],
 )
 
--- so many steps lead there
+-- as many steps as the distance lead there
 on_way : (a b q : Point) → LiesOn a b q → step_from a b (distance a q) ≡ q
 on_way a b q (inl (one, two, inl is)) =
     point_is (step_from a b (distance a q)) q (omega (arith, toward_up a.x b.x (distance a q) is.2, one, is.0)) (omega (arith, toward_same a.y b.y (distance a q) (one ∙ sym two), one))

@@ -1,4 +1,4 @@
--- Books and answers in which no want of memory stands.
+-- Books and answers that do not say that memory ran out.
 use Rattle.std.proofs.Common.{◌≢◌, ℕ, List, All}
 use Rattle.planar_code.specs.declared.ending.Ending.TheVariants as ending
 use Rattle.planar_code.specs.Stream.{lists_of}
@@ -16,7 +16,7 @@ IsDecided choice bytes (Laid plane shape prices drawing) = IsLaid choice bytes p
 IsDecided choice bytes (Refused rule) = FirstBroken (lists_of bytes) rule
 IsDecided choice bytes NoMemory = ⊥
 
--- neither its mark nor an answer is for want of memory
+-- neither its mark nor an answer says that memory ran out
 pub record HasMemory (book : BookModel) : Type 0 where
   pub mark : book.mark ≢ Ended ending.Memory
   pub answers : All (λ entry. entry.answer ≢ NoMemory) book.entries

@@ -15,7 +15,7 @@ use Rattle.drawing_check.specs.Draws.{MeetNowhere}
 use Rattle.drawing_check.proofs.Coverings.{no_repeat_left, no_repeat_right, no_repeat_apart}
 use Rattle.drawing_check.proofs.Routing.{each_lesser}
 
--- the point lies on part k of the path, behind the beginning of that, and not at the end of the path
+-- the point lies on part k of the path, after the beginning of that, and not at the end of the path
 pub record Inner (path : List Point) (k : ℕ) (q : Point) : Type 0 where
   pub inside : suc k < length path
   pub steps : ℕ

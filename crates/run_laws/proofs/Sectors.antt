@@ -60,7 +60,7 @@ step_over j s s2 a few small small2 some most none turn =
     let at : j ≡ s = omega (arith, few, small, none) in
     omega (arith, few, small2, some, most, at, turn)
 
--- n darts arrive at vertices, each on one of the four sides, and the one that arrives next clockwise lies behind its angle
+-- n darts arrive at vertices, each on one of the four sides, and the one that arrives next clockwise lies after its angle
 pub record AreRound (n : ℕ) (head side angle behind : ℕ → ℕ) (v : ℕ) : Type 0 where
   pub one : IsOneToOne n behind
   pub there : (d : ℕ) → d < n → head (behind d) ≡ head d

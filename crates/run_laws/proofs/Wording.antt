@@ -1,4 +1,4 @@
--- Where the word "memory" does not stand in a report, no want of memory stands in its books.
+-- If the word "memory" does not occur in a report, its books do not say that memory ran out.
 use Rattle.std.proofs.Common.{◌≡◌, ℕ, zero, suc, ◌+◌, ◌<◌, List, [], ◌∷◌, ◌++◌, length, All, get_or, codes, decimal, refl, sym, ap, subst, ◌∙◌, arith, append_assoc}
 use Rattle.planar_code.specs.declared.ending.Ending.TheVariants as ending
 use Rattle.streams.specs.declared.frames.Mark.{Mark}
@@ -17,7 +17,7 @@ pub record HasWord (text : List ℕ) : Type 0 where
   pub back : List ℕ
   pub parts : text ≡ front ++ codes "memory" ++ back
 
--- so it does where more stands behind or before
+-- it also occurs in a longer text, with more after or before it
 word_before : (xs ys : List ℕ) → HasWord xs → HasWord (xs ++ ys)
 word_before xs ys has = record {
   front = has.front;

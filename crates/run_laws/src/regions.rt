@@ -6,10 +6,9 @@ ghost use Rattle.ortho_rep.specs.declared.points.Point.{Point};
 ghost use Rattle.ortho_rep.specs.Points.{PointsModel};
 ghost use Rattle.ortho_rep.specs.Representation.{IsShape};
 ghost use Rattle.ortho_rep.specs.Shapes.{ShapeModel};
-ghost use Rattle.drawing_check.specs.Draws.{AreOnAxes, Draws};
+ghost use Rattle.drawing_check.specs.Draws.{HasPoints, AreOnAxes, Draws};
 ghost use Rattle.drawing_check.specs.Paths.{paths};
 ghost use Rattle.drawing_check.specs.Regions.{HasRegions, IsRegionMap};
-ghost use Rattle.entries.specs.Drawn.{HasPoints};
 ghost use Rattle.run_laws.specs.Cells.{Meets, IsLeastCorner, AreJoined};
 
 /// The least of all vertices and corners, by x and then by y, lies on the outer face of points that have regions.

@@ -10,7 +10,7 @@ use std::process::Abort;
 use test_inputs::record_of;
 use test_tools::same;
 
-/// The point of a vertex, and the origin where there is none.
+/// The point of a vertex, or the origin if there is none.
 fn place_of(places: &[Point], vertex: u8) -> Point {
     match places.get(usize::from(vertex).wrapping_sub(1)) {
         Some(place) => *place,
@@ -18,7 +18,7 @@ fn place_of(places: &[Point], vertex: u8) -> Point {
     }
 }
 
-/// How long all edges are together, where none bends, twice: each dart counts.
+/// Twice the total length of the edges of a drawing without bends: each dart counts.
 fn twice_the_length(plane: &Plane, places: &[Point]) -> u32 {
     let graph = plane.graph();
     let mut length: u32 = 0;
@@ -31,7 +31,7 @@ fn twice_the_length(plane: &Plane, places: &[Point]) -> u32 {
     length
 }
 
-/// How many bends a drawing has, and how long its edges are together, twice.
+/// The number of bends of a drawing, and twice the total length of its edges.
 fn figures(answer: &Answer) -> Option<(u32, u32)> {
     match answer {
         Answer::Laid {
@@ -47,7 +47,7 @@ fn figures(answer: &Answer) -> Option<(u32, u32)> {
     }
 }
 
-/// The same of the drawing of this kind of these bytes.
+/// The figures of the drawing of this kind of these bytes.
 fn figures_of(
     rt: &impl Abort,
     alloc: Global,
@@ -59,7 +59,8 @@ fn figures_of(
     figures(&entry.answer)
 }
 
-/// The short drawing of a tree has this length, taken twice, and the quick one is longer, if it is to be.
+/// Checks that twice the length of the short drawing of a tree is this, and that the quick one is longer, if it is to
+/// be.
 fn check(rt: &impl Abort, alloc: Global, bytes: &[u8], twice: u32, quick_is_longer: bool) {
     let short = figures_of(rt, alloc, bytes, DrawingKind::Short);
     same!(rt, short, Some((0, twice)));
@@ -68,7 +69,7 @@ fn check(rt: &impl Abort, alloc: Global, bytes: &[u8], twice: u32, quick_is_long
     same!(rt, is_longer || !quick_is_longer, true);
 }
 
-/// A path of so many vertices, at least 2.
+/// A path of this many vertices, at least 2.
 fn path(alloc: Global, count: u8) -> Result<Vec<u8>, AllocError> {
     let mut bytes = Vec::new(alloc);
     bytes.push(count)?;
@@ -84,7 +85,8 @@ fn path(alloc: Global, count: u8) -> Result<Vec<u8>, AllocError> {
     Ok(bytes)
 }
 
-/// A path is drawn in one line, where short: each edge has the least length. A longer one is wound up, where quick.
+/// The short drawing of a path is a straight line, in which each edge has length 1.
+/// The quick drawing of a long path is wound up.
 #[test]
 fn short_paths_are_straight(rt: HostRuntime) {
     for count in [2, 3, 10, 40, 255] {
@@ -94,7 +96,8 @@ fn short_paths_are_straight(rt: HostRuntime) {
     }
 }
 
-/// The answer is a short drawing of a path of four, or want of memory. It says whether it is a drawing.
+/// Checks that the answer is a short drawing of a path of four, or that memory ran out; returns whether it is a
+/// drawing.
 fn is_path_of_four(rt: &impl Abort, answer: &Answer) -> bool {
     if let Answer::NoMemory = answer {
         return false;
@@ -103,7 +106,7 @@ fn is_path_of_four(rt: &impl Abort, answer: &Answer) -> bool {
     true
 }
 
-/// The same of the answer to that path. Where memory is wanting for its record, nothing is answered, and it says yes.
+/// The same for the answer to the record of that path; true if memory runs out for the record itself.
 fn answers_path_of_four(rt: &impl Abort, alloc: Global) -> bool {
     match record_of(alloc, &[4, 2, 0, 1, 3, 0, 2, 4, 0, 3, 0]) {
         Some(rec) => {
@@ -114,8 +117,8 @@ fn answers_path_of_four(rt: &impl Abort, alloc: Global) -> bool {
     }
 }
 
-/// `checks/refuse-allocations` refuses each allocation of this test in turn: the answer is then the right one or the want
-/// of memory, and a second call answers as without the refusal.
+/// If memory runs out, the answer says so, and a second call answers as without the refusal.
+/// `checks/refuse-allocations` refuses each allocation of this test in turn.
 #[test]
 fn refused_allocations(rt: HostRuntime) {
     if !answers_path_of_four(&rt, rt.alloc()) {
@@ -128,6 +131,7 @@ const TREE: [u8; 29] = [
     10, 2, 3, 4, 0, 1, 5, 6, 0, 1, 7, 8, 0, 1, 9, 10, 0, 2, 0, 2, 0, 3, 0, 3, 0, 4, 0, 4, 0,
 ];
 
+/// The short drawing of a tree is shorter than the quick one.
 #[test]
 fn short_drawings_are_shorter(rt: HostRuntime) {
     check(&rt, rt.alloc(), &TREE, 18, true);

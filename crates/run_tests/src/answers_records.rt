@@ -13,7 +13,7 @@ use test_tools::records::{
 };
 use test_tools::same;
 
-/// What a record's entry is to say.
+/// The expected answer to a record.
 #[derive(Clone, Copy)]
 enum Said {
     /// Its numbers of vertices, edges, faces and bends; the shape is drawn.
@@ -44,11 +44,11 @@ const CASES: [(&[u8], Said); 15] = [
         &[4, 2, 0, 1, 0, 4, 0, 3, 0],
         Said::Refused(Rule::Disconnected),
     ),
-    // A list is out of range, and a vertex stands in its own list.
+    // A neighbour is out of range, and a vertex is its own neighbour.
     (&[2, 3, 0, 2, 0], Said::Refused(Rule::Range)),
 ];
 
-/// The answer says so.
+/// Checks that the answer is the expected one.
 fn expect(rt: &impl Abort, answer: &Answer, said: Said) {
     match (answer, said) {
         (
@@ -70,7 +70,7 @@ fn expect(rt: &impl Abort, answer: &Answer, said: Said) {
     }
 }
 
-/// The answer to a record under a choice says so, as a whole, and stage by stage with either drawing.
+/// Checks the answer to a record under a choice: as a whole, and stage by stage with either drawing.
 fn check(rt: &impl Abort, alloc: Global, bytes: &[u8], choice: Choice, said: Said) {
     let rec = record_of(alloc, bytes).expect(rt, "a record");
     expect_entry(rt, answer(alloc, 63, 999_999, rec, choice), said);
@@ -80,7 +80,7 @@ fn check(rt: &impl Abort, alloc: Global, bytes: &[u8], choice: Choice, said: Sai
     }
 }
 
-/// The answer of an entry says so.
+/// Checks that the answer of an entry is the expected one.
 fn expect_entry(rt: &impl Abort, entry: Entry, said: Said) {
     expect(rt, &entry.answer, said);
 }
@@ -112,6 +112,7 @@ pub(crate) fn staged(
     pass(alloc, pass(alloc, pass(alloc, framed)))
 }
 
+/// Records by hand have their answers under either choice of the outer face.
 #[test]
 fn answers_known_records(rt: HostRuntime) {
     for (bytes, said) in CASES {
@@ -120,7 +121,7 @@ fn answers_known_records(rt: HostRuntime) {
     }
 }
 
-/// Another face than the widest one needs fewer bends.
+/// The best outer face is chosen if it needs fewer bends than the widest one.
 #[test]
 fn chooses_the_outer_face(rt: HostRuntime) {
     let cases: [(&[u8], Choice, Said); 4] = [
@@ -134,6 +135,7 @@ fn chooses_the_outer_face(rt: HostRuntime) {
     }
 }
 
+/// Each cause has its word.
 #[test]
 fn names_all_causes(rt: HostRuntime) {
     let words = [
@@ -148,7 +150,7 @@ fn names_all_causes(rt: HostRuntime) {
     }
 }
 
-/// The answer is that to a triangle, or want of memory. It says whether it is the one to a triangle.
+/// Checks that the answer is that to a triangle, or that memory ran out; returns whether it is that to a triangle.
 fn is_of_a_triangle(rt: &impl Abort, answer: &Answer) -> bool {
     if let Answer::NoMemory = answer {
         return false;
@@ -157,7 +159,7 @@ fn is_of_a_triangle(rt: &impl Abort, answer: &Answer) -> bool {
     true
 }
 
-/// The same of the entry of a triangle. Where memory is wanting for its record, nothing is answered, and it says yes.
+/// The same for the entry of a triangle; true if memory runs out for the record itself.
 fn answers_a_triangle(rt: &impl Abort, alloc: Global) -> bool {
     match record_of(alloc, TRIANGLE) {
         Some(rec) => {
@@ -169,8 +171,8 @@ fn answers_a_triangle(rt: &impl Abort, alloc: Global) -> bool {
     }
 }
 
-/// `checks/refuse-allocations` refuses each allocation of this test in turn: the answer is then the right one
-/// or the want of memory, and a second call answers as without the refusal.
+/// If memory runs out, the answer says so, and a second call answers as without the refusal.
+/// `checks/refuse-allocations` refuses each allocation of this test in turn.
 #[test]
 fn refused_allocations(rt: HostRuntime) {
     if !answers_a_triangle(&rt, rt.alloc()) {
@@ -178,8 +180,8 @@ fn refused_allocations(rt: HostRuntime) {
     }
 }
 
-/// `checks/refuse-allocations` refuses each allocation of this test in turn: a record that breaks the last rule alone is
-/// refused with it all the same.
+/// A record that breaks only the last rule is refused with it, even if an allocation is refused.
+/// `checks/refuse-allocations` refuses each allocation of this test in turn.
 #[test]
 fn genus_is_named_in_no_memory(rt: HostRuntime) {
     let rec = record_of(rt.alloc(), TETRAHEDRON_ON_A_TORUS).expect(&rt, "a record");

@@ -1,4 +1,4 @@
-//! Sources that fail, files that do not open, and writers that take little: what came before stays.
+//! Failing sources, files that do not open, and narrow writers: what came before a failure stays.
 
 use crate::reported::{EDGES, Files, QUICK, REPORT, THREE, written};
 use collector::{
@@ -10,7 +10,7 @@ use std::sync::Wait;
 use std::thread::Threads;
 use test_tools::{Narrow, same};
 
-/// Writes the report of a batch to a writer of so much room: how that ended, and the writer.
+/// Writes the report of a batch to a writer with this much room; returns how that ended, and the writer.
 fn report_in(
     batch: &Batch,
     room: usize,
@@ -22,7 +22,7 @@ fn report_in(
     (ended, sink.into_writer())
 }
 
-/// Runs over so many files on one thread and over two lanes, to books and to a text: the report is this one.
+/// Checks the report of runs over this many files: of books on one thread and over two lanes, and as streamed output.
 fn check<R: AllocGlobal + Threads + Wait + Sync + Abort>(
     rt: &R,
     opener: &Files,
@@ -39,13 +39,14 @@ fn check<R: AllocGlobal + Threads + Wait + Sync + Abort>(
     same!(rt, text.text(), report);
 }
 
-/// The reports of these two edges after a read that failed: none came before it, or one, or both.
+/// The reports of these two edges after a failing read: no record came before it, or one, or both.
 const OF_EDGES: [&[u8]; 3] = [
     b"file 1\nend io graphs=0\n",
     b"file 1\ngraph 1 ok n=2 m=1 f=1 bends=0 drawn=yes\nend io graphs=1\n",
     b"file 1\ngraph 1 ok n=2 m=1 f=1 bends=0 drawn=yes\ngraph 2 ok n=2 m=1 f=1 bends=0 drawn=yes\nend io graphs=2\n",
 ];
 
+/// The records that were read before a failing read are reported.
 #[test]
 fn records_before_a_failing_read_stay(rt: HostRuntime) {
     for reads in 0..=25 {
@@ -70,8 +71,8 @@ const WITHOUT_THE_SECOND: [&[u8]; 2] = [
     file 2\nend memory graphs=0\nfile 3\nend complete graphs=0\n",
 ];
 
-/// A file behind one that is refused stays, and so does what comes before a fault: the read that would fail is the one
-/// behind the byte with the fault.
+/// Files after a refused one are reported, and so are the records before a fault.
+/// The read that would fail is the one after the faulty byte.
 #[test]
 fn other_files_than_a_refused_one_stay(rt: HostRuntime) {
     let large = Files {
@@ -91,15 +92,16 @@ fn other_files_than_a_refused_one_stay(rt: HostRuntime) {
     }
 }
 
-/// The writer took all of the report, or the first `room` bytes before it failed.
+/// Checks that the writer took all of the report, or the first `room` bytes before it failed.
 fn check_writer(rt: &impl Abort, batch: &Batch, room: usize, most: usize, fails: bool) {
     let (ended, writer) = report_in(batch, room, most, fails);
     same!(rt, writer.text(), &REPORT[..room.min(211)]);
     same!(rt, ended.is_ok(), room >= 211);
 }
 
-/// Writes to writers of every room that fail or take nothing more, some of which take one byte a write; and to
-/// writers with room enough that take every number of bytes a write.
+/// A writer that fails, or takes nothing more, holds a beginning of the report.
+/// Writers of every room are tried, some of which take one byte a write; those with enough room take every number of
+/// bytes a write.
 #[test]
 fn a_beginning_is_written_before_a_fault(rt: HostRuntime) {
     let batch = run_plain(rt.alloc(), &THREE, 3, Choice::First).expect(&rt, "a batch");
@@ -111,8 +113,8 @@ fn a_beginning_is_written_before_a_fault(rt: HostRuntime) {
     }
 }
 
-/// `checks/refuse-allocations` refuses each allocation of this test in turn: a report is written all the same, and
-/// numbers that are refused are named.
+/// Writing a report takes no memory, nor does refusing bad numbers.
+/// `checks/refuse-allocations` refuses each allocation of this test in turn.
 #[test]
 fn reports_take_no_memory(rt: HostRuntime) {
     let (alloc, choice) = (rt.alloc(), Choice::First);

@@ -1,14 +1,16 @@
-//! Texts that leave as they are made: their bytes, writers that take little, and refused allocations.
+//! Streamed output: its bytes, narrow writers, and refused allocations.
 
 use crate::reported::{QUICK, REPORT, SHORT, THREE, written};
 use collector::{BatchFault, MAX_LANES, OpenGate, Style};
-use commands::TextFault;
+use commands::Fault;
 use std::process::Abort;
 use std::sync::Wait;
 use std::thread::Threads;
+use streams::WriteFault;
 use test_tools::same;
 
-/// Over so many lanes and in this style, the writer took all of the report of three files, or the first `room` bytes before it failed.
+/// Checks that the writer took all of the report of three files, or the first `room` bytes before it failed.
+/// The run has this many lanes and this style.
 fn check_writer<R: AllocGlobal + Threads + Wait + Sync + Abort>(
     rt: &R,
     lanes: u32,
@@ -19,14 +21,14 @@ fn check_writer<R: AllocGlobal + Threads + Wait + Sync + Abort>(
     let (ended, writer) = written(rt, &THREE, 3, lanes, style, &OpenGate, (room, most));
     same!(rt, writer.text(), &REPORT[..room.min(211)]);
     let due = if room < 211 {
-        Err(TextFault::Write)
+        Err(Fault::Write(WriteFault::Write))
     } else {
         Ok(3)
     };
     same!(rt, ended, due);
 }
 
-/// Which drawings are made changes nothing in the report.
+/// The report has the files in their order over any number of lanes, whichever drawings are made.
 #[test]
 fn files_come_in_their_order(rt: HostRuntime) {
     for lanes in 1..=MAX_LANES {
@@ -35,6 +37,7 @@ fn files_come_in_their_order(rt: HostRuntime) {
     }
 }
 
+/// A writer that fails during streamed output holds a beginning of the report.
 #[test]
 fn a_beginning_is_written_before_a_fault(rt: HostRuntime) {
     for room in [0, 1, 2, 7, 100, 209, 210, 211] {
@@ -44,7 +47,7 @@ fn a_beginning_is_written_before_a_fault(rt: HostRuntime) {
     }
 }
 
-/// Bad numbers are refused, whatever memory there is.
+/// Bad numbers of files and lanes are refused without taking memory.
 #[test]
 fn bad_numbers_take_no_memory(rt: HostRuntime) {
     let cases = [
@@ -54,12 +57,12 @@ fn bad_numbers_take_no_memory(rt: HostRuntime) {
     ];
     for (files, lanes, fault) in cases {
         let (ended, writer) = written(&rt, &THREE, files, lanes, SHORT, &OpenGate, (211, 211));
-        same!(&rt, ended, Err(TextFault::Run(fault)));
+        same!(&rt, ended, Err(Fault::Run(fault)));
         same!(&rt, writer.text().len(), 0);
     }
 }
 
-/// How many wants of memory a whole line tells where this one is due; none where it may not stand there.
+/// How often (0 or 1) a whole line says that memory ran out, given the line that is due; `None` if it is neither.
 fn wants_of(line: &[u8], due: &[u8]) -> Option<usize> {
     if line == due {
         return Some(0);
@@ -68,8 +71,8 @@ fn wants_of(line: &[u8], due: &[u8]) -> Option<usize> {
     (is_want && due.starts_with(b"graph ")).then_some(1)
 }
 
-/// Whether the lines of a text stand where those of the report are due, but for one place at most, which tells want of
-/// memory: the line of a graph, or the end of a file behind a beginning of its graphs. A text may be cut off.
+/// Whether a text has the lines of the report, except for at most one place that says that memory ran out.
+/// This is the line of a graph, or the end of a file after a beginning of its graphs. The text may be cut off.
 fn is_allowed(text: &[u8]) -> bool {
     let mut due = REPORT.split(|byte| *byte == b'\n');
     let mut wants: usize = 0;
@@ -92,16 +95,16 @@ fn is_allowed(text: &[u8]) -> bool {
     wants <= 1
 }
 
-/// `checks/refuse-allocations` refuses each allocation of this test in turn: the run ends in a named answer, with the
-/// report, in which some lines may tell of want of memory, or a beginning of it. Short drawings take all memory that
-/// quick ones take, and more.
+/// If memory runs out, the run names it, or its report does in at most one line.
+/// The report may be cut off. Short drawings take all memory that quick ones take, and more.
+/// `checks/refuse-allocations` refuses each allocation of this test in turn.
 #[test]
 fn names_want_of_memory(rt: HostRuntime) {
     let (ended, writer) = written(&rt, &THREE, 3, 2, SHORT, &OpenGate, (211, 211));
     let named = match ended {
         Ok(status) => status == 3,
-        Err(TextFault::Run(fault)) => fault == BatchFault::Memory || fault == BatchFault::Thread,
-        Err(TextFault::Write) => false,
+        Err(Fault::Run(fault)) => fault == BatchFault::Memory || fault == BatchFault::Thread,
+        Err(_) => false,
     };
     same!(&rt, (named, is_allowed(writer.text())), (true, true));
 }

@@ -18,7 +18,7 @@ const CUT: &[u8] = b">>planar_code<<\x02\x02\x00\x01\x00\x02\x02\x00\x01";
 
 const LARGE: &[u8] = b">>planar_code<<\x02\x02\x00\x01\x00\x00\x02";
 
-/// A record and where it stood.
+/// A record and its place in the file.
 #[derive(Drop)]
 struct Shelved {
     file: u32,
@@ -65,12 +65,12 @@ impl Keep for Shelf {
         Ok(())
     }
 
-    fn pass_on(&mut self) -> Result<(), AllocError> {
+    fn pass_on(&mut self, _file: u32) -> Result<(), AllocError> {
         Ok(())
     }
 }
 
-/// Opens sources of these bytes that fail at a read, counted from 0, or finds no memory. It counts the reads.
+/// Opens sources of these bytes that fail at the read of this number, or runs out of memory. It counts the reads.
 #[derive(Drop)]
 struct Breaking {
     bytes: &'static [u8],
@@ -101,7 +101,7 @@ fn files(alloc: Global) -> Result<Vec<Vec<u8>>, AllocError> {
     Ok(files)
 }
 
-/// The end of a file of an opener, and how many records were kept of it.
+/// The end of a file of an opener, and the number of its records that were kept.
 fn shelf_of<O: Opener>(
     alloc: Global,
     opener: &O,
@@ -116,7 +116,7 @@ fn shelf_of<O: Opener>(
     Some((found, shelf.records.len()))
 }
 
-/// The file of an opener ends with this mark and so many records, all of which are kept.
+/// Checks that the file of an opener ends with this mark and this many records, all of which are kept.
 fn check_file<O: Opener, R: AllocGlobal + Abort>(
     rt: &R,
     opener: &O,
@@ -129,7 +129,7 @@ fn check_file<O: Opener, R: AllocGlobal + Abort>(
     same!(rt, kept, count as usize);
 }
 
-/// Files by their numbers, the mark and how many records each has.
+/// Files by their numbers, with the mark and the number of records of each.
 const ENDS: [(u32, Mark, u32); 4] = [
     (0, Mark::Ended(Ending::Complete), 2),
     (1, Mark::Ended(Ending::Truncated), 1),
@@ -137,6 +137,7 @@ const ENDS: [(u32, Mark, u32); 4] = [
     (3, Mark::Io, 0),
 ];
 
+/// Each file has its mark, and all its records are kept.
 #[test]
 fn keeps_the_records_of_each_file(rt: HostRuntime) {
     let files = files(rt.alloc()).expect(&rt, "memory");
@@ -146,7 +147,7 @@ fn keeps_the_records_of_each_file(rt: HostRuntime) {
     }
 }
 
-/// A file whose source fails at this read has so many records and this mark, after so many reads.
+/// Checks that a file whose source fails at this read has these records and this mark, after this many reads.
 fn check_breaking<R: AllocGlobal + Abort>(
     rt: &R,
     bytes: &'static [u8],
@@ -163,7 +164,8 @@ fn check_breaking<R: AllocGlobal + Abort>(
     same!(rt, opener.reads.load(Ordering::SeqCst), reads);
 }
 
-/// What came before a failing read stays, and a file is read once for each byte up to one with a fault, and not again.
+/// The records before a failing read are kept, and nothing is read after a fault.
+/// A file is read once for each byte up to the faulty one.
 #[test]
 fn reads_no_more_after_a_fault(rt: HostRuntime) {
     let memory = Mark::Ended(Ending::Memory);
@@ -173,7 +175,7 @@ fn reads_no_more_after_a_fault(rt: HostRuntime) {
     check_breaking(&rt, LARGE, Some(21), (large, 1), 21);
 }
 
-/// Whether all records of the first file were found and kept, or the mark or the error names want of memory behind a
+/// Whether all records of the first file were found and kept, or the mark or the error says that memory ran out after a
 /// beginning of them.
 fn is_allowed(found: Result<SourceEnd, AllocError>, kept: usize) -> bool {
     match found {
@@ -186,7 +188,8 @@ fn is_allowed(found: Result<SourceEnd, AllocError>, kept: usize) -> bool {
     }
 }
 
-/// With each allocation refused in turn, the mark or the error says so, and the records are a beginning of all.
+/// With each allocation refused in turn, the mark or the error says that memory ran out, and a beginning of the records
+/// is kept.
 #[test]
 fn names_want_of_memory(rt: HostRuntime) {
     let Ok(files) = files(rt.alloc()) else {

@@ -6,7 +6,7 @@ use collector::{Choice, Gate, Stage, run_batch};
 use std::sync::atomic::{AtomicBool, AtomicU32, Ordering};
 use test_tools::{same, wait_for_count};
 
-/// Holds a call of each stage, at a record of its own, until all four were made.
+/// Holds a call of each stage, each at its own record, until all four are made.
 #[derive(Drop)]
 struct HoldsEach {
     calls: AtomicU32,
@@ -21,13 +21,13 @@ impl HoldsEach {
         }
     }
 
-    /// Waits until four calls were made, and notes where a million turns were too few.
+    /// Waits until four calls are made, and notes if a million turns were too few.
     fn meet(&self) {
         self.calls.fetch_add(1, Ordering::SeqCst);
         wait_for_count(&self.calls, 4, &self.ran_out);
     }
 
-    /// How many calls were made, and whether one waited too long.
+    /// The number of calls made, and whether one waited too long.
     fn told(&self) -> (u32, bool) {
         let calls = self.calls.load(Ordering::SeqCst);
         (calls, self.ran_out.load(Ordering::SeqCst))
@@ -61,7 +61,7 @@ const OF_FOUR_TRIANGLES: &[u8] = b"file 1\n\
     graph 4 ok n=3 m=3 f=2 bends=1 drawn=yes\n\
     end complete graphs=4\n";
 
-/// The stages of a lane work at once, each on a record of its own: so no thread serves two of them.
+/// The stages of a lane work at once, each on its own record: no thread serves two of them.
 #[test]
 fn gate_holds_each(rt: HostRuntime) {
     let gate = HoldsEach::new();
@@ -71,7 +71,7 @@ fn gate_holds_each(rt: HostRuntime) {
     same!(&rt, gate.told(), (4, false));
 }
 
-/// So they do where the text leaves as it is made.
+/// The stages of a lane work at once in a run with streamed output, too.
 #[test]
 fn gate_holds_each_of_a_text(rt: HostRuntime) {
     let gate = HoldsEach::new();

@@ -6,16 +6,17 @@ ghost use Rattle.ruled_lanes.specs.FanEnds.{given_at, gathered};
 
 use answers::{Embedded, Entry, Framed, Shaped};
 use lanes::{
-    Drafts, GatherFault, Message, OpenGate, StageWork, Staged, gather, run_last_stage, run_stage,
+    Drafts, Message, OpenGate, RunFault, StageWork, Staged, gather, run_stage, run_until_stop,
 };
 use ruled_lanes::{Gatherer, LANES, LaneGiver, Memory, Taker, fan_in, link};
-use std::alloc::{AllocError, Global};
+use std::alloc::Global;
+use std::convert::Infallible;
 use std::process::Abort;
 use std::sync::Wait;
 use streams::Mark;
 use test_tools::same;
 
-/// The end of a link whose giver is gone.
+/// The taker of a link whose giver is gone.
 fn left_alone<T: Send + Drop>(alloc: Global) -> Result<Taker<T>, Memory>
     ensures { IfOk result (λ taker. taken taker ≡ []) }
 {
@@ -23,7 +24,7 @@ fn left_alone<T: Send + Drop>(alloc: Global) -> Result<Taker<T>, Memory>
     Ok(taker)
 }
 
-/// What gathering answers that should fail.
+/// The result of gathering that should fail.
 #[derive(Clone, Copy, Debug, PartialEq, Eq)]
 enum Ended {
     Well,
@@ -31,10 +32,10 @@ enum Ended {
     Lost,
 }
 
-fn end_of<T: Drop>(answer: Result<T, GatherFault<AllocError>>) -> Ended {
+fn end_of<T: Drop>(answer: Result<T, RunFault<Infallible>>) -> Ended {
     match answer {
         Ok(_) => Ended::Well,
-        Err(GatherFault::LaneLost) => Ended::Lost,
+        Err(RunFault::LaneLost) => Ended::Lost,
         Err(_) => Ended::NoMemory,
     }
 }
@@ -47,6 +48,7 @@ fn work_of_embedding(alloc: Global) -> StageWork<Framed> {
     }
 }
 
+/// A stage ends if the stage before it is gone, and drops its own end.
 #[test]
 fn a_stage_ends_where_the_one_before_is_gone(rt: HostRuntime) {
     let taker = left_alone::<Message<Framed, ()>>(rt.alloc()).expect(&rt, "memory");
@@ -57,6 +59,7 @@ fn a_stage_ends_where_the_one_before_is_gone(rt: HostRuntime) {
     assert!(rt; next.take(&rt).is_err());
 }
 
+/// A stage ends if the stage after it is gone, and drops its own end.
 #[test]
 fn a_stage_ends_where_the_next_one_is_gone(rt: HostRuntime) {
     let (mut before, taker) = link::<Message<Framed, ()>>(rt.alloc(), 2).expect(&rt, "memory");
@@ -81,7 +84,7 @@ fn end_of_gathering<R: AllocGlobal + Wait + Abort>(
     end_of(gather(rt, rt.alloc(), gatherer, lanes, &mut drafts))
 }
 
-/// The last stage loses the one before it, and the lane still gives its stop.
+/// The last stage loses the one before it and ends, and its lane still gives its stop.
 fn lose_the_stage_before<R: AllocGlobal + Wait + Abort>(
     rt: &R,
     giver: &mut LaneGiver<Message<Entry, ()>>,
@@ -89,13 +92,16 @@ fn lose_the_stage_before<R: AllocGlobal + Wait + Abort>(
     requires { given_at giver.old ≡ [] }
 {
     let taker = left_alone::<Message<Shaped, ()>>(rt.alloc()).expect(rt, "memory");
-    let scratch = <Shaped as Staged>::scratch(rt.alloc());
-    let end = run_last_stage(rt, rt.alloc(), &OpenGate, scratch, taker, giver);
+    let work = StageWork {
+        lane: 0,
+        scratch: <Shaped as Staged>::scratch(rt.alloc()),
+    };
+    let end = run_until_stop(rt, rt.alloc(), &OpenGate, work, taker, giver);
     assert!(rt; end.is_none());
     assert!(rt; giver.give(rt, Message::Stop).is_ok());
 }
 
-/// So gathering ends.
+/// Gathering ends well if a lane that lost a stage gives its stop.
 #[test]
 fn a_lane_that_lost_gives_its_stop(rt: HostRuntime) {
     let (mut givers, gatherer) = fan_in::<Message<Entry, ()>>(rt.alloc(), 4).expect(&rt, "memory");
@@ -103,7 +109,7 @@ fn a_lane_that_lost_gives_its_stop(rt: HostRuntime) {
     same!(&rt, end_of_gathering(&rt, gatherer, 1), Ended::Well);
 }
 
-/// Gathers from so many lanes, all of whose givers are gone.
+/// Gathers from this many lanes, all of whose givers are gone.
 fn gathered_of_none<R: AllocGlobal + Wait + Abort>(rt: &R, lanes: u32) -> Ended
     requires { (1 ≤ lanes) × (lanes ≤ LANES) }
 {
@@ -111,6 +117,7 @@ fn gathered_of_none<R: AllocGlobal + Wait + Abort>(rt: &R, lanes: u32) -> Ended
     end_of_gathering(rt, gatherer, lanes)
 }
 
+/// Gathering ends with the fault of a lost lane if all lanes are gone.
 #[test]
 fn gathering_ends_where_all_lanes_are_gone(rt: HostRuntime) {
     same!(&rt, gathered_of_none(&rt, 1), Ended::Lost);

@@ -1,5 +1,5 @@
-//! A source that gives no more until all records that it gave are drawn. The bytes and the texts come from the descriptions
-//! of the format and of the report.
+//! A source that returns no more bytes until all records that it returned are drawn. The bytes and the texts come from
+//! the descriptions of the format and of the report.
 ghost use Rattle.std.specs.Prelude.{◌≡◌, ◌≤◌};
 ghost use Rattle.ruled_lanes.specs.declared.limits.TheConstants.{MAX_CAPACITY};
 ghost use Rattle.lanes.specs.Opening.{Silent};
@@ -20,7 +20,7 @@ use test_tools::{same, wait_for_count};
 /// The number of records of the file.
 const RECORDS: u32 = 200;
 
-/// Counts the records that are drawn, and notes whether a read waited for one too long.
+/// Counts the drawn records, and notes whether a read waited too long for one.
 #[derive(Drop)]
 struct Drawn {
     count: AtomicU32,
@@ -35,7 +35,7 @@ impl Gate for Drawn {
     }
 }
 
-/// A file of edges. Before each read it waits until all records that it gave whole are being drawn.
+/// A file of edges. Before each read it waits until all records that it returned whole are being drawn.
 #[derive(Drop)]
 struct SlowTap<'d> {
     drawn: &'d Drawn,
@@ -58,7 +58,7 @@ impl Tap for SlowTap<'_> {
     }
 }
 
-/// Opens such a file, of which a read gives at most so many bytes.
+/// Opens the file, of which a read returns at most this many bytes.
 #[derive(Clone, Copy)]
 struct Slow<'d> {
     drawn: &'d Drawn,
@@ -91,7 +91,8 @@ impl<'d> Opener for Slow<'d> {
     }
 }
 
-/// A run over the file, each read of which gives at most so many bytes, writes its report, and no read waits too long.
+/// Checks that a run over the file writes its report and no read waits too long. A read returns at most this many
+/// bytes.
 fn check<R: AllocGlobal + Threads + Wait + Sync + Abort>(rt: &R, most: usize, capacity: u32)
     requires { (1 ≤ capacity) × (capacity ≤ MAX_CAPACITY) }
 {
@@ -125,8 +126,8 @@ fn check<R: AllocGlobal + Threads + Wait + Sync + Abort>(rt: &R, most: usize, ca
     same!(rt, sink.into_writer().as_slice(), report.as_bytes());
 }
 
-/// No record is kept back while its source is awaited, whether a read completes none, one, some or more than a message
-/// carries.
+/// No record waits for the next read of its source.
+/// A read completes no record, one, some, or more than a message carries.
 #[test]
 fn no_record_waits_for_its_source(rt: HostRuntime) {
     for most in [2, 5, 43, 512] {

@@ -6,7 +6,7 @@ ghost use Rattle.lanes.specs.Opening.{Silent};
 use crate::printing_pauses::{AHEAD, tell_file};
 use crate::reported::QUICK;
 use collector::{Choice, IoSink, OpenFault, OpenGate, Opener, Tap, TapFault};
-use commands::{TextFault, write_batch};
+use commands::{Fault, write_batch};
 use std::alloc::{AllocError, Global};
 use std::sync::Wait;
 use std::sync::atomic::{AtomicBool, AtomicU32, AtomicU64, Ordering};
@@ -18,20 +18,21 @@ use test_tools::same;
 /// How many records each file has.
 const RECORDS: [u32; 4] = [1, 3, 1_000, 1_000];
 
-/// How much may wait: four pieces of 16,384 bytes.
+/// How many bytes may wait: four pieces of 16,384 bytes.
 const MOST: usize = 65_536;
 
-/// How many lines of edges have room in two pieces. The line of graph k has 40 bytes and the digits of k: 383 lines have
-/// room in the first piece, 381 in the next one.
+/// How many lines of edges fit in one piece and in two. The line of graph k has 40 bytes and the digits of k: 383 lines
+/// fit in the first piece, 381 in the next one.
 const IN_ONE: u32 = 383;
 
 const IN_TWO: u32 = 764;
 
-/// At which record the third file waits for the last one: it is read so far only once the first file was read on.
+/// The record at which the third file waits for the last one: it is read this far only after the first file was read
+/// on.
 const FAR: u32 = 900;
 
-/// What is seen of the third and the last file: how many of their records have been begun, and how many had been when the
-/// first file was read on.
+/// What is seen of the third and the last file: how many of their records were begun, and how many before the first
+/// file was read on.
 #[derive(Drop)]
 struct Seen {
     third: AtomicU32,
@@ -41,7 +42,7 @@ struct Seen {
     ran_out: AtomicBool,
 }
 
-/// Four files of edges. The first is held until the third has been read far, and then no file is read any more.
+/// Four files of edges. The first is held until the third was read far and no file is read any more.
 #[derive(Drop)]
 struct Held<'r, R> {
     rt: &'r R,
@@ -63,7 +64,8 @@ impl<R: Wait> Held<'_, R> {
         AtomicU64::new(0).park_timeout(self.rt, 0, Duration::from_millis(10));
     }
 
-    /// Waits until more of the last file is read than while the first was held, and notes where thirty seconds were too few.
+    /// Waits until more of the last file is read than while the first was held, and notes if thirty seconds were too
+    /// few.
     fn meet(&self) {
         for _ in 0..3_000 {
             if self.seen.last.load(Ordering::SeqCst) > AHEAD.saturating_add(2) {
@@ -74,7 +76,7 @@ impl<R: Wait> Held<'_, R> {
         self.seen.ran_out.store(true, Ordering::SeqCst);
     }
 
-    /// Waits until for 0.3 seconds no record of the third file or the last has been begun.
+    /// Waits until no record of the third file or the last has been begun for 0.3 seconds.
     fn settle(&self) {
         let (mut begun, mut rests): (u32, u32) = (0, 0);
         for _ in 0..3_000 {
@@ -95,8 +97,8 @@ impl<R: Wait> Held<'_, R> {
         }
     }
 
-    /// Waits until a record behind the first piece of the third file has been begun, and then until no more are, and notes
-    /// how many have been, and where thirty seconds were too few.
+    /// Waits until a record after the first piece of the third file is begun, and then until no more are. Notes how
+    /// many were begun, and whether thirty seconds were too few.
     fn hold(&self) {
         for _ in 0..3_000 {
             if self.seen.third.load(Ordering::SeqCst) > IN_ONE {
@@ -115,7 +117,7 @@ impl<R: Wait> Held<'_, R> {
 }
 
 impl<R: Wait> HeldTap<'_, R> {
-    /// The next byte, where there is one.
+    /// The next byte, if there is one.
     fn next(&self) -> Option<u8> {
         let byte = if self.at < HEADER.len() {
             HEADER.get(self.at)
@@ -203,7 +205,7 @@ fn report(alloc: Global) -> Result<String, AllocError> {
 fn run<R: AllocGlobal + Threads + Wait + Sync>(
     rt: &R,
     seen: &Seen,
-) -> (Result<u8, TextFault>, Vec<u8>) {
+) -> (Result<u8, Fault>, Vec<u8>) {
     let opener = Held { rt, seen };
     let mut sink = IoSink::new(Vec::new(rt.alloc()));
     let (alloc, choice) = (rt.alloc(), Choice::First);
@@ -213,9 +215,10 @@ fn run<R: AllocGlobal + Threads + Wait + Sync>(
     (ended, sink.into_writer())
 }
 
-/// While the first file is held, the third, which is the next one that has not ended once the short second one has, is read
-/// until four pieces wait: one of the second file, at most one of the last, and so its second or third one. The last file
-/// pauses as soon as one piece waits. Afterwards all go on, the last file beside the third, for which there is room again.
+/// While the first file is held, later files are read until four pieces of their lines wait.
+/// The third file is the next one that has not ended, once the short second one has. It is read until one piece of the
+/// second file waits, at most one of the last, and so its own second or third one. The last file pauses as soon as one
+/// piece waits. Afterwards all go on, the last file beside the third, for which there is room again.
 #[test]
 fn later_files_are_read_until_so_much_waits(rt: HostRuntime) {
     let report = report(rt.alloc()).expect(&rt, "memory");

@@ -1,5 +1,5 @@
-//! Texts of runs in which the reading of later files pauses while too much waits. The bytes and the texts come from
-//! the descriptions of the format and of the report.
+//! Output of runs in which the reading of later files pauses while too much of it waits. The bytes and the texts come
+//! from the descriptions of the format and of the report.
 ghost use Rattle.std.specs.Prelude.{false, None};
 ghost use Rattle.lanes.specs.Opening.{Silent};
 
@@ -7,7 +7,7 @@ use crate::reported::QUICK;
 use collector::{
     Choice, Gate, IoSink, MAX_LANES, OpenFault, OpenGate, Opener, Stage, Tap, TapFault,
 };
-use commands::{TextFault, write_batch};
+use commands::{Fault, write_batch};
 use std::alloc::{AllocError, Global};
 use std::fmt::Write;
 use std::process::Abort;
@@ -15,6 +15,7 @@ use std::sync::Wait;
 use std::sync::atomic::{AtomicBool, AtomicU32, Ordering};
 use std::thread;
 use std::thread::Threads;
+use streams::WriteFault;
 use test_tools::records::{EDGE, HEADER};
 use test_tools::{Narrow, same, wait_for_count};
 
@@ -27,8 +28,7 @@ const LATER: u32 = 30;
 /// threads: as many records as the links, the fan and the stages hold, and the one that is read.
 pub(crate) const AHEAD: u32 = 10;
 
-/// A file of edges: its bytes are given one by one. Files before the last one are read only once the last one was read
-/// so often.
+/// A file of edges, read byte by byte. Files before the last one are read only after this many reads of the last one.
 #[derive(Clone, Copy)]
 struct Edges<'r> {
     files: u32,
@@ -47,7 +47,7 @@ struct EdgesTap<'r> {
 }
 
 impl EdgesTap<'_> {
-    /// The next byte, where there is one.
+    /// The next byte, if there is one.
     fn next(&mut self) -> Option<u8> {
         let at = self.at as usize;
         let byte = if at < HEADER.len() {
@@ -61,7 +61,7 @@ impl EdgesTap<'_> {
         byte.copied()
     }
 
-    /// Waits until the last file was read often enough, and notes where a million turns were too few.
+    /// Waits until the last file was read often enough, and notes if a million turns were too few.
     fn wait(&self) {
         wait_for_count(self.of.reads_of_last, self.of.awaited, self.of.ran_out);
     }
@@ -106,14 +106,14 @@ impl<'r> Opener for Edges<'r> {
     }
 }
 
-/// How a run over so many files and lanes ended, where what waits may hold so much, and its text. Files before the last
-/// one are read once the last one was read `awaited` times; whether that took too long is returned, too.
+/// How a run over this many files and lanes ended, with this limit of waiting output, and its text. Files before the
+/// last one are read after `awaited` reads of the last one; whether that took too long is returned, too.
 fn run<R: AllocGlobal + Threads + Wait + Sync, G: Gate>(
     rt: &R,
     (files, lanes, awaited): (u32, u32, u32),
     most: usize,
     gate: &G,
-) -> (Result<u8, TextFault>, Vec<u8>, bool) {
+) -> (Result<u8, Fault>, Vec<u8>, bool) {
     let (reads_of_last, ran_out) = (AtomicU32::new(0), AtomicBool::new(false));
     let opener = Edges {
         files,
@@ -129,7 +129,7 @@ fn run<R: AllocGlobal + Threads + Wait + Sync, G: Gate>(
     (ended, sink.into_writer(), ran_out.load(Ordering::SeqCst))
 }
 
-/// The report of so many files.
+/// The report of this many files.
 fn report(alloc: Global, files: u32) -> Result<String, AllocError> {
     let mut report = String::new(alloc);
     for file in 0..files {
@@ -139,14 +139,14 @@ fn report(alloc: Global, files: u32) -> Result<String, AllocError> {
     Ok(report)
 }
 
-/// What it says of one file.
+/// Adds the lines of one file to a report.
 pub(crate) fn tell_file(report: &mut String, file: u32, records: u32) -> Result<(), AllocError> {
     writeln!(report, "file {file}")?;
     tell_graphs(report, records)?;
     writeln!(report, "end complete graphs={records}")
 }
 
-/// What it says of so many edges.
+/// Adds the lines of this many edges to a report.
 pub(crate) fn tell_graphs(report: &mut String, records: u32) -> Result<(), AllocError> {
     for graph in 1..=records {
         writeln!(report, "graph {graph} ok n=2 m=1 f=1 bends=0 drawn=yes")?;
@@ -154,7 +154,7 @@ pub(crate) fn tell_graphs(report: &mut String, records: u32) -> Result<(), Alloc
     Ok(())
 }
 
-/// The text of a run is this one, and no source waited too long.
+/// Checks that the text of a run is this one, and that no source waited too long.
 fn check<R: AllocGlobal + Threads + Wait + Sync + Abort, G: Gate>(
     rt: &R,
     counts: (u32, u32, u32),
@@ -167,7 +167,7 @@ fn check<R: AllocGlobal + Threads + Wait + Sync + Abort, G: Gate>(
     same!(rt, text.as_slice(), report.as_bytes());
 }
 
-/// The text is that of all files, however little may wait, and no source waited too long.
+/// The output is that of all files, however little of it may wait, and no source waits too long.
 #[test]
 fn pauses_change_no_text(rt: HostRuntime) {
     for files in [1, 9] {
@@ -180,8 +180,8 @@ fn pauses_change_no_text(rt: HostRuntime) {
     }
 }
 
-/// The last file comes first: its lane has read three records when the others begin, and goes on. Where nothing may wait
-/// it has read one, since its first line lets it pause.
+/// The last file may come first: its lane has read three records when the others begin, and goes on.
+/// If nothing may wait it has read one, since its first line lets it pause.
 #[test]
 fn the_last_file_may_come_first(rt: HostRuntime) {
     let report = report(rt.alloc(), 4).expect(&rt, "memory");
@@ -190,9 +190,9 @@ fn the_last_file_may_come_first(rt: HostRuntime) {
     }
 }
 
-/// Counts the calls of first stages, and holds that of the record at place 300, which only the first file has, for so
-/// many turns that all other lanes have paused or ended. From then on it holds calls of the record at place 25 until
-/// `met` lanes have made one.
+/// Counts the calls of first stages. Holds the call of the record at place 300, which only the first file has, for
+/// enough turns that all other lanes pause or end. From then on it holds calls of the record at place 25 until `met`
+/// lanes have made one.
 #[derive(Drop)]
 struct HoldsFirst {
     met: u32,
@@ -256,8 +256,8 @@ fn gate_holds_the_first_until_others_pause(rt: HostRuntime) {
     }
 }
 
-/// Where the first file has ended there is room again: the lanes of both later files read at once, though each of them
-/// waits in one piece of 16,384 bytes, and no more than two pieces may wait.
+/// When the first file has ended there is room again, and the lanes of both later files read at once.
+/// The lines of each of them wait in one piece of 16,384 bytes, and no more than two pieces may wait.
 #[test]
 fn room_comes_where_a_file_ends(rt: HostRuntime) {
     let report = report(rt.alloc(), 3).expect(&rt, "memory");
@@ -266,11 +266,11 @@ fn room_comes_where_a_file_ends(rt: HostRuntime) {
     same!(&rt, gate.ran_out.load(Ordering::SeqCst), false);
 }
 
-/// How a run over eight files and so many lanes ended whose sink takes a hundred bytes.
+/// How a run over eight files and this many lanes ended, with a sink that takes a hundred bytes.
 fn ended_in_a_narrow_sink<R: AllocGlobal + Threads + Wait + Sync>(
     rt: &R,
     lanes: u32,
-) -> Result<u8, TextFault> {
+) -> Result<u8, Fault> {
     let (reads_of_last, ran_out) = (AtomicU32::new(0), AtomicBool::new(false));
     let opener = Edges {
         files: 8,
@@ -294,7 +294,7 @@ fn a_sink_may_fail_while_lanes_pause(rt: HostRuntime) {
         same!(
             &rt,
             ended_in_a_narrow_sink(&rt, lanes),
-            Err(TextFault::Write),
+            Err(Fault::Write(WriteFault::Write)),
         );
     }
 }

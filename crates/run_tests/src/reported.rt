@@ -4,13 +4,13 @@ ghost use Rattle.std.specs.Prelude.{false, None};
 ghost use Rattle.lanes.specs.Opening.{Silent};
 
 use collector::{Choice, DrawingKind, Form, Gate, IoSink, OpenFault, Opener, Style, Tap, TapFault};
-use commands::{TextFault, write_batch};
+use commands::{Fault, write_batch};
 use std::alloc::Global;
 use std::sync::Wait;
 use std::thread::Threads;
 use test_tools::Narrow;
 
-/// A source that gives one byte a read, and fails once it was read so often.
+/// A source that returns one byte a read, and fails after this many reads.
 #[derive(Drop)]
 pub(crate) struct OneByOne {
     bytes: &'static [u8],
@@ -39,7 +39,7 @@ impl Tap for OneByOne {
     }
 }
 
-/// Opens these files, the second one only where there is no fault, with sources that fail once they were read so often.
+/// Opens these files, the second one only if there is no fault, with sources that fail after this many reads.
 #[derive(Clone, Copy)]
 pub(crate) struct Files {
     pub(crate) files: &'static [&'static [u8]],
@@ -91,13 +91,13 @@ pub(crate) const SHORT: Style = Style {
     drawing_kind: DrawingKind::Short,
 };
 
-/// The report of them.
+/// The report of `THREE`.
 pub(crate) const REPORT: &[u8] =
     b"file 1\ngraph 1 ok n=3 m=3 f=2 bends=1 drawn=yes\ngraph 2 ok n=3 m=3 f=2 bends=1 drawn=yes\nend complete graphs=2\n\
     file 2\ngraph 1 ok n=2 m=1 f=1 bends=0 drawn=yes\nend truncated graphs=1\nfile 3\nend complete graphs=0\n";
 
-/// The text of a run over lanes in this style as it is made, with room for one message between two threads and as
-/// little as may wait, in a writer with so much room that takes so many bytes a write, and how the run ended.
+/// How a run over lanes in this style with streamed output ended, and its writer, which has this much room and takes at
+/// most this many bytes a write. Between two threads one message has room, and as little output as possible may wait.
 pub(crate) fn written<R: AllocGlobal + Threads + Wait + Sync, G: Gate>(
     rt: &R,
     opener: &Files,
@@ -106,7 +106,7 @@ pub(crate) fn written<R: AllocGlobal + Threads + Wait + Sync, G: Gate>(
     style: Style,
     gate: &G,
     (room, most): (usize, usize),
-) -> (Result<u8, TextFault>, Narrow) {
+) -> (Result<u8, Fault>, Narrow) {
     let mut sink = IoSink::new(Narrow::new(room, most, true));
     let (alloc, choice) = (rt.alloc(), Choice::First);
     let ended = write_batch(

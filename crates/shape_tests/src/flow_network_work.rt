@@ -14,7 +14,7 @@ use test_inputs::plane_in;
 use test_tools::records::{EDGE, OCTAHEDRON, TRIANGLE, longest_cycle};
 use test_tools::same;
 
-/// How many units are supplied in a network.
+/// The number of units supplied in a network.
 fn supplied_in(network: &Network) -> u64 {
     let mut units = 0u64;
     for supply in network.supplies() {
@@ -23,14 +23,14 @@ fn supplied_in(network: &Network) -> u64 {
     units
 }
 
-/// How many searches and looks the solver takes.
+/// The numbers of searches and looks that the solver makes.
 fn work_of(alloc: Global, network: &Network) -> Result<(u64, u64), SolveFault> {
     let solved = solve(alloc, network)?;
     Ok((u64::from(solved.searches()), solved.looks()))
 }
 
-/// So many units are supplied in a network of so many arcs. There is a search for each of them at most, and
-/// in each search no more looks than twice the number of arcs; there is at least one search and one look.
+/// Checks the units supplied and the arcs of a network, and the work of the solver. There is at most one search for
+/// each unit, and at most twice as many looks in a search as there are arcs; there is at least one search and one look.
 fn expect_work(rt: &impl Abort, alloc: Global, network: &Network, supplied: u64, arcs: u64) {
     let counts = (supplied_in(network), network.arc_count() as u64);
     same!(rt, counts, (supplied, arcs));
@@ -39,12 +39,12 @@ fn expect_work(rt: &impl Abort, alloc: Global, network: &Network, supplied: u64,
     expect_between(rt, looks, supplied.wrapping_mul(2).wrapping_mul(arcs));
 }
 
-/// A number is at least 1 and at most so much.
+/// Checks that a number is at least 1 and at most this.
 fn expect_between(rt: &impl Abort, number: u64, most: u64) {
     assert!(rt; 1 <= number && number <= most, "{number} of {most}");
 }
 
-/// The same of the network of a plane.
+/// The same for the network of a plane.
 fn expect_plane_work(rt: &impl Abort, alloc: Global, bytes: &[u8], supplied: u64, arcs: u64) {
     let plane = plane_in(alloc, bytes).expect(rt, "a plane");
     let net = FaceNet::build(alloc, &plane).expect(rt, "memory");
@@ -79,6 +79,7 @@ fn free_way(rt: &impl Abort, alloc: Global) -> Network {
     Network::new(supplies, arcs).expect(rt, "a network")
 }
 
+/// The searches and looks of the solver are bounded by the units and arcs of the network.
 #[test]
 fn little_work(rt: HostRuntime) {
     let alloc = rt.alloc();
@@ -94,7 +95,7 @@ fn little_work(rt: HostRuntime) {
     }
 }
 
-/// Two cycles on so many vertices, each vertex of the inner one joined to one of the outer one and the next.
+/// Two cycles of this many vertices, each vertex of the inner one joined to one of the outer one and the next.
 fn antiprism(alloc: Global, count: u8) -> Result<Vec<u8>, AllocError>
     requires { count ≤ 60 }
 {
@@ -113,7 +114,7 @@ fn antiprism(alloc: Global, count: u8) -> Result<Vec<u8>, AllocError>
     Ok(bytes)
 }
 
-/// An antiprism of 128 darts and one of 400, with the bends that LEMON's network simplex found.
+/// An antiprism of 128 darts and one of 400 need the bends that LEMON's network simplex found.
 #[test]
 fn hundreds_of_darts(rt: HostRuntime) {
     for (count, bends) in [(16, 36), (50, 104)] {

@@ -1,5 +1,5 @@
-//! Tests of shapes, prices and their two tests over planes that are read from records, of the lines that tell them, and
-//! of what the layers below give where an allocation is refused.
+//! Tests of shapes, prices and their two tests over planes that are read from records, of the lines that print them,
+//! and of what the layers below answer if an allocation is refused.
 #![tactic(auto)]
 
 #[cfg(test)]

@@ -43,8 +43,8 @@ fn bends_of(rt: &impl Abort, alloc: Global, bytes: &[u8]) -> (u32, u32, u16) {
     (first, best, plane.outer())
 }
 
-/// Graphs of which another face is better, and others, whose faces are all alike, or there is one: both numbers of
-/// bends and the best face.
+/// Graphs for which another face is better, and others, whose faces are all alike, or which have one face: both numbers
+/// of bends and the best face.
 const BEST: [(&[u8], (u32, u32, u16)); 9] = [
     (CAPPED_CUBE, (10, 8, 2)),
     (LONGER_CUBE, (9, 8, 2)),
@@ -57,6 +57,7 @@ const BEST: [(&[u8], (u32, u32, u16)); 9] = [
     (CUBE, (4, 4, 0)),
 ];
 
+/// The best outer face and both numbers of bends are those of the table.
 #[test]
 fn best_faces(rt: HostRuntime) {
     for (bytes, want) in BEST {
@@ -73,6 +74,7 @@ const OF_AN_ORACLE: [(&[u8], u32, u32); 3] = [
     (&SEVEN_WITH_FIVE_FACES, 5, 4),
 ];
 
+/// The bends with the first and the best outer face are those that LEMON found.
 #[test]
 fn bends_of_an_oracle(rt: HostRuntime) {
     for (bytes, first, best) in OF_AN_ORACLE {
@@ -81,6 +83,7 @@ fn bends_of_an_oracle(rt: HostRuntime) {
     }
 }
 
+/// Another face can be made the outer one, and the number of faces stays.
 #[test]
 fn a_face_turned_out(rt: HostRuntime) {
     let mut plane = plane_in(rt.alloc(), LONGER_CUBE).expect(&rt, "a plane");
@@ -91,6 +94,7 @@ fn a_face_turned_out(rt: HostRuntime) {
     same!(&rt, (plane.outer(), plane.face_count()), (2, 9));
 }
 
+/// The default outer face is the first one.
 #[test]
 fn choices(rt: HostRuntime) {
     same!(&rt, Choice::default(), Choice::First);

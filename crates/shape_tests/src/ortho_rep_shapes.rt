@@ -16,22 +16,22 @@ fn shape_of(rt: &impl Abort, angles: Vec<u8>, strings: Vec<Vec<Turn>>) -> Shape 
     Shape::new(angles, strings)
 }
 
-/// What both tests say.
+/// The answers of both tests.
 pub(crate) fn answers(plane: &Plane, shape: &Shape, prices: &Prices) -> (bool, bool) {
     (is_shape(plane, shape), certify(plane, shape, prices))
 }
 
-/// What both tests say of a shape with the prices of a case.
+/// The answers of both tests for a shape with the prices of a case.
 fn answers_in(rt: &impl Abort, alloc: Global, case: &Case<'_>, shape: &Shape) -> (bool, bool) {
     let plane = plane_in(alloc, case.record).expect(rt, "a plane");
     let prices = prices_in(alloc, case).expect(rt, "memory");
     answers(&plane, shape, &prices)
 }
 
-/// A case, what the two tests say of it, and its bends.
+/// A case, the answers of the two tests, and its bends.
 type Row = (Case<'static>, (bool, bool), u32);
 
-/// Sees that the tests say this of each case, and that it has so many bends.
+/// Checks the answers of the tests and the number of bends for each case.
 fn expect(rt: &impl Abort, alloc: Global, rows: &[Row]) {
     for (case, right, bends) in rows {
         let shape = shape_in(alloc, case.angles, case.strings).expect(rt, "a shape");
@@ -123,12 +123,13 @@ const ROWS: &[Row] = &[
     (NARROW_ANGLE, (false, true), 0),
 ];
 
+/// Both tests give the answers found by hand for small planes.
 #[test]
 fn triangles_paths_and_edges(rt: HostRuntime) {
     expect(&rt, rt.alloc(), ROWS);
 }
 
-/// The strings of a single edge that turns to the left so many times.
+/// The strings of a single edge that turns to the left this many times.
 fn spiral(alloc: Global, count: usize) -> Result<Vec<Vec<Turn>>, AllocError> {
     let mut strings = Vec::new(alloc);
     strings.push(vec![in alloc; Turn::Left; count]?)?;
@@ -136,6 +137,7 @@ fn spiral(alloc: Global, count: usize) -> Result<Vec<Vec<Turn>>, AllocError> {
     Ok(strings)
 }
 
+/// The shape of an edge with a million turns passes the test of shapes.
 #[test]
 fn strings_of_a_million_turns(rt: HostRuntime) {
     let alloc = rt.alloc();
@@ -273,7 +275,7 @@ fn spoil_price(random: &mut Random, prices: &mut [i32]) {
     }
 }
 
-/// Now and then puts a random turn behind a string.
+/// Now and then appends a random turn to a string.
 fn spoil_string(random: &mut Random, strings: &mut Vec<Vec<Turn>>) -> Result<(), AllocError> {
     let place = random.below(24) as usize;
     let turn = if random.below(2) == 0 {
@@ -287,7 +289,7 @@ fn spoil_string(random: &mut Random, strings: &mut Vec<Vec<Turn>>) -> Result<(),
     Ok(())
 }
 
-/// Now and then drops the last of a list.
+/// Now and then drops the last element of a list.
 fn spoil_length<T: Drop>(random: &mut Random, list: &mut Vec<T>) {
     if random.below(20) == 0 {
         let _last = list.pop();
@@ -339,7 +341,7 @@ fn random_prices(
     Ok(Prices::new(vertices, random_list(alloc, random, case.faces)?))
 }
 
-/// What both tests say of a shape and prices, which is what the plain reading says.
+/// The answers of both tests for a shape and prices, which must be those of the plain reading.
 fn answers_as_read(rt: &impl Abort, plane: &Plane, shape: &Shape, prices: &Prices) -> (bool, bool) {
     let got = answers(plane, shape, prices);
     let read = (
@@ -350,7 +352,7 @@ fn answers_as_read(rt: &impl Abort, plane: &Plane, shape: &Shape, prices: &Price
     got
 }
 
-/// The same of a random shape and random prices like those of a case.
+/// The same for a random shape and random prices like those of a case.
 fn random_answers(
     rt: &impl Abort,
     alloc: Global,
@@ -363,8 +365,8 @@ fn random_answers(
     answers_as_read(rt, plane, &shape, &prices)
 }
 
-/// How often the test of shapes says yes of 250 random shapes and prices like those of a case. Both tests say always
-/// what the plain reading says.
+/// How many of 250 random shapes, with prices like those of a case, pass the test of shapes. Both tests must always
+/// agree with the plain reading.
 fn count_random(rt: &impl Abort, alloc: Global, seed: u64, case: &Case<'_>) -> u32 {
     let plane = plane_in(alloc, case.record).expect(rt, "a plane");
     let mut random = Random { state: seed };
@@ -376,7 +378,7 @@ fn count_random(rt: &impl Abort, alloc: Global, seed: u64, case: &Case<'_>) -> u
     shapes
 }
 
-/// The test of shapes says both yes and no.
+/// On random shapes both tests agree with the plain reading, and some shapes pass and some do not.
 #[test]
 fn random_shapes(rt: HostRuntime) {
     for (seed, case) in [(1, ONE_BEND), (2, THREE_BENDS), (3, ROLLED), (4, STAIR)] {
@@ -385,13 +387,13 @@ fn random_shapes(rt: HostRuntime) {
     }
 }
 
-/// What a least shape has: its bends, and what both tests say.
+/// The bends of a least shape, and the answers of both tests.
 fn figures_of_least(rt: &impl Abort, alloc: Global, plane: &Plane) -> (u32, (bool, bool)) {
     let (shape, prices) = least_shape(alloc, plane).expect(rt, "memory");
     (shape.bends(), answers(plane, &shape, &prices))
 }
 
-/// A least shape of these bytes has so many bends, and passes both tests with its prices.
+/// Checks that a least shape of these bytes has this many bends, and passes both tests with its prices.
 pub(crate) fn expect_least(rt: &impl Abort, alloc: Global, bytes: &[u8], bends: u32) {
     let plane = plane_in(alloc, bytes).expect(rt, "a plane");
     let found = figures_of_least(rt, alloc, &plane);
@@ -409,6 +411,7 @@ const BENDS: [(&[u8], u32); 7] = [
     (CUBE, 4),
 ];
 
+/// Least shapes of known graphs have the fewest bends.
 #[test]
 fn fewest_bends(rt: HostRuntime) {
     for (bytes, bends) in BENDS {

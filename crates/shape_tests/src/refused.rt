@@ -1,6 +1,6 @@
-//! Calls that may find no memory. `checks/refuse-allocations` refuses each allocation of these tests in turn:
-//! what was lent is then as it was, and a second call gives what it gives without the refusal. Where a refusal comes
-//! before the call, the test ends.
+//! Calls that may run out of memory. `checks/refuse-allocations` refuses each allocation of these tests in turn: what a
+//! call borrowed is then as it was, and a second call answers as without the refusal. If a refusal comes before the
+//! call, the test ends.
 
 ghost use Rattle.std.specs.Prelude.{IfOk};
 ghost use Rattle.flow_network.specs.FaceNet.{IsFaceNetOf};
@@ -23,12 +23,12 @@ use test_tools::same;
 /// A stream of two records.
 const STREAM: &[u8] = b">>planar_code<<\x01\x00\x02\x00\x00";
 
-/// These are the two records, and the stream is complete.
+/// Checks that these are the two records, and that the stream is complete.
 fn expect_records(rt: &impl Abort, (records, ending): (Vec<Record>, Ending)) {
     same!(rt, (records.len(), ending), (2, Ending::Complete));
 }
 
-/// The records of the whole stream, by the second call where the first finds no memory.
+/// The records of the whole stream, by the second call if the first one runs out of memory.
 fn split_at_last(rt: &impl Abort, alloc: Global) -> (Vec<Record>, Ending) {
     match split(alloc, STREAM) {
         Ok(whole) => whole,
@@ -36,7 +36,7 @@ fn split_at_last(rt: &impl Abort, alloc: Global) -> (Vec<Record>, Ending) {
     }
 }
 
-/// The same of a stream in pieces.
+/// The same for a stream in pieces.
 fn frame_at_last(rt: &impl Abort, alloc: Global, pieces: &[Vec<u8>]) -> (Vec<Record>, Ending) {
     match frame(alloc, pieces) {
         Ok(whole) => whole,
@@ -50,6 +50,7 @@ fn pieces_in(alloc: Global) -> Option<Vec<Vec<u8>>> {
     vec![in alloc; piece].ok()
 }
 
+/// Streams are split and framed at the second call if the first one runs out of memory.
 #[test]
 fn streams(rt: HostRuntime) {
     expect_records(&rt, split_at_last(&rt, rt.alloc()));
@@ -66,22 +67,22 @@ const ARC: Arc = Arc {
     cost: 1,
 };
 
-/// Two nodes, three units from one to the other, and one arc. Where memory is wanting for the lists there is
-/// nothing, and from them the network takes none.
+/// A network of two nodes, three units from one to the other, and one arc; `None` if memory runs out for its lists.
+/// Making the network of the lists takes no memory.
 fn one_arc(rt: &impl Abort, alloc: Global) -> Option<Network> {
     let supplies = [3, -3].to_vec(alloc).ok()?;
     let arcs = [ARC].to_vec(alloc).ok()?;
     Some(Network::new(supplies, arcs).expect(rt, "a network"))
 }
 
-/// What is read off the network of one arc.
+/// Checks what is read off the network of one arc.
 fn expect_one_arc(rt: &impl Abort, network: &Network) {
     assert_eq!(rt; (network.node_count(), network.arc_count()), (2, 1));
     same!(rt, network.supplies(), [3, -3].as_slice());
     same!(rt, network.arcs(), [ARC].as_slice());
 }
 
-/// The solution of that network, by the second call where the first finds no memory.
+/// Checks the solution of that network, by the second call if the first one runs out of memory.
 fn expect_solution(rt: &impl Abort, alloc: Global, network: &Network) {
     assert!(rt; network.node_count() == 2 && network.arc_count() == 1);
     let solved = match solve(alloc, network) {
@@ -97,6 +98,7 @@ fn expect_solution(rt: &impl Abort, alloc: Global, network: &Network) {
     same!(rt, counts, (true, true));
 }
 
+/// A network is solved at the second call if the first one runs out of memory.
 #[test]
 fn flows(rt: HostRuntime) {
     if let Some(network) = one_arc(&rt, rt.alloc()) {
@@ -105,7 +107,7 @@ fn flows(rt: HostRuntime) {
     }
 }
 
-/// A flow that stands, by the second call where the first finds no memory.
+/// The warm start of a network, by the second call if the first one runs out of memory.
 fn stand_at_last(rt: &impl Abort, alloc: Global, network: &Network) -> WarmStart {
     match WarmStart::new(alloc, network) {
         Ok(warm_start) => warm_start,
@@ -116,7 +118,7 @@ fn stand_at_last(rt: &impl Abort, alloc: Global, network: &Network) -> WarmStart
     }
 }
 
-/// The solution that is read off it, likewise.
+/// Checks the solution that is read off it, likewise.
 fn expect_read_off(rt: &impl Abort, alloc: Global, warm_start: &WarmStart) {
     assert!(rt; warm_start.network().arc_count() == 1);
     let solved = match warm_start.solved(alloc) {
@@ -126,7 +128,7 @@ fn expect_read_off(rt: &impl Abort, alloc: Global, warm_start: &WarmStart) {
     same!(rt, solved.flow(0), 3);
 }
 
-/// A flow that stands on a network, and the solution that is read off it.
+/// Checks the warm start of a network, and the solution that is read off it.
 fn expect_standing(rt: &impl Abort, alloc: Global, network: &Network) {
     let warm_start = stand_at_last(rt, alloc, network);
     same!(rt, warm_start.least_cost().0, 3);
@@ -134,6 +136,7 @@ fn expect_standing(rt: &impl Abort, alloc: Global, network: &Network) {
     expect_read_off(rt, alloc, &warm_start);
 }
 
+/// A warm start is made at the second call if the first one runs out of memory.
 #[test]
 fn standing_flows(rt: HostRuntime) {
     if let Some(network) = one_arc(&rt, rt.alloc()) {
@@ -141,8 +144,8 @@ fn standing_flows(rt: HostRuntime) {
     }
 }
 
-/// The supplies and the numbers of a triangle's network: three vertices of two darts, the outer face 0 and
-/// the inner face 1 of three darts each.
+/// Checks the supplies and the numbers of a triangle's network: three vertices of two darts, the outer face 0 and the
+/// inner face 1 of three darts each.
 fn expect_network(rt: &impl Abort, net: &FaceNet) {
     let network = net.network();
     same!(rt, network.supplies(), [2, 2, 2, -7, 1].as_slice());
@@ -151,7 +154,7 @@ fn expect_network(rt: &impl Abort, net: &FaceNet) {
     same!(rt, (net.vertex_node(3), net.face_node(1)), (2, 4));
 }
 
-/// The supplies once the other face is the outer one.
+/// Checks the supplies after the other face was made the outer one.
 fn expect_other_face(rt: &impl Abort, plane: &Plane, mut net: FaceNet)
     requires { IsFaceNetOf plane.now net }
 {
@@ -161,7 +164,7 @@ fn expect_other_face(rt: &impl Abort, plane: &Plane, mut net: FaceNet)
     same!(rt, network.supplies(), [2, 2, 2, 1, -7].as_slice());
 }
 
-/// The network of a plane, by the second call where the first finds no memory.
+/// The network of a plane, by the second call if the first one runs out of memory.
 fn network_at_last(rt: &impl Abort, alloc: Global, plane: &Plane) -> FaceNet
     ensures { IsFaceNetOf plane.now result }
 {
@@ -171,6 +174,7 @@ fn network_at_last(rt: &impl Abort, alloc: Global, plane: &Plane) -> FaceNet
     }
 }
 
+/// The network of the triangle is built at the second call if the first one runs out of memory.
 #[test]
 fn networks(rt: HostRuntime) {
     let Some(plane) = plane_in(rt.alloc(), TRIANGLE) else {
@@ -181,7 +185,7 @@ fn networks(rt: HostRuntime) {
     expect_other_face(&rt, &plane, net);
 }
 
-/// A least shape of a plane has one bend, by the second call where the first finds no memory.
+/// Checks that a least shape of a plane has one bend, by the second call if the first one runs out of memory.
 fn expect_least(rt: &impl Abort, alloc: Global, plane: &Plane) {
     let (shape, prices) = match least_shape(alloc, plane) {
         Ok(found) => found,
@@ -191,6 +195,7 @@ fn expect_least(rt: &impl Abort, alloc: Global, plane: &Plane) {
     same!(rt, answers(plane, &shape, &prices), (true, true));
 }
 
+/// A least shape is found at the second call if the first one runs out of memory.
 #[test]
 fn least_shapes(rt: HostRuntime) {
     if let Some(plane) = plane_in(rt.alloc(), TRIANGLE) {
@@ -198,7 +203,7 @@ fn least_shapes(rt: HostRuntime) {
     }
 }
 
-/// How many bends a best shape of a plane has, by the second call where the first finds no memory.
+/// The number of bends of a best shape of a plane, by the second call if the first one runs out of memory.
 fn best_bends(rt: &impl Abort, alloc: Global, plane: &mut Plane) -> u32 {
     let (shape, _prices) = match best_shape(alloc, plane) {
         Ok(found) => found,
@@ -210,6 +215,7 @@ fn best_bends(rt: &impl Abort, alloc: Global, plane: &mut Plane) -> u32 {
     shape.bends()
 }
 
+/// A best shape is found at the second call if the first one runs out of memory.
 #[test]
 fn best_shapes(rt: HostRuntime) {
     if let Some(mut plane) = plane_in(rt.alloc(), CAPPED_CUBE) {
@@ -231,7 +237,7 @@ fn straight_in(
     Ok((straight, prices))
 }
 
-/// The figures of such a shape, by the second call where the first finds no memory.
+/// The figures of a least shape that was made straighter, by the second call if the first one runs out of memory.
 fn straight_figures(rt: &impl Abort, alloc: Global, plane: &Plane) -> Figures {
     let mut scratch = Scratch::new();
     let (shape, prices) = match straight_in(alloc, &mut scratch, plane) {
@@ -241,6 +247,7 @@ fn straight_figures(rt: &impl Abort, alloc: Global, plane: &Plane) -> Figures {
     figures(plane, &shape, &prices)
 }
 
+/// A shape is made straighter at the second call if the first one runs out of memory.
 #[test]
 fn straight_shapes(rt: HostRuntime) {
     if let Some(plane) = plane_in(rt.alloc(), PATH) {
@@ -249,7 +256,7 @@ fn straight_shapes(rt: HostRuntime) {
     }
 }
 
-/// What is read off the shape of these strings.
+/// Checks what is read off the shape of these strings.
 fn expect_strings(rt: &impl Abort, shape: &Shape) {
     assert_eq!(rt; (shape.angle_count(), shape.string_count()), (3, 2));
     same!(rt, (shape.angle(0), shape.bends()), (7, 1));
@@ -267,13 +274,13 @@ fn lists_of_shapes(rt: HostRuntime) {
     expect_strings(&rt, &Shape::new(angles, strings));
 }
 
-/// What is read off prices of two vertices and one face.
+/// Checks what is read off prices of two vertices and one face.
 fn expect_prices(rt: &impl Abort, prices: &Prices) {
     assert_eq!(rt; (prices.vertex_count(), prices.face_count()), (2, 1));
     same!(rt, (prices.vertex(2), prices.face(0)), (6, 7));
 }
 
-/// The same of prices.
+/// Prices that are made of lists, and what is read off them, take no memory.
 #[test]
 fn lists_of_prices(rt: HostRuntime) {
     let (Ok(vertices), Ok(faces)) = ([-5, 6].to_vec(rt.alloc()), [7].to_vec(rt.alloc())) else {

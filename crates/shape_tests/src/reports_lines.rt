@@ -1,5 +1,5 @@
-//! The triangle's line by hand, with a shape, prices and points that were worked out on paper, and the line
-//! of an end. Prices that prove a shape still do when the same is taken from all of them.
+//! The triangle's line by hand, with a shape, prices and points that were worked out on paper, and the line of an end.
+//! Prices that prove a shape still do so if one number is subtracted from all of them.
 
 use drawing_check::{Drawing, check};
 use entries::Cause;
@@ -67,7 +67,7 @@ fn triangle_line(
     laid_line(alloc, 3, 7, laid).ok()
 }
 
-/// The line of the triangle without a drawing has this word in its place.
+/// Checks that the line of the triangle without a drawing has this word in place of the drawing.
 fn check_cause<R: AllocGlobal + Abort>(
     rt: &R,
     plane: &Plane,
@@ -80,7 +80,7 @@ fn check_cause<R: AllocGlobal + Abort>(
     same!(rt, line, text.expect(rt, "memory"));
 }
 
-/// The line of the triangle with its drawing.
+/// Checks the line of the triangle with its drawing.
 fn check_drawn<R: AllocGlobal + Abort>(rt: &R, plane: &Plane, shape: &Shape) {
     let drawing = drawing(rt.alloc(), plane, shape).expect(rt, "a drawing");
     let line = triangle_line(rt.alloc(), plane, shape, Ok(drawing.points())).expect(rt, "a line");
@@ -96,6 +96,7 @@ const CAUSES: [(Cause, &str); 5] = [
     (Cause::Meet, "meet"),
 ];
 
+/// The JSON line of a triangle is the one worked out by hand, drawn or with the cause.
 #[test]
 fn shows_a_triangle(rt: HostRuntime) {
     let plane = plane_in(rt.alloc(), PRICED.record).expect(&rt, "a plane");
@@ -106,6 +107,7 @@ fn shows_a_triangle(rt: HostRuntime) {
     check_drawn(&rt, &plane, &shape);
 }
 
+/// The JSON line of an end has its mark, file and number of graphs.
 #[test]
 fn shows_an_end(rt: HostRuntime) {
     let mark = Mark::Ended(Ending::Truncated);

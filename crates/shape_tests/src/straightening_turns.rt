@@ -1,4 +1,4 @@
-//! Shapes made straighter, beside how many vertices of degree 2 turn at least, which is found by hand.
+//! Shapes made straighter, compared with the least number of turning vertices of degree 2, which was found by hand.
 
 ghost use Rattle.ortho_rep.specs.Representation.{HasDarts, IsShape, IsLeast};
 ghost use Rattle.ortho_rep.specs.Prices.{IsProof};
@@ -13,10 +13,10 @@ use test_inputs::{Case, L, R, plane_in, prices_in, shape_in};
 use test_tools::records::{EDGE, PATH, TRIANGLE};
 use test_tools::same;
 
-/// How many vertices of degree 2 turn, bends, and what both tests say.
+/// The number of turning vertices of degree 2, the bends, and the answers of both tests.
 pub(crate) type Figures = (u16, u32, (bool, bool));
 
-/// How many vertices of degree 2 turn: they alone have an angle of three right angles.
+/// The number of turning vertices of degree 2: they alone have an angle of three right angles.
 fn count_turning(plane: &Plane, shape: &Shape) -> u16
     requires { HasDarts plane.now shape.now }
 {
@@ -40,8 +40,8 @@ pub(crate) fn figures(plane: &Plane, shape: &Shape, prices: &Prices) -> Figures
     )
 }
 
-/// How many vertices of degree 2 of this record turn, once its least shape is straightened. That has as many bends
-/// as before, and passes both tests.
+/// The number of turning vertices of degree 2 of this record, after its least shape is straightened. The straightened
+/// shape must have as many bends as before, and pass both tests.
 fn turning_of(rt: &impl Abort, alloc: Global, scratch: &mut Scratch, record: &[u8]) -> u16 {
     let plane = plane_in(alloc, record).expect(rt, "a plane");
     let (shape, prices) = least_shape(alloc, &plane).expect(rt, "memory");
@@ -77,7 +77,7 @@ const TURNING: [(&[u8], u16); 8] = [
     (&SPIDER, 0),
 ];
 
-/// One scratch serves all.
+/// Straightened shapes have the fewest turning vertices; one scratch serves all.
 #[test]
 fn fewest_turning(rt: HostRuntime) {
     let mut scratch = Scratch::new();
@@ -128,7 +128,7 @@ fn straightened(
     Ok((before, figures(plane, &straight, prices)))
 }
 
-/// The same of the shape of a case, where it is a least one.
+/// The same for the shape of a case, which must be a least one.
 fn figures_of(
     rt: &impl Abort,
     alloc: Global,
@@ -166,7 +166,8 @@ const MOVED: [(Case<'static>, u16, u16, u32); 3] = [
     (ANGLED, 6, 4, 0),
 ];
 
-/// What the search in the rectangle leaves in the scratch would mislead the one for the bends behind it.
+/// Cases are made as straight as they can be, with one scratch.
+/// What the search for the rectangle leaves in the scratch would mislead the search for the bends after it.
 #[test]
 fn units_move(rt: HostRuntime) {
     let right = (true, true);

@@ -7,8 +7,7 @@ use Rattle.std.proofs.lemmas.List.{get_or-set_same, get_or-set_other}
 use Rattle.faces.specs.Planes.{PlaneModel, darts, head, reverse_dart, face_at}
 use Rattle.ortho_rep.specs.declared.turn.Turn.{Turn}
 use Rattle.ortho_rep.specs.Turns.{lefts}
-use Rattle.ortho_rep.specs.Shapes.{ShapeModel, angle_at, turns_at}
-use Rattle.ortho_rep.specs.Prices.{PricesModel, IsPriced, Prove, vertex_price, face_price}
+use Rattle.ortho_rep.specs.Prices.{PricesModel, IsPriced, vertex_price, face_price}
 use Rattle.ortho_rep.proofs.FromFlow.{lefts-lefts_then_rights}
 use Rattle.straightening.specs.Flows.{Agree, string_in}
 
@@ -53,14 +52,3 @@ set-lower l k x d within less =
 
 pub tight-alike : (f g f' g' : ℤ) → f ≡ f' → g ≡ g' → (pos 1 +ℤ f -ℤ g) ≡ pos 0 → (pos 1 +ℤ f' -ℤ g') ≡ pos 0
 tight-alike f g f' g' ef eg h = rw (sym ef, sym eg) h
-
--- of a shape that a flow is
-pub loaded : (p : PlaneModel) (shape : ShapeModel) (a l : List ℕ) (t : PricesModel)
-    → ((d : ℕ) → d < darts p → slice_index a d ≡ angle_at shape d)
-    → ((d : ℕ) → d < darts p → slice_index l d ≤ lefts (turns_at shape d))
-    → Prove p (angle_at shape) (turns_at shape) (vertex_price t) (face_price t) → Agree p a l t
-loaded p shape a l t angles turns agree = λ d b.
-    priced (angle_at shape d) (slice_index a d) (turns_at shape d) (string_in p l d) (vertex_price t (head p d)) (face_price t (face_at p d)) (face_price t (face_at p (reverse_dart p d)))
-    (inl (angles d b))
-    (inl (omega (arith, turns d b, lefts-lefts_then_rights (slice_index l d) (slice_index l (reverse_dart p d)))))
-    (agree d b)

@@ -53,7 +53,7 @@ impl Workspace {
 /// The reflex angle at a vertex of degree 2 that turns. No other vertex has it.
 const REFLEX: u8 = 3;
 
-/// A least shape with as many bends as the given one, in which at most as many angles are reflex.
+/// Returns a least shape, with as many bends as the given one, and with no more reflex angles.
 ///
 /// The same prices prove it least. At a vertex of degree 2 that turns, one angle is of three right angles and the other
 /// of one. Such vertices are made straight one after another: a unit goes from the reflex angle to the right angle, and

@@ -10,7 +10,7 @@ use Rattle.planar_code.proofs.Feeding.{length-split}
 use Rattle.streams.specs.Reading.{IsBeingRead}
 use Rattle.streams.proofs.Marks.{split_stands}
 
--- so many records take so many bytes at most
+-- a bound on the bytes of a number of records
 length-records : (records : List (List ℕ)) → All IsRecord records → length (concat records) ≤ 65026 * length records
 length-records [] each = omega arith
 length-records (r ∷ records) each =

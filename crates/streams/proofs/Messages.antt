@@ -145,7 +145,3 @@ gave_records earlier (Records first ∷ messages) batch (rest, spelt, give) =
     (rest ++ batch.items, ap (λ all. all ++ batch.items) spelt ∙ append_assoc first.items rest batch.items, gave_records rest messages batch give)
 gave_records earlier (End _ ∷ messages) batch give = absurd give
 gave_records earlier (Stop ∷ messages) batch give = absurd give
-
--- no records need no message
-pub gave_none : (earlier none : List (List ℕ)) (messages : List ReadMessage) → none ≡ [] → GiveRecords earlier messages → GiveRecords (earlier ++ none) messages
-gave_none earlier none messages is give = subst (λ all. GiveRecords all messages) (sym (ap (λ l. earlier ++ l) is ∙ append-nil earlier)) give

@@ -11,7 +11,7 @@ use Rattle.planar_code.specs.FramerState.{FramerState, Early, Failed, StandsAt, 
 use Rattle.planar_code.proofs.Splits.{split_same}
 use Rattle.streams.specs.declared.frames.Mark.{Mark}
 use Rattle.streams.specs.declared.frames.Mark.TheVariants as mark
-use Rattle.streams.specs.Tap.{IsAtItsEnd, IsAtItsFailure}
+use Rattle.streams.specs.Tap.{IsAtItsFailure}
 use Rattle.streams.specs.Marks.{IsMarked, IsInterrupted}
 use Rattle.streams.specs.Reading.{IsKnownOf, IsFoundIn, IsBeingRead, IsReadToItsEnd}
 use Rattle.streams.proofs.Marks.{split_stands, open_stands, failed_not_open, beginning_stands}
@@ -27,14 +27,6 @@ consumed_both None b c xs ys p q = tt
 consumed_both (Some x) None c xs ys p q = absurd p
 consumed_both (Some x) (Some y) None xs ys p q = absurd q
 consumed_both (Some x) (Some y) (Some z) xs ys p q = p ∙ ap (λ l. xs ++ l) q ∙ sym (append_assoc xs ys z)
-
--- at its end a source has given all its known bytes
-told_at_end : (known to_come : Option (List ℕ)) (known_fails fails : Bool) (read : List ℕ) → Consumes known to_come read → fails ≡ known_fails
-    → IsAtItsEnd to_come fails → IsKnownOf known known_fails read false
-told_at_end None to_come known_fails fails read took same at = tt
-told_at_end (Some xs) None known_fails fails read took same at = absurd took
-told_at_end (Some xs) (Some ys) known_fails fails read took same at =
-    (took ∙ ap (λ l. read ++ l) at.0 ∙ append-nil read, sym same ∙ at.1)
 
 -- the same where it fails
 told_at_failure : (known to_come : Option (List ℕ)) (known_fails fails : Bool) (read : List ℕ) → Consumes known to_come read → fails ≡ known_fails
@@ -61,15 +53,6 @@ marked_split bytes fails records ending.Large whole split = (whole, split)
 marked_split bytes fails records ending.Oversize whole split = (whole, split)
 marked_split bytes fails records ending.Many whole split = (whole, split)
 marked_split bytes fails records ending.Memory whole split = λ all end other. ([], (split_same bytes all records end _ other split).0 ∙ sym (append-nil records))
-
--- the source ended
-pub read_to_its_end : (known to_come : Option (List ℕ)) (known_fails fails : Bool) (rounds : ℕ) (records : List (List ℕ)) (state : FramerState)
-    → IsBeingRead known known_fails rounds to_come fails records state → IsAtItsEnd to_come fails → IsReadToItsEnd known known_fails records state
-read_to_its_end known to_come known_fails fails rounds records state r at = record {
-  read = r.read;
-  gave = told_at_end known to_come known_fails fails r.read r.took r.same at;
-  stands = r.stands;
-}
 
 -- the source failed
 pub found_failed : (known to_come : Option (List ℕ)) (known_fails fails : Bool) (rounds : ℕ) (records : List (List ℕ)) (state : FramerState)
@@ -112,7 +95,7 @@ found_faulted known before after known_fails fails rounds earlier old new state 
       marked = marked_split _ so_far.1 _ (ending_of f) (λ cut. failed_not_open (r.read ++ piece) so_far.0 (earlier ++ new) f stands cut.1) (stands so_far.0);
     }
 
--- want of memory for one more record
+-- memory runs out for one more record
 found_wanting : (known before after : Option (List ℕ)) (known_fails fails : Bool) (rounds : ℕ) (earlier old new : List (List ℕ)) (state : FramerState) (piece : List ℕ)
     → IsBeingRead known known_fails rounds before fails (earlier ++ old) state → Consumes before after piece
     → (added : List (List ℕ)) → new ≡ old ++ added → LosesRecord state piece added

@@ -1,5 +1,5 @@
 -- Texts that reach a sink in parts.
-use Rattle.std.proofs.Common.{◌≡◌, ℕ, ◌+◌, Bool, List, [], ◌++◌, Option, None, Some, Result, Ok, Err, take, drop, subst, sym, ◌∙◌, ap, append_assoc, append-nil, OnOk, arith}
+use Rattle.std.proofs.Common.{◌≡◌, ℕ, ◌+◌, Bool, List, [], ◌++◌, Option, None, Some, Result, Ok, Err, take, drop, subst, sym, ◌∙◌, ap, append_assoc, append-nil, arith}
 use Rattle.std.proofs.lemmas.List.{drop-take, take-append-drop, take-take}
 use Rattle.std.specs.Io.KnownBytes.{Appends, Keeps}
 use Rattle.streams.specs.declared.faults.WriteFault.{WriteFault}
@@ -43,20 +43,6 @@ sent_front start now after waiting text more w f =
     let spelt : text ++ more ≡ (w.sent ++ f.0) ++ (f.1 ++ more) =
     ap (λ l. l ++ more) (w.split ∙ ap (λ l. w.sent ++ l) f.2 ∙ sym (append_assoc w.sent f.0 f.1)) ∙ append_assoc (w.sent ++ f.0) f.1 more in
     (w.sent ++ f.0, f.1 ++ more, spelt, added_both start now after _ _ w.added f.3)
-
--- all that waits was put
-pub flushed_stays : {A : Type 0} (old new : Option (List ℕ)) (waiting waits : List ℕ) (failed : Bool) (r : Result A WriteFault)
-    → Writes old new failed waiting r → OnOk r (waits ≡ []) → StaysInTransit old waiting new waits failed [] r
-flushed_stays old new waiting waits failed (Ok x) w e = (
-  w.0,
-  λ start text way. record {
-    sent = text;
-    split = ap (λ l. text ++ l) (sym e);
-    added = subst (Appends start new) (sym way.split) (added_both start old new way.sent waiting way.added w.1);
-  },
-)
-flushed_stays old new waiting waits failed (Err Write) w e = (w.0, λ start text way. sent_front start old new waiting text [] way w.1)
-flushed_stays old new waiting waits failed (Err Memory) w e = w
 
 -- there was no room for a line
 pub room_fails : (old new : Option (List ℕ)) (waited waits : List ℕ) (failed : Bool) (more : List ℕ) (e : WriteFault) (r : Result (Unit {0}) WriteFault)

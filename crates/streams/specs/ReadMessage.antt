@@ -13,10 +13,6 @@ GiveRecords records [] = records ≡ []
 GiveRecords records (Records batch ∷ messages) = (rest : List (List ℕ)) × (records ≡ batch.items ++ rest) × GiveRecords rest messages
 GiveRecords records (_ ∷ messages) = ⊥
 
--- the messages give the records of what was found in a source of which this is known
-abbrev pub GivesFound : Option (List ℕ) → Bool → List ReadMessage → Mark → Type 0
-GivesFound known fails messages mark = (records : List (List ℕ)) × GiveRecords records messages × IsFoundIn known fails records mark
-
 -- all messages of a reader: these records in order, then this one mark, then one stop
 abbrev pub IsTold : List (List ℕ) → Mark → List ReadMessage → Type 0
 IsTold records mark messages = (front : List ReadMessage) × (messages ≡ front ++ End mark ∷ Stop ∷ []) × GiveRecords records front

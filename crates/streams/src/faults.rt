@@ -14,7 +14,7 @@ pub enum BatchFault {
     /// Memory ran out for the run itself. If it runs out for a record of a file, that file's mark says so.
     #[error("out of memory")]
     Memory,
-    /// An end of a link or of a fan was gone before the last message, or text received a message that no lane gives.
+    /// A worker disconnected before its last message, or a message arrived that no lane sends.
     #[error("a lane was lost")]
     LaneLost,
     /// A thread could not be started.

@@ -6,8 +6,9 @@ use std::marker::Model;
 /// The way in which a source ended.
 #[derive(Clone, Copy, Debug, PartialEq, Eq)]
 pub enum Mark {
-    /// The ending of its bytes, up to the first fault in them; or memory ran out while they were divided into records
-    /// or the file was opened.
+    /// Its bytes were read to their end, or to the first fault in them, with this ending.
+    ///
+    /// It is `Memory` if memory ran out while they were divided into records or the file was opened.
     Ended(Ending),
     /// A read failed at a place where more bytes could have come, or the file could not be opened.
     Io,

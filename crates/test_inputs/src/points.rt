@@ -3,7 +3,7 @@
 use ortho_rep::{Point, Points};
 use std::alloc::{AllocError, Global};
 
-/// Coordinates: x and y.
+/// The x and y coordinates of a point.
 pub type Place = (u32, u32);
 
 fn list_in(alloc: Global, places: &[Place]) -> Result<Vec<Point>, AllocError> {
@@ -13,7 +13,7 @@ fn list_in(alloc: Global, places: &[Place]) -> Result<Vec<Point>, AllocError> {
         .collect(alloc)
 }
 
-/// The points of vertices and of the corners of edges.
+/// The `Points` with these coordinates of vertices and of the corners of each edge.
 pub fn points_in(
     alloc: Global,
     vertices: &[Place],

@@ -18,7 +18,7 @@ pub struct Case<'a> {
     pub faces: &'a [i32],
 }
 
-/// The triangle whose edge from 1 to 3 bends once.
+/// A triangle whose edge from 1 to 3 bends once.
 pub const ONE_BEND: Case<'static> = Case {
     record: TRIANGLE,
     angles: &[3, 1, 3, 1, 3, 1],
@@ -27,7 +27,7 @@ pub const ONE_BEND: Case<'static> = Case {
     faces: &[1, 0],
 };
 
-/// These strings, each in memory of its own.
+/// Copies of these strings of turns.
 pub fn strings_in(alloc: Global, strings: &[&[Turn]]) -> Result<Vec<Vec<Turn>>, AllocError> {
     let mut lists = Vec::new(alloc);
     for turns in strings {
@@ -36,7 +36,7 @@ pub fn strings_in(alloc: Global, strings: &[&[Turn]]) -> Result<Vec<Vec<Turn>>, 
     Ok(lists)
 }
 
-/// The shape of these angles and strings, if the strings are short enough and there is memory.
+/// The shape with these angles and strings; `None` if the strings are too long or memory ran out.
 pub fn shape_in(alloc: Global, angles: &[u8], strings: &[&[Turn]]) -> Option<Shape> {
     let strings = strings_in(alloc, strings).ok()?;
     let angles = angles.to_vec(alloc).ok()?;

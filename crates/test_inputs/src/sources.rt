@@ -4,7 +4,7 @@ ghost use Rattle.std.specs.Prelude.{false, None};
 use std::sync::atomic::{AtomicU32, Ordering};
 use streams::{Tap, TapFault};
 
-/// A source that gives one byte a read, and fails at a read, counted from 0. It counts the reads.
+/// A source that gives one byte a read, counts the reads, and fails at read number `fails_at`, from 0.
 #[derive(Drop)]
 pub struct Failing<'c> {
     pub bytes: &'static [u8],

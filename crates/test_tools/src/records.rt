@@ -23,7 +23,7 @@ pub const SQUARE: &[u8] = &[4, 2, 4, 0, 3, 1, 0, 4, 2, 0, 1, 3, 0];
 /// All six edges between four vertices.
 pub const TETRAHEDRON: &[u8] = &[4, 3, 4, 2, 0, 1, 4, 3, 0, 2, 4, 1, 0, 3, 2, 1, 0];
 
-/// As before, and the last list the other way round: two faces, of 3 and 9 darts.
+/// The tetrahedron with the last list reversed: it has two faces, of 3 and 9 darts, and lies on a torus.
 pub const TETRAHEDRON_ON_A_TORUS: &[u8] = &[4, 3, 4, 2, 0, 1, 4, 3, 0, 2, 4, 1, 0, 1, 2, 3, 0];
 
 pub const OCTAHEDRON: &[u8] = &[
@@ -41,8 +41,9 @@ pub const CAPPED_CUBE: &[u8] = &[
     4, 5, 9, 7, 0, 5, 6, 7, 8, 0,
 ];
 
-/// The same with a tenth vertex on the edge from 1 to 5, so that the face with fewest bends is not among those with most
-/// darts.
+/// The capped cube with a tenth vertex on the edge from 1 to 5.
+///
+/// The face with the fewest bends is not among those with the most darts.
 pub const LONGER_CUBE: &[u8] = &[
     10, 10, 4, 2, 0, 3, 6, 1, 0, 4, 7, 2, 0, 1, 8, 3, 0, 10, 6, 9, 8, 0, 2, 7, 9, 5, 0, 3, 8, 9, 6,
     0, 4, 5, 9, 7, 0, 5, 6, 7, 8, 0, 1, 5, 0,

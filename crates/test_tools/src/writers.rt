@@ -19,7 +19,7 @@ pub struct Narrow {
 }
 
 impl Narrow {
-    /// A writer that has taken nothing.
+    /// A writer that has taken nothing yet; see [`Narrow`] for the parameters.
     pub fn new(room: usize, most: usize, fails: bool) -> Narrow {
         Narrow {
             taken: [0; WIDEST],
@@ -30,7 +30,7 @@ impl Narrow {
         }
     }
 
-    /// What it has taken.
+    /// The bytes that the writer has taken.
     pub fn text(&self) -> &[u8] {
         &self.taken[..self.len]
     }

@@ -5,7 +5,7 @@ use std::test::Fail;
 use streams::{MemTap, Tap, TapFault};
 use text_lines::{Lines, MAX_LINE, Next};
 
-/// A source that gives what another gives, and fails where that ends.
+/// A source that returns what another one returns, and fails where that one ends.
 #[derive(Drop)]
 struct FailsAtEnd {
     source: MemTap,
@@ -27,11 +27,12 @@ impl Tap for FailsAtEnd {
     }
 }
 
-/// The bytes of a text, in reads of at most so many bytes.
+/// A source of a text, of which a read returns at most this many bytes.
 fn source(alloc: Global, text: &[u8], most: usize) -> Result<MemTap, AllocError> {
     Ok(MemTap::new(text.to_vec(alloc)?, most.max(1)))
 }
 
+/// Lines are the same in reads of every size, also an empty line and a last one without an end.
 #[test]
 fn lines_come_in_order(rt: HostRuntime) -> Result<(), Fail> {
     for most in [1, 2, 3, 65_536] {
@@ -48,6 +49,7 @@ fn lines_come_in_order(rt: HostRuntime) -> Result<(), Fail> {
     Ok(())
 }
 
+/// No line follows the last line feed, and an empty text has no line.
 #[test]
 fn nothing_follows_the_last_end(rt: HostRuntime) -> Result<(), Fail> {
     let mut lines = Lines::new(rt.alloc(), source(rt.alloc(), b"ab\n", 65_536)?)?;
@@ -59,6 +61,7 @@ fn nothing_follows_the_last_end(rt: HostRuntime) -> Result<(), Fail> {
     Ok(())
 }
 
+/// A failed read is reported, and the line begun before it is not returned.
 #[test]
 fn a_failed_read_ends_no_line(rt: HostRuntime) -> Result<(), Fail> {
     let source = source(rt.alloc(), b"ab\ncd", 4)?;
@@ -70,6 +73,7 @@ fn a_failed_read_ends_no_line(rt: HostRuntime) -> Result<(), Fail> {
     Ok(())
 }
 
+/// A line of the greatest length is returned whole, and a longer one is reported as too long.
 #[test]
 fn lines_of_four_million_bytes_are_whole(rt: HostRuntime) -> Result<(), Fail> {
     let mut text = vec![in rt.alloc(); b'x'; MAX_LINE]?;

@@ -18,7 +18,7 @@ use Rattle.text_lines.specs.declared.lines.State.TheVariants as state
 abbrev pub IsNoEnd : List ℕ → Type 0
 IsNoEnd bytes = All (λ b. b ≢ 10) bytes
 
--- the lines, with the byte put before the first of them, or as a line where there is none
+-- the lines, with the byte put before the first of them, or as a line of its own if there is none
 abbrev pub before_line : ℕ → List (List ℕ) → List (List ℕ)
 before_line b [] = (b ∷ []) ∷ []
 before_line b (line ∷ lines) = (b ∷ line) ∷ lines

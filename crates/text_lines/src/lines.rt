@@ -12,9 +12,9 @@ use streams::Tap;
 /// Whether a source may give more bytes.
 #[derive(Clone, Copy, Debug, PartialEq, Eq)]
 pub enum State {
-    /// It may.
+    /// It may give more bytes.
     Open,
-    /// It ended.
+    /// It has ended.
     Ended,
     /// A read failed.
     Failed,
@@ -23,11 +23,11 @@ pub enum State {
 /// The outcome of reading the next line.
 #[derive(Clone, Copy, Debug, PartialEq, Eq)]
 pub enum Next {
-    /// The whole line, of at most `MAX_LINE` bytes: `Lines::line` has it.
+    /// A line of at most `MAX_LINE` bytes was read: `Lines::line` returns it.
     Line,
-    /// The whole line, which is longer. Its bytes are gone.
+    /// A line of more than `MAX_LINE` bytes was read, and its bytes dropped.
     TooLong,
-    /// There is none: the source ended.
+    /// There are no more lines: the source has ended.
     End,
     /// A read failed before the line ended, and no more lines are read.
     Failed,
@@ -62,7 +62,7 @@ impl<T: Tap> Lines<T> {
         })
     }
 
-    /// Reads the next line.
+    /// Reads the next line, and returns the outcome.
     ///
     /// Once the source has ended or a read has failed, it is read no more.
     pub fn next<R: Wait>(&mut self, rt: &R) -> Next
@@ -79,7 +79,7 @@ impl<T: Tap> Lines<T> {
         }
     }
 
-    /// The line that was read last, if it is not too long.
+    /// The line that was read last, without its newline, if it was not too long.
     pub fn line(&self) -> &[u8]
         ensures { result.now ≡ line_in self.now }
     {

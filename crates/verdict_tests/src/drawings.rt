@@ -124,6 +124,7 @@ const WRONG: [(&[u8], &str, Fault); 10] = [
     ),
 ];
 
+/// Right drawings have the verdict `Ok` with their bends.
 #[test]
 fn right_drawings_are_ok(rt: HostRuntime) -> Result<(), Fail> {
     for (bytes, line, bends, fewest) in RIGHT.iter() {
@@ -137,6 +138,7 @@ fn right_drawings_are_ok(rt: HostRuntime) -> Result<(), Fail> {
     Ok(())
 }
 
+/// Wrong drawings have the verdict with their fault.
 #[test]
 fn wrong_drawings_are_told(rt: HostRuntime) -> Result<(), Fail> {
     for (bytes, line, fault) in WRONG.iter() {

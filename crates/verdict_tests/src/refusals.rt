@@ -8,7 +8,7 @@ use std::test::Fail;
 use test_tools::records::EDGE;
 use verdicts::Verdict;
 
-/// Lines of an edge, and what is said of them.
+/// Lines of an edge, and their verdicts.
 const LINES: [(&str, Verdict); 16] = [
     ("", Verdict::Line(LineFault::Malformed)),
     ("7", Verdict::Line(LineFault::Malformed)),
@@ -42,7 +42,7 @@ const LINES: [(&str, Verdict); 16] = [
         "{\"points\":{\"vertices\":[[0,0],[5,0]],\"corners\":[[]]},\"bends\":-1}",
         Verdict::Line(LineFault::Number),
     ),
-    // What has no form is told before what is wrong with the points.
+    // A fault of the format is reported before a fault of the points.
     (
         "{\"points\":{\"vertices\":[[0,0]],\"corners\":[[]]},\"outer\":65536}",
         Verdict::Line(LineFault::Number),
@@ -76,6 +76,7 @@ const RECORDS: [(&[u8], Rule); 4] = [
     (&[3, 2, 0, 1, 0, 0], Rule::Disconnected),
 ];
 
+/// Lines with a fault have the verdict that names it.
 #[test]
 fn lines_are_refused(rt: HostRuntime) -> Result<(), Fail> {
     for (line, wanted) in LINES.iter() {
@@ -85,6 +86,7 @@ fn lines_are_refused(rt: HostRuntime) -> Result<(), Fail> {
     Ok(())
 }
 
+/// Records that break a rule are refused with it.
 #[test]
 fn records_are_refused(rt: HostRuntime) -> Result<(), Fail> {
     for (bytes, rule) in RECORDS.iter() {
@@ -94,6 +96,7 @@ fn records_are_refused(rt: HostRuntime) -> Result<(), Fail> {
     Ok(())
 }
 
+/// The line of an end has no verdict.
 #[test]
 fn ends_are_told(rt: HostRuntime) -> Result<(), Fail> {
     let found = verdict_on(

@@ -4,8 +4,8 @@ use planar_code::{HEADER, split};
 use std::alloc::{AllocError, Global};
 use verdicts::{Given, Said, Scratch, Verdict, judge_record, said_in};
 
-/// The verdict on a record, given by its bytes, and on a line, with the regions; `None` where the bytes are no record, or
-/// the line is the end of a run.
+/// The verdict on a record, given by its bytes, and on a line, with the regions; `None` if the bytes are not a record,
+/// or the line is the end of a run.
 pub(crate) fn verdict_on(
     alloc: Global,
     bytes: &[u8],

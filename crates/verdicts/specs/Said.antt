@@ -10,7 +10,7 @@ use Rattle.referee.specs.declared.claims.Claims.{Claims}
 use Rattle.verdicts.specs.declared.said.Said.{Said}
 use Rattle.verdicts.specs.declared.said.Said.TheVariants as said
 
--- a value makes these claims, each in a field of its own, and none where it has no such field
+-- a value makes these claims, each in a field of its own; without a field it makes no such claim
 pub record HasClaims (value : Data) (claims : Claims) : Type 0 where
   pub angles : get (codes "angles") value ≡ option_map (λ angles. array_of natural angles.items) claims.angles
   pub turns : get (codes "turns") value ≡ option_map (λ strings. array_of turns_data (lists_in strings.items)) claims.turns

@@ -8,7 +8,7 @@ use Rattle.verdicts.specs.declared.verdict.Verdict.{Verdict}
 use Rattle.verdicts.specs.declared.verdict.Verdict.TheVariants as verdict
 use Rattle.verdicts.specs.Words.{word_of}
 
--- a number with its key, behind others
+-- a number with its key, after others
 abbrev pub count_text : Bool → List ℕ → ℕ → List ℕ
 count_text false key number = codes " " ++ key ++ codes "=" ++ decimal number
 count_text true key number = codes ",\"" ++ key ++ codes "\":" ++ decimal number

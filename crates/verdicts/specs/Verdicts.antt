@@ -22,7 +22,7 @@ use Rattle.verdicts.specs.declared.verdict.Verdict.TheVariants as verdict
 abbrev pub KeepsFaces : Bool → PlaneModel → PointsModel → Type 0
 KeepsFaces faces p points = faces ≡ true → HasRegions p points
 
--- so many bends, and so many are fewest
+-- these are the number of bends, and the fewest possible
 pub record HasBendCounts (p : PlaneModel) (shape : ShapeModel) (bends fewest : ℕ) : Type 0 where
   pub bends_are : bends ≡ bends_of (length shape.strings) (turns_at shape)
   pub some : HasRep p fewest

@@ -1,7 +1,6 @@
 -- The words of verdicts.
-use Rattle.std.specs.Prelude.{ℕ, List, codes}
-use Rattle.embedding.specs.declared.rules.Rule.{Rule}
-use Rattle.embedding.specs.declared.rules.Rule.TheVariants as rule
+use Rattle.std.specs.Prelude.{ℕ, List, ◌++◌, codes}
+use Rattle.embedding.specs.Words as rules
 use Rattle.drawn_lines.specs.declared.fault.LineFault.{LineFault}
 use Rattle.drawn_lines.specs.declared.fault.LineFault.TheVariants as line
 use Rattle.referee.specs.declared.fault.Fault.{Fault}
@@ -10,16 +9,6 @@ use Rattle.referee.specs.declared.claims.FalseClaim.{FalseClaim}
 use Rattle.referee.specs.declared.claims.FalseClaim.TheVariants as claim
 use Rattle.verdicts.specs.declared.verdict.Verdict.{Verdict}
 use Rattle.verdicts.specs.declared.verdict.Verdict.TheVariants as verdict
-
-abbrev pub rule_word : Rule → List ℕ
-rule_word rule.Range = codes "refused range"
-rule_word rule.Loop = codes "refused loop"
-rule_word rule.Multi = codes "refused multi"
-rule_word rule.Asymmetric = codes "refused asymmetric"
-rule_word rule.Edgeless = codes "refused edgeless"
-rule_word rule.Degree = codes "refused degree"
-rule_word rule.Disconnected = codes "refused disconnected"
-rule_word rule.Genus = codes "refused genus"
 
 abbrev pub line_word : LineFault → List ℕ
 line_word line.Malformed = codes "line=malformed"
@@ -51,7 +40,7 @@ claim_word claim.Bends = codes "claim=bends"
 claim_word claim.Outer = codes "claim=outer"
 
 abbrev pub word_of : Verdict → List ℕ
-word_of (verdict.Refused r) = rule_word r
+word_of (verdict.Refused r) = codes "refused " ++ rules.word_of r
 word_of verdict.Missing = codes "line=missing"
 word_of verdict.Unread = codes "line=unread"
 word_of (verdict.Line f) = line_word f

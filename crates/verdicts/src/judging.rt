@@ -1,6 +1,6 @@
 //! The verdict on a record and what is given for it.
-ghost use Rattle.std.specs.Prelude.{◌≡◌, ◌*◌, length, true, false, IfOk};
-ghost use Rattle.faces.specs.Planes.{vertices, darts};
+ghost use Rattle.std.specs.Prelude.{◌≡◌, true, false, IfOk};
+ghost use Rattle.drawing_check.specs.Draws.{HasPoints};
 ghost use Rattle.referee.specs.Drawings.{IsDrawnBy};
 ghost use Rattle.verdicts.specs.Verdicts.{IsVerdict, IsVerdictOnPlane, IsVerdictOnDrawing, IsFound, KeepsFaces};
 
@@ -114,8 +114,7 @@ fn keeps_faces(
     plane: &Plane,
     drawing: &Drawing,
 ) -> Result<bool, AllocError>
-    requires vertices { length drawing.now.vertices ≡ vertices plane.now }
-    requires corners { 2 * length drawing.now.corners ≡ darts plane.now }
+    requires points { HasPoints plane.now drawing.now }
     ensures kept { IfOk result (λ kept. kept ≡ true → KeepsFaces faces plane.now drawing.now) }
     ensures lost { IfOk result (λ kept. kept ≡ false → ¬ KeepsFaces faces plane.now drawing.now) }
 {

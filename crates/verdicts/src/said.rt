@@ -27,24 +27,24 @@ pub struct SaidDrawing {
 pub enum Said {
     /// The line is the last one of a run.
     End,
-    /// The line says a drawing.
+    /// The line describes this drawing.
     Drawing(SaidDrawing),
 }
 
 /// The input for a record: its drawing, or the reason why there is none.
 #[derive(Debug, Drop)]
 pub enum Given {
-    /// A line that says a drawing.
+    /// The line of the record describes this drawing.
     Drawing(SaidDrawing),
-    /// A line that says none.
+    /// The line of the record describes no drawing, for this reason.
     Fault(LineFault),
-    /// No line, as there are no more.
+    /// The record has no line, as there are no more.
     Missing,
-    /// No line, as a read failed.
+    /// The record has no line, as a read of the lines failed.
     Unread,
 }
 
-/// The drawing in a line, or `End` if the line ends a run.
+/// Returns the drawing that a line describes, or `End` if the line ends a run.
 ///
 /// # Errors
 ///

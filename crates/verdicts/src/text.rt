@@ -4,7 +4,7 @@ ghost use Rattle.streams.specs.declared.text_buffer.TheConstants.{LINE, ROOM};
 ghost use Rattle.verdicts.specs.Text.{count_text, place_text, counts_text, said_text, head_text, tail_text, verdict_line, mark_text, last_line};
 
 use crate::verdict::Verdict;
-use crate::words::word_of;
+use crate::words::push_word;
 use referee::Fault;
 use streams::{Mark, TextBuffer, mark_word};
 
@@ -55,14 +55,14 @@ fn push_said(lines: &mut TextBuffer, json: bool, verdict: Verdict)
 {
     if !json {
         lines.push(b" ");
-        lines.push(word_of(verdict).as_bytes());
+        push_word(lines, verdict);
         return;
     }
     match verdict {
         Verdict::Ok { .. } => lines.push(b",\"ok\":true"),
         _ => {
             lines.push(b",\"ok\":false,\"fault\":\"");
-            lines.push(word_of(verdict).as_bytes());
+            push_word(lines, verdict);
             lines.push(b"\"");
         }
     }

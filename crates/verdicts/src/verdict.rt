@@ -4,22 +4,22 @@ use drawn_lines::LineFault;
 use embedding::Rule;
 use referee::{FalseClaim, Fault};
 
-/// The verdict on a record and the line of its drawing: the first of these that holds, in this order.
+/// The verdict on a record and the line of its drawing: the first variant that applies, in this order.
 #[derive(Clone, Copy, Debug, PartialEq, Eq)]
 pub enum Verdict {
-    /// The record breaks this rule, and none before it.
+    /// The first rule that the record breaks.
     Refused(Rule),
     /// There is no line for the record.
     Missing,
     /// A read of the lines failed before this record's line.
     Unread,
-    /// The line says no drawing.
+    /// The line describes no drawing, for this reason.
     Line(LineFault),
-    /// The points draw no representation of the record's embedding.
+    /// The points do not draw the record's embedding: the first condition that fails.
     Drawn(Fault),
     /// A region of the drawing is not its face.
     Regions,
-    /// This claim does not hold of the drawing, and those before it do.
+    /// The first claim about the drawing that does not hold.
     Claim(FalseClaim),
     /// The points draw the record's embedding with this many bends, and all claims hold.
     Ok {

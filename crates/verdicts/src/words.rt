@@ -1,27 +1,12 @@
 //! The words of verdicts.
-ghost use Rattle.std.specs.Prelude.{◌≡◌, ◌≤◌, length};
-ghost use Rattle.verdicts.specs.Words.{rule_word, line_word, drawn_word, claim_word, word_of};
+ghost use Rattle.std.specs.Prelude.{◌≡◌, ◌+◌, ◌≤◌, ◌++◌, length};
+ghost use Rattle.streams.specs.declared.text_buffer.TheConstants.{ROOM};
+ghost use Rattle.verdicts.specs.Words.{line_word, drawn_word, claim_word, word_of};
 
 use crate::verdict::Verdict;
 use drawn_lines::LineFault;
-use embedding::Rule;
 use referee::{FalseClaim, Fault};
-
-fn rule_word(rule: Rule) -> &'static str
-    ensures word { result.now ≡ rule_word rule }
-    ensures short { length result.now ≤ 24 }
-{
-    match rule {
-        Rule::Range => "refused range",
-        Rule::Loop => "refused loop",
-        Rule::Multi => "refused multi",
-        Rule::Asymmetric => "refused asymmetric",
-        Rule::Edgeless => "refused edgeless",
-        Rule::Degree => "refused degree",
-        Rule::Disconnected => "refused disconnected",
-        Rule::Genus => "refused genus",
-    }
-}
+use streams::TextBuffer;
 
 fn line_word(fault: LineFault) -> &'static str
     ensures word { result.now ≡ line_word fault }
@@ -70,20 +55,24 @@ fn claim_word(claim: FalseClaim) -> &'static str
     }
 }
 
-/// The word of a verdict.
-pub(crate) fn word_of(verdict: Verdict) -> &'static str
-    ensures word { result.now ≡ word_of verdict }
-    ensures short { length result.now ≤ 24 }
+/// Appends the word of a verdict, for which there must be room.
+pub(crate) fn push_word(lines: &mut TextBuffer, verdict: Verdict)
+    requires { length lines.old + 24 ≤ ROOM }
+    ensures text { lines.new ≡ lines.old ++ word_of verdict }
+    ensures short { length lines.new ≤ length lines.old + 24 }
 {
     match verdict {
-        Verdict::Refused(rule) => rule_word(rule),
-        Verdict::Missing => "line=missing",
-        Verdict::Unread => "line=unread",
-        Verdict::Line(fault) => line_word(fault),
-        Verdict::Drawn(fault) => drawn_word(fault),
-        Verdict::Regions => "regions",
-        Verdict::Claim(claim) => claim_word(claim),
-        Verdict::Ok { .. } => "ok",
-        Verdict::Memory => "memory",
+        Verdict::Refused(rule) => {
+            lines.push(b"refused ");
+            lines.push(rule.word().as_bytes());
+        }
+        Verdict::Missing => lines.push(b"line=missing"),
+        Verdict::Unread => lines.push(b"line=unread"),
+        Verdict::Line(fault) => lines.push(line_word(fault).as_bytes()),
+        Verdict::Drawn(fault) => lines.push(drawn_word(fault).as_bytes()),
+        Verdict::Regions => lines.push(b"regions"),
+        Verdict::Claim(claim) => lines.push(claim_word(claim).as_bytes()),
+        Verdict::Ok { .. } => lines.push(b"ok"),
+        Verdict::Memory => lines.push(b"memory"),
     }
 }

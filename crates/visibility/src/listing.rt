@@ -1,7 +1,7 @@
 //! The segments of a drawing, listed edge by edge.
 
-ghost use Rattle.std.specs.Prelude.{◌≡◌, ◌*◌, ◌<◌, ◌≤◌, All, length, vec_len, true, IfOk, IfSome, OnOk};
-ghost use Rattle.faces.specs.Planes.{darts, vertices};
+ghost use Rattle.std.specs.Prelude.{◌≡◌, ◌<◌, ◌≤◌, All, length, vec_len, true, IfOk, IfSome, OnOk};
+ghost use Rattle.drawing_check.specs.Draws.{HasPoints};
 ghost use Rattle.visibility.specs.Axes.{AreFew};
 ghost use Rattle.visibility.specs.Crossing.{AreCrossed};
 
@@ -36,8 +36,7 @@ pub(crate) fn list_segments(
     plane: &Plane,
     points: &Points,
 ) -> Result<bool, AllocError>
-    requires vertices { length points.now.vertices ≡ vertices plane.now }
-    requires corners { 2 * length points.now.corners ≡ darts plane.now }
+    requires points { HasPoints plane.now points.now }
     ensures { IfOk result (λ listed. listed ≡ true → AreCrossed lists.new.x lists.new.y) }
 {
     lists.x.begin(points.vertex_count())?;
@@ -60,8 +59,7 @@ pub(crate) fn list_segments(
 
 /// Joins the ends of all edges that have no corner, and lists those that have some.
 fn list_edges(lists: &mut Lists, plane: &Plane, points: &Points) -> Result<(), AllocError>
-    requires vertices { length points.now.vertices ≡ vertices plane.now }
-    requires corners { 2 * length points.now.corners ≡ darts plane.now }
+    requires points { HasPoints plane.now points.now }
     requires bent { All (λ b. b.edge < length points.now.corners) lists.old.bent.items }
     ensures x { lists.new.x.segments ≡ lists.old.x.segments }
     ensures y { lists.new.y.segments ≡ lists.old.y.segments }

@@ -1,4 +1,4 @@
-//! Memory for compaction, which is used again.
+//! Buffers for compaction, which are reused.
 
 use crate::listing::Bent;
 use crate::segments::Segments;
@@ -7,8 +7,9 @@ use crate::sweep::Sweep;
 use std::alloc::{AllocError, Global};
 use std::boxed::Box;
 
-/// Memory in which one drawing after another is compacted: none until one comes that may become shorter. What it
-/// holds between two of them is of no use.
+/// The buffers of `compact_by_visibility_in`, reused for the next drawing. Their contents between calls do not matter.
+///
+/// It allocates nothing until a drawing comes that may become shorter.
 #[derive(Drop)]
 pub struct Scratch {
     pub(crate) lists: Option<Box<Lists>>,

@@ -1,6 +1,6 @@
 //! The vertices that edges without corners join.
 
-/// For each vertex, by its number, those to which straight edges along one axis lead; 0 where there is none.
+/// For each vertex, by its number, those to which straight edges along one axis lead; 0 if there is none.
 #[derive(Drop)]
 pub(crate) struct StraightEdges {
     ahead: [u8; 256],

@@ -35,13 +35,19 @@ class Fault(Exception):
 
 
 def shown(text: str) -> str:
-    """The beginning of a text, on one line, for a message."""
+    """Return the beginning of a text, on one line, for a message."""
     flat = " ".join(text.split())
     return flat if len(flat) <= MOST_SHOWN else flat[:MOST_SHOWN - 2] + ".."
 
 
 def library(name: str, package: str) -> ModuleType:
-    """A Python library; raises `Fault` with the name of Debian's package if it is missing."""
+    """Import a Python library, and return it.
+
+    Raises
+    ------
+    Fault
+        It is missing; the message names Debian's package.
+    """
     try:
         return importlib.import_module(name)
     except ImportError:
@@ -49,7 +55,13 @@ def library(name: str, package: str) -> ModuleType:
 
 
 def program(name: str, package: str) -> str:
-    """The path of a program; raises `Fault` with the name of Debian's package if it is missing."""
+    """Return the path of a program.
+
+    Raises
+    ------
+    Fault
+        It is missing; the message names Debian's package.
+    """
     import shutil  # slow to load
 
     path = shutil.which(name)
@@ -59,8 +71,13 @@ def program(name: str, package: str) -> str:
 
 
 def decoded(data: bytes) -> str:
-    """The text of UTF-8 bytes, without a byte order mark; raises `Fault` with the line of the first byte that is not
-    UTF-8."""
+    """Return the text of UTF-8 bytes, without a byte order mark.
+
+    Raises
+    ------
+    Fault
+        The bytes are not UTF-8; the message has the line of the first wrong byte.
+    """
     try:
         return data.decode("utf-8-sig")
     except UnicodeDecodeError as error:

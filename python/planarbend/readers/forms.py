@@ -91,7 +91,13 @@ def form_of(data: bytes, name: str) -> str:
 
 
 def look_for_foreign(data: bytes) -> None:
-    """Raises `Fault` if the file is empty, is not text, or is of a known kind that is not a graph."""
+    """Check that a file may be a graph.
+
+    Raises
+    ------
+    Fault
+        The file is empty, is not text, or is of a known kind that is not a graph.
+    """
     for mark, what, *pattern in FOREIGN:
         if data.startswith(mark) and (not pattern or re.match(pattern[0], data, re.S)):
             raise Fault(f"{what}, not a graph" if "graph" not in what else what, 1)

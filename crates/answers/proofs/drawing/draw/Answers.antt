@@ -11,13 +11,13 @@ returns-in-Ok-Some-clause-near c =
 
 pub returns-in-Ok-check_in-clause-near : goal.returns-in-Ok-check_in-clause-near
 returns-in-Ok-check_in-clause-near c =
-    subst (IsNear c.args.plane.now c.args.shape.now) (sym c.in-Ok-check_in.ensures.same)
+    subst (IsNear c.args.plane.now c.args.shape.now) (sym c.in-Ok-check_in.ensures.taken.same)
     (quick_is_near c.args.plane.now c.args.shape.now c.in-Ok.points (record { boxes = c.in_ok-boxes.boxes; boxed = c.in_ok-boxes.ensures; least = c.in-Ok.ensures.least }))
 
 pub returns-in-Ok-check_in-clause-drawn : goal.returns-in-Ok-check_in-clause-drawn
 returns-in-Ok-check_in-clause-drawn c = record {
   whole = search rules;
   draws = search rules;
-  regions = subst (HasRegions c.args.plane.now) (sym c.in-Ok-check_in.ensures.same)
+  regions = subst (HasRegions c.args.plane.now) (sym c.in-Ok-check_in.ensures.taken.same)
       (least_points_have_regions c.args.plane.now c.args.shape.now c.in_ok-boxes.boxes c.in-Ok.points c.graph-graph.ensures.plane c.in_ok-boxes.ensures c.in-Ok.ensures.least);
 }

@@ -4,7 +4,8 @@ use Rattle.drawing_laws.proofs.Drawings.{none_shown}
 use Rattle.drawing_laws.proofs.Drawn.{least_points_draw}
 use Rattle.drawing_laws.proofs.DrawnRegions.{least_points_have_regions}
 use Rattle.entries.specs.declared.cause.Cause.TheVariants as cause
-use Rattle.answers.proofs.Lengths.{quick_is_near}
+use Rattle.entries.specs.Lengths.{IsQuick}
+use Rattle.answers.proofs.Lengths.{quick_is_no_longer, quick_is_near}
 use Rattle.answers.proofs.drawing.least_points.Goals as goal
 
 pub unreachable-requires : goal.unreachable-requires
@@ -19,13 +20,13 @@ returns-in-Ok-clause-drawn c =
     let shape = c.args.shape.now in
     let boxes = c.in_ok-boxes.boxes in
     let is_plane = c.graph-graph.ensures.plane in
+    let quick : IsQuick plane shape c.in-Ok.points = record { boxes = boxes; boxed = c.in_ok-boxes.ensures; least = c.in-Ok.ensures.least } in
     record {
-      whole = search rules;
-      draws = least_points_draw plane shape boxes c.in-Ok.points is_plane c.in_ok-boxes.ensures c.in-Ok.ensures.least;
-      regions = least_points_have_regions plane shape boxes c.in-Ok.points is_plane c.in_ok-boxes.ensures c.in-Ok.ensures.least;
+      drawn = record {
+        whole = search rules;
+        draws = least_points_draw plane shape boxes c.in-Ok.points is_plane c.in_ok-boxes.ensures c.in-Ok.ensures.least;
+        regions = least_points_have_regions plane shape boxes c.in-Ok.points is_plane c.in_ok-boxes.ensures c.in-Ok.ensures.least;
+      };
+      no_longer = quick_is_no_longer plane shape c.in-Ok.points quick;
+      near = quick_is_near plane shape c.in-Ok.points quick;
     }
-
-pub returns-in-Ok-clause-near : goal.returns-in-Ok-clause-near
-returns-in-Ok-clause-near c =
-    quick_is_near c.args.plane.now c.args.shape.now c.in-Ok.points
-    (record { boxes = c.in_ok-boxes.boxes; boxed = c.in_ok-boxes.ensures; least = c.in-Ok.ensures.least })

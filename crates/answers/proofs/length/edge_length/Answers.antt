@@ -1,9 +1,10 @@
-use Rattle.std.proofs.Common.{◌≡◌, true, false, arith}
+use Rattle.std.proofs.Common.{◌≡◌, true, false, ap, arith}
 use Rattle.std.proofs.lemmas.Bool.{lt-ltb, le-ltb}
 use Rattle.faces.specs.Planes.{reverse_dart}
 use Rattle.ortho_rep.specs.Edges.{is_lesser}
 use Rattle.ortho_rep.proofs.EdgeNumbers.{edge_number-le}
 use Rattle.drawing_check.proofs.Leaving.{number_of_lesser, number_of_greater}
+use Rattle.entries.specs.Lengths.{path_length}
 use Rattle.answers.proofs.Lengths.{length_below-more, length_below-kept}
 use Rattle.answers.proofs.length.edge_length.Goals as goal
 use Rattle.answers.proofs.length.edge_length.Goals.{then-dart-reverse+in_ok-more+in_ok-length, else-dart-reverse}
@@ -23,7 +24,7 @@ loop-dart-preserved c =
           let lesser : is_lesser p dart ≡ true = lt-ltb dart (reverse_dart p dart) (omega (arith, reverse_dart_is, w.if-dart-reverse.true)) in
           record {
             number = omega (arith, w.edge-is, number_of_lesser p dart lesser, before.number);
-            so_far = omega (arith, w.length-is, w.in_ok-length.ensures.1, w.in_ok-more.ensures, before.so_far, length_below-more p points dart lesser);
+            so_far = omega (arith, w.length-is, w.in_ok-length.ensures.1, w.in_ok-more.ensures, ap path_length w.route_of-route.ensures.path, before.so_far, length_below-more p points dart lesser);
           }
       | else-dart-reverse w ↦
           let greater : is_lesser p dart ≡ false = le-ltb dart (reverse_dart p dart) (omega (arith, reverse_dart_is, w.if-dart-reverse.false)) in

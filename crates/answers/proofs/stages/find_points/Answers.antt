@@ -14,7 +14,7 @@ returns-in-Ok-clause-answers c choice bytes shaped =
       shape_is = found.shape_is;
       least = found.least;
       proof = found.proof;
-      drawn = c.in-Ok.ensures.drawn;
-      no_longer = c.in-Ok.ensures.no_longer;
-      near = c.in-Ok.ensures.near;
+      drawn = c.in-Ok.ensures.drawn.drawn;
+      no_longer = c.in-Ok.ensures.drawn.no_longer;
+      near = c.in-Ok.ensures.drawn.near;
     }

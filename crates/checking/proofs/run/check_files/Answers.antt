@@ -8,6 +8,7 @@ use Rattle.checking.specs.declared.run.Asked.{Asked}
 use Rattle.checking.specs.Runs.{IsBegunTextOfVerdicts}
 use Rattle.checking.proofs.Settled.{nothing_judged}
 use Rattle.checking.proofs.Steps.{count_is}
+use Rattle.checking.proofs.Texts.{memory_fault}
 use Rattle.checking.proofs.Whole.{begun, found_first, finished, finished_short}
 use Rattle.checking.proofs.run.check_files.Goals as goal
 
@@ -141,3 +142,9 @@ returns-in-Faulted-clause-begun g c =
     records c.finish-in-Faulted.result (c.judge_all.ensures.asked ∙ inv.asked ∙ c.in-Ok-new.ensures.asked)
     (subst (λ (m : Mark). IsFoundIn (g.G.Tap.to_come c.args.graphs) (g.G.Tap.fails c.args.graphs) records m) (sym (ap Ended c.from.ensures)) stopped)
     (c.in-Ok-judge_all.ensures.goes_on _ _ start inv.found (inv.under_way _ _ start (c.in-Ok-new.ensures.begins start))) c.finish-in-Faulted.ensures.begun
+
+pub returns-in_default-clause-fault : goal.returns-in_default-clause-fault
+returns-in_default-clause-fault g c = memory_fault (g.S.Sink.failed c.args.out.now) _ refl c.requires
+
+pub returns-in_default-new-clause-fault : goal.returns-in_default-new-clause-fault
+returns-in_default-new-clause-fault g c = memory_fault (g.S.Sink.failed c.args.out.now) _ refl c.requires

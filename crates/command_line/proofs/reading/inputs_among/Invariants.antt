@@ -1,6 +1,6 @@
 use Rattle.std.proofs.Common.{◌≡◌, ◌≤◌, map, take}
 use Rattle.std.specs.List.{count_by}
-use Rattle.command_line.specs.Naming.{is_input}
+use Rattle.named_sources.specs.Naming.{is_input}
 use Rattle.command_line.proofs.reading.inputs_among.Given as goal
 
 abbrev pub invariant-loop-file : goal.invariant-loop-file

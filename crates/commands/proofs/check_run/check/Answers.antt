@@ -1,4 +1,6 @@
 use Rattle.std.proofs.Common.{ap, inr}
+use Rattle.std.proofs.lemmas.Result.{err_from_is_err_and}
+use Rattle.commands.proofs.FaultStatus.{no_write, as_written}
 use Rattle.commands.proofs.ReportBegun.{on_err}
 use Rattle.commands.proofs.Verdicts.{verdicts_less, begun_verdicts_less}
 use Rattle.commands.proofs.check_run.check.Goals as goal
@@ -14,3 +16,23 @@ returns-in_err-checked-clause-begun g c =
     begun_verdicts_less _ _ (ap (λ json. record { json = json; faces = c.args.asked.faces }) c.is_json.ensures) _ _ _ _ _ _ _ _ _ _
     c.in_ok-graphs.ensures.known c.in_ok-lines.ensures.known c.in_err-checked.ensures.begun
     ))
+
+pub returns-in_err-notes-clause-write : goal.returns-in_err-notes-clause-write
+returns-in_err-notes-clause-write g c =
+    let p = err_from_is_err_and c.from_residual.result c.from_residual.ensures.1 in
+    no_write _ _ _ p.1 p.2 c.requires.out_is_intact
+
+pub returns-in_err-graphs-clause-write : goal.returns-in_err-graphs-clause-write
+returns-in_err-graphs-clause-write g c =
+    let p = err_from_is_err_and c.from_residual-in_err-graphs.result c.from_residual-in_err-graphs.ensures.1 in
+    no_write _ _ _ p.1 p.2 c.requires.out_is_intact
+
+pub returns-in_err-lines-clause-write : goal.returns-in_err-lines-clause-write
+returns-in_err-lines-clause-write g c =
+    let p = err_from_is_err_and c.from_residual-in_err-lines.result c.from_residual-in_err-lines.ensures.1 in
+    no_write _ _ _ p.1 p.2 c.requires.out_is_intact
+
+pub returns-in_err-checked-clause-write : goal.returns-in_err-checked-clause-write
+returns-in_err-checked-clause-write g c =
+    let p = err_from_is_err_and c.from_residual-in_err-checked.result c.from_residual-in_err-checked.ensures.1 in
+    as_written _ _ _ _ p.1 p.2 c.in_err-checked.ensures.fault

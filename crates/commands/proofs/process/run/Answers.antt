@@ -1,5 +1,4 @@
 use Rattle.std.proofs.Common.{inl, sym, subst}
-use Rattle.command_line.specs.Naming.{meaning_of}
 use Rattle.commands.specs.Statuses.{IsOutcome}
 use Rattle.commands.proofs.process.run.Goals as goal
 
@@ -9,7 +8,7 @@ returns-in-Ok-clause-outcome g c =
     let words = c.as_slice.result.now in
     inl (
       words,
-      subst (λ status. IsOutcome (meaning_of (g.I.Opener.meaning c.args.input.now 0)) words g.S.Sink.taken g.S.Sink.failed c.args.out.now c.command.new.out status)
+      subst (λ status. IsOutcome (g.N.NamedFiles.meaning c.args.files.now) words g.S.Sink.taken g.S.Sink.failed c.args.out.now c.command.new.out status)
           (sym c.from.ensures) (record {
             in_range = is.in_range;
             failed_write = is.failed_write;

@@ -18,8 +18,8 @@ returns-in-Ok-chosen_shape-clause-kept c =
       proof = found.proof;
     }
 
-pub returns-in-Err-NoShape-clause-fault : goal.returns-in-Err-NoShape-clause-fault
-returns-in-Err-NoShape-clause-fault c =
+pub returns-in-Err-Infeasible-clause-fault : goal.returns-in-Err-Infeasible-clause-fault
+returns-in-Err-Infeasible-clause-fault c =
     let meant = c.in-Ok.meant in
     fault_told c.args.plane.now c.chosen_shape.new.plane c.args.conditions.now c.args.choice meant.marks.items meant.barred.items meant.greatest c.unkept.result
-    c.chosen_shape.ensures.outer_moved c.in-Ok.ensures.asked c.in-Ok.ensures.greatest (c.in-Err-NoShape.ensures.none c.in-Err-NoShape.field-0-is) c.unkept.ensures.shown
+    c.chosen_shape.ensures.outer_moved c.in-Ok.ensures.asked c.in-Ok.ensures.greatest (c.in-Err-Infeasible.ensures.none c.in-Err-Infeasible.field-0-is) c.unkept.ensures.shown

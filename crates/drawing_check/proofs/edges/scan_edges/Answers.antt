@@ -86,7 +86,7 @@ returns c =
     let count : c.darts-dart-end.result ≡ darts p = rw c.graph-graph.ensures.value at c.darts-dart-end.ensures.count in
     let whole : c.loop-dart.dart ≡ darts p = omega (arith, count, c.loop-dart.auto.dart-end) in
     let edges : c.loop-dart.edge ≡ length points.corners =
-    omega (arith, edge_total p c.graph-graph.ensures.ends, subst (λ (n : ℕ). c.loop-dart.edge ≡ edge_number p n) whole done.number, c.requires.corners) in
+    omega (arith, edge_total p c.graph-graph.ensures.ends, subst (λ (n : ℕ). c.loop-dart.edge ≡ edge_number p n) whole done.number, c.requires.points.edge_count) in
     record {
       in_grid = grid_all points c.loop-dart.edge c.loop-dart.in_grid edges done.in_grid;
       on_axes = (

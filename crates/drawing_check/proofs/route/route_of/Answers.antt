@@ -8,4 +8,4 @@ corners-requires c =
     let p = c.args.plane.now in
     let total = edge_total p c.graph-graph.ensures.ends in
     let below = edge_number-below p (darts p) c.args.dart c.requires.inside c.requires.lesser in
-    omega (arith, total, below, c.requires.number, c.requires.corners)
+    omega (arith, total, below, c.requires.number, c.requires.points.edge_count)

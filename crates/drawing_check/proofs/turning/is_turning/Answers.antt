@@ -10,7 +10,7 @@ use Rattle.drawing_check.specs.Paths.{point_of}
 use Rattle.drawing_check.specs.Draws.{direction_between, direction_of, turned}
 use Rattle.drawing_check.proofs.turning.is_turning.Goals as goal
 
--- the direction behind corner k
+-- the direction after corner k
 onward_is : (path : List Point) (k : ℕ) (p q : Point) (d : Direction) → p ≡ point_of path (k + 1) → q ≡ point_of path (k + 2) → d ≡ direction_between p q → d ≡ direction_of path (k + 1)
 onward_is path k p q d is_p is_q is_d =
     let two : k + 2 ≡ k + 1 + 1 = omega arith in

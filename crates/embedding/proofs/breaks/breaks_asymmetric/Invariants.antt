@@ -4,7 +4,7 @@ use Rattle.embedding.specs.Pairs.{HasPair}
 use Rattle.embedding.proofs.Symmetry.{HasLists}
 use Rattle.embedding.proofs.breaks.breaks_asymmetric.Given as goal
 
--- the pairs are those of the lists behind the loop
+-- the pairs are those of the lists that the loop has passed
 abbrev pub invariant-loop-place : goal.invariant-loop-place
 invariant-loop-place l = HasLists l.lists l.place l.pairs.words
 

@@ -1,4 +1,4 @@
--- `count` lists are behind the loop, and it stands in the next one.
+-- The loop has passed `count` lists, and is in the next one.
 use Rattle.planar_code.specs.Stream.{lists_in}
 use Rattle.embedding.proofs.ListStarts.{IsReading}
 use Rattle.embedding.proofs.lists.starts_in.Given as goal

@@ -18,6 +18,6 @@ loop-item-preserved g c =
       taken = λ ns held.
           subst (g.C.Consumer.holds c.item.new.self)
           (append_assoc ns (notes_of_items about c.loop-item.yielded) (Item (about c.in-Some.item) ∷ []) ∙ ap (λ l. ns ++ l) (sym (items-more about c.loop-item.yielded c.in-Some.item)))
-          (c.in-Ok.ensures.taken _ (inv.taken ns held));
+          (c.in_ok-item.ensures.taken _ (inv.taken ns held));
       stays = g.met.C.Consumer.stays_on _ _ _ inv.stays c.item.ensures.stays;
     }

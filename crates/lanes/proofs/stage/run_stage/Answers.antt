@@ -1,37 +1,9 @@
-use Rattle.std.proofs.Common.{◌∷◌, [], ap, sym, ◌∙◌}
-use Rattle.ruled_lanes.specs.LinkEnds.{given}
-use Rattle.lanes.specs.Notes.{notes_of, notes_of_items, Item, End}
-use Rattle.lanes.proofs.Passing.{goes_item, goes_items, goes_end, passed_on}
+use Rattle.std.proofs.Common.{sym, ◌∙◌}
 use Rattle.lanes.proofs.stage.run_stage.Goals as goal
 
-pub loop-preserved-in-Ok : goal.loop-preserved-in-Ok
-loop-preserved-in-Ok g c = record {
-  from_same = c.take.ensures.link ∙ c.loop.invariant.from_same;
-  to_same = c.tell.ensures.stays ∙ c.loop.invariant.to_same;
-  same = passed_on g.A.Numbered.about g.A.Next.Numbered.about _ _ (given c.loop.giver) (given c.tell.new.self) c.in-Ok-Item.field-0 (Item (g.A.Next.Numbered.about c.work_on-next.result) ∷ []) c.loop.invariant.same c.in-Ok-Item.ensures.ok c.in-Ok.ensures.more
-      (ap (λ a. Item a ∷ []) c.work_on-next.ensures.told ∙ ap (notes_of g.A.Numbered.about) (sym c.in-Ok-Item.field-0-is));
-  none = c.work_on-next.ensures.same ∙ c.loop.invariant.none;
-  on = goes_item _ _ _ c.in-Ok-Item.field-0 c.in-Ok-Item.item c.loop.invariant.on c.in-Ok-Item.ensures.ok c.in-Ok-Item.field-0-is;
-}
-
-pub loop-preserved-in-Ok-pass_on : goal.loop-preserved-in-Ok-pass_on
-loop-preserved-in-Ok-pass_on g c = record {
-  from_same = c.take.ensures.link ∙ c.loop.invariant.from_same;
-  to_same = c.pass_on.ensures.stays ∙ c.loop.invariant.to_same;
-  same = passed_on g.A.Numbered.about g.A.Next.Numbered.about _ _ (given c.loop.giver) (given c.pass_on.new.to) c.in-Ok-Items.field-0
-      (notes_of_items g.A.Numbered.about c.in-Ok-Items.batch.items.items) c.loop.invariant.same c.in-Ok-Items.ensures.ok c.in-Ok-pass_on.ensures.told
-      (ap (notes_of g.A.Numbered.about) (sym c.in-Ok-Items.field-0-is));
-  none = c.in-Ok-pass_on.ensures.none;
-  on = goes_items _ _ _ c.in-Ok-Items.field-0 c.in-Ok-Items.batch c.loop.invariant.on c.in-Ok-Items.ensures.ok c.in-Ok-Items.field-0-is;
-}
-
-pub loop-preserved : goal.loop-preserved
-loop-preserved g c = record {
-  from_same = c.take.ensures.link ∙ c.loop.invariant.from_same;
-  to_same = c.tell-in-Ok-End.ensures.stays ∙ c.loop.invariant.to_same;
-  same = passed_on g.A.Numbered.about g.A.Next.Numbered.about _ _ (given c.loop.giver) (given c.tell-in-Ok-End.new.self) c.in-Ok-End.field-0
-      (End c.in-Ok-End.file c.in-Ok-End.mark ∷ []) c.loop.invariant.same c.in-Ok-End.ensures.ok c.in-Ok-tell.ensures.more
-      (ap (notes_of g.A.Numbered.about) (sym c.in-Ok-End.field-0-is));
-  none = c.loop.invariant.none;
-  on = goes_end _ _ _ c.in-Ok-End.field-0 c.in-Ok-End.file c.in-Ok-End.mark c.in-Ok-End.known c.loop.invariant.on c.in-Ok-End.ensures.ok c.in-Ok-End.field-0-is;
+pub returns-in-Ok : goal.returns-in-Ok
+returns-in-Ok g c = record {
+  from_same = c.in_ok-taker.ensures.same_link;
+  to_same = c.tell.ensures.stays ∙ c.run_until_stop.ensures.stays;
+  passed = record { same = c.in-Ok.ensures.more ∙ sym c.in_ok-taker.ensures.told; stopped = (_, c.in_ok-taker.ensures.told, c.run_until_stop.ensures.goes_on) };
 }

@@ -3,7 +3,7 @@ use Rattle.planar_code.specs.Stream.{IsRecord}
 use Rattle.planar_code.specs.Started.{IsStarted}
 use Rattle.planar_code.proofs.plain.record_end.Given as goal
 
--- so many lists are ended: the record is open, or whole
+-- this many lists are ended: the record is open, or whole
 abbrev pub invariant-loop-done : goal.invariant-loop-done
 invariant-loop-done l = record {
   some : 0 < l.at;

@@ -2,7 +2,8 @@ use Rattle.std.proofs.Common.{◌≡◌, ◌∙◌, List, Some, All, ap, arith, 
 use Rattle.ortho_rep.specs.declared.points.Point.{Point}
 use Rattle.drawing_check.specs.Draws.{IsInGrid}
 use Rattle.planarbend_c.specs.Held.{Holds}
-use Rattle.planarbend_c.specs.Found.{IsDrawing, IsDrawnIfAsked, all_corners, corners_drawn, grid_point}
+use Rattle.answers.specs.Drawings.{IsDrawing}
+use Rattle.planarbend_c.specs.Found.{IsDrawnIfAsked, all_corners, corners_drawn, grid_point}
 use Rattle.planarbend_c.proofs.export.write.Goals as goal
 
 pub put_corner_starts-requires-clause-few : goal.put_corner_starts-requires-clause-few
@@ -16,14 +17,14 @@ put_points-requires-clause-grid c =
     let plane = c.args.layout.now.plane in
     let shape = c.args.layout.now.shape in
     let drawing : IsDrawing plane shape c.in-Some.points = subst (IsDrawnIfAsked plane shape) c.in-Some.is c.requires.drawn in
-    subst (λ (ps : List Point). All IsInGrid ps) (sym c.vertices.ensures) drawing.draws.grid.ends
+    subst (λ (ps : List Point). All IsInGrid ps) (sym c.vertices.ensures) drawing.drawn.draws.grid.ends
 
 pub put_corners-requires-clause-grid : goal.put_corners-requires-clause-grid
 put_corners-requires-clause-grid c =
     let plane = c.args.layout.now.plane in
     let shape = c.args.layout.now.shape in
     let drawing : IsDrawing plane shape c.in-Some.points = subst (IsDrawnIfAsked plane shape) c.in-Some.is c.requires.drawn in
-    drawing.draws.grid.bends
+    drawing.drawn.draws.grid.bends
 
 pub returns-in-Some : goal.returns-in-Some
 returns-in-Some c =

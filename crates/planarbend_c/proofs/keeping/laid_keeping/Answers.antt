@@ -1,14 +1,15 @@
-use Rattle.std.proofs.Common.{◌∙◌, ap, is_some, subst, sym}
+use Rattle.std.proofs.Common.{◌∙◌, IfOk, IfErr, ap, is_some, subst, sym}
+use Rattle.answers.specs.Kept.{IsKeptPlane, IsUnkept}
 use Rattle.planarbend_c.specs.Found.{Finding, IsFoundKeeping}
 use Rattle.planarbend_c.proofs.keeping.laid_keeping.Goals as goal
 
-pub returns-in-Err-clause-fault : goal.returns-in-Err-clause-fault
-returns-in-Err-clause-fault c = c.unkept.ensures c.args.conditions.now c.args.choice c.args.rec.now c.requires c.in-Err.ensures.fault
+pub returns-in-Ok-Err-clause-fault : goal.returns-in-Ok-Err-clause-fault
+returns-in-Ok-Err-clause-fault c = c.unkept.ensures c.args.conditions.now c.args.choice c.args.rec.now c.requires (subst (λ made. IfErr made (IsUnkept c.args.conditions.now c.args.choice c.args.rec.now)) c.in-Ok-Err.field-0-is c.in-Ok-Err.ensures.unkept)
 
 pub returns-in-Err-Wide-clause-fault : goal.returns-in-Err-Wide-clause-fault
 returns-in-Err-Wide-clause-fault c =
-    let kept = c.in-Ok.kept in
-    let known = c.in-Ok.ensures.kept in (
+    let kept = c.in-Ok-Ok.kept in
+    let known : IsKeptPlane c.args.conditions.now c.args.choice c.args.rec.now c.in-Ok-Ok.kept = subst (λ made. IfOk made (IsKeptPlane c.args.conditions.now c.args.choice c.args.rec.now)) c.in-Ok-Ok.field-0-is c.in-Ok-Ok.ensures.kept in (
       c.requires,
       record {
         plane = kept.plane;
@@ -21,18 +22,20 @@ returns-in-Err-Wide-clause-fault c =
     )
 
 pub laid_kept-requires : goal.laid_kept-requires
-laid_kept-requires c = c.in-Ok.ensures.kept.kept.proof.prices
+laid_kept-requires c =
+    let known : IsKeptPlane c.args.conditions.now c.args.choice c.args.rec.now c.in-Ok-Ok.kept = subst (λ made. IfOk made (IsKeptPlane c.args.conditions.now c.args.choice c.args.rec.now)) c.in-Ok-Ok.field-0-is c.in-Ok-Ok.ensures.kept in
+    known.kept.proof.prices
 
-pub returns-in-Ok-drawn_keeping-clause-found : goal.returns-in-Ok-drawn_keeping-clause-found
-returns-in-Ok-drawn_keeping-clause-found c =
-    let known = c.in-Ok.ensures.kept in
+pub returns-in-Ok-clause-found : goal.returns-in-Ok-clause-found
+returns-in-Ok-clause-found c =
+    let known : IsKeptPlane c.args.conditions.now c.args.choice c.args.rec.now c.in-Ok-Ok.kept = subst (λ made. IfOk made (IsKeptPlane c.args.conditions.now c.args.choice c.args.rec.now)) c.in-Ok-Ok.field-0-is c.in-Ok-Ok.ensures.kept in
     subst (IsFoundKeeping c.args.conditions.now c.args.choice c.args.rec.now) (sym c.laid_kept.ensures) (record {
       lists = known.lists;
       rules = known.rules;
       kept = known.kept;
-      drawn = c.in-Ok-drawn_keeping.ensures.drawn;
-      straight = c.in-Ok-drawn_keeping.ensures.straight;
+      drawn = c.in-Ok.ensures.drawn;
+      straight = c.in-Ok.ensures.straight;
     })
 
-pub returns-in-Ok-drawn_keeping-clause-asked : goal.returns-in-Ok-drawn_keeping-clause-asked
-returns-in-Ok-drawn_keeping-clause-asked c = ap (λ (found : Finding). is_some found.points) c.laid_kept.ensures ∙ c.in-Ok-drawn_keeping.ensures.asked
+pub returns-in-Ok-clause-asked : goal.returns-in-Ok-clause-asked
+returns-in-Ok-clause-asked c = ap (λ (found : Finding). is_some found.points) c.laid_kept.ensures ∙ c.in-Ok.ensures.asked

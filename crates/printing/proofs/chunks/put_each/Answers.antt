@@ -13,7 +13,7 @@ loop-chunk-preserved g c =
     let mid = taken at.sink in
     let new = taken c.put.new.sink in
     record {
-      stands = c.in_ok-put.ensures.stands;
+      stands = c.in_ok-put.ensures.stands.stands;
       goes = subst (GoesOn old c.args.buffer.now new c.put.new.buffer)
           (sym (concatenated_next c.args.chunks.now at.chunk-index c.chunk-item.result c.as_slice.result.now c.loop-chunk-test.true c.chunk-item.is c.as_slice.ensures.value))
           (goes_both old mid new c.args.buffer.now at.buffer c.put.new.buffer _ _ at.invariant.goes c.in_ok-put.ensures.put);

@@ -1,7 +1,7 @@
 use Rattle.std.proofs.Common.{ℕ, ◌+◌, ◌<◌}
 use Rattle.drawing_check.specs.Paths.{point_of}
 use Rattle.drawing_check.specs.Draws.{IsAxis}
-use Rattle.referee.specs.Routes.{path_of}
+use Rattle.drawing_check.specs.Routes.{path_of}
 use Rattle.referee.proofs.axes.check_route.Given as goal
 
 abbrev pub invariant-loop-part : goal.invariant-loop-part

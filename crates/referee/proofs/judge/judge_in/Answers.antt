@@ -36,4 +36,4 @@ returns-then-not-is_shape-clause-refused c = λ _.
 pub returns-in-Err-clause-refused : goal.returns-in-Err-clause-refused
 returns-in-Err-clause-refused c = λ some.
     none_by_fault c.args.plane.now c.in_ok-outer.outer c.args.points c.in_ok-shape.shape c.in-Err.fault c.in_ok-shape.ensures.taken (c.meeting.ensures some)
-    (subst (λ (q : PlaneModel). IsFirstFault q c.in_ok-shape.shape c.args.points c.in-Err.fault) c.set_outer.ensures c.in-Err.ensures.fault)
+    (subst (λ (q : PlaneModel). IsFirstFault q c.in_ok-shape.shape c.args.points c.in-Err.fault) c.set_outer.ensures c.in-Err.ensures.refused.fault)

@@ -1,7 +1,7 @@
 use Rattle.std.proofs.Common.{◌≡◌, ℕ, ◌+◌, ◌<◌, length, slice_index_or}
 use Rattle.ortho_rep.specs.declared.turn.Turn.TheVariants.{Left}
 use Rattle.drawing_check.specs.Draws.{direction_of, turned}
-use Rattle.referee.specs.Routes.{path_of}
+use Rattle.drawing_check.specs.Routes.{path_of}
 use Rattle.referee.proofs.turns.turns_along.Given as goal
 
 abbrev pub invariant-loop-corner : goal.invariant-loop-corner

@@ -12,7 +12,7 @@ said_not_ok false v is other = absurd (let e : false ≡ true = is in cc)
 said_not_ok true (verdict.Ok bends fewest) is other = absurd (other bends fewest refl)
 said_not_ok true _ is other = refl
 
--- three texts, one behind another
+-- three texts, one after another
 three_pushed : (old first second third a b c word said : List ℕ) → first ≡ old ++ a → second ≡ first ++ b → third ≡ second ++ c → b ≡ word
     → said ≡ a ++ word ++ c → third ≡ old ++ said
 three_pushed old first second third a b c word said one two three same is =
@@ -23,6 +23,5 @@ three_pushed old first second third a b c word said one two three same is =
 
 pub returns-in_default-clause-text : goal.returns-in_default-clause-text
 returns-in_default-clause-text c =
-    let same : c.as_bytes-in_default.result.now ≡ word_of c.args.verdict = cc (c.as_bytes-in_default.ensures.value, c.word_of-in_default.ensures.word) in
-    three_pushed _ _ _ _ _ _ _ (word_of c.args.verdict) _ c.push-in_default.ensures c.push-in_default-2.ensures c.push-in_default-3.ensures same
+    three_pushed _ _ _ _ _ _ _ (word_of c.args.verdict) _ c.push-in_default.ensures c.push_word-in_default.ensures.text c.push-in_default-2.ensures refl
     (said_not_ok c.args.json c.args.verdict c.if-not-json.false c.in_default.not-Ok)

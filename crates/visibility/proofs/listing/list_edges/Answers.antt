@@ -14,7 +14,7 @@ list_edge-requires-clause-edge c =
     let dart = c.loop-dart.dart in
     let reverse_is : c.reverse-reverse.result ≡ reverse_dart p dart = rw c.graph-graph.ensures.value at c.reverse-reverse.ensures.value in
     let count : c.darts-dart-end.result ≡ darts p = rw c.graph-graph.ensures.value at c.darts-dart-end.ensures.count in
-    omega (arith, number_below p dart (length c.args.points.now.corners) c.graph-graph.ensures.ends c.requires.corners (omega (arith, count)) (omega (arith, reverse_is, c.if-dart-reverse.true)), c.loop-dart.invariant.number)
+    omega (arith, number_below p dart (length c.args.points.now.corners) c.graph-graph.ensures.ends c.requires.points.edge_count (omega (arith, count)) (omega (arith, reverse_is, c.if-dart-reverse.true)), c.loop-dart.invariant.number)
 
 pub loop-dart-preserved : goal.loop-dart-preserved
 loop-dart-preserved c =

@@ -1,9 +1,19 @@
 use Rattle.std.proofs.Common.{IfOk, subst}
 use Rattle.entries.specs.Drawn.{IsCause, IsDrawn, IsDrawingOf}
 use Rattle.drawing_laws.proofs.WideOnly.{shown_wide}
-use Rattle.entries.specs.Lengths.{IsQuick}
+use Rattle.entries.specs.Lengths.{IsNear, IsNoLonger, IsQuick}
 use Rattle.answers.proofs.Straight.{drawn_straight}
 use Rattle.answers.proofs.kept.RecordScratch.draw_keeping.Goals as goal
+
+pub returns-in-Ok-Ok-clause-drawn : goal.returns-in-Ok-Ok-clause-drawn
+returns-in-Ok-Ok-clause-drawn c =
+    let plane = c.args.kept.now.plane in
+    let shape = c.args.kept.now.shape in
+    record {
+      drawn = subst (IsDrawn plane shape) c.in-Ok-Ok.field-0-is c.in-Ok-Ok.ensures.drawn;
+      no_longer = subst (λ drawn. IfOk drawn (IsNoLonger plane shape)) c.in-Ok-Ok.field-0-is c.in-Ok-Ok.ensures.no_longer;
+      near = subst (λ drawn. IfOk drawn (IsNear plane shape)) c.in-Ok-Ok.field-0-is c.in-Ok-Ok.ensures.near;
+    }
 
 pub returns-in-Ok-Ok-clause-straight : goal.returns-in-Ok-Ok-clause-straight
 returns-in-Ok-Ok-clause-straight c =

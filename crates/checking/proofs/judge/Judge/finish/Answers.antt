@@ -1,4 +1,4 @@
-use Rattle.std.proofs.Common.{◌≡◌, ◌≢◌, ◌↔◌, ℕ, Bool, true, false, List, Ok, subst, sym}
+use Rattle.std.proofs.Common.{◌≡◌, ◌≢◌, ◌↔◌, ℕ, Bool, true, false, List, [], Ok, subst, sym}
 use Rattle.std.specs.Prelude.{All}
 use Rattle.streams.specs.Sink.{IsInTransit}
 use Rattle.streams.proofs.Sinks.{flushed_whole}
@@ -7,7 +7,7 @@ use Rattle.verdicts.specs.declared.verdict.Verdict.TheVariants as found
 use Rattle.verdicts.specs.Text.{verdict_lines}
 use Rattle.checking.specs.Runs.{IsOk, verdicts_text}
 use Rattle.checking.proofs.Steps.{stops_before, stops_short, ends_text}
-use Rattle.checking.proofs.Texts.{sent_only, room_lost, flush_lost}
+use Rattle.checking.proofs.Texts.{sent_only, room_lost, flush_lost, room_fault, flush_fault, memory_fault}
 use Rattle.checking.proofs.Whole.{all_read, status_is, whole_text}
 use Rattle.checking.proofs.judge.Judge.finish.Goals as goal
 
@@ -65,3 +65,14 @@ returns-clause-whole g c = λ graphs cut known fails start records is u.
     written.1 written.0
     (status_is c.args.mark rest.failed c.is_whole-whole.result after.all_ok after.wants_memory u.verdicts rest.surplus c.status_of.result oks wants c.is_whole-whole.ensures
     c.status_of.ensures.unread c.status_of.ensures.well c.status_of.ensures.other)
+
+pub returns-in-Err-clause-fault : goal.returns-in-Err-clause-fault
+returns-in-Err-clause-fault g c = memory_fault (g.S.Sink.failed c.args.out.now) c.in-Err.fault c.in-Err.ensures.memory c.requires
+
+pub returns-in-Err-make_room-clause-fault : goal.returns-in-Err-make_room-clause-fault
+returns-in-Err-make_room-clause-fault g c =
+    room_fault (g.S.Sink.taken c.args.out.now) (g.S.Sink.taken c.make_room.new.sink) c.read_rest.new.self.text c.make_room.new.self [] (g.S.Sink.failed c.make_room.new.sink) c.in-Err-make_room.fault c.in-Err-make_room.ensures.writes
+
+pub returns-in-Err-flush-clause-fault : goal.returns-in-Err-flush-clause-fault
+returns-in-Err-flush-clause-fault g c =
+    flush_fault (g.S.Sink.taken c.make_room.new.sink) (g.S.Sink.taken c.flush.new.sink) c.push_end.new.lines (g.S.Sink.failed c.flush.new.sink) c.in-Err-flush.fault c.in-Err-flush.ensures.writes

@@ -9,7 +9,7 @@ use Rattle.checking.specs.declared.run.Asked.{Asked}
 use Rattle.checking.specs.Runs.{IsOk}
 use Rattle.checking.specs.UnderWay.{KeepsNext}
 use Rattle.checking.proofs.Steps.{under_way_next, stops_before}
-use Rattle.checking.proofs.Texts.{room_lost}
+use Rattle.checking.proofs.Texts.{room_lost, room_fault}
 use Rattle.checking.proofs.judge.Judge.judge.Goals as goal
 
 pub returns-in-Err-clause-begun : goal.returns-in-Err-clause-begun
@@ -45,3 +45,7 @@ returns-clause-goes_on g c = λ known fails start earlier u.
     (subst (λ (b : Bool). (c.note.new.self.wants_memory ≡ false) ↔ ((b ≡ false) × (v ≢ found.Memory))) (c.verdict_on-verdict.ensures.wants ∙ c.give-given.ensures.wants) c.note.ensures.wants)
     (subst (λ (w : List ℕ). StaysInTransit {A = Unit {0}} old_out w new_out mid failed [] (Ok tt)) text c.in-Ok.ensures.writes)
     (subst (λ (a : Asked). c.push_verdict.new.lines ≡ mid ++ verdict_line a.json c.note.new.self.count v) asked c.push_verdict.ensures)
+
+pub returns-in-Err-clause-fault : goal.returns-in-Err-clause-fault
+returns-in-Err-clause-fault g c =
+    room_fault (g.S.Sink.taken c.args.out.now) (g.S.Sink.taken c.make_room.new.sink) c.note.new.self.text c.make_room.new.self [] (g.S.Sink.failed c.make_room.new.sink) c.in-Err.fault c.in-Err.ensures.writes

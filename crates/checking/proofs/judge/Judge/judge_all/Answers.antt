@@ -58,3 +58,6 @@ returns-clause-goes_on g c = λ known fails start earlier u.
     let xs = c.deref-rec-items.result.now in
     subst (λ (rs : List (List ℕ)). IsUnderWay g.L.Tap.to_come g.L.Tap.fails known fails start (g.S.Sink.taken c.loop-rec.out) c.loop-rec.self (earlier ++ rs))
     (taken_all xs c.loop-rec.rec-index c.loop-rec-test.false ∙ c.deref-rec-items.ensures.value) (c.loop-rec.invariant.goes_on known fails start earlier u)
+
+pub returns-in-Err-clause-fault : goal.returns-in-Err-clause-fault
+returns-in-Err-clause-fault g c = c.in-Err.ensures.fault

@@ -24,11 +24,11 @@ loop-handle-preserved g c =
     let about = g.E.Numbered.about in
     let meaning = g.O.Opener.meaning in
     let promise = c.in-Some.handle.promise in
-    let lane = c.in-Ok-join_lane.ensures in
-    let seat = c.in-Ok-join_lane.lane.seat in
-    let giver = c.in-Ok-join_lane.lane.giver in
+    let lane = c.in_ok-lane.ensures in
+    let seat = c.in_ok-lane.lane.seat in
+    let giver = c.in_ok-lane.lane.giver in
     let seats = c.push_reserved.ensures in
-    let givers = c.push_reserved-in-Ok-join_lane.ensures in
+    let givers = c.push_reserved-in-loop-handle.ensures in
     let inv = c.loop-handle.invariant in
     let before = c.loop-handle.seats.items in
     let rest = numbered_as _ (vec_len c.loop-handle.seats) (0 + length before) _ _ (omega arith) c.in-Some.ensures.steps.0 inv.rest in
@@ -51,8 +51,8 @@ pub push_reserved-requires : goal.push_reserved-requires
 push_reserved-requires g c =
     let inv = c.loop-handle.invariant in omega (arith, inv.count, inv.room, ap length c.in-Some.ensures.steps.0)
 
-pub push_reserved-requires-in-Ok-join_lane : goal.push_reserved-requires-in-Ok-join_lane
-push_reserved-requires-in-Ok-join_lane g c =
+pub push_reserved-requires-in-loop-handle : goal.push_reserved-requires-in-loop-handle
+push_reserved-requires-in-loop-handle g c =
     let inv = c.loop-handle.invariant in omega (arith, inv.room_of_givers, ap length c.in-Some.ensures.steps.0)
 
 pub settle-requires-clause-some : goal.settle-requires-clause-some

@@ -14,7 +14,7 @@ read_file-requires-clause-accepted g c κs within = λ place bytes placed. c.req
 pub end-known-requires : goal.end-known-requires
 unfolding AcceptsAll
 end-known-requires g c =
-    let keeps = c.in-Ok.ensures.kept in
+    let keeps = c.in_ok-end.ensures.kept in
     c.requires.accepts.marks c.args.file _ _ (record { records = keeps.records; counted = keeps.counted; found = keeps.found })
 
 pub returns-clause-told : goal.returns-clause-told
@@ -22,9 +22,9 @@ returns-clause-told g c =
     let about = g.L.Framed.Numbered.about in
     let told = notes about (given c.args.gives.now.giver) in
     record {
-      count = c.in-Ok.end.count;
-      mark = c.in-Ok.end.mark;
+      count = c.in_ok-end.end.count;
+      mark = c.in_ok-end.end.mark;
       kept = _;
-      keeps = keeps_as _ _ _ _ _ _ _ _ _ (ap (λ l. told ++ notes_of_items about l) c.requires.none ∙ append-nil told) c.in-Ok-give_all.ensures.told c.in-Ok.ensures.kept;
-      ended = notes-after about _ _ (End c.args.file c.in-Ok.end.mark c.end-known.result) c.in-Ok-give.ensures.ok;
+      keeps = keeps_as _ _ _ _ _ _ _ _ _ (ap (λ l. told ++ notes_of_items about l) c.requires.none ∙ append-nil told) c.in_ok-give_all.ensures.told c.in_ok-end.ensures.kept;
+      ended = notes-after about _ _ (End c.args.file c.in_ok-end.end.mark c.end-known.result) c.in_ok-give.ensures.ok;
     }

@@ -1,7 +1,7 @@
-use Rattle.std.proofs.Common.{[], ◌∙◌, vec_len, sym, subst}
+use Rattle.std.proofs.Common.{[], ◌∙◌, vec_len, sym, subst, inr}
 use Rattle.lane_runs.specs.Running.{AreNumbered, IsIdle}
 use Rattle.lane_runs.proofs.RunningLanes.{all_started, idle_unused}
-use Rattle.lane_runs.proofs.Ending.{ended_so, all_ended}
+use Rattle.lane_runs.proofs.Ending.{all_ended}
 use Rattle.lane_runs.proofs.shared.Shared.run_in.Goals as goal
 
 pub start_lanes-requires-clause-none_given : goal.start_lanes-requires-clause-none_given
@@ -26,6 +26,6 @@ returns-in-Ok g c = record {
 
 pub returns-in-Err : goal.returns-in-Err
 returns-in-Err g c = record {
-  ended = ended_so _ _ _ [] c.from.ensures c.requires.0.empty;
+  ended = inr (c.of_any_consumer.ensures, ([], c.requires.0.empty));
   stays = g.met.C.Consumer.stays_itself _;
 }

@@ -3,7 +3,7 @@ use Rattle.std.proofs.lemmas.List.{drop-drop, drop-take}
 use Rattle.text_lines.specs.Lines.{IsNoEnd, IsCollected}
 use Rattle.text_lines.proofs.held.Held.move_to.Goals as goal
 
--- what is left behind place k of a part of the items
+-- what is left after place k of a part of the items
 left_behind : (items : List ℕ) (at end k : ℕ) → k + 1 ≤ end - at → drop (k + 1) (take (end - at) (drop at items)) ≡ take (end - (at + (k + 1))) (drop (at + (k + 1)) items)
 left_behind items at end k few =
     let all : end - at ≡ (k + 1) + (end - (at + (k + 1))) = omega arith in

@@ -1,0 +1,15 @@
+-- What is known of a consumer if a run of lanes failed.
+use Rattle.std.specs.Prelude.{◌⊎◌, List, ⊤}
+use Rattle.lanes.specs.declared.fault.RunFault.{RunFault}
+use Rattle.lanes.specs.declared.fault.RunFault.TheVariants.{Memory, LaneLost, Thread, Refused}
+use Rattle.lanes.specs.Notes.{Note}
+
+module _ {F : Type 0} where
+  -- the lanes may fail so, also if the consumer refused nothing
+  abbrev pub IsOfLanes : RunFault F → Type 0
+  IsOfLanes (Refused refusal) = ⊥
+  IsOfLanes _ = ⊤
+
+  -- It refused a message with this fault, and this is known of that; or the lanes failed, and it holds some notes.
+  abbrev pub HoldsOnFault : (RunFault F → Type 0) → (List Note → Type 0) → RunFault F → Type 0
+  HoldsOnFault gave_up holds fault = gave_up fault ⊎ (IsOfLanes fault × ((ns : List Note) × holds ns))

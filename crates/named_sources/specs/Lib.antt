@@ -1,0 +1,4 @@
+pub mod Naming
+pub mod Readers
+pub mod Refused
+pub mod Sources

@@ -1,0 +1,173 @@
+//! Notes on the files of a run while they are read: why a file failed, how it ended and its first bytes.
+ghost use Rattle.std.specs.Prelude.{◌≡◌, false, OnOk};
+
+use crate::hints::{ending_of, hint_of, number_of};
+use crate::reason::Reason;
+use crate::short_line::ShortLine;
+use std::alloc::{AllocError, Global};
+use std::fmt::Write;
+use std::sync::atomic::{AtomicU8, AtomicU64, Ordering};
+use streams::{Mark, Sink, WriteFault, put_all};
+
+/// The number of a file's first bytes that are noted.
+pub(crate) const FRONT: usize = 96;
+
+/// Notes on one file while it is read: why it failed, its first bytes, and how it ended. Any thread may write them.
+#[derive(Drop)]
+pub struct FileNote {
+    /// The reason why it was not opened or a read of it failed, encoded as by `code_of`, or 0.
+    failure: AtomicU64,
+    /// How it ended, if it is not planar_code, encoded as by `number_of`, or 0.
+    ending: AtomicU64,
+    /// Its first bytes.
+    front: Vec<AtomicU8>,
+    /// The number of bytes in `front`.
+    len: AtomicU64,
+}
+
+impl FileNote {
+    /// An empty note.
+    fn new(alloc: Global) -> Result<FileNote, AllocError> {
+        let mut front = Vec::with_capacity(alloc, FRONT)?;
+        for _ in 0..FRONT {
+            front.push(AtomicU8::new(0))?;
+        }
+        Ok(FileNote {
+            failure: AtomicU64::new(0),
+            ending: AtomicU64::new(0),
+            front,
+            len: AtomicU64::new(0),
+        })
+    }
+
+    /// Notes that the file was not opened, or that a read of it failed.
+    pub(crate) fn fail(&self, reason: Reason) {
+        self.failure.store(code_of(reason), Ordering::SeqCst);
+    }
+
+    /// Notes bytes of the file that follow the first `place` bytes.
+    pub(crate) fn begin(&self, place: usize, bytes: &[u8]) {
+        let mut end = place;
+        for byte in bytes.iter().take(FRONT) {
+            let Some(slot) = self.front.get(end) else {
+                break;
+            };
+            slot.store(*byte, Ordering::SeqCst);
+            end = end.saturating_add(1);
+        }
+        self.len.store(end as u64, Ordering::SeqCst);
+    }
+
+    /// Notes that the file ended with this mark.
+    fn end(&self, mark: Mark) {
+        self.ending.store(number_of(mark), Ordering::SeqCst);
+    }
+
+    /// The first bytes of the file.
+    fn front(&self, alloc: Global) -> Result<Vec<u8>, AllocError> {
+        let len = self.len.load(Ordering::SeqCst);
+        let mut bytes = Vec::with_capacity(alloc, FRONT)?;
+        for slot in &self.front {
+            if (bytes.len() as u64) < len {
+                bytes.push(slot.load(Ordering::SeqCst))?;
+            }
+        }
+        Ok(bytes)
+    }
+
+    /// A hint at the format of the file, if it is not planar_code and the format is recognised.
+    fn hint(&self, alloc: Global) -> Option<&'static str> {
+        let ending = ending_of(self.ending.load(Ordering::SeqCst))?;
+        let front = self.front(alloc).ok()?;
+        hint_of(ending, front.as_slice())
+    }
+}
+
+/// The number that encodes a reason, from 1.
+fn code_of(reason: Reason) -> u64 {
+    match reason.code {
+        Some(code) => u64::from(code.unsigned_abs()) + 2,
+        None => 1,
+    }
+}
+
+/// The reason that a number encodes; `None` for 0.
+fn reason_of(number: u64) -> Option<Reason> {
+    match number.checked_sub(1)? {
+        0 => Some(Reason::UNKNOWN),
+        above => Some(Reason {
+            code: i32::try_from(above - 1).ok(),
+        }),
+    }
+}
+
+/// A [`FileNote`] for each file of a run, from which messages about files that failed are written.
+#[derive(Drop)]
+pub struct FileNotes {
+    notes: Vec<FileNote>,
+}
+
+impl FileNotes {
+    /// An empty note for each of `files` files.
+    pub fn new(alloc: Global, files: usize) -> Result<FileNotes, AllocError> {
+        let mut notes = Vec::with_capacity(alloc, files)?;
+        for _ in 0..files {
+            notes.push(FileNote::new(alloc)?)?;
+        }
+        Ok(FileNotes { notes })
+    }
+
+    /// The note on the file with this number, from 0; `None` if there is no such file.
+    pub fn note(&self, file: u32) -> Option<&FileNote> {
+        self.notes.get(file as usize)
+    }
+
+    /// Stores in the note of a file that the file ended with this mark.
+    pub fn end(&self, file: u32, mark: Mark) {
+        if let Some(note) = self.note(file) {
+            note.end(mark);
+        }
+    }
+
+    /// Writes to `err` a line for each file that failed, or that is not planar_code and has a recognised format.
+    ///
+    /// The line of a file that was not opened or not read to its end says why, with the system's reason; that of one
+    /// that is not planar_code says what it looks like. A failure of this write changes nothing.
+    pub fn write<E: Sink>(&self, alloc: Global, names: &[&str], err: &mut E)
+        requires { E.failed err.old ≡ false }
+    {
+        for (name, note) in names.iter().zip(&self.notes) {
+            if write_note(alloc, name, note, err).is_err() {
+                return;
+            }
+        }
+    }
+}
+
+/// Writes the line of one file, if there is something to say.
+///
+/// # Errors
+///
+/// `Write` if the sink has failed.
+fn write_note<E: Sink>(
+    alloc: Global,
+    name: &str,
+    note: &FileNote,
+    err: &mut E,
+) -> Result<(), WriteFault>
+    requires { E.failed err.old ≡ false }
+    ensures { OnOk result (E.failed err.new ≡ false) }
+{
+    let mut line = ShortLine::new();
+    if let Some(reason) = reason_of(note.failure.load(Ordering::SeqCst)) {
+        let _ = writeln!(line, ": {reason}");
+    } else if let Some(hint) = note.hint(alloc) {
+        let _ = writeln!(line, ": {hint}");
+    }
+    if line.as_str().is_empty() {
+        return Ok(());
+    }
+    put_all(err, b"planarbend: ")?;
+    put_all(err, name.as_bytes())?;
+    put_all(err, line.as_str().as_bytes())
+}
