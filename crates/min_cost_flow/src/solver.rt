@@ -22,7 +22,7 @@ ghost use Rattle.min_cost_flow.specs.SolverState.{excess_at, potential_at, flow_
 use crate::scratch::Scratch;
 use crate::solved::Solved;
 use crate::state::{Nodes, Solver};
-use networks::{FAR, Network, Residual, ResidualCapacity, Search, SearchInput, Visit, move_units};
+use networks::{FAR, Network, Residual, Search, SearchInput, Visit, move_units, reverse};
 use std::alloc::{AllocError, Global};
 use std::mem;
 use thiserror::Error;
@@ -128,11 +128,11 @@ impl Solver {
         let found = self.found;
         let target = usize::from(self.residual.arcs[found].end);
         let most = most_between(&self.nodes.excess, root, target);
-        let mut amount = most.min(self.residual.capacities[found].capacity);
+        let mut amount = most.min(self.residual.capacities[found]);
         let mut node = self.residual.start(found);
         'narrow: while self.visits[node].place > 0 {
             let number = self.visits[node].predecessor as usize;
-            amount = amount.min(self.residual.capacities[number].capacity);
+            amount = amount.min(self.residual.capacities[number]);
             node = self.residual.start(number);
         }
         amount
@@ -201,8 +201,8 @@ pub fn solve_in(
     if !solver.solve(network) {
         return Err(SolveFault::Infeasible);
     }
-    read_flow(&solver.residual.capacities, &mut solver.residual.forward);
-    let flow = mem::replace(&mut solver.residual.forward, Vec::new(alloc));
+    read_flow(&solver.residual.capacities, &mut solver.flow);
+    let flow = mem::replace(&mut solver.flow, Vec::new(alloc));
     let potential = mem::replace(&mut solver.nodes.potential, Vec::new(alloc));
     Ok(Solved::new(flow, potential, solver.searches, solver.looks))
 }
@@ -307,22 +307,22 @@ fn score_nodes(network: &Network, scores: &mut [i32])
 }
 
 /// Writes what each arc carries where the number of the residual arc along it stood.
-pub(crate) fn read_flow(capacities: &[ResidualCapacity], flow: &mut [u32])
+pub(crate) fn read_flow(capacities: &[u32], flow: &mut [u32])
     requires { CanRead capacities.now flow.old }
     ensures { (i : ℕ) → i < length flow.new → amounts flow.new i ≡ carried (reverse_at capacities.now) flow.old (capacity_at capacities.now) i }
 {
-    for along in flow.iter_mut() {
-        *along = carried_along(capacities, *along);
+    for i in 0..flow.len() {
+        flow[i] = carried_by(capacities, i);
     }
 }
 
 /// What an arc carries, by the number of the residual arc along it: what fits back along it.
-pub(crate) fn carried_along(capacities: &[ResidualCapacity], along: u32) -> u32
+pub(crate) fn carried_by(capacities: &[u32], arc: usize) -> u32
     requires along { along < length capacities.now }
     requires reverse { reverse_at capacities.now along < length capacities.now }
     ensures { result ≡ capacity_at capacities.now (reverse_at capacities.now along) }
 {
-    capacities[capacities[along as usize].reverse as usize].capacity
+    capacities[2 * arc + 1]
 }
 
 /// Writes a number at each node.
@@ -357,7 +357,6 @@ fn push(residual: &mut Residual, number: usize, amount: u32)
     requires fits { amount ≤ capacity_at residual.old.capacities.items number }
     ensures { IsPushedAlong residual.old residual.new number amount }
 {
-    let back = residual.capacities[number].reverse as usize;
     residual.take_capacity(number, amount);
-    residual.add_capacity(back, amount);
+    residual.add_capacity(reverse(number), amount);
 }

@@ -8,9 +8,9 @@ ghost use Rattle.networks.specs.ResidualArcs.{numbers, reverse_at, capacity_at, 
 ghost use Rattle.min_cost_flow.specs.SolverState.{IsAllSent, IsShown};
 
 use crate::solved::Solved;
-use crate::solver::{SolveFault, carried_along, read_flow};
+use crate::solver::{SolveFault, carried_by, read_flow};
 use crate::state::Solver;
-use networks::{Network, ResidualCapacity};
+use networks::Network;
 use std::alloc::{AllocError, Global};
 use std::marker::Model;
 
@@ -83,7 +83,7 @@ impl WarmStart {
     {
         // Only the proof needs this: `node_count` says that the network is one.
         let _nodes = self.network.node_count();
-        let mut flow = Vec::from_slice(alloc, &self.solver.residual.forward)?;
+        let mut flow = Vec::from_slice(alloc, &self.solver.flow)?;
         read_flow(&self.solver.residual.capacities, &mut flow);
         let potential = Vec::from_slice(alloc, &self.solver.nodes.potential)?;
         Ok(Solved::new(flow, potential, 0, 0))
@@ -97,13 +97,13 @@ impl WarmStart {
         // Only the proof needs this: `node_count` says that the network is one.
         let _nodes = self.network.node_count();
         let residual = &self.solver.residual;
-        let cost = flow_cost(&self.network, &residual.capacities, &residual.forward);
+        let cost = flow_cost(&self.network, &residual.capacities);
         (cost, &self.solver.nodes.potential)
     }
 }
 
 /// How much the arcs of cost 1 carry.
-fn flow_cost(network: &Network, capacities: &[ResidualCapacity], forward: &[u32]) -> u64
+fn flow_cost(network: &Network, capacities: &[u32]) -> u64
     requires forwards { length forward.now ≡ arc_count network.now }
     requires inside { (i : ℕ) → i < arc_count network.now → numbers forward.now i < length capacities.now }
     requires reverses { (i : ℕ) → i < arc_count network.now → reverse_at capacities.now (numbers forward.now i) < length capacities.now }
@@ -114,7 +114,7 @@ fn flow_cost(network: &Network, capacities: &[ResidualCapacity], forward: &[u32]
     let given = network.arcs();
     for i in 0..given.len() {
         if given[i].cost == 1 {
-            cost += u64::from(carried_along(capacities, forward[i]));
+            cost += u64::from(carried_by(capacities, i));
         }
     }
     cost

@@ -8,7 +8,7 @@ ghost use Rattle.networks.specs.ResidualArcs.{end_at, cost_at, StartsAt};
 ghost use Rattle.networks.specs.Search.{far, nodes_of, first_of, arcs_of, potential_of, excess_of, labels, orders, out_degree, looked, IsSearchInput, IsSearch, IsUnlabelled, HasLowered, HasFeasibleLabels, HasRemaining, IsFeasibleAt, IsNextRadius, IsReordered, IsWaiting, IsScanning, IsRelaxed, IsWithinFar, IsArcCost, HasSameList};
 
 use crate::reach::distance;
-use crate::residual::ResidualArc;
+use crate::residual::{NONE, ResidualArc};
 use crate::state::{Candidate, FAR, Search, SearchInput, Visit};
 
 impl<'a> Search<'a> {
@@ -148,9 +148,11 @@ impl<'a> Search<'a> {
         let node = self.visits[self.scanned].at_place as usize;
         self.scanned += 1;
         let mut here = 0;
-        for number in input.first[node] as usize..input.first[node + 1] as usize {
-            let arc = look(input.arcs, number, &mut here);
-            self.relax(input, node, number, arc);
+        let mut number = input.first[node];
+        'arcs: while number != NONE {
+            let arc = look(input.arcs, number as usize, &mut here);
+            self.relax(input, node, number as usize, arc);
+            number = arc.next;
         }
         *looks += here;
     }

@@ -19,8 +19,8 @@ loop-number-init c =
         search = record {
           input = h.input;
           size = h.size;
-          reached = headed _ _ _ _ _ _ _ _ _ _ _ _ _ _ h.reached c.requires.more;
-          nearest = headed_nearest _ _ _ _ _ _ _ _ _ _ _ _ h.nearest;
+          reached = headed _ _ _ _ _ _ _ _ _ _ _ _ _ h.reached c.requires.more;
+          nearest = headed_nearest _ _ _ _ _ _ _ _ _ _ _ h.nearest;
         };
         list = refl;
         kept = kept_same _ _ _ _;
