@@ -9,8 +9,8 @@ ghost use Rattle.networks.specs.declared.network.TheConstants.{MAX_NODES};
 ghost use Rattle.min_cost_flow.specs.declared.resume.TheConstants.{MAX_CARRIED};
 ghost use Rattle.networks.specs.Networks.{NetworkModel, node_count, HasSuppliesInRange, shifted};
 ghost use Rattle.networks.specs.Flow.{at_nodes};
-ghost use Rattle.networks.specs.ResidualArcs.{reverse_at, capacity_at, carried};
-ghost use Rattle.min_cost_flow.specs.SolverState.{excess_at, IsReady, IsAllSent, IsVerdict, CanRead};
+ghost use Rattle.networks.specs.ResidualArcs.{capacity_at, carried};
+ghost use Rattle.min_cost_flow.specs.SolverState.{excess_at, IsReady, IsAllSent, IsVerdict};
 
 use crate::solver::{carried_by, has_deficit};
 use crate::state::Solver;
@@ -33,8 +33,7 @@ impl Solver {
         ensures answer { IsVerdict network.new self.new result }
     {
         network.shift(from, to, amount);
-        let residual = &self.residual;
-        if !carries_little(network.arc_count(), &residual.capacities, amount) {
+        if !carries_little(&self.residual.capacities, amount) {
             return self.solve(network);
         }
         if !rebase(&mut self.nodes.potential, to as usize) {
@@ -62,13 +61,12 @@ impl Solver {
 }
 
 /// Whether each arc can carry `amount` units more, at most [`MAX_CARRIED`] in all.
-fn carries_little(arcs: usize, capacities: &[u32], amount: u32) -> bool
-    requires read { CanRead capacities.now forward.now }
-    requires few { amount ≤ MAX_SUPPLY }
-    ensures { result ≡ true → (i : ℕ) → i < length forward.now → carried (reverse_at capacities.now) forward.now (capacity_at capacities.now) i + amount ≤ MAX_CARRIED }
+fn carries_little(capacities: &[u32], amount: u32) -> bool
+    requires { amount ≤ MAX_SUPPLY }
+    ensures { result ≡ true → (i : ℕ) → 2 * i + 1 < length capacities.now → carried (capacity_at capacities.now) i + amount ≤ MAX_CARRIED }
 {
     let most = MAX_CARRIED - amount;
-    for i in 0..arcs {
+    for i in 0..capacities.len() / 2 {
         if carried_by(capacities, i) > most {
             return false;
         }

@@ -10,6 +10,7 @@ use std::alloc::Global;
 #[derive(Drop)]
 pub struct Scratch {
     pub(crate) solver: Solver,
+    pub(crate) flow: Vec<u32>,
 }
 
 impl Scratch {
@@ -17,6 +18,7 @@ impl Scratch {
     pub fn empty(alloc: Global) -> Scratch {
         Scratch {
             solver: Solver::empty(alloc),
+            flow: Vec::new(alloc),
         }
     }
 }

@@ -26,8 +26,6 @@ pub struct Solver {
     pub residual: Residual,
     pub nodes: Nodes,
     pub visits: Vec<Visit>,
-    /// Room for what each arc carries in the end.
-    pub flow: Vec<u32>,
     pub found: usize,
     pub searches: u32,
     pub looks: u64,
@@ -48,7 +46,6 @@ impl Solver {
                 score: Vec::new(alloc),
             },
             visits: Vec::new(alloc),
-            flow: Vec::new(alloc),
             found: 0,
             searches: 0,
             looks: 0,
@@ -69,7 +66,6 @@ impl Solver {
             at_place: 0,
         };
         self.residual.first.resize(nodes, 0)?;
-        self.flow.resize(arcs, 0)?;
         self.residual.arcs.resize(2 * arcs, ResidualArc::default())?;
         self.residual.capacities.resize(2 * arcs, 0)?;
         self.nodes.potential.resize(nodes, 0)?;

@@ -1,7 +1,8 @@
 -- What a search knows of the nodes that it reached, in the words of its structs.
-use Rattle.std.proofs.Common.{◌≡◌, ◌≤◌, ◌<◌, ◌+◌, ◌⊎◌, ℕ, List, refl, sym, ◌∙◌, ap, subst, inl, inr, arith}
+use Rattle.std.proofs.Common.{◌≡◌, ◌≢◌, ◌≤◌, ◌<◌, ◌+◌, ◌⊎◌, ℕ, List, refl, sym, ◌∙◌, ap, subst, inl, inr, arith}
 use Rattle.std.specs.Prelude.{ℤ, pos, ◌+ℤ◌, ◌-ℤ◌, ◌≤ℤ◌, ◌<ℤ◌, length}
 use Rattle.std.proofs.Math.Path.{fun_ext}
+use Rattle.std.proofs.lemmas.Bool.{cases_eq, cases_lt}
 use Rattle.std.specs.Borrow.{MutBor}
 use mir.Syntax.{w16, w32}
 use mir.Val.{of_z, to_z}
@@ -9,8 +10,10 @@ use Rattle.networks.specs.declared.state.SearchInput.{SearchInput}
 use Rattle.networks.specs.declared.state.Search.{Search}
 use Rattle.networks.specs.declared.state.Candidate.{Candidate}
 use Rattle.networks.specs.declared.state.Visit.{Visit}
-use Rattle.networks.specs.ResidualArcs.{StartsAt, end_at, cost_at, out_degree}
+use Rattle.networks.specs.declared.residual.TheConstants.{NONE}
+use Rattle.networks.specs.ResidualArcs.{start_at, end_at, cost_at, next_at, started, out_degree, StartsAt, IsLatest}
 use Rattle.networks.specs.Search.{far, nodes_of, arcs_of, IsScanning, potential_of, excess_of, labels, orders, places, Reaches, HasLowered, IsSearch, HasCandidate, IsLabelled, IsRelaxed, AreLowered, IsSwapped, IsReordered, HasFeasibleLabels, IsSearchInput, IsFeasibleAt, AreFeasible, looked, SameBesideBound, SameBesideOrder, IsWithinFar}
+use Rattle.networks.proofs.Links.{started_most, latest_counts, latest_none}
 use Rattle.networks.proofs.Signs.{fits_within, label_fits, label_passed, passed_within, difference_is}
 use Rattle.networks.proofs.Reaching.{below_or_not, behind, swapped, nearest_kept, nearest_offered, kept_then, kept_same, at_radius, offer_below, offer_fits, offer_made, next_node, next_kept, next_only, serves_kept, served_kept, served_more, kept_less, same_le, order_kept, looked_most, looked_same, looked_more, same_z, relabelled, enlisted, order_room, reached_fits, potential_fits_at, offer_end}
 
@@ -213,11 +216,67 @@ scanning g s t u h more e k kept heads radius =
 pub next_in : (g : SearchInput) (s : Search) (u : ℕ) → IsSearch g s → s.scanned < s.ordered → u ≡ orders s s.scanned → u < nodes_of g
 next_in g s u h more e = subst (λ (w : ℕ). w < nodes_of g) (sym e) (next_node _ _ _ _ _ _ _ _ _ _ _ _ _ h.reached more).node
 
+-- of the residual arcs that start at node u those from `from` on were looked at, `here` of them, and their offers are
+-- taken up; the next one is `number`, or there is none
+pub record HasLooked (g : SearchInput) (t : Search) (u number here : ℕ) : Type 0 where
+  pub from : ℕ
+  pub inside : from ≤ length (arcs_of g)
+  pub latest : IsLatest (start_at (arcs_of g)) u from number
+  pub serves : (k : ℕ) → from ≤ k → StartsAt (arcs_of g) u k → IsFeasibleAt (arcs_of g) (potential_of g) (labels t) t.bound u k
+  pub looks : here + started (start_at (arcs_of g)) u from ≡ out_degree (arcs_of g) u
+
+pub looked_none : (g : SearchInput) (t : Search) (u number : ℕ) → IsLatest (start_at (arcs_of g)) u (length (arcs_of g)) number → HasLooked g t u number 0
+looked_none g t u number l = record {
+  from = length (arcs_of g);
+  inside = omega arith;
+  latest = l;
+  serves = λ k a st. absurd (omega (arith, st.inside));
+  looks = omega arith;
+}
+
+-- the next one starts there too
+pub next_starts : (g : SearchInput) (t : Search) (u number here : ℕ) → HasLooked g t u number here → number ≢ NONE → StartsAt (arcs_of g) u number
+next_starts g t u number here h some = record { inside = omega (arith, h.inside, (h.latest.found some).0); start = (h.latest.found some).1 }
+
+pub looked_below : (g : SearchInput) (t : Search) (u number here : ℕ) → HasLooked g t u number here → here ≤ length (arcs_of g)
+looked_below g t u number here h = omega (arith, h.looks, started_most (start_at (arcs_of g)) u (length (arcs_of g)))
+
+pub looked_less : (g : SearchInput) (t : Search) (u number here : ℕ) → HasLooked g t u number here → number ≢ NONE → here < out_degree (arcs_of g) u
+looked_less g t u number here h some = omega (arith, h.looks, latest_counts _ _ _ _ h.latest some)
+
+pub looked_all : (g : SearchInput) (t : Search) (u number here : ℕ) → HasLooked g t u number here → number ≡ NONE → here ≡ out_degree (arcs_of g) u
+looked_all g t u number here h none = omega (arith, h.looks, latest_none _ _ _ _ h.latest none)
+
+pub serves_all : (g : SearchInput) (t : Search) (u number here : ℕ) → HasLooked g t u number here → number ≡ NONE → (k : ℕ) → StartsAt (arcs_of g) u k → IsFeasibleAt (arcs_of g) (potential_of g) (labels t) t.bound u k
+serves_all g t u number here h none k st =
+    elim (cases_lt k h.from) [
+      | inl b ↦ absurd ((h.latest.latest k b st.start).0 none)
+      | inr a ↦ h.serves k a st
+    ]
+
 -- what the scanned node's residual arcs have offered stays taken up
 pub still_serves : (g : SearchInput) (s t : Search) (u k : ℕ) → IsScanning g s u → IsRelaxed g s t → StartsAt (arcs_of g) u k → IsFeasibleAt (arcs_of g) (potential_of g) (labels s) s.bound u k → IsFeasibleAt (arcs_of g) (potential_of g) (labels t) t.bound u k
 still_serves g s t u k n r st old =
     let here : places s u < s.scanned = omega (arith, n.place) in
     serves_kept (arcs_of g) (potential_of g) (labels s) (labels t) s.bound t.bound u k (r.kept.same u n.node n.labelled here).0 (r.kept.lower (end_at (arcs_of g) k) (n.search.input.graph.end k st.inside)) r.bound old
+
+-- one residual arc more was looked at
+pub looked_next : (g : SearchInput) (s t : Search) (u number next here : ℕ) → IsScanning g s u → IsRelaxed g s t → HasLooked g s u number here → number ≢ NONE → next ≡ next_at (arcs_of g) number → IsFeasibleAt (arcs_of g) (potential_of g) (labels t) t.bound u number → HasLooked g t u next (here + 1)
+looked_next g s t u number next here n r h some is serves =
+    let st : StartsAt (arcs_of g) u number = next_starts g s u number here h some in
+    record {
+      from = number;
+      inside = omega (arith, st.inside);
+      latest = rw is (subst (λ (v : ℕ). IsLatest (start_at (arcs_of g)) v number (next_at (arcs_of g) number)) st.start (n.search.input.linked.goes_on number st.inside));
+      serves = λ k a sk. elim (cases_eq k number) [
+        | inl e ↦ subst (λ (m : ℕ). IsFeasibleAt (arcs_of g) (potential_of g) (labels t) t.bound u m) (sym e) serves
+        | inr ne ↦ elim (cases_lt k h.from) [
+          | inl b ↦ let most : k ≤ number = (h.latest.latest k b sk.start).1 in absurd (omega arith)
+          | inr b ↦ still_serves g s t u k n r sk (h.serves k b sk)
+        ]
+      ];
+      looks = omega (arith, h.looks, latest_counts _ _ _ _ h.latest some);
+    }
 
 -- one node more was scanned
 pub are_scanned : (g : SearchInput) (s t : Search) (u : ℕ) → IsSearch g s → s.scanned < s.ordered → u ≡ orders s s.scanned → HasFeasibleLabels g s → IsSearch g t → HasLowered g (s.scanned + 1) s t → t.scanned ≡ s.scanned + 1 → t.bound ≤ℤ s.bound → ((k : ℕ) → StartsAt (arcs_of g) u k → IsFeasibleAt (arcs_of g) (potential_of g) (labels t) t.bound u k) → HasFeasibleLabels g t

@@ -78,8 +78,9 @@ impl Residual {
         requires fits { units ≤ capacity_at self.old.capacities.items number }
         ensures { IsSetTo self.old self.new number (capacity_at self.old.capacities.items number - units) }
     {
-        self.capacities[number] -= units;
-        if self.capacities[number] == 0 {
+        let capacity = &mut self.capacities[number];
+        *capacity -= units;
+        if *capacity == 0 {
             self.arcs[number].cost += SATURATED;
         }
     }
@@ -92,9 +93,11 @@ impl Residual {
         requires few { capacity_at self.old.capacities.items number + units < 2 ^ 32 }
         ensures { IsSetTo self.old self.new number (capacity_at self.old.capacities.items number + units) }
     {
-        if self.capacities[number] == 0 {
+        let capacity = &mut self.capacities[number];
+        let was_saturated = *capacity == 0;
+        *capacity += units;
+        if was_saturated {
             self.arcs[number].cost -= SATURATED;
         }
-        self.capacities[number] += units;
     }
 }

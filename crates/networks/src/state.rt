@@ -51,8 +51,6 @@ pub struct Search<'a> {
     pub bound: i32,
     /// The residual arc that leads to that node.
     pub found: usize,
-    /// The score of that node.
-    pub found_score: i32,
 }
 
 /// A residual arc that was looked at, and the label that it offers to its end.
