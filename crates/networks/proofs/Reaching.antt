@@ -99,7 +99,7 @@ kept_entered n arcs q q' place place' scanned v k o here kept behind =
 
 -- a scan's own node alone changes no label
 relabelled_kept : (n : ℕ) (arcs : List ResidualArc) (p e : ℕ → ℤ) (s : ℕ) (q q' : ℕ → ℤ) (predecessor order place : ℕ → ℕ) (scanned ordered reached : ℕ) (radius : ℤ) (v : ℕ) (x : ℤ) → IsReached n arcs p e s q predecessor order place scanned ordered reached radius → ordered ≤ place v → x <ℤ q v → IsPut q q' v x → AreLowered n scanned q place q' place
-relabelled_kept n arcs p e s q q' predecessor order place scanned ordered reached radius v x r behind less =
+relabelled_kept n arcs p e s q q' predecessor order place scanned ordered reached radius v x r behind less put =
     let few : scanned ≤ ordered = r.counts.0 in
     record {
       lower = λ w b. put_lower q q' v w x put less;
@@ -218,7 +218,7 @@ pub same_z : (a : ℤ) → a ≤ℤ a
 same_z a = omega (arith, ints)
 
 pub swapped : (n : ℕ) (arcs : List ResidualArc) (p e : ℕ → ℤ) (s : ℕ) (q : ℕ → ℤ) (predecessor order order' place place' : ℕ → ℕ) (scanned ordered reached : ℕ) (radius : ℤ) (v from : ℕ) → IsReached n arcs p e s q predecessor order place scanned ordered reached radius → v < n → q v <ℤ far → place v ≡ from → ordered ≤ from → (q v -ℤ p v) ≤ℤ radius → IsSwapped order place order' place' v from ordered → IsReached n arcs p e s q predecessor order' place' scanned (ordered + 1) reached radius × AreLowered n scanned q place q place'
-swapped n arcs p e s q predecessor order order' place place' scanned ordered reached radius v from r b l at behind near =
+swapped n arcs p e s q predecessor order order' place place' scanned ordered reached radius v from r b l at behind near sw =
     let ho : scanned ≤ ordered = r.counts.0 in
     let rn : reached ≤ n = r.counts.2 in
     let (in_list, mine) = r.listed v b l in

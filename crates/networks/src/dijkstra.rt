@@ -158,11 +158,11 @@ impl<'a> Search<'a> {
 
     /// Relaxes a residual arc of the node that is scanned: takes up the label that it offers to its end, if that is
     /// less than the end's own.
-    fn relax(&mut self, input: SearchInput<'_>, node: usize, number: usize, arc: ResidualArc)
+    fn relax(&mut self, input: SearchInput<'_>, node: usize, number: usize, arc: &ResidualArc)
         requires scanning { IsScanning input self.old node }
         requires number { StartsAt (arcs_of input) node number }
-        requires end { arc.end ≡ end_at (arcs_of input) number }
-        requires cost { arc.cost ≡ cost_at (arcs_of input) number }
+        requires end { arc.now.end ≡ end_at (arcs_of input) number }
+        requires cost { arc.now.cost ≡ cost_at (arcs_of input) number }
         ensures relaxed { IsRelaxed input.entry self.old self.new }
         ensures serves { IsFeasibleAt (arcs_of input.entry) (potential_of input.entry) (labels self.new) self.new.bound node number }
     {
@@ -175,14 +175,14 @@ impl<'a> Search<'a> {
 }
 
 /// Looks at the residual arc of a number, and counts the look. A search reads residual arcs by this call alone.
-fn look(arcs: &[ResidualArc], number: usize, looks: &mut u64) -> ResidualArc
+fn look<'a>(arcs: &'a [ResidualArc], number: usize, looks: &mut u64) -> &'a ResidualArc
     requires number { number < length arcs.now }
     requires few { looks.old < 2 ^ 63 }
-    ensures end { result.end ≡ end_at arcs.now number }
-    ensures cost { result.cost ≡ cost_at arcs.now number }
-    ensures next { result.next ≡ next_at arcs.now number }
+    ensures end { result.now.end ≡ end_at arcs.now number }
+    ensures cost { result.now.cost ≡ cost_at arcs.now number }
+    ensures next { result.now.next ≡ next_at arcs.now number }
     ensures tick { looks.new ≡ looks.old + 1 }
 {
     *looks += 1;
-    arcs[number]
+    &arcs[number]
 }

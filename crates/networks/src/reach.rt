@@ -16,9 +16,6 @@ impl Search<'_> {
         ensures served { (step.label -ℤ potential_of input.entry step.end) <ℤ self.new.bound → labels self.new step.end ≤ℤ step.label }
     {
         let away = distance(step.label, input.potential[step.end]);
-        if away > self.bound {
-            return;
-        }
         if input.excess[step.end] < 0 {
             self.candidate(input, step, away);
         } else if away < self.bound {
@@ -48,10 +45,10 @@ impl Search<'_> {
         ensures least { self.new.bound ≤ℤ distance }
         ensures either { ((self.new.bound ≡ self.old.bound) × (self.new.found ≡ self.old.found)) ⊎ ((self.new.bound ≡ distance) × (self.new.found ≡ step.number)) }
     {
-        if distance < self.bound
-            || (distance == self.bound && score_of(input, step.end) < self.found_score(input))
-        {
+        if distance < self.bound {
             self.bound = distance;
+            self.found = step.number;
+        } else if distance == self.bound && score_of(input, step.end) < self.found_score(input) {
             self.found = step.number;
         }
     }

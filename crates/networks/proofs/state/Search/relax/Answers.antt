@@ -17,7 +17,7 @@ bounds-self-node c =
 pub overflow_add-label : goal.overflow_add-label
 overflow_add-label c =
     let n = c.requires.scanning in
-    let cost : IsArcCost c.args.arc.cost = subst IsArcCost (sym c.requires.cost) (n.search.input.graph.cost c.args.number c.requires.number.inside) in
+    let cost : IsArcCost c.args.arc.now.cost = subst IsArcCost (sym c.requires.cost) (n.search.input.graph.cost c.args.number c.requires.number.inside) in
     added_fits _ _ (label_fits_at c.args.input c.args.self.now c.args.node n.search n.node n.labelled) cost
 
 pub bounds-self-end : goal.bounds-self-end
@@ -32,7 +32,7 @@ reach-requires c =
     let g = c.args.input in
     let u = c.args.node in
     let k = c.args.number in
-    let arc = c.args.arc in
+    let arc = c.args.arc.now in
     let known = label_fits_at g s u n.search n.node n.labelled in
     let cost : IsArcCost arc.cost = subst IsArcCost (sym c.requires.cost) (n.search.input.graph.cost k c.requires.number.inside) in
     let sum : to_z w16 (of_z w16 (added (labels s u) arc.cost)) ≡ labels s u +ℤ cost_at (arcs_of g) k = added_is _ _ known cost ∙ ap (λ (z : ℤ). labels s u +ℤ z) c.requires.cost in
@@ -47,7 +47,7 @@ returns-then-label-self c =
     let g = c.args.input in
     let u = c.args.node in
     let k = c.args.number in
-    let arc = c.args.arc in
+    let arc = c.args.arc.now in
     let known = label_fits_at g s u n.search n.node n.labelled in
     let cost : IsArcCost arc.cost = subst IsArcCost (sym c.requires.cost) (n.search.input.graph.cost k c.requires.number.inside) in
     let sum : to_z w16 (of_z w16 (added (labels s u) arc.cost)) ≡ labels s u +ℤ cost_at (arcs_of g) k = added_is _ _ known cost ∙ ap (λ (z : ℤ). labels s u +ℤ z) c.requires.cost in
@@ -66,7 +66,7 @@ returns-else-label-self c =
     let g = c.args.input in
     let u = c.args.node in
     let k = c.args.number in
-    let arc = c.args.arc in
+    let arc = c.args.arc.now in
     let known = label_fits_at g s u n.search n.node n.labelled in
     let cost : IsArcCost arc.cost = subst IsArcCost (sym c.requires.cost) (n.search.input.graph.cost k c.requires.number.inside) in
     let sum : to_z w16 (of_z w16 (added (labels s u) arc.cost)) ≡ labels s u +ℤ cost_at (arcs_of g) k = added_is _ _ known cost ∙ ap (λ (z : ℤ). labels s u +ℤ z) c.requires.cost in
