@@ -12,7 +12,7 @@ ghost use Rattle.networks.specs.declared.network.TheConstants.{MAX_NODES};
 ghost use Rattle.min_cost_flow.specs.declared.solver.SolveFault.TheVariants.{Memory};
 ghost use Rattle.networks.specs.Networks.{NetworkModel, arc_count, node_count, IsNetwork};
 ghost use Rattle.networks.specs.Flow.{amounts, at_nodes, HasNoFlow, Solves};
-ghost use Rattle.networks.specs.ResidualArcs.{start_at, reverse_of, capacity_at, carried};
+ghost use Rattle.networks.specs.ResidualArcs.{start_at, capacity_at, carried};
 ghost use Rattle.networks.specs.Search.{far, labels, orders, label_at, IsPut, IsWithinFar, place_at};
 ghost use Rattle.min_cost_flow.specs.Existence.{SuppliesSumToZero};
 ghost use Rattle.min_cost_flow.specs.Overfull.{IsOverfull, HasStopped, was_reached};

@@ -1,10 +1,9 @@
 -- The numbers of residual arcs, and the linked lists of those that start at a node.
-use Rattle.std.proofs.Common.{◌≡◌, ◌≢◌, ◌<◌, ◌≤◌, ◌⊎◌, ℕ, zero, suc, ◌+◌, ◌-◌, ◌*◌, ◌/◌, ◌%◌, Bool, true, false, cond, eqb, refl, sym, ◌∙◌, ap, subst, inl, inr, arith, List, length, set, get_or-set_same, get_or-set_other}
+use Rattle.std.proofs.Common.{◌≡◌, ◌≢◌, ◌<◌, ◌≤◌, ℕ, zero, suc, ◌+◌, ◌-◌, ◌*◌, ◌/◌, ◌%◌, Bool, true, false, cond, eqb, refl, sym, ◌∙◌, ap, subst, inl, inr, arith, List, length, set, get_or-set_same, get_or-set_other}
 use Rattle.std.specs.Prelude.{bit_xor}
 use Rattle.std.specs.Int.Bits.{xor_zero_r}
 use Rattle.std.proofs.lemmas.Nat.{xor_block}
-use Rattle.std.proofs.lemmas.Bool.{cases_eq, cases_lt, eq-eqb, ne_eqb, cond-true, cond-false}
-use Rattle.common.specs.Sums.{sum_below}
+use Rattle.std.proofs.lemmas.Bool.{cases_eq, eq-eqb, ne_eqb, cond-true, cond-false}
 use Rattle.common.proofs.Sums.{sum_below-none, sum_below-member}
 use Rattle.networks.specs.declared.residual.TheConstants.{NONE}
 use Rattle.networks.specs.declared.residual.ResidualArc.{ResidualArc}
@@ -171,12 +170,6 @@ latest_counts start v k number l some =
 
 pub latest_none : (start : ℕ → ℕ) (v k number : ℕ) → IsLatest start v k number → number ≡ NONE → started start v k ≡ 0
 latest_none start v k number l none = started_none start v k (λ j b h. (l.latest j b h).0 none)
-
-pub none_latest : (start : ℕ → ℕ) (v number : ℕ) → number ≡ NONE → IsLatest start v 0 number
-none_latest start v number e = record {
-  found = λ ne. absurd (ne e);
-  latest = λ j b h. absurd (omega arith);
-}
 
 -- number k becomes the latest at its node
 latest_here : (start : ℕ → ℕ) (k : ℕ) → k < NONE → IsLatest start (start k) (k + 1) k

@@ -1,4 +1,4 @@
-use Rattle.std.proofs.Common.{◌≡◌, ◌+◌, length, ℕ, ℤ, ◌∙◌, ap, arith, Vec, Global}
+use Rattle.std.proofs.Common.{◌≡◌, length, ℕ, ℤ, ◌∙◌, ap, arith, Vec, Global}
 use Rattle.std.proofs.lemmas.List.{with_items_is}
 use Rattle.networks.specs.Networks.{arc_count}
 use Rattle.networks.specs.Flow.{amounts, at_nodes, SolvedModel}

@@ -3,9 +3,8 @@ use mir.Val.{of_z, to_z}
 use Rattle.std.proofs.lemmas.Int.{ints}
 use Rattle.networks.specs.declared.residual.TheConstants.{SATURATED}
 use Rattle.std.specs.Prelude.{ℤ, pos, ◌+ℤ◌, ◌-ℤ◌}
-use Rattle.std.proofs.Common.{rules, cond, eqb, ap, ◌∙◌, ◌^◌, ◌≡◌, ◌<◌, ◌≤◌, ◌+◌, ◌*◌, ℕ, length, set, length-set, slice_index_or, sym, subst, inl, inr, arith, true, false}
+use Rattle.std.proofs.Common.{rules, cond, eqb, ap, ◌∙◌, ◌^◌, ◌≡◌, ◌<◌, ◌≤◌, ◌+◌, ◌*◌, ℕ, length, set, slice_index_or, sym, subst, inl, inr, arith, true, false}
 use Rattle.std.proofs.lemmas.Bool.{cases_eq}
-use Rattle.networks.specs.declared.residual.ResidualArc.{ResidualArc}
 use Rattle.networks.specs.declared.arc.Arc.{Arc}
 use Rattle.networks.specs.Networks.{arc_count, arc_at, no_arc}
 use Rattle.networks.specs.ResidualArcs.{numbers, units_of, IsLatest}

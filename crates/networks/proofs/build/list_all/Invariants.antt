@@ -1,4 +1,4 @@
-use Rattle.std.proofs.Common.{◌^◌, ◌≡◌, ◌<◌, ◌*◌, ℕ, length}
+use Rattle.std.proofs.Common.{◌^◌, ◌<◌, ◌*◌, ℕ, length}
 use Rattle.networks.specs.Networks.{arc_at}
 use Rattle.networks.specs.ResidualArcs.{numbers, units_of, IsLatest}
 use Rattle.networks.proofs.Building.{starting, IsBuilt}

@@ -11,7 +11,7 @@ use Rattle.min_cost_flow.proofs.Augmenting.{place_read, enter_read}
 use Rattle.min_cost_flow.specs.declared.state.Solver.{Solver}
 use Rattle.min_cost_flow.specs.Excess.{Carries}
 use Rattle.min_cost_flow.specs.Path.{IsOnPath, previous_of}
-use Rattle.min_cost_flow.specs.Round.{IsRound, carrying}
+use Rattle.min_cost_flow.specs.Round.{carrying}
 use Rattle.min_cost_flow.specs.SolverState.{excess_at, potential_at, flow_in, last_node, CanAugment, IsBottleneck, predecessors_in, places_in}
 use Rattle.min_cost_flow.proofs.Changes.{taken_carries}
 use Rattle.min_cost_flow.proofs.Rounds.{IsSent, sent_round}

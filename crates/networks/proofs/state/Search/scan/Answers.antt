@@ -1,4 +1,4 @@
-use Rattle.std.proofs.Common.{◌≡◌, ◌<◌, ◌≤◌, ◌+◌, ℕ, arith, refl, subst, ◌∙◌}
+use Rattle.std.proofs.Common.{◌<◌, ◌≤◌, ◌+◌, ℕ, arith, refl, subst, ◌∙◌}
 use Rattle.std.specs.Prelude.{length}
 use Rattle.networks.specs.Search.{nodes_of, arcs_of, labels, orders, places, AreLowered, IsScanning}
 use Rattle.networks.proofs.Reaching.{headed, headed_nearest, kept_same, kept_then, same_z, under_radius}
