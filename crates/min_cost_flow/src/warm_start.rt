@@ -1,6 +1,6 @@
 //! Sensitivity analysis (Ahuja, Magnanti and Orlin, Network Flows, 1993, section 9.11): successive shortest paths from
 //! the flow that is there, as supplies move.
-ghost use Rattle.std.specs.Prelude.{◌≡◌, ◌<◌, ◌≤◌, ◌^◌, IfOk, IfErr, IfSome, IfNone, length};
+ghost use Rattle.std.specs.Prelude.{◌≡◌, ◌<◌, ◌≤◌, ◌+◌, ◌^◌, IfOk, IfErr, IfSome, IfNone, length};
 ghost use Rattle.networks.specs.declared.fault.TheConstants.{MAX_SUPPLY};
 ghost use Rattle.networks.specs.Networks.{NetworkModel, node_count, arc_count, shifted, HasSuppliesInRange, IsNetwork};
 ghost use Rattle.networks.specs.Flow.{HasNoFlow, Solves, at_nodes, cost_of};
