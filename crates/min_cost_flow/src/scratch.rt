@@ -10,6 +10,7 @@ use std::alloc::Global;
 #[derive(Drop)]
 pub struct Scratch {
     pub(crate) solver: Solver,
+    /// What each arc carries in the solution.
     pub(crate) flow: Vec<u32>,
 }
 
