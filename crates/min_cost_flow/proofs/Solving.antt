@@ -365,7 +365,7 @@ root_out_degree n arcs p e s q predecessor order place scanned ordered reached r
     let x = r.entered v vb l ne in
     let before : place x.start < place v = x.before in
     elim (cases_eq x.start s) [
-      | inl t ↦ own_out_degree s (predecessor v) (subst (λ (i : ℕ). StartsAt arcs i (predecessor v)) t x.leaves)
+      | inl t ↦ some_start arcs s (predecessor v) (subst (λ (i : ℕ). StartsAt arcs i (predecessor v)) t x.leaves)
       | inr d ↦ root_out_degree n arcs p e s q predecessor order place scanned ordered reached radius b x.start r (omega arith) x.node x.labelled d
     ]
 
@@ -373,7 +373,7 @@ one_each : (net : NetworkModel) (capacity : ℕ → ℕ) (arcs : List ResidualAr
 one_each net capacity arcs p e s q predecessor order place scanned ordered reached radius bound f fl r h v b m =
     elim (cases_eq v s) [
       | inl t ↦ subst (λ (i : ℕ). 0 < out_degree arcs i) (sym t) (elim (cases_eq h.start s) [
-        | inl d ↦ own_out_degree s f (subst (λ (i : ℕ). StartsAt arcs i f) d h.leaves)
+        | inl d ↦ some_start arcs s f (subst (λ (i : ℕ). StartsAt arcs i f) d h.leaves)
         | inr d ↦ root_out_degree (node_count net) arcs p e s q predecessor order place scanned ordered reached radius (place h.start + 1) h.start r (omega arith) h.node h.labelled d
       ])
       | inr ne ↦
