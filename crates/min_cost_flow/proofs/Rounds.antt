@@ -186,12 +186,12 @@ first_round net x p e k none flat full =
 -- ---- the work done
 
 looked_more : (l l' s m : ℕ) → l ≤ s * m → l' ≤ l + m → l' ≤ (s + 1) * m
-looked_more l' s m h k = omega (arith, add-mul s 1 m, one-mul m)
+looked_more l l' s m h k = omega (arith, add-mul s 1 m, one-mul m)
 
 pub work_more : (net : NetworkModel) (x y : ℕ → ℕ) (e e' : ℕ → ℤ) (s l l' : ℕ) → IsWork net x e s l → IsLess net e e' → carrying net y + l ≤ carrying net x + l' → l' ≤ l + 2 * arc_count net → IsWork net y e' (s + 1) l'
 work_more net x y e e' s l l' w less c k = record {
   few = omega (arith, w.few, less.less);
-  bounded = looked_more l' s (2 * arc_count net) w.bounded k;
+  bounded = looked_more l l' s (2 * arc_count net) w.bounded k;
   carried = omega (arith, w.carried);
   begun = inl (omega arith);
 }

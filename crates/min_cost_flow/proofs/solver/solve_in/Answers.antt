@@ -12,7 +12,7 @@ pub read_flow-requires : goal.read_flow-requires
 read_flow-requires c =
     let net = c.args.network.now in
     let r = (c.solve.ensures.answer.all_sent c.if-not-solve.false).ready in
-    let room : length c.in_ok-resize.new.self.items ≡ arc_count net = omega (arith, c.in_ok-resize.ensures.len, c.arc_count.ensures.count) in
+    let room : length c.resize.new.self.items ≡ arc_count net = omega (arith, c.in_ok-resize.ensures.len, c.arc_count.ensures.count) in
     rw (c.deref.ensures.value, c.deref_mut.ensures.value) (omega (arith, r.residual.capacities_size))
 
 pub returns : goal.returns
@@ -22,8 +22,8 @@ returns c =
     let r = (c.solve.ensures.answer.all_sent yes).ready in
     let l = c.solve.new.self in
     let solved : SolvedModel = c.new-3.result in
-    let room : length c.in_ok-resize.new.self.items ≡ arc_count net = omega (arith, c.in_ok-resize.ensures.len, c.arc_count.ensures.count) in
-    let flow_is : solved.flow ≡ c.read_flow.new.flow = ap (λ (a : SolvedModel). a.flow) c.new-3.ensures ∙ ap (λ (v : Vec ℕ Global). v.items) c.replace-flow.ensures.value ∙ with_items_is c.in_ok-resize.new.self c.read_flow.new.flow (omega arith) in
+    let room : length c.resize.new.self.items ≡ arc_count net = omega (arith, c.in_ok-resize.ensures.len, c.arc_count.ensures.count) in
+    let flow_is : solved.flow ≡ c.read_flow.new.flow = ap (λ (a : SolvedModel). a.flow) c.new-3.ensures ∙ ap (λ (v : Vec ℕ Global). v.items) c.replace-flow.ensures.value ∙ with_items_is c.resize.new.self c.read_flow.new.flow (omega arith) in
     let potential_is : solved.potential ≡ l.nodes.potential.items = ap (λ (a : SolvedModel). a.potential) c.new-3.ensures ∙ ap (λ (v : Vec ℤ Global). v.items) c.replace-potential.ensures.value in
     let searches_is : solved.searches ≡ l.searches = ap (λ (a : SolvedModel). a.searches) c.new-3.ensures in
     let looks_is : solved.looks ≡ l.looks = ap (λ (a : SolvedModel). a.looks) c.new-3.ensures in

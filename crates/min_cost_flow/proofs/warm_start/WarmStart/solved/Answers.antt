@@ -9,7 +9,7 @@ use Rattle.min_cost_flow.proofs.warm_start.WarmStart.solved.Goals as goal
 pub read_flow-requires : goal.read_flow-requires
 read_flow-requires c =
     let s = c.self.inside in
-    let room : length c.in_ok-resize.new.self.items ≡ arc_count s.network = omega (arith, c.in_ok-resize.ensures.len, c.arc_count.ensures.count) in
+    let room : length c.resize.new.self.items ≡ arc_count s.network = omega (arith, c.in_ok-resize.ensures.len, c.arc_count.ensures.count) in
     rw (c.deref.ensures.value, c.deref_mut.ensures.value) (omega (arith, c.self.invariant.ready.residual.capacities_size))
 
 pub returns-clause-solves : goal.returns-clause-solves
@@ -18,9 +18,9 @@ returns-clause-solves c =
     let net = s.network in
     let st = c.self.invariant in
     let solved : SolvedModel = c.new-2.result in
-    let room : length c.in_ok-resize.new.self.items ≡ arc_count net = omega (arith, c.in_ok-resize.ensures.len, c.arc_count.ensures.count) in
+    let room : length c.resize.new.self.items ≡ arc_count net = omega (arith, c.in_ok-resize.ensures.len, c.arc_count.ensures.count) in
     let long : length c.read_flow.new.flow ≡ arc_count net = omega (arith, room, ap (length {A = ℕ}) c.deref_mut.ensures.value) in
-    let flow_is : solved.flow ≡ c.read_flow.new.flow = ap (λ (a : SolvedModel). a.flow) c.new-2.ensures ∙ with_items_is c.in_ok-resize.new.self c.read_flow.new.flow (omega arith) in
+    let flow_is : solved.flow ≡ c.read_flow.new.flow = ap (λ (a : SolvedModel). a.flow) c.new-2.ensures ∙ with_items_is c.resize.new.self c.read_flow.new.flow (omega arith) in
     let cloned : c.in_ok-potential.potential.items ≡ s.solver.nodes.potential.items = c.in_ok-potential.ensures.items ∙ c.deref-2.ensures.value in
     let potential_is : solved.potential ≡ s.solver.nodes.potential.items = ap (λ (a : SolvedModel). a.potential) c.new-2.ensures ∙ cloned in
     let carries : (i : ℕ) → i < arc_count net → amounts solved.flow i ≡ carried (capacity_at s.solver.residual.capacities.items) i = λ i b.
