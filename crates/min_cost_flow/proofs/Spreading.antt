@@ -103,7 +103,7 @@ pub record Passes (Q : ℕ → Type 0) (n : ℕ) (k : Steps) : Type 0 where
   pub on : (i : ℕ) (back : Bool) → i < k.count → k.passes i back ≡ true → Q (k.start i back) → Q (k.finish i back)
   pub node : (i : ℕ) (back : Bool) → i < k.count → k.finish i back < n
 
-more_reached : (Q : ℕ → Type 0) (u w : ℕ) (s : ℕ → Bool) → Q w → IsReached Q s → IsReached Q (with_node s w)
+more_reached : (Q : ℕ → Type 0) (u w : ℕ) (s : ℕ → Bool) → Q w → IsReached Q u s → IsReached Q u (with_node s w)
 more_reached Q u w s q r = record {
   inside = elim (cases_eq u w) [
     | inl e ↦ subst (λ (t : ℕ). with_node s w t ≡ true) (sym e) (with_here s w)
@@ -126,7 +126,7 @@ step_out k s =
       ]
     ]
 
-spread : (Q : ℕ → Type 0) (n fuel : ℕ) (k : Steps) (u : ℕ) (s : ℕ → Bool) → Passes Q n k → missing n s ≤ fuel → IsReached Q s → (t : ℕ → Bool) × IsReached Q t × IsClosedUnder k t
+spread : (Q : ℕ → Type 0) (n fuel : ℕ) (k : Steps) (u : ℕ) (s : ℕ → Bool) → Passes Q n k → missing n s ≤ fuel → IsReached Q u s → (t : ℕ → Bool) × IsReached Q u t × IsClosedUnder k t
 spread Q n zero k u s p few r =
     elim (step_out k s) [
       | inl f ↦ let (i, back, b, h) = f in let (open_it, from, to) = out_parts k s back i h in
@@ -148,7 +148,7 @@ spread Q n (suc fuel) k u s p few r =
 alone : ℕ → ℕ → Bool
 alone u v = eqb v u
 
-alone_reached : (Q : ℕ → Type 0) (u : ℕ) → Q u → IsReached Q (alone u)
+alone_reached : (Q : ℕ → Type 0) (u : ℕ) → Q u → IsReached Q u (alone u)
 unfolding alone
 alone_reached Q u q = record {
   inside = eq-eqb u u refl;
@@ -159,5 +159,5 @@ alone_reached Q u q = record {
 }
 
 -- what Q says of u, it says of each member of a set with u that no open step leaves
-pub spread_from : (Q : ℕ → Type 0) (n : ℕ) (k : Steps) (u : ℕ) → Passes Q n k → Q u → (t : ℕ → Bool) × IsReached Q t × IsClosedUnder k t
+pub spread_from : (Q : ℕ → Type 0) (n : ℕ) (k : Steps) (u : ℕ) → Passes Q n k → Q u → (t : ℕ → Bool) × IsReached Q u t × IsClosedUnder k t
 spread_from Q n k u p q = spread Q n (missing n (alone u)) k u (alone u) p (omega arith) (alone_reached Q u q)

@@ -17,12 +17,12 @@ returns-clause-solves c =
     let s = c.self.inside in
     let net = s.network in
     let st = c.self.invariant in
-    let solved : SolvedModel = c.new-2.result in
+    let solved : SolvedModel = c.new.result in
     let room : length c.resize.new.self.items ≡ arc_count net = omega (arith, c.in_ok-resize.ensures.len, c.arc_count.ensures.count) in
     let long : length c.read_flow.new.flow ≡ arc_count net = omega (arith, room, ap (length {A = ℕ}) c.deref_mut.ensures.value) in
-    let flow_is : solved.flow ≡ c.read_flow.new.flow = ap (λ (a : SolvedModel). a.flow) c.new-2.ensures ∙ with_items_is c.resize.new.self c.read_flow.new.flow (omega arith) in
+    let flow_is : solved.flow ≡ c.read_flow.new.flow = ap (λ (a : SolvedModel). a.flow) c.new.ensures ∙ with_items_is c.resize.new.self c.read_flow.new.flow (omega arith) in
     let cloned : c.in_ok-potential.potential.items ≡ s.solver.nodes.potential.items = c.in_ok-potential.ensures.items ∙ c.deref-2.ensures.value in
-    let potential_is : solved.potential ≡ s.solver.nodes.potential.items = ap (λ (a : SolvedModel). a.potential) c.new-2.ensures ∙ cloned in
+    let potential_is : solved.potential ≡ s.solver.nodes.potential.items = ap (λ (a : SolvedModel). a.potential) c.new.ensures ∙ cloned in
     let carries : (i : ℕ) → i < arc_count net → amounts solved.flow i ≡ carried (capacity_at s.solver.residual.capacities.items) i = λ i b.
     rw flow_is (c.read_flow.ensures i (omega (arith, long)) ∙ rw c.deref.ensures.value refl) in
     subst (λ (n : NetworkModel). Solves n solved) c.self.view_is
@@ -33,4 +33,4 @@ returns-clause-solves c =
     (λ v. ap (λ (ps : List ℤ). at_nodes ps v) potential_is))
 
 pub returns-clause-work : goal.returns-clause-work
-returns-clause-work c = (ap (λ (a : SolvedModel). a.searches) c.new-2.ensures, ap (λ (a : SolvedModel). a.looks) c.new-2.ensures)
+returns-clause-work c = (ap (λ (a : SolvedModel). a.searches) c.new.ensures, ap (λ (a : SolvedModel). a.looks) c.new.ensures)
