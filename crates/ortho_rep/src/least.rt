@@ -72,8 +72,8 @@ pub fn least_shape_in(
 ///
 /// # Errors
 ///
-/// `Infeasible` exactly if no representation keeps these edges straight, memory aside, and `Memory` if memory runs out for
-/// the network, its flow, the shape or the prices.
+/// `Infeasible` exactly if no representation keeps these edges straight, memory aside, and `Memory` if memory runs out
+/// for the network, its flow, the shape or the prices.
 pub fn least_shape_keeping(
     alloc: Global,
     plane: &Plane,
