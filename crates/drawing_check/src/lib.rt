@@ -22,7 +22,7 @@ mod turning;
 
 pub use drawing::{Drawing, check, check_in};
 pub use fault::CheckFault;
-pub use regions::{has_regions, has_regions_in};
+pub use regions::has_regions_in;
 pub use route::{Route, route_of};
 pub use scratch::Scratch;
 pub use turning::direction_from;

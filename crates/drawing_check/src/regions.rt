@@ -21,26 +21,11 @@ use std::alloc::{AllocError, Global};
 ///
 /// The parts of edges determine in which face each cell lies, once from west to east and once from south to north. For
 /// s of them it takes O(s + m + c · r) time and memory, where m is the greatest coordinate, c is the number of columns
-/// and r that of rows on which the parts begin, end or lie.
+/// and r that of rows on which the parts begin, end or lie. It allocates only if the scratch is too small.
 ///
 /// # Errors
 ///
 /// `AllocError` if there is no memory for the parts, the ranks of their coordinates and the cells.
-pub fn has_regions(alloc: Global, plane: &Plane, drawing: &Drawing) -> Result<bool, AllocError>
-    requires points { HasPoints plane.now drawing.now }
-    ensures { IfOk result (λ regions. IsTrue regions ↔ HasRegions plane.now drawing.now) }
-{
-    let mut scratch = Scratch::empty(alloc);
-    has_regions_in(&mut scratch, plane, drawing)
-}
-
-/// Whether the regions of a drawing are the faces, exactly as [`has_regions`]; reuses the caller's scratch.
-///
-/// It allocates only if the scratch is too small.
-///
-/// # Errors
-///
-/// As `has_regions`.
 pub fn has_regions_in(
     scratch: &mut Scratch,
     plane: &Plane,

@@ -7,9 +7,7 @@ use Rattle.serde_json.specs.declared.value.Value.{Value}
 use Rattle.ortho_rep.specs.declared.turn.Turn.{Turn}
 use Rattle.ortho_rep.specs.declared.turn.Turn.TheVariants.{Left}
 use Rattle.ortho_rep.specs.declared.points.Point.{Point}
-use Rattle.serde_json.specs.Read.{read}
-use Rattle.ortho_rep.specs.Points.{PointsModel}
-use Rattle.drawn_lines.specs.Said.{natural, array_of, point_data, Says, SaysPoints, letter_of}
+use Rattle.drawn_lines.specs.Said.{natural, array_of, point_data, letter_of}
 
 same_items : (ds es : List Data) → items_of ds ≡ items_of es → ds ≡ es
 same_items [] [] e = refl
@@ -63,13 +61,6 @@ one_more f values i v bs a below here before said =
 pub weaker : {T E : Type 0} {P Q : E → Type 0} (r : Result T E) → ((e : E) → P e → Q e) → IfErr r P → IfErr r Q
 weaker (Ok v) f h = tt
 weaker (Err e) f h = f e h
-
--- a line that reads as a value says what the value says
-pub line_says : (line : List ℕ) (value : Data) (points : PointsModel) → read line ≡ Some value → Says line points → SaysPoints value points
-line_says line value points is says =
-    let same : says.value ≡ value = cc in
-    let P : Data → Type 0 = λ d. SaysPoints d points in
-    subst P same says.said
 
 letter_is : (letters : List ℕ) (turns : List Turn) (i : ℕ) (n : ℕ) (t : Turn) → letters ≡ map letter_of turns → i < length letters → get_or letters i n ≡ letter_of (get_or turns i t)
 letter_is [] turns i n t e below = absurd (omega arith)

@@ -1,4 +1,4 @@
--- The points that a JSON value says: each point is an array of its two coordinates.
+-- The value of a line, and the points that a value says: each point is an array of its two coordinates.
 use Rattle.std.specs.Prelude.{◌≡◌, ℕ, ◌^◌, ◌<◌, ℤ, pos, negsuc, ◌≤ℤ◌, List, [], ◌∷◌, map, codes, Option, Some, option_and_then, All, IsUtf8}
 use Rattle.serde_json.specs.Data.{Data, number, unsigned, string, array}
 use Rattle.serde_json.specs.Find.{get, as_number, as_integer}
@@ -33,12 +33,10 @@ pub record SaysPoints (value : Data) (points : PointsModel) : Type 0 where
   pub vertices : get (codes "vertices") field ≡ Some (list_data points.vertices)
   pub corners : get (codes "corners") field ≡ Some (lists_data points.corners)
 
--- a line is the JSON text, in UTF-8, of a value that has these points
-pub record Says (line : List ℕ) (points : PointsModel) : Type 0 where
-  pub value : Data
+-- a line is the JSON text, in UTF-8, of this value
+pub record IsTextOf (line : List ℕ) (value : Data) : Type 0 where
   pub utf8 : IsUtf8 line
   pub text : read line ≡ Some value
-  pub said : SaysPoints value points
 
 -- coordinates of 32 bits
 

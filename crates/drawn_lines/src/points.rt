@@ -1,45 +1,17 @@
-//! The points that a line has.
+//! The points that a value has.
 ghost use Rattle.std.specs.Prelude.{◌≡◌, ◌≢◌, List, IfOk, IfErr, All};
-ghost use Rattle.serde_json.specs.Errors.{IsMemory};
 ghost use Rattle.serde_json.specs.View.{view};
 ghost use Rattle.ortho_rep.specs.declared.points.Point.{Point};
 ghost use Rattle.ortho_rep.specs.Points.{PointsModel};
 ghost use Rattle.ortho_rep.specs.Storage.{lists_in};
-ghost use Rattle.drawn_lines.specs.Said.{point_data, list_data, lists_data, IsShort, AreShort, Says, SaysPoints};
+ghost use Rattle.drawn_lines.specs.Said.{point_data, list_data, lists_data, IsShort, AreShort, SaysPoints};
 ghost use Rattle.drawn_lines.specs.declared.fault.LineFault.TheVariants.{Memory};
 
 use crate::fault::LineFault;
 use crate::numbers::{coordinate_in, field_in, list_in};
 use ortho_rep::{Point, Points};
-use serde_json::{Error, Value};
+use serde_json::Value;
 use std::alloc::Global;
-
-/// The points in the field `points` of the JSON value in a line.
-///
-/// # Errors
-///
-/// `Memory` if memory runs out. Otherwise the line says no points whose coordinates have 32 bits.
-pub fn points_of_line(alloc: Global, line: &[u8]) -> Result<Points, LineFault>
-    ensures ok { IfOk result (Says line.now) }
-    ensures none { IfErr result (λ fault. fault ≢ Memory
-        → (points : PointsModel) → AreShort points → Says line.now points → ⊥) }
-{
-    match Value::from_slice(alloc, line) {
-        Ok(value) => points_in(alloc, &value),
-        Err(error) => Err(fault_of(&error)),
-    }
-}
-
-/// The fault that parsing a line as JSON returned.
-fn fault_of(error: &Error) -> LineFault
-    ensures { result ≢ Memory → ¬ IsMemory error.now }
-{
-    if error.is_memory() {
-        LineFault::Memory
-    } else {
-        LineFault::Malformed
-    }
-}
 
 /// The points of the field `points` of a value.
 ///

@@ -84,7 +84,7 @@ pub fn arcs_of(old: Vec<Arc>, plane: &Plane, straight: &[bool]) -> Result<Vec<Ar
     Ok(arcs)
 }
 
-/// A list of so many arcs, to be overwritten, in the buffer of `old`. If that is too small, it allocates exactly as many.
+/// A list of `count` arcs, to be overwritten, in the buffer of `old`. If that is too small, it allocates exactly `count`.
 fn resized(old: Vec<Arc>, count: usize) -> Result<Vec<Arc>, AllocError>
     ensures { IfOk result (λ a. length a.items ≡ count) }
 {

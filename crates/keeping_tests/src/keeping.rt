@@ -3,7 +3,9 @@
 
 use embedding::MAX_DARTS;
 use faces::Plane;
-use ortho_rep::{SolveFault, best_shape_keeping, certify_keeping, is_shape, least_shape_keeping};
+use ortho_rep::{
+    Scratch, SolveFault, best_shape_keeping, certify_keeping, is_shape, least_shape_keeping_in,
+};
 use std::alloc::Global;
 use std::process::Abort;
 use test_inputs::{Case, L, ONE_BEND, R, plane_in, prices_in, shape_in};
@@ -27,7 +29,8 @@ type Figures = (u32, (bool, bool));
 
 /// The figures of a least shape that keeps the edges of marked darts straight.
 fn figures_keeping(alloc: Global, plane: &Plane, straight: &[bool]) -> Result<Figures, SolveFault> {
-    let (shape, prices) = least_shape_keeping(alloc, plane, straight)?;
+    let mut scratch = Scratch::empty(alloc);
+    let (shape, prices) = least_shape_keeping_in(alloc, &mut scratch, plane, straight)?;
     let proved = certify_keeping(plane, straight, &shape, &prices);
     Ok((shape.bends(), (is_shape(plane, &shape), proved)))
 }

@@ -69,8 +69,8 @@ impl<R: Wait, O: Opener, G: Gate, L: LaneKind> Shared<'_, R, O, G, L> {
         unreachable!()
     }
 
-    /// Reads one drawn file, and gives its records and one end. Before it is opened, and before each further read of it,
-    /// it blocks as long as the file is paused.
+    /// Reads one drawn file, and gives its records and one end. Before it opens the file, and after each read, it blocks
+    /// as long as the file is paused.
     fn read_drawn(
         &self,
         file: u32,

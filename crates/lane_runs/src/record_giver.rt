@@ -17,7 +17,7 @@ const MOST_BYTES: usize = 4096;
 
 /// A `Keep` that calls the gate for each record, and sends the records in messages of several.
 ///
-/// No record waits for the next read of its file. Before that it blocks as long as the file is paused.
+/// No record waits for the next read of its file. After each read it blocks as long as the file is paused.
 #[derive(Drop)]
 pub struct RecordGiver<'s, R, G, L: LaneKind> {
     pub rt: &'s R,

@@ -1,7 +1,7 @@
 //! Coordinates of least total length, by the primal-dual method (Ahuja, Magnanti and Orlin, Network Flows, 1993, section
 //! 9.8).
 
-ghost use Rattle.std.specs.Prelude.{◌≡◌, ◌<◌, ◌≤◌, ℕ, length, true, IfOk, IfSome};
+ghost use Rattle.std.specs.Prelude.{◌≡◌, ◌<◌, ◌≤◌, ℕ, length, true, IfOk};
 ghost use Rattle.least_length.specs.declared.segments.TheConstants.{MAX_WIRES};
 ghost use Rattle.least_length.specs.Weights.{HasEnds};
 ghost use Rattle.least_length.specs.Lengths.{coordinates_in, segment_at, total_length, wire_at, IsShortest};
@@ -10,9 +10,10 @@ use crate::certificate::{certify, have_ends, have_levels, measure};
 use crate::scratch::Scratch;
 use crate::segments::{MAX_SEGMENTS, MAX_SIGHTS, MAX_WIRES, Segment, Wire};
 use crate::sweep::highest;
-use std::alloc::{AllocError, Global};
+use std::alloc::AllocError;
 
-/// Coordinates of the segments with which the total length of the wires is least, or `None` if none were found.
+/// Writes coordinates of the segments with which the total length of the wires is least into `coordinates`, and returns
+/// whether any were found.
 ///
 /// There is one coordinate for each segment. With them segments keep their order on each level, and no such coordinates
 /// give a lesser total length. The segments must be given in the order of their coordinates; wires run along levels, to
@@ -21,48 +22,14 @@ use std::alloc::{AllocError, Global};
 /// Each wire pulls its two segments together by one unit. Segment by segment, units that pull up are sent along pairs
 /// to segments that are pulled down: over segments that are next to each other, and if these lead no further, all
 /// segments reached move up together (the primal-dual method for least-cost flow: Ahuja, Magnanti and Orlin, Network
-/// Flows, 1993). The result is returned only if [`certify_lengths`](crate::certify_lengths) accepts it. It is `None` if
+/// Flows, 1993). True is returned only if [`certify_lengths`](crate::certify_lengths) accepts the result. It is false if
 /// more than 4,096 pairs are met, if more than 65,536 wires or 65,533 segments are given, or if the input is other than
-/// said above; that it is never `None` otherwise is measured and not proved.
+/// said above; that it is never false otherwise is measured and not proved. It reuses the caller's scratch and list; if
+/// it is false, what the list holds does not matter.
 ///
 /// # Errors
+///
 /// `AllocError` if there is no memory for the coordinates or for the search.
-pub fn shortest_coordinates(
-    alloc: Global,
-    segments: &[Segment],
-    wires: &[Wire],
-) -> Result<Option<Vec<u16>>, AllocError>
-    ensures least { IfOk result (λ found. IfSome found (λ coordinates. IsShortest segments.now wires.now (coordinates_in coordinates.items))) }
-    ensures count { IfOk result (λ found. IfSome found (λ coordinates. length coordinates.items ≡ length segments.now)) }
-{
-    let mut scratch = Scratch::empty(alloc);
-    shortest_coordinates_in(alloc, &mut scratch, segments, wires)
-}
-
-/// Coordinates of the segments with which the total length of the wires is least, or `None` if none were found.
-///
-/// Exactly as [`shortest_coordinates`], but it reuses the caller's scratch.
-pub fn shortest_coordinates_in(
-    alloc: Global,
-    scratch: &mut Scratch,
-    segments: &[Segment],
-    wires: &[Wire],
-) -> Result<Option<Vec<u16>>, AllocError>
-    ensures least { IfOk result (λ found. IfSome found (λ coordinates. IsShortest segments.now wires.now (coordinates_in coordinates.items))) }
-    ensures count { IfOk result (λ found. IfSome found (λ coordinates. length coordinates.items ≡ length segments.now)) }
-{
-    let mut coordinates = Vec::with_capacity(alloc, segments.len())?;
-    if find_shortest(scratch, segments, wires, &mut coordinates)? {
-        Ok(Some(coordinates))
-    } else {
-        Ok(None)
-    }
-}
-
-/// Writes coordinates of least total length into `coordinates`, and returns whether any were found.
-///
-/// They are as in [`shortest_coordinates`]. It reuses the caller's scratch and list; if none are found, what the list
-/// holds does not matter.
 pub fn find_shortest(
     scratch: &mut Scratch,
     segments: &[Segment],

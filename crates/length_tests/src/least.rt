@@ -1,6 +1,6 @@
 //! Segments whose least length is known by hand.
 use crate::made::{Drawn, segments_of, wires_of};
-use least_length::{Wire, shortest_coordinates};
+use least_length::{Scratch, Wire, find_shortest};
 use std::alloc::{AllocError, Global};
 use test_tools::same;
 
@@ -131,9 +131,10 @@ const DRAWINGS: [(Drawn<'static>, Option<u32>); 10] = [
 fn least_length_of(alloc: Global, drawn: Drawn<'_>) -> Result<Option<u32>, AllocError> {
     let segments = segments_of(alloc, drawn.segments)?;
     let wires = wires_of(alloc, &segments, drawn.wires)?;
-    let Some(coordinates) = shortest_coordinates(alloc, &segments, &wires)? else {
+    let (mut scratch, mut coordinates) = (Scratch::empty(alloc), Vec::new(alloc));
+    if !find_shortest(&mut scratch, &segments, &wires, &mut coordinates)? {
         return Ok(None);
-    };
+    }
     Ok(Some(length_of(&wires, &coordinates)))
 }
 

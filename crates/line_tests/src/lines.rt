@@ -1,8 +1,7 @@
 //! Lines by hand, and lines that are refused.
 
-use drawn_lines::{LineFault, angles_in, bends_in, outer_in, points_of_line, turns_in};
-use ortho_rep::{Point, Turn};
-use serde_json::Value;
+use drawn_lines::{LineFault, angles_in, bends_in, outer_in, points_in, turns_in, value_in};
+use ortho_rep::{Point, Points, Turn};
 use std::alloc::Global;
 
 /// A triangle with a corner on its last edge.
@@ -43,9 +42,15 @@ const REFUSED: [(&str, LineFault); 12] = [
     ),
 ];
 
+/// The points that a line has.
+fn points_of(alloc: Global, line: &str) -> Result<Points, LineFault> {
+    let value = value_in(alloc, line.as_bytes())?;
+    points_in(alloc, &value)
+}
+
 /// Whether a line has these points of vertices and three edges, the last of which has these corners.
 fn says(alloc: Global, line: &str, vertices: &[Point], last: &[Point]) -> Result<bool, LineFault> {
-    let points = points_of_line(alloc, line.as_bytes())?;
+    let points = points_of(alloc, line)?;
     let edges = points.edge_count();
     Ok(points.vertices() == vertices && edges == 3 && points.corners(2) == last)
 }
@@ -66,7 +71,7 @@ fn points_come_in_order(rt: HostRuntime) {
 #[test]
 fn lines_without_points_are_refused(rt: HostRuntime) {
     for (line, fault) in REFUSED {
-        assert!(rt; points_of_line(rt.alloc(), line.as_bytes()).err() == Some(fault));
+        assert!(rt; points_of(rt.alloc(), line).err() == Some(fault));
     }
 }
 
@@ -75,7 +80,7 @@ fn claims(
     alloc: Global,
     line: &str,
 ) -> Result<(Option<u32>, Option<u16>, Option<u8>, Option<Turn>), LineFault> {
-    let value = Value::from_str(alloc, line).map_err(|_| LineFault::Malformed)?;
+    let value = value_in(alloc, line.as_bytes())?;
     let angles = angles_in(alloc, &value)?;
     let turns = turns_in(alloc, &value)?;
     let angle = angles

@@ -3,7 +3,6 @@ use Rattle.std.proofs.Common.{◌≡◌, ◌≢◌, ◌≤◌, ◌<◌, ℕ, suc
 use Rattle.std.specs.Prelude.{ℤ, pos, negsuc, ◌+ℤ◌, ◌-ℤ◌, ◌≤ℤ◌, ◌<ℤ◌}
 use Rattle.std.proofs.lemmas.Bool.{both_ways, cases_eq, cases_lt, eq-eqb, ne_eqb, cond-true, cond-false}
 use Rattle.std.proofs.lemmas.Int.{ints}
-use mathlib.Core.Path.{fun_ext}
 use Rattle.networks.specs.declared.residual.TheConstants.{SATURATED}
 use Rattle.common.proofs.Sums.{sum_below-same, sum_below-changed}
 use Rattle.networks.specs.declared.arc.Cap.{Cap}
@@ -18,16 +17,16 @@ use Rattle.std.specs.Prelude.{length, slice_index_or}
 use Rattle.min_cost_flow.specs.Excess.{IsWithinCaps, Carries}
 use Rattle.min_cost_flow.specs.Residual.{IsMoved}
 use Rattle.networks.specs.declared.residual.Residual.{Residual}
-use Rattle.networks.specs.ResidualArcs.{end_at, cost_at, reverse_at, capacity_at, StartsAt, number_of, HasResidualArcs, units_of, AreResidualArcs, carried}
-use Rattle.networks.specs.Residuals.{IsResidualNetwork, flow_of}
+use Rattle.networks.specs.ResidualArcs.{start_at, end_at, cost_at, reverse_of, capacity_at, number_of, units_of, AreResidualArcs, carried}
+use Rattle.networks.specs.Residuals.{IsResidualNetwork}
 use Rattle.min_cost_flow.specs.Path.{IsTight, HasTightPath, path_node, IsOnPath}
 use Rattle.min_cost_flow.specs.Round.{IsLess, carrying}
 use Rattle.min_cost_flow.specs.declared.state.Solver.{Solver}
 use Rattle.min_cost_flow.specs.SolverState.{potential_at, predecessors_in, places_in, CanAugment, HasUnitCost, IsPaired, IsPushedAlong}
-use Rattle.networks.proofs.Ends.{start_in, end_in, unit_cost_most}
+use Rattle.networks.proofs.Ends.{end_in, unit_cost_most}
+use Rattle.networks.proofs.Links.{other_way, reverse_is, reverse_below, reverse_apart, number_parts, number_alone, arc_below, stems_from_arc, linked_same}
 use Rattle.min_cost_flow.proofs.Changes.{SameBut, moved_carries, carried_leaves, potentials_stay}
 use Rattle.min_cost_flow.proofs.Rounds.{IsSent, remaining_falls}
-use Rattle.min_cost_flow.proofs.Reverses.{start_is}
 
 -- ---- what is read of a visit
 
@@ -39,49 +38,14 @@ enter_read visits v x b e = ap (λ (y : Visit). y.predecessor) (get_or_read visi
 
 -- ---- one push
 
-opposite : Bool → Bool
-opposite false = true
-opposite true = false
-
-opposite_is : (net : NetworkModel) (first : List ℕ) (reverse : ℕ → ℕ) (forward : List ℕ) (i : ℕ) (b : Bool) → HasResidualArcs net first reverse forward → i < arc_count net → reverse (number_of reverse forward i b) ≡ number_of reverse forward i (opposite b)
-unfolding opposite
-opposite_is net first reverse forward i false l b = refl
-opposite_is net first reverse forward i true l b = l.undone i b
-
 -- what a push along residual arc k changes
-pub record IsPushed (reverse capacity capacity' : ℕ → ℕ) (k amount : ℕ) : Type 0 where
+pub record IsPushed (capacity capacity' : ℕ → ℕ) (k amount : ℕ) : Type 0 where
   pub less : capacity' k + amount ≡ capacity k
-  pub more : capacity' (reverse k) ≡ capacity (reverse k) + amount
-  pub others : (j : ℕ) → j ≢ k → j ≢ reverse k → capacity' j ≡ capacity j
+  pub more : capacity' (reverse_of k) ≡ capacity (reverse_of k) + amount
+  pub others : (j : ℕ) → j ≢ k → j ≢ reverse_of k → capacity' j ≡ capacity j
 
-pub number_below : (net : NetworkModel) (first : List ℕ) (reverse : ℕ → ℕ) (forward : List ℕ) (v k : ℕ) → HasResidualArcs net first reverse forward → v < node_count net → StartsAt first v k → k < arc_count net + arc_count net
-number_below net first reverse forward v k l b s = omega (arith, s.below, l.inside v b)
-
-pub place_below : (net : NetworkModel) (first : List ℕ) (reverse : ℕ → ℕ) (forward : List ℕ) (i : ℕ) (back : Bool) → IsNetwork net → HasResidualArcs net first reverse forward → i < arc_count net → number_of reverse forward i back < arc_count net + arc_count net
-place_below net first reverse forward i back n l b =
-    number_below net first reverse forward (start_of net i back) (number_of reverse forward i back) l (start_in net i back n.ends b) (l.block i back b)
-
-reverse_place : (net : NetworkModel) (first : List ℕ) (reverse : ℕ → ℕ) (forward : List ℕ) (k : ℕ) (i : ℕ) (back : Bool) → HasResidualArcs net first reverse forward → i < arc_count net → number_of reverse forward i back ≡ k → reverse k ≡ number_of reverse forward i (opposite back)
-reverse_place net first reverse forward k i back l b e = ap reverse (sym e) ∙ opposite_is net first reverse forward i back l b
-
--- the reverse of one of a node's residual arcs has a number too
-pub reverse_below : (net : NetworkModel) (first : List ℕ) (reverse : ℕ → ℕ) (forward : List ℕ) (v k : ℕ) → IsNetwork net → HasResidualArcs net first reverse forward → v < node_count net → StartsAt first v k → reverse k < arc_count net + arc_count net
-reverse_below net first reverse forward v k n l b s =
-    let o = l.stem_from_arcs v k b s in
-    let e : reverse k ≡ number_of reverse forward o.arc (opposite o.back) = reverse_place net first reverse forward k o.arc o.back l o.inside o.place in
-    omega (arith, e, place_below net first reverse forward o.arc (opposite o.back) n l o.inside)
-
-not_other_way : (b : Bool) → b ≡ opposite b → ⊥
-unfolding opposite
-not_other_way true h = cc
-not_other_way false h = cc
-
--- no residual arc is its own reverse
-pub not_reverse : (net : NetworkModel) (first : List ℕ) (reverse : ℕ → ℕ) (forward : List ℕ) (v k : ℕ) → HasResidualArcs net first reverse forward → v < node_count net → StartsAt first v k → k ≢ reverse k
-not_reverse net first reverse forward v k l b s h =
-    let o = l.stem_from_arcs v k b s in
-    let e : reverse k ≡ number_of reverse forward o.arc (opposite o.back) = reverse_place net first reverse forward k o.arc o.back l o.inside o.place in
-    not_other_way o.back (l.alone o.arc o.arc o.back (opposite o.back) o.inside o.inside (o.place ∙ h ∙ e)).1
+reverse_place : (k : ℕ) (i : ℕ) (back : Bool) → number_of i back ≡ k → reverse_of k ≡ number_of i (other_way back)
+reverse_place k i back e = ap reverse_of (sym e) ∙ reverse_is i back
 
 unit_cost_least : (net : NetworkModel) (i : ℕ) (back : Bool) → HasUnitCosts net → i < arc_count net → negsuc 0 ≤ℤ unit_cost net i back
 unit_cost_least net i false costs b = omega (arith, ints)
@@ -99,41 +63,37 @@ coded_some : (z : ℤ) (r : ℕ) → 0 < r → coded z r ≡ z
 unfolding coded
 coded_some z r h = cond-false {A = ℤ} (eqb r 0) (z +ℤ SATURATED) z (ne_eqb r 0 (λ e. omega arith))
 
-code_is : (net : NetworkModel) (reverse : ℕ → ℕ) (forward : List ℕ) (capacity : ℕ → ℕ) (arcs : List ResidualArc) (i : ℕ) (back : Bool) → AreResidualArcs net reverse forward capacity arcs → i < arc_count net → cost_at arcs (number_of reverse forward i back) ≡ coded (unit_cost net i back) (capacity (number_of reverse forward i back))
+code_is : (net : NetworkModel) (capacity : ℕ → ℕ) (arcs : List ResidualArc) (i : ℕ) (back : Bool) → AreResidualArcs net capacity arcs → i < arc_count net → cost_at arcs (number_of i back) ≡ coded (unit_cost net i back) (capacity (number_of i back))
 unfolding coded
-code_is net reverse forward capacity arcs i back f b = f.cost i back b
+code_is net capacity arcs i back f b = f.cost i back b
 
 -- what fits along a residual arc and its reverse
-both_fit : (net : NetworkModel) (reverse : ℕ → ℕ) (forward : List ℕ) (capacity : ℕ → ℕ) (arcs : List ResidualArc) (i : ℕ) (back : Bool) → AreResidualArcs net reverse forward capacity arcs → i < arc_count net → capacity (number_of reverse forward i back) + capacity (number_of reverse forward i (opposite back)) ≡ units_of (arc_at net i).cap
-unfolding opposite
-both_fit net reverse forward capacity arcs i false f b = f.fits i b
-both_fit net reverse forward capacity arcs i true f b = omega (arith, f.fits i b)
+both_fit : (net : NetworkModel) (capacity : ℕ → ℕ) (arcs : List ResidualArc) (i : ℕ) (back : Bool) → AreResidualArcs net capacity arcs → i < arc_count net → capacity (number_of i back) + capacity (number_of i (other_way back)) ≡ units_of (arc_at net i).cap
+unfolding other_way
+both_fit net capacity arcs i false f b = f.fits i b
+both_fit net capacity arcs i true f b = omega (arith, f.fits i b)
 
-cost_in : (net : NetworkModel) (r : Residual) (i : ℕ) (back : Bool) → IsNetwork net → IsResidualNetwork net r → i < arc_count net → HasUnitCost r (number_of (reverse_at r.capacities.items) r.forward.items i back)
+cost_in : (net : NetworkModel) (r : Residual) (i : ℕ) (back : Bool) → IsNetwork net → IsResidualNetwork net r → i < arc_count net → HasUnitCost r (number_of i back)
 cost_in net r i back n s b = (unit_cost net i back, unit_cost_least net i back n.costs b, unit_cost_most net i back n.costs b, s.filled.cost i back b)
 
--- a node's residual arc has a reverse
-pub is_paired : (net : NetworkModel) (r : Residual) (v k : ℕ) → IsNetwork net → IsResidualNetwork net r → v < node_count net → StartsAt r.first.items v k → IsPaired r k
-is_paired net r v k n s b st =
-    let l = s.arcs_built in
+-- each residual arc has a reverse
+pub is_paired : (net : NetworkModel) (r : Residual) (k : ℕ) → IsNetwork net → IsResidualNetwork net r → k < length r.arcs.items → IsPaired r k
+is_paired net r k n s b =
     let f = s.filled in
-    let first = r.first.items in
-    let reverse = reverse_at r.capacities.items in
-    let forward = r.forward.items in
-    let o = l.stem_from_arcs v k b st in
-    let e : reverse k ≡ number_of reverse forward o.arc (opposite o.back) = reverse_place net first reverse forward k o.arc o.back l o.inside o.place in
-    let there : capacity_at r.capacities.items (reverse k) ≡ capacity_at r.capacities.items (number_of reverse forward o.arc (opposite o.back)) = ap (capacity_at r.capacities.items) e in
-    let here : capacity_at r.capacities.items (number_of reverse forward o.arc o.back) ≡ capacity_at r.capacities.items k = ap (capacity_at r.capacities.items) o.place in
-    let low : k < arc_count net + arc_count net = number_below net first reverse forward v k l b st in
-    let back : reverse k < arc_count net + arc_count net = reverse_below net first reverse forward v k n l b st in
+    let (i, back, place) = number_parts k in
+    let low : k < arc_count net + arc_count net = omega (arith, f.arc_size) in
+    let inside : i < arc_count net = arc_below (arc_count net) k i back place low in
+    let e : reverse_of k ≡ number_of i (other_way back) = reverse_place k i back place in
+    let there : capacity_at r.capacities.items (reverse_of k) ≡ capacity_at r.capacities.items (number_of i (other_way back)) = ap (capacity_at r.capacities.items) e in
+    let here : capacity_at r.capacities.items (number_of i back) ≡ capacity_at r.capacities.items k = ap (capacity_at r.capacities.items) place in
     record {
       sizes = s.capacities_size ∙ sym f.arc_size;
-      here = omega (arith, f.arc_size);
-      there = omega (arith, f.arc_size);
-      apart = not_reverse net first reverse forward v k l b st;
-      cost = subst (λ (t : ℕ). HasUnitCost r t) o.place (cost_in net r o.arc o.back n s o.inside);
-      back_cost = subst (λ (t : ℕ). HasUnitCost r t) (sym e) (cost_in net r o.arc (opposite o.back) n s o.inside);
-      capacity = omega (arith, both_fit net reverse forward (capacity_at r.capacities.items) r.arcs.items o.arc o.back f o.inside, s.limits o.arc o.inside);
+      here = b;
+      there = omega (arith, f.arc_size, reverse_below (arc_count net) k low);
+      apart = reverse_apart k;
+      cost = subst (λ (t : ℕ). HasUnitCost r t) place (cost_in net r i back n s inside);
+      back_cost = subst (λ (t : ℕ). HasUnitCost r t) (sym e) (cost_in net r i (other_way back) n s inside);
+      capacity = omega (arith, both_fit net (capacity_at r.capacities.items) r.arcs.items i back f inside, s.limits i inside);
     }
 
 -- ---- what a push keeps
@@ -142,55 +102,47 @@ moved_fits : (a b a' b' m k : ℕ) → a + b ≡ k → a' + m ≡ a → b' ≡ b
 moved_fits a b a' b' m k h x y = omega arith
 
 -- the capacities along and against an arc, in either order
-either_order : (reverse : ℕ → ℕ) (forward : List ℕ) (capacity : ℕ → ℕ) (i k : ℕ) (b : Bool) → capacity (number_of reverse forward i b) + capacity (number_of reverse forward i (opposite b)) ≡ k → capacity (number_of reverse forward i false) + capacity (number_of reverse forward i true) ≡ k
-unfolding opposite
-either_order reverse forward capacity i k false h = h
-either_order reverse forward capacity i k true h = omega arith
+either_order : (capacity : ℕ → ℕ) (i k : ℕ) (b : Bool) → capacity (number_of i b) + capacity (number_of i (other_way b)) ≡ k → capacity (number_of i false) + capacity (number_of i true) ≡ k
+unfolding other_way
+either_order capacity i k false h = h
+either_order capacity i k true h = omega arith
 
-pushed_fits : (net : NetworkModel) (first : List ℕ) (reverse : ℕ → ℕ) (forward : List ℕ) (capacity capacity' : ℕ → ℕ) (arcs : List ResidualArc) (i j : ℕ) (b : Bool) (k amount : ℕ) → HasResidualArcs net first reverse forward → AreResidualArcs net reverse forward capacity arcs → i < arc_count net → number_of reverse forward i b ≡ k → IsPushed reverse capacity capacity' k amount → j < arc_count net → capacity' (number_of reverse forward j false) + capacity' (number_of reverse forward j true) ≡ units_of (arc_at net j).cap
-pushed_fits net first reverse forward capacity capacity' arcs i j b k amount l f inside e s inside' =
-    let back = reverse_place net first reverse forward k i b l inside e in
+pushed_fits : (net : NetworkModel) (capacity capacity' : ℕ → ℕ) (arcs : List ResidualArc) (i j : ℕ) (b : Bool) (k amount : ℕ) → AreResidualArcs net capacity arcs → i < arc_count net → number_of i b ≡ k → IsPushed capacity capacity' k amount → j < arc_count net → capacity' (number_of j false) + capacity' (number_of j true) ≡ units_of (arc_at net j).cap
+pushed_fits net capacity capacity' arcs i j b k amount f inside e s inside' =
+    let back = reverse_place k i b e in
     elim (cases_eq j i) [
       | inl q ↦
-          subst (λ (t : ℕ). capacity' (number_of reverse forward t false) + capacity' (number_of reverse forward t true) ≡ units_of (arc_at net t).cap) (sym q)
-          (either_order reverse forward capacity' i (units_of (arc_at net i).cap) b
-          (moved_fits (capacity (number_of reverse forward i b)) (capacity (number_of reverse forward i (opposite b))) (capacity' (number_of reverse forward i b)) (capacity' (number_of reverse forward i (opposite b))) amount (units_of (arc_at net i).cap) (both_fit net reverse forward capacity arcs i b f inside)
+          subst (λ (t : ℕ). capacity' (number_of t false) + capacity' (number_of t true) ≡ units_of (arc_at net t).cap) (sym q)
+          (either_order capacity' i (units_of (arc_at net i).cap) b
+          (moved_fits (capacity (number_of i b)) (capacity (number_of i (other_way b))) (capacity' (number_of i b)) (capacity' (number_of i (other_way b))) amount (units_of (arc_at net i).cap) (both_fit net capacity arcs i b f inside)
           (subst (λ (t : ℕ). capacity' t + amount ≡ capacity t) (sym e) s.less)
           (subst (λ (t : ℕ). capacity' t ≡ capacity t + amount) back s.more)))
       | inr ne ↦
-          let same : (c : Bool) → capacity' (number_of reverse forward j c) ≡ capacity (number_of reverse forward j c) =
-          λ c. s.others (number_of reverse forward j c) (λ h. ne (l.alone j i c b inside' inside (h ∙ sym e)).0) (λ h. ne (l.alone j i c (opposite b) inside' inside (h ∙ back)).0) in
+          let same : (c : Bool) → capacity' (number_of j c) ≡ capacity (number_of j c) =
+          λ c. s.others (number_of j c) (λ h. ne (number_alone j i c b (h ∙ sym e)).0) (λ h. ne (number_alone j i c (other_way b) (h ∙ back)).0) in
           omega (arith, same false, same true, f.fits j inside')
     ]
 
-pub was_pushed : (r r' : Residual) (k amount : ℕ) → IsPushedAlong r r' k amount → IsPushed (reverse_at r.capacities.items) (capacity_at r.capacities.items) (capacity_at r'.capacities.items) k amount
+pub was_pushed : (r r' : Residual) (k amount : ℕ) → IsPushedAlong r r' k amount → IsPushed (capacity_at r.capacities.items) (capacity_at r'.capacities.items) k amount
 was_pushed r r' k amount s = record { less = s.less; more = s.more; others = s.others }
 
 -- the residual arcs are still those of the network
-pub pushed_network : (net : NetworkModel) (r r' : Residual) (v k amount : ℕ) → IsResidualNetwork net r → v < node_count net → StartsAt r.first.items v k → IsPushedAlong r r' k amount → IsResidualNetwork net r'
-pushed_network net r r' v k amount s b st p =
-    let l = s.arcs_built in
+pub pushed_network : (net : NetworkModel) (r r' : Residual) (k amount : ℕ) → IsResidualNetwork net r → k < length r.arcs.items → IsPushedAlong r r' k amount → IsResidualNetwork net r'
+pushed_network net r r' k amount s b p =
     let f = s.filled in
-    let o = l.stem_from_arcs v k b st in
-    let filled : AreResidualArcs net (reverse_at r.capacities.items) r.forward.items (capacity_at r'.capacities.items) r'.arcs.items = record {
-      arc_size = p.arc_size ∙ f.arc_size;
-      end = λ j c h. p.ends (number_of (reverse_at r.capacities.items) r.forward.items j c) ∙ f.end j c h;
-      cost = λ j c h. p.costs (number_of (reverse_at r.capacities.items) r.forward.items j c) (unit_cost net j c) (f.cost j c h);
-      fits = λ j h. pushed_fits net r.first.items (reverse_at r.capacities.items) r.forward.items (capacity_at r.capacities.items) (capacity_at r'.capacities.items) r.arcs.items o.arc j o.back k amount l f o.inside o.place (was_pushed r r' k amount p) h;
-    } in
+    let (i, back, place) = number_parts k in
+    let inside : i < arc_count net = arc_below (arc_count net) k i back place (omega (arith, f.arc_size)) in
     record {
-      arcs_built = rw (p.first, p.forward) (subst (λ (backward : ℕ → ℕ). HasResidualArcs net r.first.items backward r.forward.items) (sym (fun_ext p.reverse)) l);
-      filled = rw p.forward (subst (λ (backward : ℕ → ℕ). AreResidualArcs net backward r.forward.items (capacity_at r'.capacities.items) r'.arcs.items) (sym (fun_ext p.reverse)) filled);
+      linked = rw p.first (linked_same (node_count net) r.first.items r.arcs.items r'.arcs.items p.arc_size p.ends p.nexts s.linked);
+      filled = record {
+        arc_size = p.arc_size ∙ f.arc_size;
+        end = λ j c h. p.ends (number_of j c) ∙ f.end j c h;
+        cost = λ j c h. p.costs (number_of j c) (unit_cost net j c) (f.cost j c h);
+        fits = λ j h. pushed_fits net (capacity_at r.capacities.items) (capacity_at r'.capacities.items) r.arcs.items i j back k amount f inside place (was_pushed r r' k amount p) h;
+      };
       capacities_size = p.capacities_size ∙ s.capacities_size;
       limits = s.limits;
     }
-
--- where reverses and arcs stand where they stood, what each arc carries is read as before
-pub same_flow : (r r' : Residual) → ((k : ℕ) → reverse_at r'.capacities.items k ≡ reverse_at r.capacities.items k) → r'.forward ≡ r.forward → flow_of r' ≡ carried (reverse_at r.capacities.items) r.forward.items (capacity_at r'.capacities.items)
-same_flow r r' undone f = rw f (ap (λ (backward : ℕ → ℕ). carried backward r.forward.items (capacity_at r'.capacities.items)) (fun_ext undone))
-
-pub same_filled : (net : NetworkModel) (r r' : Residual) → ((k : ℕ) → reverse_at r'.capacities.items k ≡ reverse_at r.capacities.items k) → r'.forward ≡ r.forward → IsResidualNetwork net r' → AreResidualArcs net (reverse_at r.capacities.items) r.forward.items (capacity_at r'.capacities.items) r'.arcs.items
-same_filled net r r' undone f h = subst (λ (backward : ℕ → ℕ). AreResidualArcs net backward r.forward.items (capacity_at r'.capacities.items) r'.arcs.items) (fun_ext undone) (rw f at h.filled)
 
 -- ---- what a push does to the amounts that the arcs carry
 
@@ -294,11 +246,11 @@ sent_on net p e on place x y z i back u v amount most b moved others at_zero sta
 -- ---- one residual arc of the path
 
 -- residual arc k leads from u to v, something fits along it, and it costs nothing
-pub record IsTightArc (net : NetworkModel) (reverse : ℕ → ℕ) (forward : List ℕ) (capacity : ℕ → ℕ) (p : ℕ → ℤ) (u k v : ℕ) : Type 0 where
+pub record IsTightArc (net : NetworkModel) (capacity : ℕ → ℕ) (p : ℕ → ℤ) (u k v : ℕ) : Type 0 where
   pub arc : ℕ
   pub back : Bool
   pub inside : arc < arc_count net
-  pub place : number_of reverse forward arc back ≡ k
+  pub place : number_of arc back ≡ k
   pub start : start_of net arc back ≡ u
   pub end : end_of net arc back ≡ v
   pub some : 0 < capacity k
@@ -314,11 +266,11 @@ some_coded z c r least e h =
 zero_cost : (c z a b a' b' : ℤ) → c +ℤ a -ℤ b ≡ pos 0 → c ≡ z → a' ≡ a → b' ≡ b → z +ℤ a' -ℤ b' ≡ pos 0
 zero_cost c z a b a' b' h e f g = omega (arith, ints)
 
-pub tight_arc_of : (net : NetworkModel) (first : List ℕ) (reverse : ℕ → ℕ) (forward : List ℕ) (capacity : ℕ → ℕ) (arcs : List ResidualArc) (p : ℕ → ℤ) (u k v : ℕ) → IsNetwork net → HasResidualArcs net first reverse forward → AreResidualArcs net reverse forward capacity arcs → u < node_count net → IsTight first arcs p u k v → IsTightArc net reverse forward capacity p u k v
-tight_arc_of net first reverse forward capacity arcs p u k v n l f b t =
-    let o = l.stem_from_arcs u k b t.leaves in
+pub tight_arc_of : (net : NetworkModel) (capacity : ℕ → ℕ) (arcs : List ResidualArc) (p : ℕ → ℤ) (u k v : ℕ) → IsNetwork net → AreResidualArcs net capacity arcs → IsTight arcs p u k v → IsTightArc net capacity p u k v
+tight_arc_of net capacity arcs p u k v n f t =
+    let o = stems_from_arc net capacity arcs u k f t.leaves in
     let z = unit_cost net o.arc o.back in
-    let cost : cost_at arcs k ≡ coded z (capacity k) = subst (λ (q : ℕ). cost_at arcs q ≡ coded z (capacity q)) o.place (code_is net reverse forward capacity arcs o.arc o.back f o.inside) in
+    let cost : cost_at arcs k ≡ coded z (capacity k) = subst (λ (q : ℕ). cost_at arcs q ≡ coded z (capacity q)) o.place (code_is net capacity arcs o.arc o.back f o.inside) in
     let some : 0 < capacity k = some_coded z (cost_at arcs k) (capacity k) (unit_cost_least net o.arc o.back n.costs o.inside) cost t.has_capacity in
     let finish : end_of net o.arc o.back ≡ v = sym (f.end o.arc o.back o.inside) ∙ ap (end_at arcs) o.place ∙ t.arrives in
     record {
@@ -333,21 +285,21 @@ tight_arc_of net first reverse forward capacity arcs p u k v n l f b t =
     }
 
 -- what a push does to the amount of its own arc, and to the others
-moved_by : (net : NetworkModel) (first : List ℕ) (reverse : ℕ → ℕ) (forward : List ℕ) (capacity capacity' : ℕ → ℕ) (i : ℕ) (b : Bool) (k amount : ℕ) → HasResidualArcs net first reverse forward → i < arc_count net → number_of reverse forward i b ≡ k → IsPushed reverse capacity capacity' k amount → IsMoved b (carried reverse forward capacity i) amount (carried reverse forward capacity' i)
-unfolding opposite
-moved_by net first reverse forward capacity capacity' i false k amount l b e s = subst (λ (t : ℕ). capacity' t ≡ capacity t + amount) (reverse_place net first reverse forward k i false l b e) s.more
-moved_by net first reverse forward capacity capacity' i true k amount l b e s = sym (subst (λ (t : ℕ). capacity' t + amount ≡ capacity t) (sym e) s.less)
+moved_by : (net : NetworkModel) (capacity capacity' : ℕ → ℕ) (i : ℕ) (b : Bool) (k amount : ℕ) → i < arc_count net → number_of i b ≡ k → IsPushed capacity capacity' k amount → IsMoved b (carried capacity i) amount (carried capacity' i)
+unfolding other_way
+moved_by net capacity capacity' i false k amount b e s = subst (λ (t : ℕ). capacity' t ≡ capacity t + amount) (reverse_place k i false e) s.more
+moved_by net capacity capacity' i true k amount b e s = sym (subst (λ (t : ℕ). capacity' t + amount ≡ capacity t) (sym e) s.less)
 
-kept_by : (net : NetworkModel) (first : List ℕ) (reverse : ℕ → ℕ) (forward : List ℕ) (capacity capacity' : ℕ → ℕ) (i : ℕ) (b : Bool) (k amount : ℕ) → HasResidualArcs net first reverse forward → i < arc_count net → number_of reverse forward i b ≡ k → IsPushed reverse capacity capacity' k amount → SameOthers net i (carried reverse forward capacity) (carried reverse forward capacity')
-kept_by net first reverse forward capacity capacity' i b k amount l inside e s j c ne =
-    s.others (number_of reverse forward j true)
-    (λ h. ne (l.alone j i true b c inside (h ∙ sym e)).0)
-    (λ h. ne (l.alone j i true (opposite b) c inside (h ∙ reverse_place net first reverse forward k i b l inside e)).0)
+kept_by : (net : NetworkModel) (capacity capacity' : ℕ → ℕ) (i : ℕ) (b : Bool) (k amount : ℕ) → i < arc_count net → number_of i b ≡ k → IsPushed capacity capacity' k amount → SameOthers net i (carried capacity) (carried capacity')
+kept_by net capacity capacity' i b k amount inside e s j c ne =
+    s.others (number_of j true)
+    (λ h. ne (number_alone j i true b (h ∙ sym e)).0)
+    (λ h. ne (number_alone j i true (other_way b) (h ∙ reverse_place k i b e)).0)
 
 -- where an arc carries what it carried, the same fits along it
-same_capacity : (net : NetworkModel) (reverse : ℕ → ℕ) (forward : List ℕ) (capacity capacity' : ℕ → ℕ) (arcs arcs' : List ResidualArc) (i : ℕ) (back : Bool) → AreResidualArcs net reverse forward capacity arcs → AreResidualArcs net reverse forward capacity' arcs' → i < arc_count net → carried reverse forward capacity' i ≡ carried reverse forward capacity i → capacity' (number_of reverse forward i back) ≡ capacity (number_of reverse forward i back)
-same_capacity net reverse forward capacity capacity' arcs arcs' i true f f' b h = h
-same_capacity net reverse forward capacity capacity' arcs arcs' i false f f' b h = omega (arith, f.fits i b, f'.fits i b)
+same_capacity : (net : NetworkModel) (capacity capacity' : ℕ → ℕ) (arcs arcs' : List ResidualArc) (i : ℕ) (back : Bool) → AreResidualArcs net capacity arcs → AreResidualArcs net capacity' arcs' → i < arc_count net → carried capacity' i ≡ carried capacity i → capacity' (number_of i back) ≡ capacity (number_of i back)
+same_capacity net capacity capacity' arcs arcs' i true f f' b h = h
+same_capacity net capacity capacity' arcs arcs' i false f f' b h = omega (arith, f.fits i b, f'.fits i b)
 
 both_ends : (net : NetworkModel) (on : ℕ → Bool) (place : ℕ → ℕ) (x y : ℕ → ℕ) (i : ℕ) (back : Bool) (u v : ℕ) → start_of net i back ≡ u → end_of net i back ≡ v → on u ≡ true → on v ≡ true → place u < place v → (on (arc_at net i).from ≡ true → on (arc_at net i).to ≡ true → place (arc_at net i).from ≤ place v → place (arc_at net i).to ≤ place v → y i ≡ x i) → y i ≡ x i
 both_ends net on place x y i false u v s e a b less kept =
@@ -359,34 +311,34 @@ both_ends net on place x y i true u v s e a b less kept =
     let f : place (arc_at net i).from ≡ place v = ap place e in
     kept (ap on e ∙ b) (ap on s ∙ a) (omega arith) (omega arith)
 
-arc_kept : (net : NetworkModel) (reverse : ℕ → ℕ) (forward : List ℕ) (capacity : ℕ → ℕ) (p e : ℕ → ℤ) (on : ℕ → Bool) (place : ℕ → ℕ) (x y : ℕ → ℕ) (u k v amount most : ℕ) → (t : IsTightArc net reverse forward capacity p u k v) → on u ≡ true → on v ≡ true → place u < place v → IsSending net p e on place x y v amount most → y t.arc ≡ x t.arc
-arc_kept net reverse forward capacity p e on place x y u k v amount most t a b less s =
+arc_kept : (net : NetworkModel) (capacity : ℕ → ℕ) (p e : ℕ → ℤ) (on : ℕ → Bool) (place : ℕ → ℕ) (x y : ℕ → ℕ) (u k v amount most : ℕ) → (t : IsTightArc net capacity p u k v) → on u ≡ true → on v ≡ true → place u < place v → IsSending net p e on place x y v amount most → y t.arc ≡ x t.arc
+arc_kept net capacity p e on place x y u k v amount most t a b less s =
     both_ends net on place x y t.arc t.back u v t.start t.end a b less (s.kept t.arc t.inside)
 
 -- what fitted along the next residual arc still does
-pub still_fits : (net : NetworkModel) (reverse : ℕ → ℕ) (forward : List ℕ) (capacity capacity' : ℕ → ℕ) (arcs arcs' : List ResidualArc) (p e : ℕ → ℤ) (on : ℕ → Bool) (place : ℕ → ℕ) (u k v amount most : ℕ) → AreResidualArcs net reverse forward capacity arcs → AreResidualArcs net reverse forward capacity' arcs' → IsTightArc net reverse forward capacity p u k v → on u ≡ true → on v ≡ true → place u < place v → IsSending net p e on place (carried reverse forward capacity) (carried reverse forward capacity') v amount most → amount ≤ capacity k → amount ≤ capacity' k
-still_fits net reverse forward capacity capacity' arcs arcs' p e on place u k v amount most f f' t a b less s fits =
-    let own = arc_kept net reverse forward capacity p e on place (carried reverse forward capacity) (carried reverse forward capacity') u k v amount most t a b less s in
-    let same : capacity' k ≡ capacity k = subst (λ (q : ℕ). capacity' q ≡ capacity q) t.place (same_capacity net reverse forward capacity capacity' arcs arcs' t.arc t.back f f' t.inside own) in
+pub still_fits : (net : NetworkModel) (capacity capacity' : ℕ → ℕ) (arcs arcs' : List ResidualArc) (p e : ℕ → ℤ) (on : ℕ → Bool) (place : ℕ → ℕ) (u k v amount most : ℕ) → AreResidualArcs net capacity arcs → AreResidualArcs net capacity' arcs' → IsTightArc net capacity p u k v → on u ≡ true → on v ≡ true → place u < place v → IsSending net p e on place (carried capacity) (carried capacity') v amount most → amount ≤ capacity k → amount ≤ capacity' k
+still_fits net capacity capacity' arcs arcs' p e on place u k v amount most f f' t a b less s fits =
+    let own = arc_kept net capacity p e on place (carried capacity) (carried capacity') u k v amount most t a b less s in
+    let same : capacity' k ≡ capacity k = subst (λ (q : ℕ). capacity' q ≡ capacity q) t.place (same_capacity net capacity capacity' arcs arcs' t.arc t.back f f' t.inside own) in
     omega arith
 
 -- a push along the next residual arc
-pub sending_more : (net : NetworkModel) (first : List ℕ) (reverse : ℕ → ℕ) (forward : List ℕ) (capacity capacity' capacity'' : ℕ → ℕ) (p e : ℕ → ℤ) (on : ℕ → Bool) (place : ℕ → ℕ) (u k v amount most : ℕ) → HasResidualArcs net first reverse forward → IsTightArc net reverse forward capacity p u k v → on u ≡ true → on v ≡ true → place u < place v → IsSending net p e on place (carried reverse forward capacity) (carried reverse forward capacity') v amount most → IsPushed reverse capacity' capacity'' k amount → IsSending net p e on place (carried reverse forward capacity) (carried reverse forward capacity'') u amount most
-sending_more net first reverse forward capacity capacity' capacity'' p e on place u k v amount most l t a b less s pushed =
-    sent_on net p e on place (carried reverse forward capacity) (carried reverse forward capacity') (carried reverse forward capacity'') t.arc t.back u v amount most t.inside
-    (moved_by net first reverse forward capacity' capacity'' t.arc t.back k amount l t.inside t.place pushed)
-    (kept_by net first reverse forward capacity' capacity'' t.arc t.back k amount l t.inside t.place pushed)
+pub sending_more : (net : NetworkModel) (capacity capacity' capacity'' : ℕ → ℕ) (p e : ℕ → ℤ) (on : ℕ → Bool) (place : ℕ → ℕ) (u k v amount most : ℕ) → IsTightArc net capacity p u k v → on u ≡ true → on v ≡ true → place u < place v → IsSending net p e on place (carried capacity) (carried capacity') v amount most → IsPushed capacity' capacity'' k amount → IsSending net p e on place (carried capacity) (carried capacity'') u amount most
+sending_more net capacity capacity' capacity'' p e on place u k v amount most t a b less s pushed =
+    sent_on net p e on place (carried capacity) (carried capacity') (carried capacity'') t.arc t.back u v amount most t.inside
+    (moved_by net capacity' capacity'' t.arc t.back k amount t.inside t.place pushed)
+    (kept_by net capacity' capacity'' t.arc t.back k amount t.inside t.place pushed)
     t.at_zero t.start t.end
-    (arc_kept net reverse forward capacity p e on place (carried reverse forward capacity) (carried reverse forward capacity') u k v amount most t a b less s)
+    (arc_kept net capacity p e on place (carried capacity) (carried capacity') u k v amount most t a b less s)
     (λ _. less) (λ j c f g d h. s.kept j c f g (omega arith) (omega arith)) s.carries s.priced s.grown (omega (arith, s.few))
 
 -- the push along the last residual arc
-pub sending_first : (net : NetworkModel) (first : List ℕ) (reverse : ℕ → ℕ) (forward : List ℕ) (capacity capacity' : ℕ → ℕ) (p e : ℕ → ℤ) (on : ℕ → Bool) (place : ℕ → ℕ) (u k v amount : ℕ) → HasResidualArcs net first reverse forward → IsTightArc net reverse forward capacity p u k v → on v ≡ false → Carries net (carried reverse forward capacity) e v amount → HasPotentials net (carried reverse forward capacity) p → IsPushed reverse capacity capacity' k amount → IsSending net p e on place (carried reverse forward capacity) (carried reverse forward capacity') u amount (carrying net (carried reverse forward capacity) + place u + 1)
-sending_first net first reverse forward capacity capacity' p e on place u k v amount l t off carries priced pushed =
-    let x = carried reverse forward capacity in
-    sent_on net p e on place x x (carried reverse forward capacity') t.arc t.back u v amount (carrying net x + place u + 1) t.inside
-    (moved_by net first reverse forward capacity capacity' t.arc t.back k amount l t.inside t.place pushed)
-    (kept_by net first reverse forward capacity capacity' t.arc t.back k amount l t.inside t.place pushed)
+pub sending_first : (net : NetworkModel) (capacity capacity' : ℕ → ℕ) (p e : ℕ → ℤ) (on : ℕ → Bool) (place : ℕ → ℕ) (u k v amount : ℕ) → IsTightArc net capacity p u k v → on v ≡ false → Carries net (carried capacity) e v amount → HasPotentials net (carried capacity) p → IsPushed capacity capacity' k amount → IsSending net p e on place (carried capacity) (carried capacity') u amount (carrying net (carried capacity) + place u + 1)
+sending_first net capacity capacity' p e on place u k v amount t off carries priced pushed =
+    let x = carried capacity in
+    sent_on net p e on place x x (carried capacity') t.arc t.back u v amount (carrying net x + place u + 1) t.inside
+    (moved_by net capacity capacity' t.arc t.back k amount t.inside t.place pushed)
+    (kept_by net capacity capacity' t.arc t.back k amount t.inside t.place pushed)
     t.at_zero t.start t.end refl
     (λ h. absurd (both_ways (on v) off h)) (λ j c f g d h. refl) carries priced (λ j c. omega arith) (omega arith)
 
@@ -453,8 +405,8 @@ within_limit : (c : Cap) (a b : ℕ) → a + b ≡ units_of c → IsWithinCap c 
 within_limit (AtMost k) a b h = omega arith
 within_limit Any a b h = tt
 
-pub filled_caps : (net : NetworkModel) (reverse : ℕ → ℕ) (forward : List ℕ) (capacity : ℕ → ℕ) (arcs : List ResidualArc) → AreResidualArcs net reverse forward capacity arcs → IsWithinCaps net (carried reverse forward capacity)
-filled_caps net reverse forward capacity arcs f i b = within_limit (arc_at net i).cap (capacity (number_of reverse forward i false)) (capacity (number_of reverse forward i true)) (f.fits i b)
+pub filled_caps : (net : NetworkModel) (capacity : ℕ → ℕ) (arcs : List ResidualArc) → AreResidualArcs net capacity arcs → IsWithinCaps net (carried capacity)
+filled_caps net capacity arcs f i b = within_limit (arc_at net i).cap (capacity (number_of i false)) (capacity (number_of i true)) (f.fits i b)
 
 apart : (e : ℕ → ℤ) (u v : ℕ) → pos 0 <ℤ e u → e v ≤ℤ pos 0 → v ≢ u
 apart e u v a b h = let same : e v ≡ e u = ap e h in omega (arith, ints)
@@ -504,64 +456,64 @@ sent_less net x y e e' u k s some = record {
 -- ---- the residual arcs of the path
 
 -- residual arc k, by which node v of the path was entered, leads there from a node of a lesser place
-pub record IsStep (net : NetworkModel) (first : List ℕ) (reverse : ℕ → ℕ) (forward : List ℕ) (capacity : ℕ → ℕ) (arcs : List ResidualArc) (p : ℕ → ℤ) (on : ℕ → Bool) (place : ℕ → ℕ) (v k : ℕ) : Type 0 where
-  pub node : end_at arcs (reverse k) < node_count net
-  pub member : on (end_at arcs (reverse k)) ≡ true
-  pub before : place (end_at arcs (reverse k)) < place v
-  pub leaves : StartsAt first (end_at arcs (reverse k)) k
-  pub tight_arc : IsTightArc net reverse forward capacity p (end_at arcs (reverse k)) k v
+pub record IsStep (net : NetworkModel) (capacity : ℕ → ℕ) (arcs : List ResidualArc) (p : ℕ → ℤ) (on : ℕ → Bool) (place : ℕ → ℕ) (v k : ℕ) : Type 0 where
+  pub node : start_at arcs k < node_count net
+  pub member : on (start_at arcs k) ≡ true
+  pub before : place (start_at arcs k) < place v
+  pub inside : k < length arcs
+  pub tight_arc : IsTightArc net capacity p (start_at arcs k) k v
 
-pub path_step : (net : NetworkModel) (first : List ℕ) (reverse : ℕ → ℕ) (forward : List ℕ) (capacity : ℕ → ℕ) (arcs : List ResidualArc) (p : ℕ → ℤ) (predecessor place : ℕ → ℕ) (root found : ℕ) → IsNetwork net → HasResidualArcs net first reverse forward → AreResidualArcs net reverse forward capacity arcs → (h : HasTightPath (node_count net) first arcs p predecessor place root found) → (v : ℕ) → h.on v ≡ true → 0 < place v → IsStep net first reverse forward capacity arcs p h.on place v (predecessor v)
-path_step net first reverse forward capacity arcs p predecessor place root found n l f h v on some =
+pub path_step : (net : NetworkModel) (capacity : ℕ → ℕ) (arcs : List ResidualArc) (p : ℕ → ℤ) (predecessor place : ℕ → ℕ) (root found : ℕ) → IsNetwork net → AreResidualArcs net capacity arcs → (h : HasTightPath (node_count net) arcs p predecessor place root found) → (v : ℕ) → h.on v ≡ true → 0 < place v → IsStep net capacity arcs p h.on place v (predecessor v)
+path_step net capacity arcs p predecessor place root found n f h v on some =
     let a = h.after v on some in
     let b : a.start < node_count net = h.node a.start a.member in
-    let s : end_at arcs (reverse (predecessor v)) ≡ a.start = start_is net first reverse forward capacity arcs a.start (predecessor v) l f b a.step.leaves in
+    let s : start_at arcs (predecessor v) ≡ a.start = a.step.leaves.start in
     record {
       node = subst (λ (t : ℕ). t < node_count net) (sym s) b;
       member = ap h.on s ∙ a.member;
       before = subst (λ (t : ℕ). place t < place v) (sym s) a.before;
-      leaves = subst (λ (t : ℕ). StartsAt first t (predecessor v)) (sym s) a.step.leaves;
-      tight_arc = subst (λ (t : ℕ). IsTightArc net reverse forward capacity p t (predecessor v) v) (sym s) (tight_arc_of net first reverse forward capacity arcs p a.start (predecessor v) v n l f b a.step);
+      inside = a.step.leaves.inside;
+      tight_arc = subst (λ (t : ℕ). IsTightArc net capacity p t (predecessor v) v) (sym s) (tight_arc_of net capacity arcs p a.start (predecessor v) v n f a.step);
     }
 
 -- the last residual arc of the path leads off it
-pub record IsLast (net : NetworkModel) (first : List ℕ) (reverse : ℕ → ℕ) (forward : List ℕ) (capacity : ℕ → ℕ) (arcs : List ResidualArc) (p : ℕ → ℤ) (on : ℕ → Bool) (k : ℕ) : Type 0 where
-  pub node : end_at arcs (reverse k) < node_count net
-  pub member : on (end_at arcs (reverse k)) ≡ true
-  pub leaves : StartsAt first (end_at arcs (reverse k)) k
-  pub tight_arc : IsTightArc net reverse forward capacity p (end_at arcs (reverse k)) k (end_at arcs k)
+pub record IsLast (net : NetworkModel) (capacity : ℕ → ℕ) (arcs : List ResidualArc) (p : ℕ → ℤ) (on : ℕ → Bool) (k : ℕ) : Type 0 where
+  pub node : start_at arcs k < node_count net
+  pub member : on (start_at arcs k) ≡ true
+  pub inside : k < length arcs
+  pub tight_arc : IsTightArc net capacity p (start_at arcs k) k (end_at arcs k)
 
-pub path_last : (net : NetworkModel) (first : List ℕ) (reverse : ℕ → ℕ) (forward : List ℕ) (capacity : ℕ → ℕ) (arcs : List ResidualArc) (p : ℕ → ℤ) (predecessor place : ℕ → ℕ) (root found : ℕ) → IsNetwork net → HasResidualArcs net first reverse forward → AreResidualArcs net reverse forward capacity arcs → (h : HasTightPath (node_count net) first arcs p predecessor place root found) → IsLast net first reverse forward capacity arcs p h.on found
-path_last net first reverse forward capacity arcs p predecessor place root found n l f h =
+pub path_last : (net : NetworkModel) (capacity : ℕ → ℕ) (arcs : List ResidualArc) (p : ℕ → ℤ) (predecessor place : ℕ → ℕ) (root found : ℕ) → IsNetwork net → AreResidualArcs net capacity arcs → (h : HasTightPath (node_count net) arcs p predecessor place root found) → IsLast net capacity arcs p h.on found
+path_last net capacity arcs p predecessor place root found n f h =
     let b : h.last < node_count net = h.node h.last h.member in
-    let s : end_at arcs (reverse found) ≡ h.last = start_is net first reverse forward capacity arcs h.last found l f b h.step.leaves in
+    let s : start_at arcs found ≡ h.last = h.step.leaves.start in
     record {
       node = subst (λ (t : ℕ). t < node_count net) (sym s) b;
       member = ap h.on s ∙ h.member;
-      leaves = subst (λ (t : ℕ). StartsAt first t found) (sym s) h.step.leaves;
-      tight_arc = subst (λ (t : ℕ). IsTightArc net reverse forward capacity p t found (end_at arcs found)) (sym s) (tight_arc_of net first reverse forward capacity arcs p h.last found (end_at arcs found) n l f b h.step);
+      inside = h.step.leaves.inside;
+      tight_arc = subst (λ (t : ℕ). IsTightArc net capacity p t found (end_at arcs found)) (sym s) (tight_arc_of net capacity arcs p h.last found (end_at arcs found) n f h.step);
     }
 
-pub tight_arc_end : (net : NetworkModel) (reverse : ℕ → ℕ) (forward : List ℕ) (capacity : ℕ → ℕ) (p : ℕ → ℤ) (u k v : ℕ) → IsNetwork net → IsTightArc net reverse forward capacity p u k v → v < node_count net
-tight_arc_end net reverse forward capacity p u k v n t = subst (λ (q : ℕ). q < node_count net) t.end (end_in net t.arc t.back n.ends t.inside)
+pub tight_arc_end : (net : NetworkModel) (capacity : ℕ → ℕ) (p : ℕ → ℤ) (u k v : ℕ) → IsNetwork net → IsTightArc net capacity p u k v → v < node_count net
+tight_arc_end net capacity p u k v n t = subst (λ (q : ℕ). q < node_count net) t.end (end_in net t.arc t.back n.ends t.inside)
 
 -- the same of the solver's own lists
-pub own_step : (net : NetworkModel) (s : Solver) (root : ℕ) → (h : CanAugment net s root) → (v : ℕ) → h.path.on v ≡ true → 0 < places_in s v → IsStep net s.residual.first.items (reverse_at s.residual.capacities.items) s.residual.forward.items (capacity_at s.residual.capacities.items) s.residual.arcs.items (potential_at s) h.path.on (places_in s) v (predecessors_in s v)
+pub own_step : (net : NetworkModel) (s : Solver) (root : ℕ) → (h : CanAugment net s root) → (v : ℕ) → h.path.on v ≡ true → 0 < places_in s v → IsStep net (capacity_at s.residual.capacities.items) s.residual.arcs.items (potential_at s) h.path.on (places_in s) v (predecessors_in s v)
 own_step net s root h v on some =
-    path_step net s.residual.first.items (reverse_at s.residual.capacities.items) s.residual.forward.items (capacity_at s.residual.capacities.items) s.residual.arcs.items (potential_at s) (predecessors_in s) (places_in s) root s.found h.ready.network h.ready.residual.arcs_built h.ready.residual.filled h.path v on some
+    path_step net (capacity_at s.residual.capacities.items) s.residual.arcs.items (potential_at s) (predecessors_in s) (places_in s) root s.found h.ready.network h.ready.residual.filled h.path v on some
 
-pub own_last : (net : NetworkModel) (s : Solver) (root : ℕ) → (h : CanAugment net s root) → IsLast net s.residual.first.items (reverse_at s.residual.capacities.items) s.residual.forward.items (capacity_at s.residual.capacities.items) s.residual.arcs.items (potential_at s) h.path.on s.found
+pub own_last : (net : NetworkModel) (s : Solver) (root : ℕ) → (h : CanAugment net s root) → IsLast net (capacity_at s.residual.capacities.items) s.residual.arcs.items (potential_at s) h.path.on s.found
 own_last net s root h =
-    path_last net s.residual.first.items (reverse_at s.residual.capacities.items) s.residual.forward.items (capacity_at s.residual.capacities.items) s.residual.arcs.items (potential_at s) (predecessors_in s) (places_in s) root s.found h.ready.network h.ready.residual.arcs_built h.ready.residual.filled h.path
+    path_last net (capacity_at s.residual.capacities.items) s.residual.arcs.items (potential_at s) (predecessors_in s) (places_in s) root s.found h.ready.network h.ready.residual.filled h.path
 
 pub own_end : (net : NetworkModel) (s : Solver) (root : ℕ) → CanAugment net s root → end_at s.residual.arcs.items s.found < node_count net
-own_end net s root h = tight_arc_end net (reverse_at s.residual.capacities.items) s.residual.forward.items (capacity_at s.residual.capacities.items) (potential_at s) (end_at s.residual.arcs.items (reverse_at s.residual.capacities.items s.found)) s.found (end_at s.residual.arcs.items s.found) h.ready.network (own_last net s root h).tight_arc
+own_end net s root h = tight_arc_end net (capacity_at s.residual.capacities.items) (potential_at s) (start_at s.residual.arcs.items s.found) s.found (end_at s.residual.arcs.items s.found) h.ready.network (own_last net s root h).tight_arc
 
 pub last_pair : (net : NetworkModel) (s : Solver) (root : ℕ) → CanAugment net s root → IsPaired s.residual s.found
-last_pair net s root h = let l = own_last net s root h in is_paired net s.residual (end_at s.residual.arcs.items (reverse_at s.residual.capacities.items s.found)) s.found h.ready.network h.ready.residual l.node l.leaves
+last_pair net s root h = is_paired net s.residual s.found h.ready.network h.ready.residual (own_last net s root h).inside
 
 pub step_pair : (net : NetworkModel) (s : Solver) (root v : ℕ) → (h : CanAugment net s root) → h.path.on v ≡ true → 0 < places_in s v → IsPaired s.residual (predecessors_in s v)
-step_pair net s root v h on some = let l = own_step net s root h v on some in is_paired net s.residual (end_at s.residual.arcs.items (reverse_at s.residual.capacities.items (predecessors_in s v))) (predecessors_in s v) h.ready.network h.ready.residual l.node l.leaves
+step_pair net s root v h on some = is_paired net s.residual (predecessors_in s v) h.ready.network h.ready.residual (own_step net s root h v on some).inside
 
 -- ---- the least of what fits
 

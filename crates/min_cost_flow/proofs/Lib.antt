@@ -6,7 +6,6 @@ pub mod Rounds
 pub mod Spreading
 pub mod Existence
 pub mod Paths
-pub mod Reverses
 pub mod Augmenting
 pub mod Comparisons
 pub mod Solving

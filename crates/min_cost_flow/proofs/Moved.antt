@@ -1,21 +1,22 @@
 -- After one node supplies more and another less: what holds before the next search.
-use Rattle.std.proofs.Common.{◌≡◌, ◌≢◌, ◌<◌, ◌≤◌, ℕ, ◌+◌, ◌*◌, Bool, List, length, cond, eqb, true, false, refl, sym, subst, inl, inr, arith}
+use Rattle.std.proofs.Common.{◌≡◌, ◌≢◌, ◌<◌, ◌≤◌, ℕ, ◌+◌, ◌*◌, Bool, List, length, cond, eqb, true, false, refl, sym, ◌∙◌, subst, inl, inr, arith}
 use Rattle.std.specs.Prelude.{ℤ, pos, negsuc, ◌+ℤ◌, ◌-ℤ◌, ◌≤ℤ◌, ◌<ℤ◌}
 use Rattle.std.proofs.lemmas.Bool.{cases_eq, ne_eqb, eqb-true, cond-false}
 use Rattle.std.proofs.lemmas.Int.{ints}
 use borrow.Author.Differences.{up}
 use Rattle.common.specs.Sums.{sum_below}
 use Rattle.common.proofs.Sums.{sum_below-changed, sum_below-none}
-use Rattle.networks.specs.Networks.{NetworkModel, node_count, arc_count, arc_at, supply_at, moved, shifted, IsNetwork}
+use Rattle.networks.specs.Networks.{NetworkModel, node_count, arc_count, supply_at, moved, shifted, IsNetwork}
 use Rattle.networks.proofs.Moving.{delta, moved_at, length-moved}
 use Rattle.networks.specs.Flow.{SolvedModel, Flow, Solves, amounts, at_nodes, cost_of, net_outflow, start_of, end_of, unit_cost, HasPotentials}
-use Rattle.networks.specs.ResidualArcs.{numbers, HasResidualArcs}
+use Rattle.networks.specs.declared.residual.ResidualArc.{ResidualArc}
+use Rattle.networks.specs.ResidualArcs.{IsLinked}
 use Rattle.min_cost_flow.specs.Round.{remaining_units, IsRound}
 use Rattle.networks.specs.Networks.{HasSuppliesInRange}
 use Rattle.networks.specs.Residuals.{IsResidualNetwork, flow_of}
 use Rattle.networks.proofs.Moving.{still_network}
 use Rattle.min_cost_flow.specs.declared.state.Solver.{Solver}
-use Rattle.min_cost_flow.specs.SolverState.{IsShown, IsSized, IsReady, IsAllSent, CanRead, IsReadyIn}
+use Rattle.min_cost_flow.specs.SolverState.{IsShown, IsSized, IsReady, IsAllSent, IsReadyIn}
 use Rattle.networks.proofs.Ends.{start_in, end_in}
 use Rattle.min_cost_flow.proofs.Duality.{least_by_potentials}
 use Rattle.min_cost_flow.proofs.Rounds.{flow_at, flow_same, potentials_same}
@@ -119,21 +120,10 @@ moved_round net x p p' es f t k nw r size none fb tb few base low capacity =
           omega (arith, capacity i b);
     }
 
--- ---- the residual arcs stay where they are
+-- ---- the residual arcs stay as they are
 
-pub laid_still : (net : NetworkModel) (first : List ℕ) (reverse : ℕ → ℕ) (forward : List ℕ) (f t k : ℕ) → HasResidualArcs net first reverse forward → HasResidualArcs (shifted net f t k) first reverse forward
-laid_still net first reverse forward f t k l =
-    let long : length (moved net.supplies f t k) ≡ node_count net = length-moved net.supplies f t k in
-    record {
-      starts = omega (arith, l.starts);
-      forwards = l.forwards;
-      rising = λ v b. l.rising v (omega arith);
-      inside = λ v b. l.inside v (omega arith);
-      block = λ i back b. l.block i back b;
-      stem_from_arcs = λ v j b st. let o = l.stem_from_arcs v j (omega arith) st in record { arc = o.arc; back = o.back; inside = o.inside; place = o.place; start = o.start };
-      alone = λ i j b c ib jb e. l.alone i j b c ib jb e;
-      undone = λ i b. l.undone i b;
-    }
+pub linked_still : (net : NetworkModel) (first : List ℕ) (arcs : List ResidualArc) (f t k : ℕ) → IsLinked (node_count net) first arcs → IsLinked (node_count (shifted net f t k)) first arcs
+linked_still net first arcs f t k l = rw (length-moved net.supplies f t k) l
 
 -- nothing is left over where it is so at the one node and at all others
 pub over_none : (es : List ℤ) (n s : ℕ) → ((v : ℕ) → v < n → v ≢ s → at_nodes es v ≤ℤ pos 0) → at_nodes es s ≤ℤ pos 0 → (v : ℕ) → v < n → at_nodes es v ≤ℤ pos 0
@@ -142,24 +132,6 @@ over_none es n s others here v b =
       | inl e ↦ subst (λ (u : ℕ). at_nodes es u ≤ℤ pos 0) (sym e) here
       | inr ne ↦ others v b ne
     ]
-
--- where the residual arc along each arc stands, and the one back
-pub forward_in : (net : NetworkModel) (first : List ℕ) (reverse : ℕ → ℕ) (forward : List ℕ) (i : ℕ) → IsNetwork net → HasResidualArcs net first reverse forward → i < arc_count net → numbers forward i < arc_count net + arc_count net
-forward_in net first reverse forward i n l b = omega (arith, (l.block i false b).below, l.inside (arc_at net i).from (n.ends i b).0)
-
-pub reverse_in : (net : NetworkModel) (first : List ℕ) (reverse : ℕ → ℕ) (forward : List ℕ) (i : ℕ) → IsNetwork net → HasResidualArcs net first reverse forward → i < arc_count net → reverse (numbers forward i) < arc_count net + arc_count net
-reverse_in net first reverse forward i n l b = omega (arith, (l.block i true b).below, l.inside (arc_at net i).to (n.ends i b).1)
-
--- what each arc carries can be read
-pub can_read : (net : NetworkModel) (s : Solver) → IsReady net s → CanRead s.residual.capacities.items s.residual.forward.items
-can_read net s r =
-    let l = r.residual.arcs_built in
-    record {
-      forwards = λ i b. omega (arith, forward_in net _ _ _ i r.network l (omega (arith, l.forwards)), r.residual.capacities_size);
-      reverses = λ i b. omega (arith, reverse_in net _ _ _ i r.network l (omega (arith, l.forwards)), r.residual.capacities_size);
-      small = omega (arith, l.forwards, r.network.small);
-      size = omega (arith, r.residual.capacities_size, r.network.small);
-    }
 
 -- ---- where nothing is left over or wanting, the flow is one of least cost
 
@@ -203,12 +175,10 @@ shown_at net x ps e cost n r sent size is =
 pub sized_moved : (net : NetworkModel) (l l' : Solver) (f t k : ℕ) → IsReady net l → HasSuppliesInRange (shifted net f t k) → l'.residual ≡ l.residual → length l'.nodes.potential.items ≡ length l.nodes.potential.items → l'.nodes.excess ≡ l.nodes.excess → l'.visits ≡ l.visits → IsSized (shifted net f t k) l'
 sized_moved net l l' f t k r in_range re pe ee he =
     let long : length (moved net.supplies f t k) ≡ node_count net = length-moved net.supplies f t k in
-    let w = r.residual.arcs_built in
     record {
       network = still_network net f t k r.network in_range;
       capacity = record {
-        starts = rw re (omega (arith, w.starts));
-        forwards = rw re w.forwards;
+        starts = rw re (r.residual.linked.starts ∙ sym long);
         arc_size = rw re r.residual.filled.arc_size;
         capacities_size = rw re r.residual.capacities_size;
       };
@@ -234,9 +204,8 @@ ready_moved net l potential excess f t k st in_range fb tb few base low capacity
     let w = r.residual.filled in
     let long : length (moved net.supplies f t k) ≡ node_count net = length-moved net.supplies f t k in
     let wide : length (moved l.nodes.excess.items f t k) ≡ length l.nodes.excess.items = length-moved l.nodes.excess.items f t k in
-    let laid = laid_still net _ _ _ f t k r.residual.arcs_built in
     let here : IsResidualNetwork (shifted net f t k) l.residual = record {
-      arcs_built = laid;
+      linked = linked_still net l.residual.first.items l.residual.arcs.items f t k r.residual.linked;
       filled = record { arc_size = w.arc_size; end = λ i b c. w.end i b c; cost = λ i b c. w.cost i b c; fits = λ i b. w.fits i b };
       capacities_size = r.residual.capacities_size;
       limits = λ i b. r.residual.limits i b;

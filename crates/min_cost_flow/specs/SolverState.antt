@@ -1,12 +1,10 @@
 -- What holds of the solver from one step to the next, and of a flow that stands while supplies move.
 use Rattle.std.specs.Prelude.{ℕ, ◌+◌, ◌^◌, ◌<◌, ◌≤◌, ◌≡◌, ◌≢◌, ℤ, pos, negsuc, ◌+ℤ◌, ◌≤ℤ◌, ◌<ℤ◌, Bool, true, false, List, length}
-use Rattle.networks.specs.declared.network.TheConstants.{MAX_ARCS, MAX_NODES}
-use Rattle.networks.specs.declared.residual.TheConstants.{MAX_RESIDUAL_ARCS}
+use Rattle.networks.specs.declared.network.TheConstants.{MAX_NODES}
 use Rattle.networks.specs.declared.residual.Residual.{Residual}
-use Rattle.networks.specs.declared.residual.ResidualCapacity.{ResidualCapacity}
 use Rattle.networks.specs.Networks.{NetworkModel, node_count, IsNetwork}
 use Rattle.networks.specs.Flow.{Flow, HasPotentials, IsLeastCost, HasNoFlow, at_nodes, cost_of}
-use Rattle.networks.specs.ResidualArcs.{numbers, end_at, reverse_at, capacity_at, IsCosted}
+use Rattle.networks.specs.ResidualArcs.{start_at, end_at, next_at, reverse_of, capacity_at, IsCosted}
 use Rattle.networks.specs.Residuals.{HasSizes, IsResidualNetwork, flow_of}
 use Rattle.networks.specs.declared.state.Search.{Search}
 use Rattle.networks.specs.declared.state.Visit.{Visit}
@@ -90,13 +88,13 @@ pub record HasSentFrom (net : NetworkModel) (s s' : Solver) (root : ℕ) : Type 
 
 -- the node where the last residual arc of the path starts
 abbrev pub last_node : Solver → ℕ
-last_node s = end_at s.residual.arcs.items (reverse_at s.residual.capacities.items s.found)
+last_node s = start_at s.residual.arcs.items s.found
 
 -- a search has found a path from a node with an excess to one with a deficit, whose last residual
 -- arc is `found`
 pub record CanAugmentIn (net : NetworkModel) (r : Residual) (potential excess : List ℤ) (visits : List Visit) (found from : ℕ) : Type 0 where
   pub ready : IsReadyIn net r potential excess visits
-  pub path : HasTightPath (node_count net) r.first.items r.arcs.items (at_nodes potential) (predecessor_at visits) (place_at visits) from found
+  pub path : HasTightPath (node_count net) r.arcs.items (at_nodes potential) (predecessor_at visits) (place_at visits) from found
   pub root : from < node_count net
   pub remaining : pos 0 <ℤ at_nodes excess from
   pub deficit : at_nodes excess (end_at r.arcs.items found) <ℤ pos 0
@@ -115,7 +113,7 @@ pub record IsFitting (s : Solver) (root amount : ℕ) : Type 0 where
   pub found : amount ≤ capacity_at s.residual.capacities.items s.found
   pub remaining : pos amount ≤ℤ excess_at s root
   pub short : (excess_at s (end_at s.residual.arcs.items s.found) +ℤ pos amount) ≤ℤ pos 0
-  pub fits : (v : ℕ) → IsOnPath (previous_of s.residual.arcs.items s.residual.capacities.items (predecessors_in s)) (places_in s) (last_node s) v → 0 < places_in s v → amount ≤ capacity_into s.residual.capacities.items (predecessors_in s) v
+  pub fits : (v : ℕ) → IsOnPath (previous_of s.residual.arcs.items (predecessors_in s)) (places_in s) (last_node s) v → 0 < places_in s v → amount ≤ capacity_into s.residual.capacities.items (predecessors_in s) v
 
 -- `amount` units can go along the path, and no more
 pub record IsBottleneck (s : Solver) (root amount : ℕ) : Type 0 where
@@ -133,24 +131,23 @@ HasUnitCost r k = (z : ℤ) × (negsuc 0 ≤ℤ z) × (z ≤ℤ pos 1) × IsCost
 pub record IsPaired (r : Residual) (k : ℕ) : Type 0 where
   pub sizes : length r.capacities.items ≡ length r.arcs.items
   pub here : k < length r.arcs.items
-  pub there : reverse_at r.capacities.items k < length r.arcs.items
-  pub apart : k ≢ reverse_at r.capacities.items k
+  pub there : reverse_of k < length r.arcs.items
+  pub apart : k ≢ reverse_of k
   pub cost : HasUnitCost r k
-  pub back_cost : HasUnitCost r (reverse_at r.capacities.items k)
-  pub capacity : capacity_at r.capacities.items k + capacity_at r.capacities.items (reverse_at r.capacities.items k) < 2 ^ 32
+  pub back_cost : HasUnitCost r (reverse_of k)
+  pub capacity : capacity_at r.capacities.items k + capacity_at r.capacities.items (reverse_of k) < 2 ^ 32
 
 -- `amount` units went along residual arc k: less fits along it, and as much more along its reverse
 pub record IsPushedAlong (r r' : Residual) (k amount : ℕ) : Type 0 where
   pub first : r'.first ≡ r.first
-  pub forward : r'.forward ≡ r.forward
   pub arc_size : length r'.arcs.items ≡ length r.arcs.items
   pub capacities_size : length r'.capacities.items ≡ length r.capacities.items
   pub ends : (j : ℕ) → end_at r'.arcs.items j ≡ end_at r.arcs.items j
-  pub reverse : (j : ℕ) → reverse_at r'.capacities.items j ≡ reverse_at r.capacities.items j
+  pub nexts : (j : ℕ) → next_at r'.arcs.items j ≡ next_at r.arcs.items j
   pub costs : (j : ℕ) (z : ℤ) → IsCosted r.arcs.items r.capacities.items j z → IsCosted r'.arcs.items r'.capacities.items j z
   pub less : capacity_at r'.capacities.items k + amount ≡ capacity_at r.capacities.items k
-  pub more : capacity_at r'.capacities.items (reverse_at r.capacities.items k) ≡ capacity_at r.capacities.items (reverse_at r.capacities.items k) + amount
-  pub others : (j : ℕ) → j ≢ k → j ≢ reverse_at r.capacities.items k → capacity_at r'.capacities.items j ≡ capacity_at r.capacities.items j
+  pub more : capacity_at r'.capacities.items (reverse_of k) ≡ capacity_at r.capacities.items (reverse_of k) + amount
+  pub others : (j : ℕ) → j ≢ k → j ≢ reverse_of k → capacity_at r'.capacities.items j ≡ capacity_at r.capacities.items j
 
 -- ---- what is read and written after a search
 
@@ -178,13 +175,6 @@ pub record IsCleared (s s' : Search) : Type 0 where
   pub place : (v : ℕ) → places s' v ≡ places s v
   pub found : s'.found ≡ s.found
   pub size : length s'.visits.now ≡ length s.visits.now
-
--- what each arc carries can be read: the number of the residual arc along it is that of one that has a reverse
-pub record CanRead (capacities : List ResidualCapacity) (forward : List ℕ) : Type 0 where
-  pub forwards : (i : ℕ) → i < length forward → numbers forward i < length capacities
-  pub reverses : (i : ℕ) → i < length forward → reverse_at capacities (numbers forward i) < length capacities
-  pub small : length forward ≤ MAX_ARCS
-  pub size : length capacities ≤ MAX_RESIDUAL_ARCS
 
 -- what a flow costs, and potentials that show that none costs less
 pub record IsShown (net : NetworkModel) (cost : ℕ) (potential : List ℤ) : Type 0 where

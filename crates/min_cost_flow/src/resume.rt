@@ -9,12 +9,12 @@ ghost use Rattle.networks.specs.declared.network.TheConstants.{MAX_NODES};
 ghost use Rattle.min_cost_flow.specs.declared.resume.TheConstants.{MAX_CARRIED};
 ghost use Rattle.networks.specs.Networks.{NetworkModel, node_count, HasSuppliesInRange, shifted};
 ghost use Rattle.networks.specs.Flow.{at_nodes};
-ghost use Rattle.networks.specs.ResidualArcs.{reverse_at, capacity_at, carried};
-ghost use Rattle.min_cost_flow.specs.SolverState.{excess_at, IsReady, IsAllSent, IsVerdict, CanRead};
+ghost use Rattle.networks.specs.ResidualArcs.{capacity_at, carried};
+ghost use Rattle.min_cost_flow.specs.SolverState.{excess_at, IsReady, IsAllSent, IsVerdict};
 
-use crate::solver::{carried_along, has_deficit};
+use crate::solver::{carried_by, has_deficit};
 use crate::state::Solver;
-use networks::{Network, ResidualCapacity, move_units};
+use networks::{Network, move_units};
 
 /// How many units an arc carries at most: as many as all nodes of a network can supply.
 pub(crate) const MAX_CARRIED: u32 = 2_097_152;
@@ -33,8 +33,7 @@ impl Solver {
         ensures answer { IsVerdict network.new self.new result }
     {
         network.shift(from, to, amount);
-        let residual = &self.residual;
-        if !carries_little(&residual.capacities, &residual.forward, amount) {
+        if !carries_little(&self.residual.capacities, amount) {
             return self.solve(network);
         }
         if !rebase(&mut self.nodes.potential, to as usize) {
@@ -62,14 +61,13 @@ impl Solver {
 }
 
 /// Whether each arc can carry `amount` units more, at most [`MAX_CARRIED`] in all.
-fn carries_little(capacities: &[ResidualCapacity], forward: &[u32], amount: u32) -> bool
-    requires read { CanRead capacities.now forward.now }
-    requires few { amount ≤ MAX_SUPPLY }
-    ensures { result ≡ true → (i : ℕ) → i < length forward.now → carried (reverse_at capacities.now) forward.now (capacity_at capacities.now) i + amount ≤ MAX_CARRIED }
+fn carries_little(capacities: &[u32], amount: u32) -> bool
+    requires { amount ≤ MAX_SUPPLY }
+    ensures { result ≡ true → (i : ℕ) → 2 * i + 1 < length capacities.now → carried (capacity_at capacities.now) i + amount ≤ MAX_CARRIED }
 {
     let most = MAX_CARRIED - amount;
-    for along in forward.iter() {
-        if carried_along(capacities, *along) > most {
+    for i in 0..capacities.len() / 2 {
+        if carried_by(capacities, i) > most {
             return false;
         }
     }

@@ -10,6 +10,8 @@ use std::alloc::Global;
 #[derive(Drop)]
 pub struct Scratch {
     pub(crate) solver: Solver,
+    /// What each arc carries in the solution.
+    pub(crate) flow: Vec<u32>,
 }
 
 impl Scratch {
@@ -17,6 +19,7 @@ impl Scratch {
     pub fn empty(alloc: Global) -> Scratch {
         Scratch {
             solver: Solver::empty(alloc),
+            flow: Vec::new(alloc),
         }
     }
 }

@@ -35,7 +35,7 @@ impl Solved {
 
     /// Returns the two lists of this solution to the scratch, to be reused. It allocates nothing.
     pub fn give_back(self, scratch: &mut Scratch) {
-        scratch.solver.residual.forward = self.flow;
+        scratch.flow = self.flow;
         scratch.solver.nodes.potential = self.potential;
     }
 

@@ -12,17 +12,17 @@ ghost use Rattle.networks.specs.declared.network.TheConstants.{MAX_NODES};
 ghost use Rattle.min_cost_flow.specs.declared.solver.SolveFault.TheVariants.{Memory};
 ghost use Rattle.networks.specs.Networks.{NetworkModel, arc_count, node_count, IsNetwork};
 ghost use Rattle.networks.specs.Flow.{amounts, at_nodes, HasNoFlow, Solves};
-ghost use Rattle.networks.specs.ResidualArcs.{reverse_at, capacity_at, carried, end_at};
+ghost use Rattle.networks.specs.ResidualArcs.{start_at, capacity_at, carried};
 ghost use Rattle.networks.specs.Search.{far, labels, orders, label_at, IsPut, IsWithinFar, place_at};
 ghost use Rattle.min_cost_flow.specs.Existence.{SuppliesSumToZero};
 ghost use Rattle.min_cost_flow.specs.Overfull.{IsOverfull, HasStopped, was_reached};
 ghost use Rattle.min_cost_flow.specs.Round.{carrying, supply_sum, IsRoundDone, HasSupply, AreInBounds};
-ghost use Rattle.min_cost_flow.specs.SolverState.{excess_at, potential_at, flow_in, IsSized, IsReady, IsBetweenSearches, IsVerdict, HasSentFrom, IsAugmented, CanUpdate, HasReachedOrder, CanRead, IsCleared, IsReadyIn, CanAugmentIn, CanAugment, IsSentAlong, IsBottleneck, IsPaired, IsPushedAlong};
+ghost use Rattle.min_cost_flow.specs.SolverState.{excess_at, potential_at, flow_in, IsSized, IsReady, IsBetweenSearches, IsVerdict, HasSentFrom, IsAugmented, CanUpdate, HasReachedOrder, IsCleared, IsReadyIn, CanAugmentIn, CanAugment, IsSentAlong, IsBottleneck, IsPaired, IsPushedAlong};
 
 use crate::scratch::Scratch;
 use crate::solved::Solved;
 use crate::state::{Nodes, Solver};
-use networks::{FAR, Network, Residual, ResidualCapacity, Search, SearchInput, Visit, move_units};
+use networks::{FAR, Network, Residual, Search, SearchInput, Visit, move_units, reverse};
 use std::alloc::{AllocError, Global};
 use std::mem;
 use thiserror::Error;
@@ -128,11 +128,11 @@ impl Solver {
         let found = self.found;
         let target = usize::from(self.residual.arcs[found].end);
         let most = most_between(&self.nodes.excess, root, target);
-        let mut amount = most.min(self.residual.capacities[found].capacity);
+        let mut amount = most.min(self.residual.capacities[found]);
         let mut node = self.residual.start(found);
         'narrow: while self.visits[node].place > 0 {
             let number = self.visits[node].predecessor as usize;
-            amount = amount.min(self.residual.capacities[number].capacity);
+            amount = amount.min(self.residual.capacities[number]);
             node = self.residual.start(number);
         }
         amount
@@ -196,13 +196,14 @@ pub fn solve_in(
     ensures carrying { IfOk result (λ solved. carrying network.now (amounts solved.flow) ≤ solved.looks) }
     ensures in_bounds { IfOk result (λ solved. AreInBounds network.now (at_nodes solved.potential)) }
 {
+    scratch.flow.resize(network.arc_count(), 0)?;
     let solver = &mut scratch.solver;
     solver.prepare(network)?;
     if !solver.solve(network) {
         return Err(SolveFault::Infeasible);
     }
-    read_flow(&solver.residual.capacities, &mut solver.residual.forward);
-    let flow = mem::replace(&mut solver.residual.forward, Vec::new(alloc));
+    read_flow(&solver.residual.capacities, &mut scratch.flow);
+    let flow = mem::replace(&mut scratch.flow, Vec::new(alloc));
     let potential = mem::replace(&mut solver.nodes.potential, Vec::new(alloc));
     Ok(Solved::new(flow, potential, solver.searches, solver.looks))
 }
@@ -222,7 +223,7 @@ pub(crate) fn find_path(
     requires remaining { pos 0 <ℤ at_nodes nodes.old.excess.items root }
     requires few { looks.old < 2 ^ 61 }
     ensures found { IfSome result (λ found. (net : NetworkModel) → IsReadyIn net residual.now nodes.old.potential.items nodes.old.excess.items visits.old → CanAugmentIn net residual.now nodes.new.potential.items nodes.new.excess.items visits.new found root) }
-    ensures short { IfSome result (λ found. looks.old + place_at visits.new (end_at residual.now.arcs.items (reverse_at residual.now.capacities.items found)) + 1 ≤ looks.new) }
+    ensures short { IfSome result (λ found. looks.old + place_at visits.new (start_at residual.now.arcs.items found) + 1 ≤ looks.new) }
     ensures stopped { IfNone result ((net : NetworkModel) → IsReadyIn net residual.now nodes.old.potential.items nodes.old.excess.items visits.old → HasStopped net visits.new) }
     ensures excess { nodes.new.excess ≡ nodes.old.excess }
     ensures looks { looks.new ≤ looks.old + length residual.now.arcs.items }
@@ -306,23 +307,22 @@ fn score_nodes(network: &Network, scores: &mut [i32])
     }
 }
 
-/// Writes what each arc carries where the number of the residual arc along it stood.
-pub(crate) fn read_flow(capacities: &[ResidualCapacity], flow: &mut [u32])
-    requires { CanRead capacities.now flow.old }
-    ensures { (i : ℕ) → i < length flow.new → amounts flow.new i ≡ carried (reverse_at capacities.now) flow.old (capacity_at capacities.now) i }
+/// Writes what each arc carries.
+pub(crate) fn read_flow(capacities: &[u32], flow: &mut [u32])
+    requires { length flow.old + length flow.old ≤ length capacities.now }
+    ensures { (i : ℕ) → i < length flow.new → amounts flow.new i ≡ carried (capacity_at capacities.now) i }
 {
-    for along in flow.iter_mut() {
-        *along = carried_along(capacities, *along);
+    for i in 0..flow.len() {
+        flow[i] = carried_by(capacities, i);
     }
 }
 
-/// What an arc carries, by the number of the residual arc along it: what fits back along it.
-pub(crate) fn carried_along(capacities: &[ResidualCapacity], along: u32) -> u32
-    requires along { along < length capacities.now }
-    requires reverse { reverse_at capacities.now along < length capacities.now }
-    ensures { result ≡ capacity_at capacities.now (reverse_at capacities.now along) }
+/// What an arc carries: what fits back along it.
+pub(crate) fn carried_by(capacities: &[u32], arc: usize) -> u32
+    requires { 2 * arc + 1 < length capacities.now }
+    ensures { result ≡ carried (capacity_at capacities.now) arc }
 {
-    capacities[capacities[along as usize].reverse as usize].capacity
+    capacities[2 * arc + 1]
 }
 
 /// Writes a number at each node.
@@ -357,7 +357,6 @@ fn push(residual: &mut Residual, number: usize, amount: u32)
     requires fits { amount ≤ capacity_at residual.old.capacities.items number }
     ensures { IsPushedAlong residual.old residual.new number amount }
 {
-    let back = residual.capacities[number].reverse as usize;
     residual.take_capacity(number, amount);
-    residual.add_capacity(back, amount);
+    residual.add_capacity(reverse(number), amount);
 }

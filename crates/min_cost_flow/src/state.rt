@@ -2,7 +2,7 @@
 ghost use Rattle.std.specs.Prelude.{OnOk};
 ghost use Rattle.min_cost_flow.specs.SolverState.{IsSized};
 
-use networks::{FAR, Network, Residual, ResidualArc, ResidualCapacity, Visit};
+use networks::{FAR, Network, Residual, ResidualArc, Visit};
 use std::alloc::{AllocError, Global};
 
 /// The state of each node of a network.
@@ -37,7 +37,6 @@ impl Solver {
         Solver {
             residual: Residual {
                 first: Vec::new(alloc),
-                forward: Vec::new(alloc),
                 arcs: Vec::new(alloc),
                 capacities: Vec::new(alloc),
             },
@@ -66,12 +65,9 @@ impl Solver {
             place: 0,
             at_place: 0,
         };
-        self.residual.first.resize(nodes + 1, 0)?;
-        self.residual.forward.resize(arcs, 0)?;
+        self.residual.first.resize(nodes, 0)?;
         self.residual.arcs.resize(2 * arcs, ResidualArc::default())?;
-        self.residual
-            .capacities
-            .resize(2 * arcs, ResidualCapacity::default())?;
+        self.residual.capacities.resize(2 * arcs, 0)?;
         self.nodes.potential.resize(nodes, 0)?;
         self.nodes.excess.resize(nodes, 0)?;
         self.nodes.score.resize(nodes, 0)?;

@@ -1,16 +1,16 @@
 //! Sensitivity analysis (Ahuja, Magnanti and Orlin, Network Flows, 1993, section 9.11): successive shortest paths from
 //! the flow that is there, as supplies move.
-ghost use Rattle.std.specs.Prelude.{◌≡◌, ◌<◌, ◌≤◌, ◌^◌, IfOk, IfErr, IfSome, IfNone, ℕ, length};
+ghost use Rattle.std.specs.Prelude.{◌≡◌, ◌<◌, ◌≤◌, ◌+◌, ◌^◌, IfOk, IfErr, IfSome, IfNone, length};
 ghost use Rattle.networks.specs.declared.fault.TheConstants.{MAX_SUPPLY};
 ghost use Rattle.networks.specs.Networks.{NetworkModel, node_count, arc_count, shifted, HasSuppliesInRange, IsNetwork};
 ghost use Rattle.networks.specs.Flow.{HasNoFlow, Solves, at_nodes, cost_of};
-ghost use Rattle.networks.specs.ResidualArcs.{numbers, reverse_at, capacity_at, carried};
+ghost use Rattle.networks.specs.ResidualArcs.{capacity_at, carried};
 ghost use Rattle.min_cost_flow.specs.SolverState.{IsAllSent, IsShown};
 
 use crate::solved::Solved;
-use crate::solver::{SolveFault, carried_along, read_flow};
+use crate::solver::{SolveFault, carried_by, read_flow};
 use crate::state::Solver;
-use networks::{Network, ResidualCapacity};
+use networks::Network;
 use std::alloc::{AllocError, Global};
 use std::marker::Model;
 
@@ -81,9 +81,8 @@ impl WarmStart {
         ensures solves { IfOk result (λ solved. Solves self.now solved) }
         ensures work { IfOk result (λ solved. (solved.searches ≡ 0) × (solved.looks ≡ 0)) }
     {
-        // Only the proof needs this: `node_count` says that the network is one.
-        let _nodes = self.network.node_count();
-        let mut flow = Vec::from_slice(alloc, &self.solver.residual.forward)?;
+        let mut flow = Vec::new(alloc);
+        flow.resize(self.network.arc_count(), 0)?;
         read_flow(&self.solver.residual.capacities, &mut flow);
         let potential = Vec::from_slice(alloc, &self.solver.nodes.potential)?;
         Ok(Solved::new(flow, potential, 0, 0))
@@ -96,25 +95,22 @@ impl WarmStart {
     {
         // Only the proof needs this: `node_count` says that the network is one.
         let _nodes = self.network.node_count();
-        let residual = &self.solver.residual;
-        let cost = flow_cost(&self.network, &residual.capacities, &residual.forward);
+        let cost = flow_cost(&self.network, &self.solver.residual.capacities);
         (cost, &self.solver.nodes.potential)
     }
 }
 
 /// How much the arcs of cost 1 carry.
-fn flow_cost(network: &Network, capacities: &[ResidualCapacity], forward: &[u32]) -> u64
-    requires forwards { length forward.now ≡ arc_count network.now }
-    requires inside { (i : ℕ) → i < arc_count network.now → numbers forward.now i < length capacities.now }
-    requires reverses { (i : ℕ) → i < arc_count network.now → reverse_at capacities.now (numbers forward.now i) < length capacities.now }
-    ensures cost { result ≡ cost_of network.now (carried (reverse_at capacities.now) forward.now (capacity_at capacities.now)) }
+fn flow_cost(network: &Network, capacities: &[u32]) -> u64
+    requires { arc_count network.now + arc_count network.now ≤ length capacities.now }
+    ensures cost { result ≡ cost_of network.now (carried (capacity_at capacities.now)) }
     ensures few { result < 2 ^ 48 }
 {
     let mut cost = 0;
     let given = network.arcs();
     for i in 0..given.len() {
         if given[i].cost == 1 {
-            cost += u64::from(carried_along(capacities, forward[i]));
+            cost += u64::from(carried_by(capacities, i));
         }
     }
     cost

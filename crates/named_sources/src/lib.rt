@@ -20,5 +20,5 @@ pub use output::OutputSink;
 pub use read_tap::ReadTap;
 pub use reason::{KeepsReason, Reason};
 pub use short_line::ShortLine;
-pub use source::{NotedSource, open_fault, open_source};
+pub use source::{NotedSource, open_source};
 pub use standard_input::{INPUT, if_open, is_input, place_holder};

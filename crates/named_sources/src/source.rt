@@ -108,7 +108,7 @@ pub fn open_source<'r, N: NamedFiles>(
 }
 
 /// Converts the kind of a system error into the fault of a file that was not opened.
-pub fn open_fault(kind: ErrorKind) -> OpenFault
+pub(crate) fn open_fault(kind: ErrorKind) -> OpenFault
     ensures memory { (result ≡ OpenFault.Memory) ↔ (kind ≡ ErrorKind.OutOfMemory) }
 {
     match kind {

@@ -10,7 +10,7 @@ abbrev pub AreDistinct : ℕ → (ℕ → ℕ) → Type 0
 AreDistinct k at = (i j : ℕ) → i < k → j < k → at i ≡ at j → i ≡ j
 
 -- how often a number is met, which is once at most
-counted_once : (k : ℕ) (at : ℕ → ℕ) (v : ℕ) → AreDistinct k at → sum_below k (λ i. cond {A = ℕ} (eqb (at i) v) 1 0) ≤ 1
+pub counted_once : (k : ℕ) (at : ℕ → ℕ) (v : ℕ) → AreDistinct k at → sum_below k (λ i. cond {A = ℕ} (eqb (at i) v) 1 0) ≤ 1
 counted_once zero at v d = omega arith
 counted_once (suc k) at v d =
     elim (cases_eq (at k) v) [

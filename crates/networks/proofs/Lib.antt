@@ -1,5 +1,6 @@
 pub mod Moving
 pub mod Ends
+pub mod Links
 pub mod Building
 pub mod Reaching
 pub mod Distinct

@@ -1,15 +1,15 @@
 -- What the steps of a search keep: a label, a place, a move of the radius.
-use Rattle.std.proofs.Common.{length, zero, suc, ◌≡◌, ◌≢◌, ◌≤◌, ◌<◌, ◌⊎◌, ℕ, ◌+◌, ◌*◌, refl, sym, ◌∙◌, ap, subst, inl, inr, arith, List}
+use Rattle.std.proofs.Common.{length, zero, suc, cond, eqb, ◌≡◌, ◌≢◌, ◌≤◌, ◌<◌, ◌⊎◌, ℕ, ◌+◌, ◌*◌, refl, sym, ◌∙◌, ap, subst, inl, inr, arith, List}
 use Rattle.std.specs.Prelude.{ℤ, pos, negsuc, ◌+ℤ◌, ◌-ℤ◌, ◌≤ℤ◌, ◌<ℤ◌}
 use Rattle.std.proofs.lemmas.Bool.{cases_eq, cases_lt}
 use Rattle.std.proofs.lemmas.Int.{ints}
 use Rattle.networks.specs.declared.network.TheConstants.{MAX_NODES}
 use Rattle.networks.specs.declared.residual.ResidualArc.{ResidualArc}
-use Rattle.networks.proofs.Distinct.{AreDistinct, distinct_sum, room_for}
-use Rattle.networks.specs.ResidualArcs.{numbers, end_at, cost_at, StartsAt}
-use Rattle.networks.specs.Search.{far, IsGraph, AreFeasiblePotentials, IsNear, HasPredecessor, IsReached, IsNearest, IsFeasibleAt, AreFeasible, IsRemaining, AreLowered, IsCandidate, IsPut, IsSwapped, IsWithinFar, out_degree, looked}
+use Rattle.networks.proofs.Distinct.{AreDistinct, counted_once, room_for}
+use Rattle.networks.specs.ResidualArcs.{start_at, end_at, cost_at, started, out_degree, StartsAt}
+use Rattle.networks.specs.Search.{far, IsGraph, AreFeasiblePotentials, IsNear, HasPredecessor, IsReached, IsNearest, IsFeasibleAt, AreFeasible, IsRemaining, AreLowered, IsCandidate, IsPut, IsSwapped, IsWithinFar, looked}
 use Rattle.common.specs.Sums.{sum_below}
-use Rattle.common.proofs.Sums.{sum_below-same, sum_below-more}
+use Rattle.common.proofs.Sums.{sum_below-same, sum_below-more, sum_below-add, sum_below-none}
 
 -- ---- integers
 
@@ -31,8 +31,8 @@ not_ordered x qv pv radius a b c = omega (arith, ints)
 near_more : (z : ℤ) (k : ℕ) (a : ℤ) → IsNear z k a → IsNear z (k + 1) a
 near_more z k a (b, c) = (omega (arith, ints), omega (arith, ints))
 
-pub behind : (n : ℕ) (first : List ℕ) (arcs : List ResidualArc) (p e : ℕ → ℤ) (s : ℕ) (q : ℕ → ℤ) (predecessor order place : ℕ → ℕ) (scanned ordered reached : ℕ) (radius : ℤ) (v : ℕ) (x : ℤ) → IsReached n first arcs p e s q predecessor order place scanned ordered reached radius → v < n → radius ≤ℤ (x -ℤ p v) → x <ℤ q v → q v <ℤ far → ordered ≤ place v
-behind n first arcs p e s q predecessor order place scanned ordered reached radius v x r b beyond less l =
+pub behind : (n : ℕ) (arcs : List ResidualArc) (p e : ℕ → ℤ) (s : ℕ) (q : ℕ → ℤ) (predecessor order place : ℕ → ℕ) (scanned ordered reached : ℕ) (radius : ℤ) (v : ℕ) (x : ℤ) → IsReached n arcs p e s q predecessor order place scanned ordered reached radius → v < n → radius ≤ℤ (x -ℤ p v) → x <ℤ q v → q v <ℤ far → ordered ≤ place v
+behind n arcs p e s q predecessor order place scanned ordered reached radius v x r b beyond less l =
     elim (cases_lt (place v) ordered) [
       | inl h ↦ absurd (not_ordered x (q v) (p v) radius beyond less (r.under v b l h))
       | inr h ↦ h
@@ -63,8 +63,8 @@ put_lower q q' v w x put less =
     ]
 
 -- a residual arc from a scanned node serves a node, whose place comes after
-pub offered_entered : (n : ℕ) (first : List ℕ) (arcs : List ResidualArc) (p : ℕ → ℤ) (s : ℕ) (q q' : ℕ → ℤ) (place place' : ℕ → ℕ) (scanned : ℕ) (radius : ℤ) (k v : ℕ) (x : ℤ) → IsCandidate n first arcs p s q place scanned radius k v x → q' v ≡ x → AreLowered n scanned q place q' place' → scanned ≤ place' v → HasPredecessor n first arcs q' place' scanned v k
-offered_entered n first arcs p s q q' place place' scanned radius k v x o here kept behind =
+pub offered_entered : (n : ℕ) (arcs : List ResidualArc) (p : ℕ → ℤ) (s : ℕ) (q q' : ℕ → ℤ) (place place' : ℕ → ℕ) (scanned : ℕ) (radius : ℤ) (k v : ℕ) (x : ℤ) → IsCandidate n arcs p s q place scanned radius k v x → q' v ≡ x → AreLowered n scanned q place q' place' → scanned ≤ place' v → HasPredecessor n arcs q' place' scanned v k
+offered_entered n arcs p s q q' place place' scanned radius k v x o here kept behind =
     let same : (q' o.start ≡ q o.start) × (place' o.start ≡ place o.start) = kept.same o.start o.node o.labelled o.are_scanned in
     record {
       start = o.start;
@@ -79,8 +79,8 @@ offered_entered n first arcs p s q q' place place' scanned radius k v x o here k
     }
 
 -- a node that was entered before still is
-pub kept_entered : (n : ℕ) (first : List ℕ) (arcs : List ResidualArc) (q q' : ℕ → ℤ) (place place' : ℕ → ℕ) (scanned v k : ℕ) → HasPredecessor n first arcs q place scanned v k → q' v ≡ q v → AreLowered n scanned q place q' place' → (scanned ≤ place' v) ⊎ (place' v ≡ place v) → HasPredecessor n first arcs q' place' scanned v k
-kept_entered n first arcs q q' place place' scanned v k o here kept behind =
+pub kept_entered : (n : ℕ) (arcs : List ResidualArc) (q q' : ℕ → ℤ) (place place' : ℕ → ℕ) (scanned v k : ℕ) → HasPredecessor n arcs q place scanned v k → q' v ≡ q v → AreLowered n scanned q place q' place' → (scanned ≤ place' v) ⊎ (place' v ≡ place v) → HasPredecessor n arcs q' place' scanned v k
+kept_entered n arcs q q' place place' scanned v k o here kept behind =
     let same : (q' o.start ≡ q o.start) × (place' o.start ≡ place o.start) = kept.same o.start o.node o.labelled o.are_scanned in
     let scan : place o.start < scanned = o.are_scanned in
     let before : place o.start < place v = o.before in
@@ -98,8 +98,8 @@ kept_entered n first arcs q q' place place' scanned v k o here kept behind =
     }
 
 -- a scan's own node alone changes no label
-relabelled_kept : (n : ℕ) (first : List ℕ) (arcs : List ResidualArc) (p e : ℕ → ℤ) (s : ℕ) (q q' : ℕ → ℤ) (predecessor order place : ℕ → ℕ) (scanned ordered reached : ℕ) (radius : ℤ) (v : ℕ) (x : ℤ) → IsReached n first arcs p e s q predecessor order place scanned ordered reached radius → ordered ≤ place v → x <ℤ q v → IsPut q q' v x → AreLowered n scanned q place q' place
-relabelled_kept n first arcs p e s q q' predecessor order place scanned ordered reached radius v x r behind less put =
+relabelled_kept : (n : ℕ) (arcs : List ResidualArc) (p e : ℕ → ℤ) (s : ℕ) (q q' : ℕ → ℤ) (predecessor order place : ℕ → ℕ) (scanned ordered reached : ℕ) (radius : ℤ) (v : ℕ) (x : ℤ) → IsReached n arcs p e s q predecessor order place scanned ordered reached radius → ordered ≤ place v → x <ℤ q v → IsPut q q' v x → AreLowered n scanned q place q' place
+relabelled_kept n arcs p e s q q' predecessor order place scanned ordered reached radius v x r behind less put =
     let few : scanned ≤ ordered = r.counts.0 in
     record {
       lower = λ w b. put_lower q q' v w x put less;
@@ -107,11 +107,11 @@ relabelled_kept n first arcs p e s q q' predecessor order place scanned ordered 
       old = λ w b l h. (let e : q' w ≡ q w = put.others w (λ t. let e : place w ≡ place v = ap place t in absurd (omega arith)) in rw (sym e) l, h);
     }
 
-pub relabelled : (n : ℕ) (first : List ℕ) (arcs : List ResidualArc) (p e : ℕ → ℤ) (s : ℕ) (q q' : ℕ → ℤ) (predecessor predecessor' order place : ℕ → ℕ) (scanned ordered reached : ℕ) (radius : ℤ) (k v : ℕ) (x : ℤ) → IsReached n first arcs p e s q predecessor order place scanned ordered reached radius → IsCandidate n first arcs p s q place scanned radius k v x → v < n → q v <ℤ far → pos 0 ≤ℤ e v → IsPut q q' v x → IsPut predecessor predecessor' v k → IsReached n first arcs p e s q' predecessor' order place scanned ordered reached radius × AreLowered n scanned q place q' place
-relabelled n first arcs p e s q q' predecessor predecessor' order place scanned ordered reached radius k v x r o b l in_range put entered =
-    let far_place : ordered ≤ place v = behind n first arcs p e s q predecessor order place scanned ordered reached radius v x r b o.beyond o.less l in
+pub relabelled : (n : ℕ) (arcs : List ResidualArc) (p e : ℕ → ℤ) (s : ℕ) (q q' : ℕ → ℤ) (predecessor predecessor' order place : ℕ → ℕ) (scanned ordered reached : ℕ) (radius : ℤ) (k v : ℕ) (x : ℤ) → IsReached n arcs p e s q predecessor order place scanned ordered reached radius → IsCandidate n arcs p s q place scanned radius k v x → v < n → q v <ℤ far → pos 0 ≤ℤ e v → IsPut q q' v x → IsPut predecessor predecessor' v k → IsReached n arcs p e s q' predecessor' order place scanned ordered reached radius × AreLowered n scanned q place q' place
+relabelled n arcs p e s q q' predecessor predecessor' order place scanned ordered reached radius k v x r o b l in_range put entered =
+    let far_place : ordered ≤ place v = behind n arcs p e s q predecessor order place scanned ordered reached radius v x r b o.beyond o.less l in
     let few : scanned ≤ ordered = r.counts.0 in
-    let kept : AreLowered n scanned q place q' place = relabelled_kept n first arcs p e s q q' predecessor order place scanned ordered reached radius v x r far_place o.less put in
+    let kept : AreLowered n scanned q place q' place = relabelled_kept n arcs p e s q q' predecessor order place scanned ordered reached radius v x r far_place o.less put in
     let was : (w : ℕ) → w < n → q' w <ℤ far → q w <ℤ far = λ w c m. elim (cases_eq w v) [
       | inl h ↦ subst (λ (t : ℕ). q t <ℤ far) (sym h) l
       | inr ne ↦ let e : q' w ≡ q w = put.others w ne in rw (sym e) m
@@ -140,8 +140,8 @@ relabelled n first arcs p e s q q' predecessor predecessor' order place scanned 
           | inr ne ↦ r.nonnegative w c (was w c m)
         ];
         entered = λ w c m ne. elim (cases_eq w v) [
-          | inl t ↦ subst (λ (t : ℕ). HasPredecessor n first arcs q' place scanned t (predecessor' t)) (sym t) (subst (λ (i : ℕ). HasPredecessor n first arcs q' place scanned v i) (sym entered.here) (offered_entered n first arcs p s q q' place place scanned radius k v x o put.here kept (omega arith)))
-          | inr d ↦ subst (λ (i : ℕ). HasPredecessor n first arcs q' place scanned w i) (sym (entered.others w d)) (kept_entered n first arcs q q' place place scanned w (predecessor w) (r.entered w c (was w c m) ne) (put.others w d) kept (inr refl))
+          | inl t ↦ subst (λ (t : ℕ). HasPredecessor n arcs q' place scanned t (predecessor' t)) (sym t) (subst (λ (i : ℕ). HasPredecessor n arcs q' place scanned v i) (sym entered.here) (offered_entered n arcs p s q q' place place scanned radius k v x o put.here kept (omega arith)))
+          | inr d ↦ subst (λ (i : ℕ). HasPredecessor n arcs q' place scanned w i) (sym (entered.others w d)) (kept_entered n arcs q q' place place scanned w (predecessor w) (r.entered w c (was w c m) ne) (put.others w d) kept (inr refl))
         ];
       },
       kept,
@@ -149,8 +149,8 @@ relabelled n first arcs p e s q q' predecessor predecessor' order place scanned 
 
 -- ---- a label for a node that was not reached before
 
-pub enlisted : (n : ℕ) (first : List ℕ) (arcs : List ResidualArc) (p e : ℕ → ℤ) (s : ℕ) (q q' : ℕ → ℤ) (predecessor predecessor' order order' place place' : ℕ → ℕ) (scanned ordered reached : ℕ) (radius : ℤ) (k v : ℕ) (x : ℤ) → IsReached n first arcs p e s q predecessor order place scanned ordered reached radius → IsCandidate n first arcs p s q place scanned radius k v x → v < n → far ≤ℤ q v → pos 0 ≤ℤ e v → reached < n → IsPut q q' v x → IsPut predecessor predecessor' v k → IsPut order order' reached v → IsPut place place' v reached → IsReached n first arcs p e s q' predecessor' order' place' scanned ordered (reached + 1) radius × AreLowered n scanned q place q' place'
-enlisted n first arcs p e s q q' predecessor predecessor' order order' place place' scanned ordered reached radius k v x r o b l in_range few put entered listed placed =
+pub enlisted : (n : ℕ) (arcs : List ResidualArc) (p e : ℕ → ℤ) (s : ℕ) (q q' : ℕ → ℤ) (predecessor predecessor' order order' place place' : ℕ → ℕ) (scanned ordered reached : ℕ) (radius : ℤ) (k v : ℕ) (x : ℤ) → IsReached n arcs p e s q predecessor order place scanned ordered reached radius → IsCandidate n arcs p s q place scanned radius k v x → v < n → far ≤ℤ q v → pos 0 ≤ℤ e v → reached < n → IsPut q q' v x → IsPut predecessor predecessor' v k → IsPut order order' reached v → IsPut place place' v reached → IsReached n arcs p e s q' predecessor' order' place' scanned ordered (reached + 1) radius × AreLowered n scanned q place q' place'
+enlisted n arcs p e s q q' predecessor predecessor' order order' place place' scanned ordered reached radius k v x r o b l in_range few put entered listed placed =
     let ho : scanned ≤ ordered = r.counts.0 in
     let or : ordered ≤ reached = r.counts.1 in
     let here : place' v ≡ reached = placed.here in
@@ -205,8 +205,8 @@ enlisted n first arcs p e s q q' predecessor predecessor' order order' place pla
           | inr ne ↦ r.nonnegative w c (was w ne m)
         ];
         entered = λ w c m ne. elim (cases_eq w v) [
-          | inl t ↦ subst (λ (t : ℕ). HasPredecessor n first arcs q' place' scanned t (predecessor' t)) (sym t) (subst (λ (i : ℕ). HasPredecessor n first arcs q' place' scanned v i) (sym entered.here) (offered_entered n first arcs p s q q' place place' scanned radius k v x o put.here kept (omega arith)))
-          | inr d ↦ subst (λ (i : ℕ). HasPredecessor n first arcs q' place' scanned w i) (sym (entered.others w d)) (kept_entered n first arcs q q' place place' scanned w (predecessor w) (r.entered w c (was w d m) ne) (put.others w d) kept (inr (placed.others w d)))
+          | inl t ↦ subst (λ (t : ℕ). HasPredecessor n arcs q' place' scanned t (predecessor' t)) (sym t) (subst (λ (i : ℕ). HasPredecessor n arcs q' place' scanned v i) (sym entered.here) (offered_entered n arcs p s q q' place place' scanned radius k v x o put.here kept (omega arith)))
+          | inr d ↦ subst (λ (i : ℕ). HasPredecessor n arcs q' place' scanned w i) (sym (entered.others w d)) (kept_entered n arcs q q' place place' scanned w (predecessor w) (r.entered w c (was w d m) ne) (put.others w d) kept (inr (placed.others w d)))
         ];
       },
       kept,
@@ -217,8 +217,8 @@ enlisted n first arcs p e s q q' predecessor predecessor' order order' place pla
 pub same_z : (a : ℤ) → a ≤ℤ a
 same_z a = omega (arith, ints)
 
-pub swapped : (n : ℕ) (first : List ℕ) (arcs : List ResidualArc) (p e : ℕ → ℤ) (s : ℕ) (q : ℕ → ℤ) (predecessor order order' place place' : ℕ → ℕ) (scanned ordered reached : ℕ) (radius : ℤ) (v from : ℕ) → IsReached n first arcs p e s q predecessor order place scanned ordered reached radius → v < n → q v <ℤ far → place v ≡ from → ordered ≤ from → (q v -ℤ p v) ≤ℤ radius → IsSwapped order place order' place' v from ordered → IsReached n first arcs p e s q predecessor order' place' scanned (ordered + 1) reached radius × AreLowered n scanned q place q place'
-swapped n first arcs p e s q predecessor order order' place place' scanned ordered reached radius v from r b l at behind near sw =
+pub swapped : (n : ℕ) (arcs : List ResidualArc) (p e : ℕ → ℤ) (s : ℕ) (q : ℕ → ℤ) (predecessor order order' place place' : ℕ → ℕ) (scanned ordered reached : ℕ) (radius : ℤ) (v from : ℕ) → IsReached n arcs p e s q predecessor order place scanned ordered reached radius → v < n → q v <ℤ far → place v ≡ from → ordered ≤ from → (q v -ℤ p v) ≤ℤ radius → IsSwapped order place order' place' v from ordered → IsReached n arcs p e s q predecessor order' place' scanned (ordered + 1) reached radius × AreLowered n scanned q place q place'
+swapped n arcs p e s q predecessor order order' place place' scanned ordered reached radius v from r b l at behind near sw =
     let ho : scanned ≤ ordered = r.counts.0 in
     let rn : reached ≤ n = r.counts.2 in
     let (in_list, mine) = r.listed v b l in
@@ -307,7 +307,7 @@ swapped n first arcs p e s q predecessor order order' place place' scanned order
         near = r.near;
         root = (r.root.0, r.root.1, sw.stay s s_v s_o ∙ s_at);
         nonnegative = r.nonnegative;
-        entered = λ w c m ne. kept_entered n first arcs q q place place' scanned w (predecessor w) (r.entered w c m ne) refl kept (
+        entered = λ w c m ne. kept_entered n arcs q q place place' scanned w (predecessor w) (r.entered w c m ne) refl kept (
             elim (cases_eq w v) [
               | inl t ↦ let e : place' w ≡ ordered = ap place' t ∙ sw.stands in inl (omega arith)
               | inr nv ↦ elim (cases_eq w o) [
@@ -321,8 +321,8 @@ swapped n first arcs p e s q predecessor order order' place place' scanned order
 
 -- ---- the next node is scanned
 
-entered_more : (n : ℕ) (first : List ℕ) (arcs : List ResidualArc) (q : ℕ → ℤ) (place : ℕ → ℕ) (scanned v k : ℕ) → HasPredecessor n first arcs q place scanned v k → HasPredecessor n first arcs q place (scanned + 1) v k
-entered_more n first arcs q place scanned v k o = record {
+entered_more : (n : ℕ) (arcs : List ResidualArc) (q : ℕ → ℤ) (place : ℕ → ℕ) (scanned v k : ℕ) → HasPredecessor n arcs q place scanned v k → HasPredecessor n arcs q place (scanned + 1) v k
+entered_more n arcs q place scanned v k o = record {
   start = o.start;
   node = o.node;
   labelled = o.labelled;
@@ -334,8 +334,8 @@ entered_more n first arcs q place scanned v k o = record {
   label = o.label;
 }
 
-pub headed : (n : ℕ) (first : List ℕ) (arcs : List ResidualArc) (p e : ℕ → ℤ) (s : ℕ) (q : ℕ → ℤ) (predecessor order place : ℕ → ℕ) (scanned ordered reached : ℕ) (radius : ℤ) → IsReached n first arcs p e s q predecessor order place scanned ordered reached radius → scanned < ordered → IsReached n first arcs p e s q predecessor order place (scanned + 1) ordered reached radius
-headed n first arcs p e s q predecessor order place scanned ordered reached radius r more = record {
+pub headed : (n : ℕ) (arcs : List ResidualArc) (p e : ℕ → ℤ) (s : ℕ) (q : ℕ → ℤ) (predecessor order place : ℕ → ℕ) (scanned ordered reached : ℕ) (radius : ℤ) → IsReached n arcs p e s q predecessor order place scanned ordered reached radius → scanned < ordered → IsReached n arcs p e s q predecessor order place (scanned + 1) ordered reached radius
+headed n arcs p e s q predecessor order place scanned ordered reached radius r more = record {
   counts = (omega arith, r.counts.1, r.counts.2);
   begun = r.begun;
   node = r.node;
@@ -348,11 +348,11 @@ headed n first arcs p e s q predecessor order place scanned ordered reached radi
   near = λ w c m. near_more (p s) scanned (q w) (r.near w c m);
   root = r.root;
   nonnegative = r.nonnegative;
-  entered = λ w c m ne. entered_more n first arcs q place scanned w (predecessor w) (r.entered w c m ne);
+  entered = λ w c m ne. entered_more n arcs q place scanned w (predecessor w) (r.entered w c m ne);
 }
 
-pub headed_nearest : (n : ℕ) (first : List ℕ) (arcs : List ResidualArc) (p e : ℕ → ℤ) (s : ℕ) (q : ℕ → ℤ) (place : ℕ → ℕ) (scanned : ℕ) (radius bound : ℤ) (k : ℕ) → IsNearest n first arcs p e s q place scanned radius bound k → IsNearest n first arcs p e s q place (scanned + 1) radius bound k
-headed_nearest n first arcs p e s q place scanned radius bound k r = record {
+pub headed_nearest : (n : ℕ) (arcs : List ResidualArc) (p e : ℕ → ℤ) (s : ℕ) (q : ℕ → ℤ) (place : ℕ → ℕ) (scanned : ℕ) (radius bound : ℤ) (k : ℕ) → IsNearest n arcs p e s q place scanned radius bound k → IsNearest n arcs p e s q place (scanned + 1) radius bound k
+headed_nearest n arcs p e s q place scanned radius bound k r = record {
   above = r.above;
   most = r.most;
   hit = λ l. let h = r.hit l in record {
@@ -373,8 +373,8 @@ headed_nearest n first arcs p e s q place scanned radius bound k r = record {
 pub under_radius : (d a b : ℤ) → d ≤ℤ a → a ≤ℤ b → d ≤ℤ b
 under_radius d a b h k = omega (arith, ints)
 
-pub climbed : (n : ℕ) (first : List ℕ) (arcs : List ResidualArc) (p e : ℕ → ℤ) (s : ℕ) (q : ℕ → ℤ) (predecessor order place : ℕ → ℕ) (scanned ordered reached : ℕ) (radius to : ℤ) → IsReached n first arcs p e s q predecessor order place scanned ordered reached radius → scanned ≡ ordered → radius ≤ℤ to → ((j : ℕ) → ordered ≤ j → j < reached → to ≤ℤ (q (order j) -ℤ p (order j))) → IsReached n first arcs p e s q predecessor order place scanned ordered reached to
-climbed n first arcs p e s q predecessor order place scanned ordered reached radius to r done rises least = record {
+pub climbed : (n : ℕ) (arcs : List ResidualArc) (p e : ℕ → ℤ) (s : ℕ) (q : ℕ → ℤ) (predecessor order place : ℕ → ℕ) (scanned ordered reached : ℕ) (radius to : ℤ) → IsReached n arcs p e s q predecessor order place scanned ordered reached radius → scanned ≡ ordered → radius ≤ℤ to → ((j : ℕ) → ordered ≤ j → j < reached → to ≤ℤ (q (order j) -ℤ p (order j))) → IsReached n arcs p e s q predecessor order place scanned ordered reached to
+climbed n arcs p e s q predecessor order place scanned ordered reached radius to r done rises least = record {
   counts = r.counts;
   begun = r.begun;
   node = r.node;
@@ -423,8 +423,8 @@ kept_less n h k q q' place place' le a = record {
 
 -- ---- the nearest node found where units are wanting
 
-pub nearest_kept : (n : ℕ) (first : List ℕ) (arcs : List ResidualArc) (p e : ℕ → ℤ) (s : ℕ) (q q' : ℕ → ℤ) (place place' : ℕ → ℕ) (scanned : ℕ) (radius radius' bound : ℤ) (k : ℕ) → IsNearest n first arcs p e s q place scanned radius bound k → radius' ≤ℤ bound → AreLowered n scanned q place q' place' → IsNearest n first arcs p e s q' place' scanned radius' bound k
-nearest_kept n first arcs p e s q q' place place' scanned radius radius' bound k r above kept = record {
+pub nearest_kept : (n : ℕ) (arcs : List ResidualArc) (p e : ℕ → ℤ) (s : ℕ) (q q' : ℕ → ℤ) (place place' : ℕ → ℕ) (scanned : ℕ) (radius radius' bound : ℤ) (k : ℕ) → IsNearest n arcs p e s q place scanned radius bound k → radius' ≤ℤ bound → AreLowered n scanned q place q' place' → IsNearest n arcs p e s q' place' scanned radius' bound k
+nearest_kept n arcs p e s q q' place place' scanned radius radius' bound k r above kept = record {
   above = above;
   most = r.most;
   hit = λ l.
@@ -449,12 +449,12 @@ lowered_far x pv h z = omega (arith, ints)
 near_lowered : (a : ℤ) (k : ℕ) (x pv : ℤ) → IsNear a k x → pv ≡ pos 0 → IsNear a k (x -ℤ pv)
 near_lowered a k x pv (b, c) z = (omega (arith, ints), omega (arith, ints))
 
-pub nearest_offered : (n : ℕ) (first : List ℕ) (arcs : List ResidualArc) (p e : ℕ → ℤ) (s : ℕ) (q : ℕ → ℤ) (place : ℕ → ℕ) (scanned : ℕ) (radius bound bound' : ℤ) (k k' j v : ℕ) (x : ℤ) → IsNearest n first arcs p e s q place scanned radius bound k → IsCandidate n first arcs p s q place scanned radius j v x → q v ≤ℤ far → e v <ℤ pos 0 → p v ≡ pos 0 → ((bound' ≡ bound) × (k' ≡ k)) ⊎ ((bound' ≡ x -ℤ p v) × (k' ≡ j)) → IsNearest n first arcs p e s q place scanned radius bound' k'
-nearest_offered n first arcs p e s q place scanned radius bound bound' k k' j v x r o most wants none (inl (a, b)) =
-    subst (λ (z : ℤ). IsNearest n first arcs p e s q place scanned radius z k') (sym a) (subst (λ (i : ℕ). IsNearest n first arcs p e s q place scanned radius bound i) (sym b) r)
-nearest_offered n first arcs p e s q place scanned radius bound bound' k k' j v x r o most wants none (inr (a, b)) =
+pub nearest_offered : (n : ℕ) (arcs : List ResidualArc) (p e : ℕ → ℤ) (s : ℕ) (q : ℕ → ℤ) (place : ℕ → ℕ) (scanned : ℕ) (radius bound bound' : ℤ) (k k' j v : ℕ) (x : ℤ) → IsNearest n arcs p e s q place scanned radius bound k → IsCandidate n arcs p s q place scanned radius j v x → q v ≤ℤ far → e v <ℤ pos 0 → p v ≡ pos 0 → ((bound' ≡ bound) × (k' ≡ k)) ⊎ ((bound' ≡ x -ℤ p v) × (k' ≡ j)) → IsNearest n arcs p e s q place scanned radius bound' k'
+nearest_offered n arcs p e s q place scanned radius bound bound' k k' j v x r o most wants none (inl (a, b)) =
+    subst (λ (z : ℤ). IsNearest n arcs p e s q place scanned radius z k') (sym a) (subst (λ (i : ℕ). IsNearest n arcs p e s q place scanned radius bound i) (sym b) r)
+nearest_offered n arcs p e s q place scanned radius bound bound' k k' j v x r o most wants none (inr (a, b)) =
     let here : x <ℤ far = not_far x (q v) o.less most in
-    let one : IsNearest n first arcs p e s q place scanned radius (x -ℤ p v) j = record {
+    let one : IsNearest n arcs p e s q place scanned radius (x -ℤ p v) j = record {
       above = o.beyond;
       most = lowered_far x (p v) here none;
       hit = λ l. record {
@@ -469,7 +469,7 @@ nearest_offered n first arcs p e s q place scanned radius bound bound' k k' j v 
         near = near_lowered (p s) scanned x (p v) o.near none;
       };
     } in
-    subst (λ (z : ℤ). IsNearest n first arcs p e s q place scanned radius z k') (sym a) (subst (λ (i : ℕ). IsNearest n first arcs p e s q place scanned radius (x -ℤ p v) i) (sym b) one)
+    subst (λ (z : ℤ). IsNearest n arcs p e s q place scanned radius z k') (sym a) (subst (λ (i : ℕ). IsNearest n arcs p e s q place scanned radius (x -ℤ p v) i) (sym b) one)
 
 -- ---- what is served stays so
 
@@ -484,32 +484,32 @@ serves_kept arcs p q q' bound bound' u k same lower less sv has_capacity near =
     let was : (q u +ℤ cost_at arcs k -ℤ p (end_at arcs k)) <ℤ bound = nearer (q u) (q' u) (cost_at arcs k) (p (end_at arcs k)) bound bound' same near less in
     no_more (q u) (q' u) (cost_at arcs k) (q (end_at arcs k)) (q' (end_at arcs k)) same lower (sv has_capacity was)
 
-pub served_kept : (n : ℕ) (first : List ℕ) (arcs : List ResidualArc) (p q q' : ℕ → ℤ) (place place' : ℕ → ℕ) (bound bound' : ℤ) (h : ℕ) → IsGraph n first arcs → AreFeasible n first arcs p q place bound h → AreLowered n h q place q' place' → bound' ≤ℤ bound → AreFeasible n first arcs p q' place' bound' h
-served_kept n first arcs p q q' place place' bound bound' h g sv kept less = record {
+pub served_kept : (n : ℕ) (arcs : List ResidualArc) (p q q' : ℕ → ℤ) (place place' : ℕ → ℕ) (bound bound' : ℤ) (h : ℕ) → IsGraph n arcs → AreFeasible n arcs p q place bound h → AreLowered n h q place q' place' → bound' ≤ℤ bound → AreFeasible n arcs p q' place' bound' h
+served_kept n arcs p q q' place place' bound bound' h g sv kept less = record {
   served = λ u k b l c st.
       let (l', c') = kept.old u b l c in
-      serves_kept arcs p q q' bound bound' u k (kept.same u b l' c').0 (kept.lower (end_at arcs k) (g.end u k b st)) less (sv.served u k b l' c' st);
+      serves_kept arcs p q q' bound bound' u k (kept.same u b l' c').0 (kept.lower (end_at arcs k) (g.end k st.inside)) less (sv.served u k b l' c' st);
 }
 
 -- one node more is served
-pub served_more : (n : ℕ) (first : List ℕ) (arcs : List ResidualArc) (p q : ℕ → ℤ) (place : ℕ → ℕ) (bound : ℤ) (h u : ℕ) → AreFeasible n first arcs p q place bound h → ((v : ℕ) → v < n → q v <ℤ far → place v ≡ h → v ≡ u) → ((k : ℕ) → StartsAt first u k → IsFeasibleAt arcs p q bound u k) → AreFeasible n first arcs p q place bound (h + 1)
-served_more n first arcs p q place bound h u sv only mine = record {
+pub served_more : (n : ℕ) (arcs : List ResidualArc) (p q : ℕ → ℤ) (place : ℕ → ℕ) (bound : ℤ) (h u : ℕ) → AreFeasible n arcs p q place bound h → ((v : ℕ) → v < n → q v <ℤ far → place v ≡ h → v ≡ u) → ((k : ℕ) → StartsAt arcs u k → IsFeasibleAt arcs p q bound u k) → AreFeasible n arcs p q place bound (h + 1)
+served_more n arcs p q place bound h u sv only mine = record {
   served = λ v k b l c st. elim (cases_lt (place v) h) [
     | inl d ↦ sv.served v k b l d st
     | inr d ↦
         let e : v ≡ u = only v b l (omega arith) in
-        subst (λ (i : ℕ). IsFeasibleAt arcs p q bound i k) (sym e) (mine k (subst (λ (i : ℕ). StartsAt first i k) e st))
+        subst (λ (i : ℕ). IsFeasibleAt arcs p q bound i k) (sym e) (mine k (subst (λ (i : ℕ). StartsAt arcs i k) e st))
   ];
 }
 
 -- ---- the order has room
 
-pub order_distinct : (n : ℕ) (first : List ℕ) (arcs : List ResidualArc) (p e : ℕ → ℤ) (s : ℕ) (q : ℕ → ℤ) (predecessor order place : ℕ → ℕ) (scanned ordered reached : ℕ) (radius : ℤ) → IsReached n first arcs p e s q predecessor order place scanned ordered reached radius → AreDistinct reached order
-order_distinct n first arcs p e s q predecessor order place scanned ordered reached radius r i j a b h = sym (r.at i a) ∙ ap place h ∙ r.at j b
+pub order_distinct : (n : ℕ) (arcs : List ResidualArc) (p e : ℕ → ℤ) (s : ℕ) (q : ℕ → ℤ) (predecessor order place : ℕ → ℕ) (scanned ordered reached : ℕ) (radius : ℤ) → IsReached n arcs p e s q predecessor order place scanned ordered reached radius → AreDistinct reached order
+order_distinct n arcs p e s q predecessor order place scanned ordered reached radius r i j a b h = sym (r.at i a) ∙ ap place h ∙ r.at j b
 
-pub order_room : (n : ℕ) (first : List ℕ) (arcs : List ResidualArc) (p e : ℕ → ℤ) (s : ℕ) (q : ℕ → ℤ) (predecessor order place : ℕ → ℕ) (scanned ordered reached : ℕ) (radius : ℤ) (v : ℕ) → IsReached n first arcs p e s q predecessor order place scanned ordered reached radius → v < n → far ≤ℤ q v → reached < n
-order_room n first arcs p e s q predecessor order place scanned ordered reached radius v r b l =
-    room_for reached n order v r.node (order_distinct n first arcs p e s q predecessor order place scanned ordered reached radius r) b
+pub order_room : (n : ℕ) (arcs : List ResidualArc) (p e : ℕ → ℤ) (s : ℕ) (q : ℕ → ℤ) (predecessor order place : ℕ → ℕ) (scanned ordered reached : ℕ) (radius : ℤ) (v : ℕ) → IsReached n arcs p e s q predecessor order place scanned ordered reached radius → v < n → far ≤ℤ q v → reached < n
+order_room n arcs p e s q predecessor order place scanned ordered reached radius v r b l =
+    room_for reached n order v r.node (order_distinct n arcs p e s q predecessor order place scanned ordered reached radius r) b
     (λ j c t. not_less (q v) far (subst (λ (i : ℕ). q i <ℤ far) t (r.has_label j c)) l)
 
 -- ---- bounds
@@ -520,28 +520,28 @@ label_fits n scanned ps x small le (a, b) (c, d) = (omega (arith, ints), omega (
 potential_fits : (n : ℕ) (pv : ℤ) → n ≤ MAX_NODES → (pos 0 ≤ℤ (pv +ℤ pos (2 * n))) × (pv ≤ℤ pos (2 * n)) → IsWithinFar pv
 potential_fits n pv small (c, d) = (omega (arith, ints), omega (arith, ints))
 
-pub offer_fits : (n : ℕ) (first : List ℕ) (arcs : List ResidualArc) (p e : ℕ → ℤ) (s : ℕ) (q : ℕ → ℤ) (predecessor order place : ℕ → ℕ) (scanned ordered reached : ℕ) (radius : ℤ) (k v : ℕ) (x : ℤ) → IsGraph n first arcs → AreFeasiblePotentials n first arcs p e → IsReached n first arcs p e s q predecessor order place scanned ordered reached radius → IsCandidate n first arcs p s q place scanned radius k v x → IsWithinFar x
-offer_fits n first arcs p e s q predecessor order place scanned ordered reached radius k v x g pr r o =
+pub offer_fits : (n : ℕ) (arcs : List ResidualArc) (p e : ℕ → ℤ) (s : ℕ) (q : ℕ → ℤ) (predecessor order place : ℕ → ℕ) (scanned ordered reached : ℕ) (radius : ℤ) (k v : ℕ) (x : ℤ) → IsGraph n arcs → AreFeasiblePotentials n arcs p e → IsReached n arcs p e s q predecessor order place scanned ordered reached radius → IsCandidate n arcs p s q place scanned radius k v x → IsWithinFar x
+offer_fits n arcs p e s q predecessor order place scanned ordered reached radius k v x g pr r o =
     let le : scanned ≤ n = omega (arith, r.counts) in
     label_fits n scanned (p s) x g.nodes le o.near (pr.low s r.root.0)
 
-pub potential_fits_at : (n : ℕ) (first : List ℕ) (arcs : List ResidualArc) (p e : ℕ → ℤ) (v : ℕ) → IsGraph n first arcs → AreFeasiblePotentials n first arcs p e → v < n → IsWithinFar (p v)
-potential_fits_at n first arcs p e v g pr b = potential_fits n (p v) g.nodes (pr.low v b)
+pub potential_fits_at : (n : ℕ) (arcs : List ResidualArc) (p e : ℕ → ℤ) (v : ℕ) → IsGraph n arcs → AreFeasiblePotentials n arcs p e → v < n → IsWithinFar (p v)
+potential_fits_at n arcs p e v g pr b = potential_fits n (p v) g.nodes (pr.low v b)
 
-pub reached_fits : (n : ℕ) (first : List ℕ) (arcs : List ResidualArc) (p e : ℕ → ℤ) (s : ℕ) (q : ℕ → ℤ) (predecessor order place : ℕ → ℕ) (scanned ordered reached : ℕ) (radius : ℤ) (v : ℕ) → IsGraph n first arcs → AreFeasiblePotentials n first arcs p e → IsReached n first arcs p e s q predecessor order place scanned ordered reached radius → v < n → q v <ℤ far → IsWithinFar (q v)
-reached_fits n first arcs p e s q predecessor order place scanned ordered reached radius v g pr r b l =
+pub reached_fits : (n : ℕ) (arcs : List ResidualArc) (p e : ℕ → ℤ) (s : ℕ) (q : ℕ → ℤ) (predecessor order place : ℕ → ℕ) (scanned ordered reached : ℕ) (radius : ℤ) (v : ℕ) → IsGraph n arcs → AreFeasiblePotentials n arcs p e → IsReached n arcs p e s q predecessor order place scanned ordered reached radius → v < n → q v <ℤ far → IsWithinFar (q v)
+reached_fits n arcs p e s q predecessor order place scanned ordered reached radius v g pr r b l =
     let le : scanned ≤ n = omega (arith, r.counts) in
     label_fits n scanned (p s) (q v) g.nodes le (r.near v b l) (pr.low s r.root.0)
 
 -- where an offer ends is a node, and its number is one of a residual arc
-pub offer_end : (n : ℕ) (first : List ℕ) (arcs : List ResidualArc) (p : ℕ → ℤ) (s : ℕ) (q : ℕ → ℤ) (place : ℕ → ℕ) (scanned : ℕ) (radius : ℤ) (k v : ℕ) (x : ℤ) → IsGraph n first arcs → IsCandidate n first arcs p s q place scanned radius k v x → v < n
-offer_end n first arcs p s q place scanned radius k v x g o = subst (λ (i : ℕ). i < n) o.arrives (g.end o.start k o.node o.leaves)
+pub offer_end : (n : ℕ) (arcs : List ResidualArc) (p : ℕ → ℤ) (s : ℕ) (q : ℕ → ℤ) (place : ℕ → ℕ) (scanned : ℕ) (radius : ℤ) (k v : ℕ) (x : ℤ) → IsGraph n arcs → IsCandidate n arcs p s q place scanned radius k v x → v < n
+offer_end n arcs p s q place scanned radius k v x g o = subst (λ (i : ℕ). i < n) o.arrives (g.end k o.leaves.inside)
 
 pub at_radius : (q p x a radius : ℤ) → q ≡ x → a ≡ x -ℤ p → a ≡ radius → (q -ℤ p) ≤ℤ radius
 at_radius q p x a radius h k l = omega (arith, ints)
 
-pub offer_below : (n : ℕ) (first : List ℕ) (arcs : List ResidualArc) (p e : ℕ → ℤ) (s : ℕ) (q : ℕ → ℤ) (predecessor order place : ℕ → ℕ) (scanned ordered reached : ℕ) (radius : ℤ) (k v : ℕ) (x : ℤ) → IsReached n first arcs p e s q predecessor order place scanned ordered reached radius → IsCandidate n first arcs p s q place scanned radius k v x → v < n → x <ℤ far
-offer_below n first arcs p e s q predecessor order place scanned ordered reached radius k v x r o b = not_far x (q v) o.less (r.most v b)
+pub offer_below : (n : ℕ) (arcs : List ResidualArc) (p e : ℕ → ℤ) (s : ℕ) (q : ℕ → ℤ) (predecessor order place : ℕ → ℕ) (scanned ordered reached : ℕ) (radius : ℤ) (k v : ℕ) (x : ℤ) → IsReached n arcs p e s q predecessor order place scanned ordered reached radius → IsCandidate n arcs p s q place scanned radius k v x → v < n → x <ℤ far
+offer_below n arcs p e s q predecessor order place scanned ordered reached radius k v x r o b = not_far x (q v) o.less (r.most v b)
 
 -- ---- what a residual arc of the node that is scanned offers
 
@@ -554,18 +554,18 @@ near_step ps qu c x h (a, b) d e s = (omega (arith, ints), omega (arith, ints))
 no_nearer : (radius qu pu c pe x : ℤ) → radius ≤ℤ (qu -ℤ pu) → pos 0 ≤ℤ (c +ℤ pu -ℤ pe) → x ≡ qu +ℤ c → radius ≤ℤ (x -ℤ pe)
 no_nearer radius qu pu c pe x h r s = omega (arith, ints)
 
-is_open : (n : ℕ) (first : List ℕ) (arcs : List ResidualArc) (p e : ℕ → ℤ) (s : ℕ) (q : ℕ → ℤ) (u k : ℕ) (h : ℕ) (x : ℤ) → IsGraph n first arcs → AreFeasiblePotentials n first arcs p e → s < n → u < n → h ≤ n → IsNear (p s) h (q u) → StartsAt first u k → x ≡ q u +ℤ cost_at arcs k → x <ℤ q (end_at arcs k) → q (end_at arcs k) ≤ℤ far → (negsuc 0 ≤ℤ cost_at arcs k) × (cost_at arcs k ≤ℤ pos 1)
-is_open n first arcs p e s q u k h x g pr sb ub le near st sum less most =
-    elim (g.cost u k ub st) [
+is_open : (n : ℕ) (arcs : List ResidualArc) (p e : ℕ → ℤ) (s : ℕ) (q : ℕ → ℤ) (u k : ℕ) (h : ℕ) (x : ℤ) → IsGraph n arcs → AreFeasiblePotentials n arcs p e → s < n → h ≤ n → IsNear (p s) h (q u) → StartsAt arcs u k → x ≡ q u +ℤ cost_at arcs k → x <ℤ q (end_at arcs k) → q (end_at arcs k) ≤ℤ far → (negsuc 0 ≤ℤ cost_at arcs k) × (cost_at arcs k ≤ℤ pos 1)
+is_open n arcs p e s q u k h x g pr sb le near st sum less most =
+    elim (g.cost k st.inside) [
       | inl o ↦ o
       | inr f ↦ absurd (closed_far x (q u) (q (end_at arcs k)) (cost_at arcs k) (p s) n h g.nodes le near (pr.low s sb) sum less most f.0)
     ]
 
-pub offer_made : (n : ℕ) (first : List ℕ) (arcs : List ResidualArc) (p e : ℕ → ℤ) (s : ℕ) (q : ℕ → ℤ) (predecessor order place : ℕ → ℕ) (scanned ordered reached : ℕ) (radius : ℤ) (u k v : ℕ) (x : ℤ) → IsGraph n first arcs → AreFeasiblePotentials n first arcs p e → IsReached n first arcs p e s q predecessor order place scanned ordered reached radius → u < n → q u <ℤ far → place u + 1 ≡ scanned → IsNear (p s) (place u) (q u) → radius ≤ℤ (q u -ℤ p u) → StartsAt first u k → v ≡ end_at arcs k → x ≡ q u +ℤ cost_at arcs k → x <ℤ q v → IsCandidate n first arcs p s q place scanned radius k v x
-offer_made n first arcs p e s q predecessor order place scanned ordered reached radius u k v x g pr r ub lu at near high st ends sum less =
+pub offer_made : (n : ℕ) (arcs : List ResidualArc) (p e : ℕ → ℤ) (s : ℕ) (q : ℕ → ℤ) (predecessor order place : ℕ → ℕ) (scanned ordered reached : ℕ) (radius : ℤ) (u k v : ℕ) (x : ℤ) → IsGraph n arcs → AreFeasiblePotentials n arcs p e → IsReached n arcs p e s q predecessor order place scanned ordered reached radius → u < n → q u <ℤ far → place u + 1 ≡ scanned → IsNear (p s) (place u) (q u) → radius ≤ℤ (q u -ℤ p u) → StartsAt arcs u k → v ≡ end_at arcs k → x ≡ q u +ℤ cost_at arcs k → x <ℤ q v → IsCandidate n arcs p s q place scanned radius k v x
+offer_made n arcs p e s q predecessor order place scanned ordered reached radius u k v x g pr r ub lu at near high st ends sum less =
     let le : place u ≤ n = omega (arith, r.counts) in
     let here : x <ℤ q (end_at arcs k) = subst (λ (i : ℕ). x <ℤ q i) ends less in
-    let o = is_open n first arcs p e s q u k (place u) x g pr r.root.0 ub le near st sum here (r.most (end_at arcs k) (g.end u k ub st)) in
+    let o = is_open n arcs p e s q u k (place u) x g pr r.root.0 le near st sum here (r.most (end_at arcs k) (g.end k st.inside)) in
     let close : IsNear (p s) (place u + 1) x = near_step (p s) (q u) (cost_at arcs k) x (place u) near o.0 o.1 sum in
     record {
       start = u;
@@ -577,7 +577,7 @@ offer_made n first arcs p e s q predecessor order place scanned ordered reached 
       arrives = sym ends;
       label = sum;
       near = subst (λ (i : ℕ). IsNear (p s) i x) at close;
-      beyond = subst (λ (i : ℕ). radius ≤ℤ (x -ℤ p i)) (sym ends) (no_nearer radius (q u) (p u) (cost_at arcs k) (p (end_at arcs k)) x high (pr.reduced u k ub st o.1) sum);
+      beyond = subst (λ (i : ℕ). radius ≤ℤ (x -ℤ p i)) (sym ends) (no_nearer radius (q u) (p u) (cost_at arcs k) (p (end_at arcs k)) x high (subst (λ (i : ℕ). pos 0 ≤ℤ (cost_at arcs k +ℤ p i -ℤ p (end_at arcs k))) st.start (pr.reduced k st.inside o.1)) sum);
       less = less;
     }
 
@@ -592,8 +592,8 @@ served_after arcs p q q' bound u k v x ends sum same sv _ near =
     subst (λ (z : ℤ). q' (end_at arcs k) ≤ℤ z) total (subst (λ (i : ℕ). q' i ≤ℤ x) ends (sv close))
 
 -- the order of the first h nodes stays
-pub order_kept : (n : ℕ) (first : List ℕ) (arcs : List ResidualArc) (p e : ℕ → ℤ) (s : ℕ) (q q' : ℕ → ℤ) (predecessor predecessor' order order' place place' : ℕ → ℕ) (scanned scanned' ordered ordered' reached reached' : ℕ) (radius radius' : ℤ) (h : ℕ) → IsReached n first arcs p e s q predecessor order place scanned ordered reached radius → IsReached n first arcs p e s q' predecessor' order' place' scanned' ordered' reached' radius' → AreLowered n h q place q' place' → h ≤ reached → (j : ℕ) → j < h → order' j ≡ order j
-order_kept n first arcs p e s q q' predecessor predecessor' order order' place place' scanned scanned' ordered ordered' reached reached' radius radius' h r r' kept le j b =
+pub order_kept : (n : ℕ) (arcs : List ResidualArc) (p e : ℕ → ℤ) (s : ℕ) (q q' : ℕ → ℤ) (predecessor predecessor' order order' place place' : ℕ → ℕ) (scanned scanned' ordered ordered' reached reached' : ℕ) (radius radius' : ℤ) (h : ℕ) → IsReached n arcs p e s q predecessor order place scanned ordered reached radius → IsReached n arcs p e s q' predecessor' order' place' scanned' ordered' reached' radius' → AreLowered n h q place q' place' → h ≤ reached → (j : ℕ) → j < h → order' j ≡ order j
+order_kept n arcs p e s q q' predecessor predecessor' order order' place place' scanned scanned' ordered ordered' reached reached' radius radius' h r r' kept le j b =
     let jb : j < reached = omega arith in
     let v : ℕ = order j in
     let vb : v < n = r.node j jb in
@@ -605,36 +605,26 @@ order_kept n first arcs p e s q q' predecessor predecessor' order order' place p
 
 -- ---- how many looks
 
-telescoped : (n k : ℕ) (first : List ℕ) → k ≤ n → ((v : ℕ) → v < n → numbers first v ≤ numbers first (v + 1)) → sum_below k (out_degree first) + numbers first 0 ≡ numbers first k
-telescoped n zero first le rise = omega arith
-telescoped n (suc k) first le rise =
-    let up : numbers first k ≤ numbers first (k + 1) = rise k (omega arith) in
-    let before : sum_below k (out_degree first) + numbers first 0 ≡ numbers first k = telescoped n k first (omega arith) rise in
-    let whole : numbers first (suc k) ≡ numbers first (k + 1) = ap (numbers first) (omega arith) in
-    omega arith
+looked_below : (h k : ℕ) (arcs : List ResidualArc) (order : ℕ → ℕ) → AreDistinct h order → sum_below h (λ j. started (start_at arcs) (order j) k) ≤ k
+looked_below h zero arcs order d = omega (arith, sum_below-none h (λ j. started (start_at arcs) (order j) 0) (λ j b. refl))
+looked_below h (suc k) arcs order d =
+    let here : ℕ → ℕ = λ j. cond {A = ℕ} (eqb (order j) (start_at arcs k)) 1 0 in
+    let sums : sum_below h (λ j. started (start_at arcs) (order j) (suc k)) ≡ sum_below h (λ j. started (start_at arcs) (order j) k) + sum_below h here = sum_below-add h (λ j. started (start_at arcs) (order j) k) here in
+    omega (arith, looked_below h k arcs order d, counted_once h order (start_at arcs k) d)
 
-all_out_degrees : (n : ℕ) (first : List ℕ) (arcs : List ResidualArc) → IsGraph n first arcs → sum_below n (out_degree first) ≤ length arcs
-all_out_degrees zero first arcs g = omega arith
-all_out_degrees (suc n) first arcs g =
-    let t : sum_below (suc n) (out_degree first) + numbers first 0 ≡ numbers first (suc n) = telescoped (suc n) (suc n) first (omega arith) g.rising in
-    let i : numbers first (n + 1) ≤ length arcs = g.inside n (omega arith) in
-    let whole : numbers first (suc n) ≡ numbers first (n + 1) = ap (numbers first) (omega arith) in
-    omega arith
-
-pub looked_most : (n : ℕ) (first : List ℕ) (arcs : List ResidualArc) (p e : ℕ → ℤ) (s : ℕ) (q : ℕ → ℤ) (predecessor order place : ℕ → ℕ) (scanned ordered reached : ℕ) (radius : ℤ) → IsGraph n first arcs → IsReached n first arcs p e s q predecessor order place scanned ordered reached radius → looked first order scanned ≤ length arcs
-looked_most n first arcs p e s q predecessor order place scanned ordered reached radius g r =
+pub looked_most : (n : ℕ) (arcs : List ResidualArc) (p e : ℕ → ℤ) (s : ℕ) (q : ℕ → ℤ) (predecessor order place : ℕ → ℕ) (scanned ordered reached : ℕ) (radius : ℤ) → IsReached n arcs p e s q predecessor order place scanned ordered reached radius → looked arcs order scanned ≤ length arcs
+looked_most n arcs p e s q predecessor order place scanned ordered reached radius r =
     let le : scanned ≤ reached = omega (arith, r.counts) in
-    let sum : looked first order scanned ≤ sum_below n (out_degree first) = distinct_sum scanned n order (out_degree first) (λ j b. r.node j (omega arith)) (λ i j a b h. order_distinct n first arcs p e s q predecessor order place scanned ordered reached radius r i j (omega arith) (omega arith) h) in
-    omega (arith, all_out_degrees n first arcs g)
+    looked_below scanned (length arcs) arcs order (λ i j a b h. order_distinct n arcs p e s q predecessor order place scanned ordered reached radius r i j (omega arith) (omega arith) h)
 
-pub looked_same : (first : List ℕ) (order order' : ℕ → ℕ) (h : ℕ) → ((j : ℕ) → j < h → order' j ≡ order j) → looked first order' h ≡ looked first order h
-looked_same first order order' h same = sum_below-same h (λ j. out_degree first (order' j)) (λ j. out_degree first (order j)) (λ j b. ap (out_degree first) (same j b))
+pub looked_same : (arcs : List ResidualArc) (order order' : ℕ → ℕ) (h : ℕ) → ((j : ℕ) → j < h → order' j ≡ order j) → looked arcs order' h ≡ looked arcs order h
+looked_same arcs order order' h same = sum_below-same h (λ j. out_degree arcs (order' j)) (λ j. out_degree arcs (order j)) (λ j b. ap (out_degree arcs) (same j b))
 
-pub looked_more : (first : List ℕ) (order order' : ℕ → ℕ) (h : ℕ) → ((j : ℕ) → j < h + 1 → order' j ≡ order j) → looked first order' (h + 1) ≡ looked first order h + out_degree first (order h)
-looked_more first order order' h same =
-    let more : looked first order' (h + 1) ≡ looked first order' h + out_degree first (order' h) = sum_below-more h (λ j. out_degree first (order' j)) in
-    let rest : looked first order' h ≡ looked first order h = looked_same first order order' h (λ j b. same j (omega arith)) in
-    let last : out_degree first (order' h) ≡ out_degree first (order h) = ap (out_degree first) (same h (omega arith)) in
+pub looked_more : (arcs : List ResidualArc) (order order' : ℕ → ℕ) (h : ℕ) → ((j : ℕ) → j < h + 1 → order' j ≡ order j) → looked arcs order' (h + 1) ≡ looked arcs order h + out_degree arcs (order h)
+looked_more arcs order order' h same =
+    let more : looked arcs order' (h + 1) ≡ looked arcs order' h + out_degree arcs (order' h) = sum_below-more h (λ j. out_degree arcs (order' j)) in
+    let rest : looked arcs order' h ≡ looked arcs order h = looked_same arcs order order' h (λ j b. same j (omega arith)) in
+    let last : out_degree arcs (order' h) ≡ out_degree arcs (order h) = ap (out_degree arcs) (same h (omega arith)) in
     omega arith
 
 -- ---- the root alone
@@ -654,8 +644,8 @@ more_than_none e h = omega (arith, ints)
 less_far : (a : ℤ) → a <ℤ far → a ≤ℤ far
 less_far a h = omega (arith, ints)
 
-pub root_reached : (n : ℕ) (first : List ℕ) (arcs : List ResidualArc) (p e : ℕ → ℤ) (s : ℕ) (q q' : ℕ → ℤ) (predecessor order place : ℕ → ℕ) → n ≤ MAX_NODES → s < n → p s ≤ℤ pos (2 * n) → pos 0 <ℤ e s → ((v : ℕ) → v < n → q v ≡ far) → IsPut q q' s (p s) → order 0 ≡ s → place s ≡ 0 → IsReached n first arcs p e s q' predecessor order place 0 1 1 (pos 0)
-root_reached n first arcs p e s q q' predecessor order place small sb low remaining unlabelled put oat pat =
+pub root_reached : (n : ℕ) (arcs : List ResidualArc) (p e : ℕ → ℤ) (s : ℕ) (q q' : ℕ → ℤ) (predecessor order place : ℕ → ℕ) → n ≤ MAX_NODES → s < n → p s ≤ℤ pos (2 * n) → pos 0 <ℤ e s → ((v : ℕ) → v < n → q v ≡ far) → IsPut q q' s (p s) → order 0 ≡ s → place s ≡ 0 → IsReached n arcs p e s q' predecessor order place 0 1 1 (pos 0)
+root_reached n arcs p e s q q' predecessor order place small sb low remaining unlabelled put oat pat =
     let ls : q' s <ℤ far = subst (λ (z : ℤ). z <ℤ far) (sym put.here) (low_near (p s) n small low) in
     let only : (w : ℕ) → w < n → q' w <ℤ far → w ≡ s = λ w b l. elim (cases_eq w s) [
       | inl t ↦ t
@@ -683,11 +673,11 @@ root_reached n first arcs p e s q q' predecessor order place small sb low remain
 
 -- ---- leaving
 
-pub remaining_at_radius : (n : ℕ) (first : List ℕ) (arcs : List ResidualArc) (p e : ℕ → ℤ) (s : ℕ) (q : ℕ → ℤ) (predecessor order place : ℕ → ℕ) (scanned ordered reached : ℕ) (radius bound : ℤ) → IsReached n first arcs p e s q predecessor order place scanned ordered reached radius → radius ≡ bound → IsRemaining n p q place scanned bound
-remaining_at_radius n first arcs p e s q predecessor order place scanned ordered reached radius bound r same v b l h = subst (λ (z : ℤ). z ≤ℤ (q v -ℤ p v)) same (r.here v b l h)
+pub remaining_at_radius : (n : ℕ) (arcs : List ResidualArc) (p e : ℕ → ℤ) (s : ℕ) (q : ℕ → ℤ) (predecessor order place : ℕ → ℕ) (scanned ordered reached : ℕ) (radius bound : ℤ) → IsReached n arcs p e s q predecessor order place scanned ordered reached radius → radius ≡ bound → IsRemaining n p q place scanned bound
+remaining_at_radius n arcs p e s q predecessor order place scanned ordered reached radius bound r same v b l h = subst (λ (z : ℤ). z ≤ℤ (q v -ℤ p v)) same (r.here v b l h)
 
-pub remaining_behind : (n : ℕ) (first : List ℕ) (arcs : List ResidualArc) (p e : ℕ → ℤ) (s : ℕ) (q : ℕ → ℤ) (predecessor order place : ℕ → ℕ) (scanned ordered reached : ℕ) (radius bound : ℤ) → IsReached n first arcs p e s q predecessor order place scanned ordered reached radius → ordered ≤ scanned → ((j : ℕ) → ordered ≤ j → j < reached → bound ≤ℤ (q (order j) -ℤ p (order j))) → IsRemaining n p q place scanned bound
-remaining_behind n first arcs p e s q predecessor order place scanned ordered reached radius bound r done least v b l h =
+pub remaining_behind : (n : ℕ) (arcs : List ResidualArc) (p e : ℕ → ℤ) (s : ℕ) (q : ℕ → ℤ) (predecessor order place : ℕ → ℕ) (scanned ordered reached : ℕ) (radius bound : ℤ) → IsReached n arcs p e s q predecessor order place scanned ordered reached radius → ordered ≤ scanned → ((j : ℕ) → ordered ≤ j → j < reached → bound ≤ℤ (q (order j) -ℤ p (order j))) → IsRemaining n p q place scanned bound
+remaining_behind n arcs p e s q predecessor order place scanned ordered reached radius bound r done least v b l h =
     let (in_list, back) = r.listed v b l in
     subst (λ (i : ℕ). bound ≤ℤ (q i -ℤ p i)) back (least (place v) (omega arith) in_list)
 
@@ -721,8 +711,8 @@ pub record IsNext (n : ℕ) (p : ℕ → ℤ) (s : ℕ) (q : ℕ → ℤ) (place
   pub near : IsNear (p s) (place u) (q u)
   pub high : radius ≤ℤ (q u -ℤ p u)
 
-pub next_node : (n : ℕ) (first : List ℕ) (arcs : List ResidualArc) (p e : ℕ → ℤ) (s : ℕ) (q : ℕ → ℤ) (predecessor order place : ℕ → ℕ) (scanned ordered reached : ℕ) (radius : ℤ) → IsReached n first arcs p e s q predecessor order place scanned ordered reached radius → scanned < ordered → IsNext n p s q place scanned radius (order scanned)
-next_node n first arcs p e s q predecessor order place scanned ordered reached radius r more =
+pub next_node : (n : ℕ) (arcs : List ResidualArc) (p e : ℕ → ℤ) (s : ℕ) (q : ℕ → ℤ) (predecessor order place : ℕ → ℕ) (scanned ordered reached : ℕ) (radius : ℤ) → IsReached n arcs p e s q predecessor order place scanned ordered reached radius → scanned < ordered → IsNext n p s q place scanned radius (order scanned)
+next_node n arcs p e s q predecessor order place scanned ordered reached radius r more =
     let b : scanned < reached = omega (arith, r.counts) in
     let at : place (order scanned) ≡ scanned = r.at scanned b in
     let l : q (order scanned) <ℤ far = r.has_label scanned b in
@@ -748,6 +738,6 @@ next_kept n p s q q' place place' scanned radius u x kept =
     }
 
 -- the only labelled node at its place
-pub next_only : (n : ℕ) (first : List ℕ) (arcs : List ResidualArc) (p e : ℕ → ℤ) (s : ℕ) (q : ℕ → ℤ) (predecessor order place : ℕ → ℕ) (h scanned ordered reached : ℕ) (radius radius' : ℤ) (u : ℕ) → IsReached n first arcs p e s q predecessor order place scanned ordered reached radius → IsNext n p s q place h radius' u → (v : ℕ) → v < n → q v <ℤ far → place v ≡ h → v ≡ u
-next_only n first arcs p e s q predecessor order place h scanned ordered reached radius radius' u r x v b l at =
+pub next_only : (n : ℕ) (arcs : List ResidualArc) (p e : ℕ → ℤ) (s : ℕ) (q : ℕ → ℤ) (predecessor order place : ℕ → ℕ) (h scanned ordered reached : ℕ) (radius radius' : ℤ) (u : ℕ) → IsReached n arcs p e s q predecessor order place scanned ordered reached radius → IsNext n p s q place h radius' u → (v : ℕ) → v < n → q v <ℤ far → place v ≡ h → v ≡ u
+next_only n arcs p e s q predecessor order place h scanned ordered reached radius radius' u r x v b l at =
     sym (r.listed v b l).1 ∙ ap order (at ∙ sym x.stands) ∙ (r.listed u x.node x.labelled).1

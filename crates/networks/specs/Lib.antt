@@ -2,6 +2,5 @@ pub mod Networks
 pub mod Fault
 pub mod Flow
 pub mod ResidualArcs
-pub mod Counting
 pub mod Residuals
 pub mod Search

@@ -2,25 +2,24 @@
 use Rattle.std.specs.Prelude.{ℕ, ℤ, ◌+◌, ◌<◌, ◌≡◌, ◌≢◌, ◌^◌, length}
 use Rattle.networks.specs.declared.residual.Residual.{Residual}
 use Rattle.networks.specs.Networks.{NetworkModel, node_count, arc_count, arc_at}
-use Rattle.networks.specs.ResidualArcs.{end_at, cost_at, reverse_at, capacity_at, HasResidualArcs, IsCosted, AreResidualArcs, carried, units_of}
+use Rattle.networks.specs.ResidualArcs.{end_at, cost_at, next_at, capacity_at, IsLinked, IsCosted, AreResidualArcs, carried, units_of}
 
 -- the lists have their sizes
 pub record HasSizes (net : NetworkModel) (r : Residual) : Type 0 where
-  pub starts : length r.first.items ≡ node_count net + 1
-  pub forwards : length r.forward.items ≡ arc_count net
+  pub starts : length r.first.items ≡ node_count net
   pub arc_size : length r.arcs.items ≡ arc_count net + arc_count net
   pub capacities_size : length r.capacities.items ≡ arc_count net + arc_count net
 
 -- the residual arcs are those of the network, and what fits along them is within its capacities
 pub record IsResidualNetwork (net : NetworkModel) (r : Residual) : Type 0 where
-  pub arcs_built : HasResidualArcs net r.first.items (reverse_at r.capacities.items) r.forward.items
-  pub filled : AreResidualArcs net (reverse_at r.capacities.items) r.forward.items (capacity_at r.capacities.items) r.arcs.items
+  pub linked : IsLinked (node_count net) r.first.items r.arcs.items
+  pub filled : AreResidualArcs net (capacity_at r.capacities.items) r.arcs.items
   pub capacities_size : length r.capacities.items ≡ arc_count net + arc_count net
   pub limits : (i : ℕ) → i < arc_count net → units_of (arc_at net i).cap < 2 ^ 32
 
 -- what each arc carries
 abbrev pub flow_of : Residual → ℕ → ℕ
-flow_of r = carried (reverse_at r.capacities.items) r.forward.items (capacity_at r.capacities.items)
+flow_of r = carried (capacity_at r.capacities.items)
 
 -- there is a residual arc of that number
 pub record HasNumber (r : Residual) (k : ℕ) : Type 0 where
@@ -30,11 +29,10 @@ pub record HasNumber (r : Residual) (k : ℕ) : Type 0 where
 -- `units` units fit along residual arc k now, and all else stays
 pub record IsSetTo (r r' : Residual) (k units : ℕ) : Type 0 where
   pub first : r'.first ≡ r.first
-  pub forward : r'.forward ≡ r.forward
   pub arc_size : length r'.arcs.items ≡ length r.arcs.items
   pub capacities_size : length r'.capacities.items ≡ length r.capacities.items
   pub end : (j : ℕ) → end_at r'.arcs.items j ≡ end_at r.arcs.items j
-  pub reverse : (j : ℕ) → reverse_at r'.capacities.items j ≡ reverse_at r.capacities.items j
+  pub next : (j : ℕ) → next_at r'.arcs.items j ≡ next_at r.arcs.items j
   pub here : capacity_at r'.capacities.items k ≡ units
   pub others : (j : ℕ) → j ≢ k → capacity_at r'.capacities.items j ≡ capacity_at r.capacities.items j
   pub cost : (z : ℤ) → IsCosted r.arcs.items r.capacities.items k z → IsCosted r'.arcs.items r'.capacities.items k z

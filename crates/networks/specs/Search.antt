@@ -1,6 +1,6 @@
 -- The search for the nearest node with a deficit: labels, the order of nodes by their
 -- distance, and what holds of them.
-use Rattle.std.specs.Prelude.{ℕ, ◌+◌, ◌-◌, ◌*◌, ◌<◌, ◌≤◌, ◌≡◌, ◌≢◌, ℤ, pos, negsuc, ◌+ℤ◌, ◌-ℤ◌, ◌≤ℤ◌, ◌<ℤ◌, ◌⊎◌, List, length, slice_index_or}
+use Rattle.std.specs.Prelude.{ℕ, ◌+◌, ◌*◌, ◌<◌, ◌≤◌, ◌≡◌, ◌≢◌, ℤ, pos, negsuc, ◌+ℤ◌, ◌-ℤ◌, ◌≤ℤ◌, ◌<ℤ◌, ◌⊎◌, List, length, slice_index_or}
 use Rattle.networks.specs.declared.network.TheConstants.{MAX_NODES}
 use Rattle.networks.specs.declared.residual.TheConstants.{MAX_RESIDUAL_ARCS, SATURATED}
 use Rattle.networks.specs.declared.state.TheConstants.{FAR}
@@ -11,7 +11,7 @@ use Rattle.networks.specs.declared.state.Search.{Search}
 use Rattle.networks.specs.declared.state.Candidate.{Candidate}
 use Rattle.networks.specs.declared.state.Visit.{Visit}
 use Rattle.networks.specs.Flow.{at_nodes}
-use Rattle.networks.specs.ResidualArcs.{numbers, end_at, cost_at, StartsAt}
+use Rattle.networks.specs.ResidualArcs.{start_at, end_at, cost_at, out_degree, StartsAt, IsLinked}
 
 -- the label of a node that was not reached, `FAR` in the code
 abbrev pub far : ℤ
@@ -25,23 +25,20 @@ IsWithinFar z = ((pos 0 -ℤ far) ≤ℤ z) × (z ≤ℤ far)
 abbrev pub IsArcCost : ℤ → Type 0
 IsArcCost c = ((negsuc 0 ≤ℤ c) × (c ≤ℤ pos 1)) ⊎ (((SATURATED -ℤ pos 1) ≤ℤ c) × (c ≤ℤ (SATURATED +ℤ pos 1)))
 
--- n nodes, and the residual arcs of each
-pub record IsGraph (n : ℕ) (first : List ℕ) (arcs : List ResidualArc) : Type 0 where
+-- n nodes, and residual arcs between them
+pub record IsGraph (n : ℕ) (arcs : List ResidualArc) : Type 0 where
   pub nodes : n ≤ MAX_NODES
   pub few : length arcs ≤ MAX_RESIDUAL_ARCS
-  pub starts : length first ≡ n + 1
-  pub rising : (v : ℕ) → v < n → numbers first v ≤ numbers first (v + 1)
-  pub inside : (v : ℕ) → v < n → numbers first (v + 1) ≤ length arcs
-  pub end : (v k : ℕ) → v < n → StartsAt first v k → end_at arcs k < n
-  pub cost : (v k : ℕ) → v < n → StartsAt first v k → IsArcCost (cost_at arcs k)
+  pub end : (k : ℕ) → k < length arcs → end_at arcs k < n
+  pub cost : (k : ℕ) → k < length arcs → IsArcCost (cost_at arcs k)
 
 -- residual arc k has capacity: a unit more fits along it
 abbrev pub HasResidualCapacity : List ResidualArc → ℕ → Type 0
 HasResidualCapacity arcs k = cost_at arcs k ≤ℤ pos 1
 
 -- potentials with which a search can begin: under them no unsaturated residual arc has a reduced cost below 0
-pub record AreFeasiblePotentials (n : ℕ) (first : List ℕ) (arcs : List ResidualArc) (p e : ℕ → ℤ) : Type 0 where
-  pub reduced : (v k : ℕ) → v < n → StartsAt first v k → HasResidualCapacity arcs k → pos 0 ≤ℤ (cost_at arcs k +ℤ p v -ℤ p (end_at arcs k))
+pub record AreFeasiblePotentials (n : ℕ) (arcs : List ResidualArc) (p e : ℕ → ℤ) : Type 0 where
+  pub reduced : (k : ℕ) → k < length arcs → HasResidualCapacity arcs k → pos 0 ≤ℤ (cost_at arcs k +ℤ p (start_at arcs k) -ℤ p (end_at arcs k))
   pub low : (v : ℕ) → v < n → (pos 0 ≤ℤ (p v +ℤ pos (2 * n))) × (p v ≤ℤ pos (2 * n))
   pub zero : (v : ℕ) → v < n → e v <ℤ pos 0 → p v ≡ pos 0
 
@@ -50,20 +47,20 @@ abbrev pub IsNear : ℤ → ℕ → ℤ → Type 0
 IsNear z k a = (z ≤ℤ (a +ℤ pos k)) × (a ≤ℤ (z +ℤ pos k))
 
 -- node v was labelled along residual arc k, from a node that was scanned before
-pub record HasPredecessor (n : ℕ) (first : List ℕ) (arcs : List ResidualArc) (q : ℕ → ℤ) (place : ℕ → ℕ) (scanned v k : ℕ) : Type 0 where
+pub record HasPredecessor (n : ℕ) (arcs : List ResidualArc) (q : ℕ → ℤ) (place : ℕ → ℕ) (scanned v k : ℕ) : Type 0 where
   pub start : ℕ
   pub node : start < n
   pub labelled : q start <ℤ far
   pub are_scanned : place start < scanned
   pub before : place start < place v
-  pub leaves : StartsAt first start k
+  pub leaves : StartsAt arcs start k
   pub has_capacity : HasResidualCapacity arcs k
   pub arrives : end_at arcs k ≡ v
   pub label : q v ≡ q start +ℤ cost_at arcs k
 
 -- the nodes that were reached, in order of their distance q v - p v: those that were scanned, those
 -- at the radius, and those further off
-pub record IsReached (n : ℕ) (first : List ℕ) (arcs : List ResidualArc) (p e : ℕ → ℤ) (s : ℕ) (q : ℕ → ℤ) (predecessor order place : ℕ → ℕ) (scanned ordered reached : ℕ) (radius : ℤ) : Type 0 where
+pub record IsReached (n : ℕ) (arcs : List ResidualArc) (p e : ℕ → ℤ) (s : ℕ) (q : ℕ → ℤ) (predecessor order place : ℕ → ℕ) (scanned ordered reached : ℕ) (radius : ℤ) : Type 0 where
   pub counts : (scanned ≤ ordered) × (ordered ≤ reached) × (reached ≤ n)
   pub begun : 0 < ordered
   pub node : (j : ℕ) → j < reached → order j < n
@@ -76,44 +73,41 @@ pub record IsReached (n : ℕ) (first : List ℕ) (arcs : List ResidualArc) (p e
   pub near : (v : ℕ) → v < n → q v <ℤ far → IsNear (p s) scanned (q v)
   pub root : (s < n) × (q s <ℤ far) × (place s ≡ 0)
   pub nonnegative : (v : ℕ) → v < n → q v <ℤ far → pos 0 ≤ℤ e v
-  pub entered : (v : ℕ) → v < n → q v <ℤ far → v ≢ s → HasPredecessor n first arcs q place scanned v (predecessor v)
+  pub entered : (v : ℕ) → v < n → q v <ℤ far → v ≢ s → HasPredecessor n arcs q place scanned v (predecessor v)
 
 -- residual arc k leads from a scanned node to one with a deficit, at distance `bound`
-pub record IsHit (n : ℕ) (first : List ℕ) (arcs : List ResidualArc) (p e : ℕ → ℤ) (s : ℕ) (q : ℕ → ℤ) (place : ℕ → ℕ) (scanned : ℕ) (bound : ℤ) (k : ℕ) : Type 0 where
+pub record IsHit (n : ℕ) (arcs : List ResidualArc) (p e : ℕ → ℤ) (s : ℕ) (q : ℕ → ℤ) (place : ℕ → ℕ) (scanned : ℕ) (bound : ℤ) (k : ℕ) : Type 0 where
   pub start : ℕ
   pub node : start < n
   pub labelled : q start <ℤ far
   pub are_scanned : place start < scanned
-  pub leaves : StartsAt first start k
+  pub leaves : StartsAt arcs start k
   pub has_capacity : HasResidualCapacity arcs k
   pub deficit : e (end_at arcs k) <ℤ pos 0
   pub distance : bound ≡ q start +ℤ cost_at arcs k -ℤ p (end_at arcs k)
   pub near : IsNear (p s) scanned bound
 
 -- the nearest node found so far with a deficit is at distance `bound`, not below the radius
-pub record IsNearest (n : ℕ) (first : List ℕ) (arcs : List ResidualArc) (p e : ℕ → ℤ) (s : ℕ) (q : ℕ → ℤ) (place : ℕ → ℕ) (scanned : ℕ) (radius bound : ℤ) (k : ℕ) : Type 0 where
+pub record IsNearest (n : ℕ) (arcs : List ResidualArc) (p e : ℕ → ℤ) (s : ℕ) (q : ℕ → ℤ) (place : ℕ → ℕ) (scanned : ℕ) (radius bound : ℤ) (k : ℕ) : Type 0 where
   pub above : radius ≤ℤ bound
   pub most : bound ≤ℤ far
-  pub hit : bound <ℤ far → IsHit n first arcs p e s q place scanned bound k
+  pub hit : bound <ℤ far → IsHit n arcs p e s q place scanned bound k
 
 -- residual arc k from node u gives no nearer label to its end
 abbrev pub IsFeasibleAt : List ResidualArc → (ℕ → ℤ) → (ℕ → ℤ) → ℤ → ℕ → ℕ → Type 0
 IsFeasibleAt arcs p q bound u k = HasResidualCapacity arcs k → (q u +ℤ cost_at arcs k -ℤ p (end_at arcs k)) <ℤ bound → q (end_at arcs k) ≤ℤ (q u +ℤ cost_at arcs k)
 
 -- the same for all residual arcs of the first h nodes of the order
-pub record AreFeasible (n : ℕ) (first : List ℕ) (arcs : List ResidualArc) (p q : ℕ → ℤ) (place : ℕ → ℕ) (bound : ℤ) (h : ℕ) : Type 0 where
-  pub served : (u k : ℕ) → u < n → q u <ℤ far → place u < h → StartsAt first u k → IsFeasibleAt arcs p q bound u k
+pub record AreFeasible (n : ℕ) (arcs : List ResidualArc) (p q : ℕ → ℤ) (place : ℕ → ℕ) (bound : ℤ) (h : ℕ) : Type 0 where
+  pub served : (u k : ℕ) → u < n → q u <ℤ far → place u < h → StartsAt arcs u k → IsFeasibleAt arcs p q bound u k
 
 -- nodes that were reached and not scanned are no nearer than `bound`
 abbrev pub IsRemaining : ℕ → (ℕ → ℤ) → (ℕ → ℤ) → (ℕ → ℕ) → ℕ → ℤ → Type 0
 IsRemaining n p q place scanned bound = (v : ℕ) → v < n → q v <ℤ far → scanned ≤ place v → bound ≤ℤ (q v -ℤ p v)
 
--- how many residual arcs start at a node, and at the first h nodes of the order
-abbrev pub out_degree : List ℕ → ℕ → ℕ
-out_degree first v = numbers first (v + 1) - numbers first v
-
-abbrev pub looked : List ℕ → (ℕ → ℕ) → ℕ → ℕ
-looked first order h = sum_below h (λ j. out_degree first (order j))
+-- how many residual arcs start at the first h nodes of the order
+abbrev pub looked : List ResidualArc → (ℕ → ℕ) → ℕ → ℕ
+looked arcs order h = sum_below h (λ j. out_degree arcs (order j))
 
 -- labels only fall, and those of the first h nodes of the order stay, with their places
 pub record AreLowered (n h : ℕ) (q : ℕ → ℤ) (place : ℕ → ℕ) (q' : ℕ → ℤ) (place' : ℕ → ℕ) : Type 0 where
@@ -176,8 +170,9 @@ HasSameList s s' = s'.visits.ghost_name ≡ s.visits.ghost_name
 -- what a search reads is sound
 pub record IsSearchInput (g : SearchInput) : Type 0 where
   pub excesses : length g.excess.now ≡ nodes_of g
-  pub graph : IsGraph (nodes_of g) (first_of g) (arcs_of g)
-  pub priced : AreFeasiblePotentials (nodes_of g) (first_of g) (arcs_of g) (potential_of g) (excess_of g)
+  pub graph : IsGraph (nodes_of g) (arcs_of g)
+  pub linked : IsLinked (nodes_of g) (first_of g) (arcs_of g)
+  pub priced : AreFeasiblePotentials (nodes_of g) (arcs_of g) (potential_of g) (excess_of g)
   pub root : g.root < nodes_of g
 
 -- a search can begin: the root has an excess, and no node has a label
@@ -188,10 +183,10 @@ pub record IsUnlabelled (g : SearchInput) (visits : List Visit) : Type 0 where
   pub root : pos 0 <ℤ excess_of g g.root
 
 abbrev pub Reaches : SearchInput → Search → Type 0
-Reaches g s = IsReached (nodes_of g) (first_of g) (arcs_of g) (potential_of g) (excess_of g) g.root (labels s) (predecessors s) (orders s) (places s) s.scanned s.ordered s.reached s.radius
+Reaches g s = IsReached (nodes_of g) (arcs_of g) (potential_of g) (excess_of g) g.root (labels s) (predecessors s) (orders s) (places s) s.scanned s.ordered s.reached s.radius
 
 abbrev pub FindsNearest : SearchInput → Search → Type 0
-FindsNearest g s = IsNearest (nodes_of g) (first_of g) (arcs_of g) (potential_of g) (excess_of g) g.root (labels s) (places s) s.scanned s.radius s.bound s.found
+FindsNearest g s = IsNearest (nodes_of g) (arcs_of g) (potential_of g) (excess_of g) g.root (labels s) (places s) s.scanned s.radius s.bound s.found
 
 -- what holds all through a search
 pub record IsSearch (g : SearchInput) (s : Search) : Type 0 where
@@ -201,7 +196,7 @@ pub record IsSearch (g : SearchInput) (s : Search) : Type 0 where
   pub nearest : FindsNearest g s
 
 abbrev pub HasFeasibleLabels : SearchInput → Search → Type 0
-HasFeasibleLabels g s = AreFeasible (nodes_of g) (first_of g) (arcs_of g) (potential_of g) (labels s) (places s) s.bound s.scanned
+HasFeasibleLabels g s = AreFeasible (nodes_of g) (arcs_of g) (potential_of g) (labels s) (places s) s.bound s.scanned
 
 abbrev pub HasRemaining : SearchInput → Search → Type 0
 HasRemaining g s = IsRemaining (nodes_of g) (potential_of g) (labels s) (places s) s.scanned s.bound
@@ -290,12 +285,12 @@ pub record SameOrder (s s' : Search) : Type 0 where
   pub progress : SameProgress s s'
 
 -- a scanned node's residual arc offers its end a lesser label, no nearer than the radius
-pub record IsCandidate (n : ℕ) (first : List ℕ) (arcs : List ResidualArc) (p : ℕ → ℤ) (s : ℕ) (q : ℕ → ℤ) (place : ℕ → ℕ) (scanned : ℕ) (radius : ℤ) (k v : ℕ) (x : ℤ) : Type 0 where
+pub record IsCandidate (n : ℕ) (arcs : List ResidualArc) (p : ℕ → ℤ) (s : ℕ) (q : ℕ → ℤ) (place : ℕ → ℕ) (scanned : ℕ) (radius : ℤ) (k v : ℕ) (x : ℤ) : Type 0 where
   pub start : ℕ
   pub node : start < n
   pub labelled : q start <ℤ far
   pub are_scanned : place start < scanned
-  pub leaves : StartsAt first start k
+  pub leaves : StartsAt arcs start k
   pub has_capacity : HasResidualCapacity arcs k
   pub arrives : end_at arcs k ≡ v
   pub label : x ≡ q start +ℤ cost_at arcs k
@@ -306,7 +301,7 @@ pub record IsCandidate (n : ℕ) (first : List ℕ) (arcs : List ResidualArc) (p
 -- the step is such an offer in a search
 pub record HasCandidate (g : SearchInput) (s : Search) (step : Candidate) : Type 0 where
   pub search : IsSearch g s
-  pub candidate : IsCandidate (nodes_of g) (first_of g) (arcs_of g) (potential_of g) g.root (labels s) (places s) s.scanned s.radius step.number step.end step.label
+  pub candidate : IsCandidate (nodes_of g) (arcs_of g) (potential_of g) g.root (labels s) (places s) s.scanned s.radius step.number step.end step.label
 
 -- the step ends at a node of the search
 pub record HasEnd (s : Search) (step : Candidate) : Type 0 where

@@ -4,11 +4,11 @@
 //! Networks have at most 1,024 nodes and 8,192 residual arcs of cost -1 to 1, so distances are small integers.
 //! Each residual arc is looked at once at most. Beside that the nodes that wait are gone over for each radius.
 ghost use Rattle.std.specs.Prelude.{◌≡◌, ◌⊎◌, ◌<◌, ◌≤◌, ◌+◌, ◌^◌, ℕ, length, pos, ◌≤ℤ◌, ◌<ℤ◌, ◌+ℤ◌, ◌-ℤ◌, true, false};
-ghost use Rattle.networks.specs.ResidualArcs.{end_at, cost_at, StartsAt};
-ghost use Rattle.networks.specs.Search.{far, nodes_of, first_of, arcs_of, potential_of, excess_of, labels, orders, out_degree, looked, IsSearchInput, IsSearch, IsUnlabelled, HasLowered, HasFeasibleLabels, HasRemaining, IsFeasibleAt, IsNextRadius, IsReordered, IsWaiting, IsScanning, IsRelaxed, IsWithinFar, IsArcCost, HasSameList};
+ghost use Rattle.networks.specs.ResidualArcs.{end_at, cost_at, next_at, out_degree, StartsAt};
+ghost use Rattle.networks.specs.Search.{far, nodes_of, arcs_of, potential_of, excess_of, labels, orders, looked, IsSearchInput, IsSearch, IsUnlabelled, HasLowered, HasFeasibleLabels, HasRemaining, IsFeasibleAt, IsNextRadius, IsReordered, IsWaiting, IsScanning, IsRelaxed, IsWithinFar, IsArcCost, HasSameList};
 
 use crate::reach::distance;
-use crate::residual::ResidualArc;
+use crate::residual::{NONE, ResidualArc};
 use crate::state::{Candidate, FAR, Search, SearchInput, Visit};
 
 impl<'a> Search<'a> {
@@ -29,7 +29,7 @@ impl<'a> Search<'a> {
         ensures list { result.visits.ghost_name ≡ visits.entry.ghost_name }
         ensures served { HasFeasibleLabels input.entry result }
         ensures remaining { HasRemaining input.entry result }
-        ensures looks { looks.new ≡ looks.old + looked (first_of input.entry) (orders result) result.scanned }
+        ensures looks { looks.new ≡ looks.old + looked (arcs_of input.entry) (orders result) result.scanned }
         ensures once { looks.new ≤ looks.old + length (arcs_of input.entry) }
     {
         let mut search = Search::begin(input, visits);
@@ -54,7 +54,6 @@ impl<'a> Search<'a> {
             radius: 0,
             bound: FAR as i32,
             found: 0,
-            found_score: 0,
         };
         search.relabel(Candidate {
             number: 0,
@@ -143,25 +142,27 @@ impl<'a> Search<'a> {
         ensures served { HasFeasibleLabels input.entry self.new }
         ensures kept { HasLowered input.entry (self.old.scanned + 1) self.old self.new }
         ensures scanned { self.new.scanned ≡ self.old.scanned + 1 }
-        ensures looks { looks.new ≡ looks.old + out_degree (first_of input.entry) (orders self.old self.old.scanned) }
+        ensures looks { looks.new ≡ looks.old + out_degree (arcs_of input.entry) (orders self.old self.old.scanned) }
     {
         let node = self.visits[self.scanned].at_place as usize;
         self.scanned += 1;
         let mut here = 0;
-        for number in input.first[node] as usize..input.first[node + 1] as usize {
-            let arc = look(input.arcs, number, &mut here);
-            self.relax(input, node, number, arc);
+        let mut number = input.first[node];
+        'arcs: while number != NONE {
+            let arc = look(input.arcs, number as usize, &mut here);
+            self.relax(input, node, number as usize, arc);
+            number = arc.next;
         }
         *looks += here;
     }
 
     /// Relaxes a residual arc of the node that is scanned: takes up the label that it offers to its end, if that is
     /// less than the end's own.
-    fn relax(&mut self, input: SearchInput<'_>, node: usize, number: usize, arc: ResidualArc)
+    fn relax(&mut self, input: SearchInput<'_>, node: usize, number: usize, arc: &ResidualArc)
         requires scanning { IsScanning input self.old node }
-        requires number { StartsAt (first_of input) node number }
-        requires end { arc.end ≡ end_at (arcs_of input) number }
-        requires cost { arc.cost ≡ cost_at (arcs_of input) number }
+        requires number { StartsAt (arcs_of input) node number }
+        requires end { arc.now.end ≡ end_at (arcs_of input) number }
+        requires cost { arc.now.cost ≡ cost_at (arcs_of input) number }
         ensures relaxed { IsRelaxed input.entry self.old self.new }
         ensures serves { IsFeasibleAt (arcs_of input.entry) (potential_of input.entry) (labels self.new) self.new.bound node number }
     {
@@ -174,13 +175,14 @@ impl<'a> Search<'a> {
 }
 
 /// Looks at the residual arc of a number, and counts the look. A search reads residual arcs by this call alone.
-fn look(arcs: &[ResidualArc], number: usize, looks: &mut u64) -> ResidualArc
+fn look<'a>(arcs: &'a [ResidualArc], number: usize, looks: &mut u64) -> &'a ResidualArc
     requires number { number < length arcs.now }
     requires few { looks.old < 2 ^ 63 }
-    ensures end { result.end ≡ end_at arcs.now number }
-    ensures cost { result.cost ≡ cost_at arcs.now number }
+    ensures end { result.now.end ≡ end_at arcs.now number }
+    ensures cost { result.now.cost ≡ cost_at arcs.now number }
+    ensures next { result.now.next ≡ next_at arcs.now number }
     ensures tick { looks.new ≡ looks.old + 1 }
 {
     *looks += 1;
-    arcs[number]
+    &arcs[number]
 }

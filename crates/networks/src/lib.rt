@@ -15,6 +15,6 @@ mod units;
 pub use arc::{Arc, Cap};
 pub use fault::NetFault;
 pub use network::Network;
-pub use residual::{Residual, ResidualArc, ResidualCapacity, SATURATED};
+pub use residual::{NONE, Residual, ResidualArc, SATURATED, reverse};
 pub use state::{FAR, Search, SearchInput, Visit};
 pub use units::move_units;

@@ -16,11 +16,8 @@ impl Search<'_> {
         ensures served { (step.label -ℤ potential_of input.entry step.end) <ℤ self.new.bound → labels self.new step.end ≤ℤ step.label }
     {
         let away = distance(step.label, input.potential[step.end]);
-        if away > self.bound {
-            return;
-        }
         if input.excess[step.end] < 0 {
-            self.candidate(step.number, away, score_of(input, step.end));
+            self.candidate(input, step, away);
         } else if away < self.bound {
             self.label_node(input, step);
         }
@@ -42,16 +39,25 @@ impl Search<'_> {
 
     /// Takes a node with a deficit for the nearest one, if it is, or if it is as near and has a
     /// lesser score.
-    fn candidate(&mut self, number: usize, distance: i32, score: i32)
+    fn candidate(&mut self, input: SearchInput<'_>, step: Candidate, distance: i32)
         ensures same { SameBesideBound self.old self.new }
         ensures bound { self.new.bound ≤ℤ self.old.bound }
         ensures least { self.new.bound ≤ℤ distance }
-        ensures either { ((self.new.bound ≡ self.old.bound) × (self.new.found ≡ self.old.found)) ⊎ ((self.new.bound ≡ distance) × (self.new.found ≡ number)) }
+        ensures either { ((self.new.bound ≡ self.old.bound) × (self.new.found ≡ self.old.found)) ⊎ ((self.new.bound ≡ distance) × (self.new.found ≡ step.number)) }
     {
-        if distance < self.bound || (distance == self.bound && score < self.found_score) {
+        if distance < self.bound {
             self.bound = distance;
-            self.found = number;
-            self.found_score = score;
+            self.found = step.number;
+        } else if distance == self.bound && score_of(input, step.end) < self.found_score(input) {
+            self.found = step.number;
+        }
+    }
+
+    /// The score of the nearest node found.
+    fn found_score(&self, input: SearchInput<'_>) -> i32 {
+        match input.arcs.get(self.found) {
+            Some(arc) => score_of(input, arc.end as usize),
+            None => 0,
         }
     }
 

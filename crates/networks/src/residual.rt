@@ -1,7 +1,7 @@
-//! Residual arcs in forward star form (Ahuja, Magnanti and Orlin, Network Flows, 1993, section 2.3): those that start
-//! at a node are consecutive.
+//! Residual arcs: those of arc i have the numbers 2i, along it, and 2i + 1, back along it. Those that start at a node
+//! are a linked list, from the one with the greatest number down.
 ghost use Rattle.std.specs.Prelude.{◌≡◌, ◌<◌, ◌≤◌, ◌+◌, ◌-◌, ◌^◌, length, ℤ, pos, negsuc, ◌≤ℤ◌};
-ghost use Rattle.networks.specs.ResidualArcs.{end_at, reverse_at, capacity_at, IsRated, IsCosted};
+ghost use Rattle.networks.specs.ResidualArcs.{reverse_of, start_at, capacity_at, IsRated, IsCosted};
 ghost use Rattle.networks.specs.Residuals.{HasNumber, IsSetTo};
 
 use crate::network::MAX_ARCS;
@@ -9,29 +9,28 @@ use crate::network::MAX_ARCS;
 /// The maximum number of residual arcs of a network: two for each arc.
 pub const MAX_RESIDUAL_ARCS: usize = 2 * MAX_ARCS;
 
+/// Stands for the number of a residual arc where there is none.
+pub const NONE: u32 = u32::MAX;
+
 /// The amount that is added to the cost of a residual arc while it is saturated.
 pub const SATURATED: i16 = 16_000;
 
-/// The end and the cost of a residual arc, as a search reads them; `SATURATED` is added to the cost if it is saturated.
+/// A residual arc, as a search reads it; `SATURATED` is added to the cost if it is saturated.
 #[derive(Clone, Copy, Debug, Default, PartialEq, Eq)]
 pub struct ResidualArc {
     pub end: u16,
     pub cost: i16,
-}
-
-/// The reverse and the residual capacity of a residual arc, read when units are sent along it.
-#[derive(Clone, Copy, Debug, Default, PartialEq, Eq)]
-pub struct ResidualCapacity {
-    pub reverse: u32,
-    pub capacity: u32,
+    /// The next residual arc that starts at the same node, or `NONE`.
+    pub next: u32,
 }
 
 impl ResidualArc {
-    /// A residual arc to a node, with this capacity and this cost of a unit.
-    pub(crate) fn new(end: u16, cost: i16, capacity: u32) -> ResidualArc
+    /// A residual arc to a node, with this capacity, this cost of a unit and this next one.
+    pub(crate) fn new(end: u16, cost: i16, capacity: u32, next: u32) -> ResidualArc
         requires { cost ≤ℤ pos 1 }
         ensures end { result.end ≡ end }
         ensures cost { IsRated result.cost capacity cost }
+        ensures next { result.next ≡ next }
     {
         ResidualArc {
             end,
@@ -40,30 +39,35 @@ impl ResidualArc {
             } else {
                 cost
             },
+            next,
         }
     }
 }
 
-/// The residual arcs of a network under a flow, sorted by the node where they start.
+/// The number of the residual arc the other way.
+pub fn reverse(number: usize) -> usize
+    ensures { result ≡ reverse_of number }
+{
+    number ^ 1
+}
+
+/// The residual arcs of a network under a flow.
 #[derive(Drop)]
 pub struct Residual {
-    /// The residual arcs that start at node v have the numbers from `first[v]` up to `first[v + 1]`.
+    /// The first residual arc that starts at each node, or `NONE`.
     pub first: Vec<u32>,
-    /// For each arc the residual arc along it.
-    pub forward: Vec<u32>,
     pub arcs: Vec<ResidualArc>,
-    /// One for each residual arc.
-    pub capacities: Vec<ResidualCapacity>,
+    /// How many more units fit along each residual arc.
+    pub capacities: Vec<u32>,
 }
 
 impl Residual {
     /// The node where a residual arc starts.
     pub fn start(&self, number: usize) -> usize
-        requires number { number < length self.now.capacities.items }
-        requires reverse { reverse_at self.now.capacities.items number < length self.now.arcs.items }
-        ensures { result ≡ end_at self.now.arcs.items (reverse_at self.now.capacities.items number) }
+        requires { reverse_of number < length self.now.arcs.items }
+        ensures { result ≡ start_at self.now.arcs.items number }
     {
-        self.arcs[self.capacities[number].reverse as usize].end as usize
+        self.arcs[reverse(number)].end as usize
     }
 
     /// Lowers the capacity of a residual arc by `units`, at least one; it is saturated if no capacity is left.
@@ -74,9 +78,9 @@ impl Residual {
         requires fits { units ≤ capacity_at self.old.capacities.items number }
         ensures { IsSetTo self.old self.new number (capacity_at self.old.capacities.items number - units) }
     {
-        let along = &mut self.capacities[number];
-        along.capacity -= units;
-        if along.capacity == 0 {
+        let capacity = &mut self.capacities[number];
+        *capacity -= units;
+        if *capacity == 0 {
             self.arcs[number].cost += SATURATED;
         }
     }
@@ -89,9 +93,9 @@ impl Residual {
         requires few { capacity_at self.old.capacities.items number + units < 2 ^ 32 }
         ensures { IsSetTo self.old self.new number (capacity_at self.old.capacities.items number + units) }
     {
-        let along = &mut self.capacities[number];
-        let was_saturated = along.capacity == 0;
-        along.capacity += units;
+        let capacity = &mut self.capacities[number];
+        let was_saturated = *capacity == 0;
+        *capacity += units;
         if was_saturated {
             self.arcs[number].cost -= SATURATED;
         }

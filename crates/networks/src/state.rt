@@ -7,7 +7,7 @@ pub const FAR: i16 = 8_000;
 /// The input of a search: residual arcs, the state of each node, and the node where the search begins.
 #[derive(Clone, Copy)]
 pub struct SearchInput<'a> {
-    /// The residual arcs that start at node v have the numbers from `first[v]` up to `first[v + 1]`.
+    /// The first residual arc that starts at each node, or `NONE`.
     pub first: &'a [u32],
     pub arcs: &'a [ResidualArc],
     /// Under these no unsaturated residual arc has a reduced cost below 0, and at a deficit they are 0.
@@ -51,8 +51,6 @@ pub struct Search<'a> {
     pub bound: i32,
     /// The residual arc that leads to that node.
     pub found: usize,
-    /// The score of that node.
-    pub found_score: i32,
 }
 
 /// A residual arc that was looked at, and the label that it offers to its end.

@@ -26,8 +26,8 @@ use std::alloc::{AllocError, Global};
 ///
 /// # Errors
 ///
-/// `Infeasible` exactly if, memory aside, no face that is not barred has a shape that keeps these edges straight; `Memory`
-/// if memory runs out for the network, its flow, the shape or the prices. The plane is then unchanged.
+/// `Infeasible` exactly if, memory aside, no face that is not barred has a shape that keeps these edges straight;
+/// `Memory` if memory runs out for the network, its flow, the shape or the prices. The plane is then unchanged.
 pub fn best_shape_keeping(
     alloc: Global,
     plane: &mut Plane,

@@ -68,34 +68,13 @@ pub fn least_shape_in(
 /// An orthogonal representation of fewest bends among those that keep marked edges straight, and prices that prove it.
 ///
 /// An edge has no turns if one of its two darts is marked; darts past the end of the list are not marked. It is
-/// [`least_shape`] with nothing crossing these edges, and whatever a unit across them would gain.
+/// [`least_shape`] with nothing crossing these edges, and whatever a unit across them would gain. It reuses the scratch,
+/// as [`least_shape_in`]; after a refusal some of that may be lost, and the next call allocates it anew.
 ///
 /// # Errors
 ///
-/// `Infeasible` exactly if no representation keeps these edges straight, memory aside, and `Memory` if memory runs out for
-/// the network, its flow, the shape or the prices.
-pub fn least_shape_keeping(
-    alloc: Global,
-    plane: &Plane,
-    straight: &[bool],
-) -> Result<(Shape, Prices), SolveFault>
-    ensures shape { IfOk result (λ found. IsShape plane.now found.0) }
-    ensures least { IfOk result (λ found. IsLeastKeeping plane.now straight.now found.0) }
-    ensures proof { IfOk result (λ found. IsProofKeeping plane.now straight.now found.0 found.1) }
-    ensures none { IfErr result (λ fault. fault ≡ SolveFault.Infeasible → HasNoneKeeping plane.now straight.now) }
-    ensures always { straight.now ≡ [] → IfErr result (λ fault. fault ≡ SolveFault.Memory) }
-{
-    let mut scratch = Scratch::empty(alloc);
-    least_shape_keeping_in(alloc, &mut scratch, plane, straight)
-}
-
-/// The representation and prices of [`least_shape_keeping`]; reuses the caller's scratch, as [`least_shape_in`].
-///
-/// After a refusal some of the scratch may be lost; the next call then allocates it anew.
-///
-/// # Errors
-///
-/// As those of [`least_shape_keeping`].
+/// `Infeasible` exactly if no representation keeps these edges straight, memory aside, and `Memory` if memory runs out
+/// for the network, its flow, the shape or the prices.
 pub fn least_shape_keeping_in(
     alloc: Global,
     scratch: &mut Scratch,

@@ -20,7 +20,7 @@ mod turn;
 pub use best::best_shape;
 pub use best_keeping::best_shape_keeping;
 pub use certificate::{certify, certify_keeping};
-pub use least::{least_shape, least_shape_in, least_shape_keeping, least_shape_keeping_in};
+pub use least::{least_shape, least_shape_in, least_shape_keeping_in};
 pub use lists::FlatLists;
 pub use min_cost_flow::SolveFault;
 pub use points::{MAX_COORDINATE, Point, Points};

@@ -2,7 +2,7 @@
 //! choice of the outer face.
 
 use crate::drawing_check_faults::{FOUR, Figure, PATH, SQUARE, STAR, TRIANGLE, answer, shape_in};
-use drawing_check::has_regions;
+use drawing_check::{Scratch, has_regions_in};
 use faces::Plane;
 use ortho_rep::Turn;
 use region_laws::outside_is_outer;
@@ -153,7 +153,7 @@ fn regions(
     let other = plane_with(rt, alloc, record, outer)?;
     assert!(rt; drawing.points().vertex_count() == usize::from(other.graph().vertices()));
     assert!(rt; drawing.points().edge_count() == usize::from(other.graph().edges()));
-    has_regions(alloc, &other, &drawing).ok()
+    has_regions_in(&mut Scratch::empty(alloc), &other, &drawing).ok()
 }
 
 /// Drawings, records of planes, and whether the regions are the faces if the outer one is face 0, 1, and so on.

@@ -252,22 +252,18 @@ fn reports_files(rt: HostRuntime) {
 #[test]
 fn shows_an_edge_as_json(rt: HostRuntime) {
     make_file(&rt, "json_edge.pc", &[HEADER, EDGE]);
-    expect_edge(&rt, &run(&rt, "layout --json --lanes 2 json_edge.pc"));
-}
-
-/// A run's text begins and ends as that of a single edge.
-fn expect_edge(rt: &impl Abort, ran: &Ran<Vec<u8>>) {
+    let ran = run(&rt, "layout --json --lanes 2 json_edge.pc");
     let begins =
         b"{\"angles\":[4,4],\"bends\":0,\"drawn\":\"yes\",\"f\":1,\"file\":1,\"graph\":1,\"m\":1,\"n\":2,\"points\":{";
     let ends =
         b"\"status\":\"ok\",\"turns\":[\"\",\"\"]}\n{\"end\":\"complete\",\"file\":1,\"graphs\":1}\n";
     let text = ran.out.as_slice();
     same!(
-        rt,
+        &rt,
         (text.starts_with(begins), text.ends_with(ends)),
         (true, true),
     );
-    same!(rt, (ran.status, ran.err.len()), (0, 0));
+    same!(&rt, (ran.status, ran.err.len()), (0, 0));
 }
 
 /// A path of ten vertices.

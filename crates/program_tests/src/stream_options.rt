@@ -3,7 +3,7 @@
 
 use crate::layouts::{EDGELESS, UNREAD};
 use crate::shared::{
-    Input, NoConsole, Ran, Row, check_rows, check_said, expect_report, make_file, run_on,
+    Input, NoConsole, Row, check_rows, check_said, expect_report, make_file, run_on,
 };
 use commands::{Console, Meter, Progress, is_input};
 use lanes::{Gate, Stage};
@@ -188,15 +188,11 @@ where
     let bytes = five.concat(rt.alloc()).expect(rt, "memory");
     let console = Ticking::new(terminal, 100, wanted);
     let input = Input { bytes: &bytes };
-    expect_five(rt, &run_on(rt, line, Some(input), &console));
-    same!(rt, console.counts(), (wanted.len() as u64, 0));
-}
-
-/// Checks that the text of a run ends as that of five graphs.
-fn expect_five(rt: &impl Abort, ran: &Ran<Vec<u8>>) {
+    let ran = run_on(rt, line, Some(input), &console);
     let ends = b"\nend complete graphs=5\n";
     same!(rt, ran.out.as_slice().ends_with(ends), true);
     same!(rt, (ran.status, ran.err.len()), (0, 0));
+    same!(rt, console.counts(), (wanted.len() as u64, 0));
 }
 
 const OVER: [&str; 2] = [

@@ -10,18 +10,19 @@ use Rattle.ortho_rep.proofs.Tries.{ends_turned}
 use Rattle.drawing_check.specs.declared.fault.CheckFault.{CheckFault}
 use Rattle.drawing_check.specs.declared.fault.CheckFault.TheVariants.{OutOfGrid, NotAxis, WrongTurn, Meet, Memory}
 use Rattle.drawing_check.specs.Paths.{paths}
-use Rattle.drawing_check.specs.Draws.{AreInGrid, AreOnAxes, TurnAsSaid}
+use Rattle.drawing_check.specs.Draws.{AreInGrid, AreOnAxes, HasPoints, TurnAsSaid}
 use Rattle.drawing_check.specs.Faults.{IsFirstFault}
-use Rattle.referee.specs.Drawings.{HasPoints, IsDrawn}
+use Rattle.referee.specs.Drawings.{HasBoundedPoints, IsDrawn}
 use Rattle.referee.specs.Taken.{IsTaken}
 use Rattle.referee.proofs.OnlyShape.{is_rep}
 
 -- ---- conditions on the points alone
 
-pub none_by_counts : (p : PlaneModel) (points : PointsModel) → ¬ HasPoints p points → ¬ IsDrawn p points
+pub none_by_counts : (p : PlaneModel) (points : PointsModel) → ¬ HasBoundedPoints p points → ¬ IsDrawn p points
 none_by_counts p points never is =
     let whole = is.drawn.whole in
-    never (record { vertex_count = whole.vertex_count; edge_count = whole.edge_count; short = whole.short })
+    let counts : HasPoints p points = record { vertex_count = whole.counted.vertex_count; edge_count = whole.counted.edge_count } in
+    never (record { counted = counts; short = whole.short })
 
 pub none_by_grid : (p : PlaneModel) (points : PointsModel) → ¬ AreInGrid points → ¬ IsDrawn p points
 none_by_grid p points never is = never is.drawn.draws.grid

@@ -1,21 +1,20 @@
 -- What it is that points draw an embedding.
-use Rattle.std.specs.Prelude.{◌≡◌, ℕ, ◌*◌, ◌<◌, ◌≤◌, length, All}
-use Rattle.faces.specs.Planes.{PlaneModel, darts, vertices, with_outer}
+use Rattle.std.specs.Prelude.{ℕ, ◌<◌, ◌≤◌, length, All}
+use Rattle.faces.specs.Planes.{PlaneModel, with_outer}
 use Rattle.ortho_rep.specs.declared.strings.TheConstants.{MAX_TURNS}
 use Rattle.ortho_rep.specs.Shapes.{ShapeModel}
 use Rattle.ortho_rep.specs.Points.{PointsModel}
 use Rattle.ortho_rep.specs.Representation.{IsShape}
-use Rattle.drawing_check.specs.Draws.{Draws}
+use Rattle.drawing_check.specs.Draws.{HasPoints, Draws}
 
 -- a point for each vertex, and for each edge a list of at most 1,000,000 corners
-pub record HasPoints (p : PlaneModel) (points : PointsModel) : Type 0 where
-  pub vertex_count : length points.vertices ≡ vertices p
-  pub edge_count : 2 * length points.corners ≡ darts p
+pub record HasBoundedPoints (p : PlaneModel) (points : PointsModel) : Type 0 where
+  pub counted : HasPoints p points
   pub short : All (λ corners. length corners ≤ MAX_TURNS) points.corners
 
 -- the points draw this orthogonal representation of the plane with its outer face
 pub record IsDrawnBy (p : PlaneModel) (points : PointsModel) (shape : ShapeModel) : Type 0 where
-  pub whole : HasPoints p points
+  pub whole : HasBoundedPoints p points
   pub shape_is : IsShape p shape
   pub draws : Draws p shape points
 

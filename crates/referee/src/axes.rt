@@ -4,7 +4,7 @@ ghost use Rattle.std.specs.Prelude.{◌↔◌, IsTrue, OnOk, OnErr};
 ghost use Rattle.drawing_check.specs.Draws.{IsAxis, IsOnAxes, AreOnAxes};
 ghost use Rattle.drawing_check.specs.Paths.{paths};
 ghost use Rattle.drawing_check.specs.Routes.{path_of};
-ghost use Rattle.referee.specs.Drawings.{HasPoints};
+ghost use Rattle.referee.specs.Drawings.{HasBoundedPoints};
 
 use crate::fault::Fault;
 use drawing_check::{Route, route_of};
@@ -13,7 +13,7 @@ use ortho_rep::{Point, Points};
 
 /// That each part of each path is parallel to an axis.
 pub(crate) fn check_axes(plane: &Plane, points: &Points) -> Result<(), Fault>
-    requires { HasPoints plane.now points.now }
+    requires { HasBoundedPoints plane.now points.now }
     ensures on_axes { OnOk result (AreOnAxes (paths plane.now points.now)) }
     ensures refused { OnErr result (¬ AreOnAxes (paths plane.now points.now)) }
 {

@@ -1,7 +1,7 @@
 //! How many points and corners there are.
 
 ghost use Rattle.std.specs.Prelude.{OnOk, OnErr};
-ghost use Rattle.referee.specs.Drawings.{HasPoints};
+ghost use Rattle.referee.specs.Drawings.{HasBoundedPoints};
 
 use crate::fault::Fault;
 use faces::Plane;
@@ -9,8 +9,8 @@ use ortho_rep::{MAX_TURNS, Points};
 
 /// That there is a point for each vertex, and for each edge a list of few enough corners.
 pub(crate) fn check_counts(plane: &Plane, points: &Points) -> Result<(), Fault>
-    ensures whole { OnOk result (HasPoints plane.now points.now) }
-    ensures refused { OnErr result (¬ HasPoints plane.now points.now) }
+    ensures whole { OnOk result (HasBoundedPoints plane.now points.now) }
+    ensures refused { OnErr result (¬ HasBoundedPoints plane.now points.now) }
 {
     let graph = plane.graph();
     if points.vertex_count() != usize::from(graph.vertices()) {

@@ -4,7 +4,7 @@ ghost use Rattle.std.specs.Prelude.{◌≡◌, ◌≤◌, ◌<◌, ℕ, length};
 ghost use Rattle.faces.specs.Planes.{darts};
 ghost use Rattle.drawing_check.specs.Draws.{leaving};
 ghost use Rattle.drawing_check.specs.Routes.{direction_at};
-ghost use Rattle.referee.specs.Drawings.{HasPoints};
+ghost use Rattle.referee.specs.Drawings.{HasBoundedPoints};
 
 use drawing_check::{direction_from, route_of};
 use faces::Plane;
@@ -13,7 +13,7 @@ use ortho_rep::Points;
 
 /// Writes the direction in which each dart leaves its tail over a list.
 pub(crate) fn list_directions(plane: &Plane, points: &Points, directions: &mut [Direction])
-    requires whole { HasPoints plane.now points.now }
+    requires whole { HasBoundedPoints plane.now points.now }
     requires room { darts plane.now ≤ length directions.old }
     ensures room { darts plane.now ≤ length directions.new }
     ensures leaving { (d : ℕ) → d < darts plane.now

@@ -2,7 +2,7 @@
 
 ghost use Rattle.std.specs.Prelude.{◌↔◌, IsTrue, All, OnOk, OnErr};
 ghost use Rattle.drawing_check.specs.Draws.{IsInGrid, AreInGrid};
-ghost use Rattle.referee.specs.Drawings.{HasPoints};
+ghost use Rattle.referee.specs.Drawings.{HasBoundedPoints};
 
 use crate::fault::Fault;
 use faces::Plane;
@@ -10,7 +10,7 @@ use ortho_rep::{MAX_COORDINATE, Point, Points};
 
 /// That all points lie in the grid: those of vertices first, then the corners, edge by edge.
 pub(crate) fn check_grid(plane: &Plane, points: &Points) -> Result<(), Fault>
-    requires { HasPoints plane.now points.now }
+    requires { HasBoundedPoints plane.now points.now }
     ensures inside { OnOk result (AreInGrid points.now) }
     ensures refused { OnErr result (¬ AreInGrid points.now) }
 {
@@ -19,7 +19,7 @@ pub(crate) fn check_grid(plane: &Plane, points: &Points) -> Result<(), Fault>
 }
 
 fn check_vertices(plane: &Plane, points: &Points) -> Result<(), Fault>
-    requires { HasPoints plane.now points.now }
+    requires { HasBoundedPoints plane.now points.now }
     ensures inside { OnOk result (All IsInGrid points.now.vertices) }
     ensures refused { OnErr result (¬ All IsInGrid points.now.vertices) }
 {
@@ -33,7 +33,7 @@ fn check_vertices(plane: &Plane, points: &Points) -> Result<(), Fault>
 }
 
 fn check_corners(plane: &Plane, points: &Points) -> Result<(), Fault>
-    requires { HasPoints plane.now points.now }
+    requires { HasBoundedPoints plane.now points.now }
     ensures inside { OnOk result (All (All IsInGrid) points.now.corners) }
     ensures refused { OnErr result (¬ All (All IsInGrid) points.now.corners) }
 {

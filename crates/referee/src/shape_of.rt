@@ -6,7 +6,7 @@ ghost use Rattle.faces.specs.Planes.{darts, next, reverse_dart};
 ghost use Rattle.ortho_rep.specs.Shapes.{ShapeModel};
 ghost use Rattle.drawing_check.specs.Draws.{TurnAsSaid};
 ghost use Rattle.drawing_check.specs.Routes.{direction_at};
-ghost use Rattle.referee.specs.Drawings.{HasPoints};
+ghost use Rattle.referee.specs.Drawings.{HasBoundedPoints};
 ghost use Rattle.referee.specs.Taken.{IsTaken};
 
 use crate::directions::list_directions;
@@ -20,7 +20,7 @@ use std::alloc::{AllocError, Global};
 
 /// The shape of these points, if each path turns at each of its corners.
 pub(crate) fn shape_of(alloc: Global, plane: &Plane, points: &Points) -> Result<Shape, Fault>
-    requires { HasPoints plane.now points.now }
+    requires { HasBoundedPoints plane.now points.now }
     ensures taken { IfOk result (IsTaken plane.now points.now) }
     ensures refused { IfErr result (λ fault. fault ≢ Fault.Memory → (shape : ShapeModel) → ¬ TurnAsSaid plane.now shape points.now) }
 {

@@ -11,7 +11,7 @@ ghost use Rattle.ortho_rep.specs.Edges.{is_lesser, edge_number};
 ghost use Rattle.drawing_check.specs.Draws.{turned, IsTurning, TurnAsSaid};
 ghost use Rattle.drawing_check.specs.Paths.{path_along};
 ghost use Rattle.drawing_check.specs.Routes.{path_of};
-ghost use Rattle.referee.specs.Drawings.{HasPoints};
+ghost use Rattle.referee.specs.Drawings.{HasBoundedPoints};
 
 use crate::fault::Fault;
 use drawing_check::{Route, direction_from, route_of};
@@ -26,7 +26,7 @@ pub(crate) fn list_turns(
     plane: &Plane,
     points: &Points,
 ) -> Result<Vec<Vec<Turn>>, Fault>
-    requires { HasPoints plane.now points.now }
+    requires { HasBoundedPoints plane.now points.now }
     ensures count { IfOk result (λ strings. vec_len strings ≡ darts plane.now) }
     ensures short { IfOk result (λ strings. All (λ string. vec_len string ≤ MAX_TURNS) strings.items) }
     ensures turning { IfOk result (λ strings. (d : ℕ) → d < darts plane.now → IsTrue (is_lesser plane.now d)
@@ -58,7 +58,7 @@ fn string_of(
     strings: &[Vec<Turn>],
 ) -> Result<Vec<Turn>, Fault>
     requires inside { dart < darts plane.now }
-    requires whole { HasPoints plane.now points.now }
+    requires whole { HasBoundedPoints plane.now points.now }
     requires number { edge ≡ edge_number plane.now dart }
     requires count { length strings.now ≡ dart }
     requires few { All (λ string. vec_len string ≤ MAX_TURNS) strings.now }

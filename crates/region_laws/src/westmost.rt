@@ -32,7 +32,7 @@ struct Sides {
 ///
 /// They are if the outer face lies on the west of the westmost upright part: all else follows from the shape. It takes
 /// O(s) time for s parts of edges, and allocates nothing. The answer means nothing for points that draw no shape of the
-/// plane; `has_regions` of `drawing_check` requires no shape.
+/// plane; `has_regions_in` of `drawing_check` requires no shape.
 pub fn outside_is_outer(plane: &Plane, drawing: &Drawing) -> bool
     requires points { HasPoints plane.now drawing.now }
     ensures { (shape : ShapeModel) → IsShape plane.now shape → Draws plane.now shape drawing.now

@@ -3,15 +3,14 @@
 ghost use Rattle.std.specs.Prelude.{false, None};
 ghost use Rattle.lanes.specs.Opening.{Silent};
 
-use crate::printing_pauses::{AHEAD, tell_file};
+use crate::printing_pauses::{AHEAD, rest, settle, tell_file};
 use crate::reported::QUICK;
 use collector::{Choice, IoSink, OpenFault, OpenGate, Opener, Tap, TapFault};
 use commands::{Fault, write_batch};
 use std::alloc::{AllocError, Global};
 use std::sync::Wait;
-use std::sync::atomic::{AtomicBool, AtomicU32, AtomicU64, Ordering};
+use std::sync::atomic::{AtomicBool, AtomicU32, Ordering};
 use std::thread::Threads;
-use std::time::Duration;
 use test_tools::records::{EDGE, HEADER};
 use test_tools::same;
 
@@ -59,11 +58,6 @@ struct HeldTap<'r, R> {
 }
 
 impl<R: Wait> Held<'_, R> {
-    /// Lets a hundredth of a second pass.
-    fn rest(&self) {
-        AtomicU64::new(0).park_timeout(self.rt, 0, Duration::from_millis(10));
-    }
-
     /// Waits until more of the last file is read than while the first was held, and notes if thirty seconds were too
     /// few.
     fn meet(&self) {
@@ -71,30 +65,9 @@ impl<R: Wait> Held<'_, R> {
             if self.seen.last.load(Ordering::SeqCst) > AHEAD.saturating_add(2) {
                 return;
             }
-            self.rest();
+            rest(self.rt);
         }
         self.seen.ran_out.store(true, Ordering::SeqCst);
-    }
-
-    /// Waits until no record of the third file or the last has been begun for 0.3 seconds.
-    fn settle(&self) {
-        let (mut begun, mut rests): (u32, u32) = (0, 0);
-        for _ in 0..3_000 {
-            let (third, last) = (&self.seen.third, &self.seen.last);
-            let now = third
-                .load(Ordering::SeqCst)
-                .saturating_add(last.load(Ordering::SeqCst));
-            rests = if now == begun {
-                rests.saturating_add(1)
-            } else {
-                0
-            };
-            if rests > 30 {
-                return;
-            }
-            begun = now;
-            self.rest();
-        }
     }
 
     /// Waits until a record after the first piece of the third file is begun, and then until no more are. Notes how
@@ -104,12 +77,12 @@ impl<R: Wait> Held<'_, R> {
             if self.seen.third.load(Ordering::SeqCst) > IN_ONE {
                 break;
             }
-            self.rest();
+            rest(self.rt);
         }
         let came = self.seen.third.load(Ordering::SeqCst) > IN_ONE;
         self.seen.ran_out.store(!came, Ordering::SeqCst);
-        self.settle();
         let (third, last) = (&self.seen.third, &self.seen.last);
+        settle(self.rt, &[third, last]);
         let (third_held, last_held) = (&self.seen.third_held, &self.seen.last_held);
         third_held.store(third.load(Ordering::SeqCst), Ordering::SeqCst);
         last_held.store(last.load(Ordering::SeqCst), Ordering::SeqCst);

@@ -12,9 +12,9 @@ use std::alloc::{AllocError, Global};
 use std::fmt::Write;
 use std::process::Abort;
 use std::sync::Wait;
-use std::sync::atomic::{AtomicBool, AtomicU32, Ordering};
-use std::thread;
+use std::sync::atomic::{AtomicBool, AtomicU32, AtomicU64, Ordering};
 use std::thread::Threads;
+use std::time::Duration;
 use streams::WriteFault;
 use test_tools::records::{EDGE, HEADER};
 use test_tools::{Narrow, same, wait_for_count};
@@ -129,6 +129,32 @@ fn run<R: AllocGlobal + Threads + Wait + Sync, G: Gate>(
     (ended, sink.into_writer(), ran_out.load(Ordering::SeqCst))
 }
 
+/// Lets a hundredth of a second pass.
+pub(crate) fn rest<R: Wait>(rt: &R) {
+    AtomicU64::new(0).park_timeout(rt, 0, Duration::from_millis(10));
+}
+
+/// Waits until the sum of these counters has not changed for 0.3 seconds, thirty seconds at most.
+pub(crate) fn settle<R: Wait>(rt: &R, counters: &[&AtomicU32]) {
+    let (mut last, mut rests): (u32, u32) = (0, 0);
+    for _ in 0..3_000 {
+        let mut now: u32 = 0;
+        for counter in counters {
+            now = now.saturating_add(counter.load(Ordering::SeqCst));
+        }
+        rests = if now == last {
+            rests.saturating_add(1)
+        } else {
+            0
+        };
+        if rests > 30 {
+            return;
+        }
+        last = now;
+        rest(rt);
+    }
+}
+
 /// The report of this many files.
 fn report(alloc: Global, files: u32) -> Result<String, AllocError> {
     let mut report = String::new(alloc);
@@ -190,11 +216,12 @@ fn the_last_file_may_come_first(rt: HostRuntime) {
     }
 }
 
-/// Counts the calls of first stages. Holds the call of the record at place 300, which only the first file has, for
-/// enough turns that all other lanes pause or end. From then on it holds calls of the record at place 25 until `met`
-/// lanes have made one.
+/// Counts the calls of first stages. Holds the call of the record at place 300, which only the first file has, until all
+/// other lanes pause or have ended. From then on it holds calls of the record at place 25 until `met` lanes have made
+/// one.
 #[derive(Drop)]
-struct HoldsFirst {
+struct HoldsFirst<'r, R> {
+    rt: &'r R,
     met: u32,
     calls: AtomicU32,
     seen: AtomicU32,
@@ -202,9 +229,10 @@ struct HoldsFirst {
     ran_out: AtomicBool,
 }
 
-impl HoldsFirst {
-    fn until(met: u32) -> HoldsFirst {
+impl<'r, R: Wait> HoldsFirst<'r, R> {
+    fn until(rt: &'r R, met: u32) -> HoldsFirst<'r, R> {
         HoldsFirst {
+            rt,
             met,
             calls: AtomicU32::new(0),
             seen: AtomicU32::new(0),
@@ -214,9 +242,7 @@ impl HoldsFirst {
     }
 
     fn hold(&self) {
-        for _ in 0..200_000 {
-            thread::yield_now();
-        }
+        settle(self.rt, &[&self.calls]);
         self.seen
             .store(self.calls.load(Ordering::SeqCst), Ordering::SeqCst);
     }
@@ -230,7 +256,7 @@ impl HoldsFirst {
     }
 }
 
-impl Gate for HoldsFirst {
+impl<R: Wait + Sync> Gate for HoldsFirst<'_, R> {
     fn pass(&self, _lane: u32, stage: Stage, ordinal: u32) {
         if stage != Stage::Read {
             return;
@@ -249,7 +275,7 @@ impl Gate for HoldsFirst {
 fn gate_holds_the_first_until_others_pause(rt: HostRuntime) {
     let report = report(rt.alloc(), 8).expect(&rt, "memory");
     for lanes in [2, 4, MAX_LANES] {
-        let gate = HoldsFirst::until(0);
+        let gate = HoldsFirst::until(&rt, 0);
         check(&rt, (8, lanes, 0), 1, &gate, report.as_str());
         let most = AHEAD.saturating_mul(lanes).saturating_add(301);
         same!(&rt, gate.seen.load(Ordering::SeqCst) <= most, true);
@@ -261,7 +287,7 @@ fn gate_holds_the_first_until_others_pause(rt: HostRuntime) {
 #[test]
 fn room_comes_where_a_file_ends(rt: HostRuntime) {
     let report = report(rt.alloc(), 3).expect(&rt, "memory");
-    let gate = HoldsFirst::until(3);
+    let gate = HoldsFirst::until(&rt, 3);
     check(&rt, (3, 3, 0), 32_768, &gate, report.as_str());
     same!(&rt, gate.ran_out.load(Ordering::SeqCst), false);
 }
@@ -278,7 +304,7 @@ fn ended_in_a_narrow_sink<R: AllocGlobal + Threads + Wait + Sync>(
         reads_of_last: &reads_of_last,
         ran_out: &ran_out,
     };
-    let gate = HoldsFirst::until(0);
+    let gate = HoldsFirst::until(rt, 0);
     let mut sink = IoSink::new(Narrow::new(100, 100, true));
     let (alloc, choice) = (rt.alloc(), Choice::First);
     write_batch(

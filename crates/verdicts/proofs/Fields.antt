@@ -4,7 +4,8 @@ use Rattle.serde_json.specs.Data.{Data}
 use Rattle.serde_json.specs.Find.{get}
 use Rattle.ortho_rep.specs.Points.{PointsModel}
 use Rattle.referee.specs.declared.claims.Claims.{Claims}
-use Rattle.verdicts.specs.Said.{IsTextOf, HasFields, HasRanges, SaysNothing}
+use Rattle.drawn_lines.specs.Said.{IsTextOf}
+use Rattle.verdicts.specs.Said.{HasFields, HasRanges, SaysNothing}
 
 -- a line is the text of one value
 same_value : (line : List ℕ) (value other : Data) → IsTextOf line value → IsTextOf line other → value ≡ other

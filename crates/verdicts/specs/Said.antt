@@ -1,11 +1,10 @@
 -- What a line says.
-use Rattle.std.specs.Prelude.{◌≡◌, ◌≢◌, ℕ, ◌^◌, ◌<◌, ◌≤◌, List, Some, None, IfSome, MatchOption, All, codes, option_map, IsUtf8}
+use Rattle.std.specs.Prelude.{◌≡◌, ◌≢◌, ℕ, ◌^◌, ◌<◌, ◌≤◌, List, Some, None, IfSome, MatchOption, All, codes, option_map}
 use Rattle.serde_json.specs.Data.{Data}
 use Rattle.serde_json.specs.Find.{get}
-use Rattle.serde_json.specs.Read.{read}
 use Rattle.ortho_rep.specs.Points.{PointsModel}
 use Rattle.ortho_rep.specs.Storage.{lists_in}
-use Rattle.drawn_lines.specs.Said.{natural, array_of, turns_data, SaysPoints, SaysPrices, AreShort, AreOf32Bits}
+use Rattle.drawn_lines.specs.Said.{natural, array_of, turns_data, IsTextOf, SaysPoints, SaysPrices, AreShort, AreOf32Bits}
 use Rattle.referee.specs.declared.claims.Claims.{Claims}
 use Rattle.verdicts.specs.declared.said.Said.{Said}
 use Rattle.verdicts.specs.declared.said.Said.TheVariants as said
@@ -34,11 +33,6 @@ pub record HasClaimRanges (claims : Claims) : Type 0 where
 pub record HasRanges (points : PointsModel) (claims : Claims) : Type 0 where
   pub short : AreShort points
   pub claims_fit : HasClaimRanges claims
-
--- a line is the JSON text, in UTF-8, of this value
-pub record IsTextOf (line : List ℕ) (value : Data) : Type 0 where
-  pub utf8 : IsUtf8 line
-  pub text : read line ≡ Some value
 
 -- a line is the last one of a run: its value has a field `end`
 pub record IsEndLine (line : List ℕ) : Type 0 where

@@ -1,18 +1,18 @@
 //! What a line says: a drawing, or the end of a run.
 ghost use Rattle.std.specs.Prelude.{◌≡◌, ◌≢◌, codes, true, false, None, IfOk, IfErr};
 ghost use Rattle.serde_json.specs.Find.{get};
-ghost use Rattle.serde_json.specs.Data.{Data};
-ghost use Rattle.serde_json.specs.Errors.{IsMemory};
 ghost use Rattle.serde_json.specs.View.{view};
 ghost use Rattle.ortho_rep.specs.Points.{PointsModel};
 ghost use Rattle.referee.specs.declared.claims.Claims.{Claims};
 ghost use Rattle.drawn_lines.specs.declared.fault.LineFault.TheVariants.{Memory};
-ghost use Rattle.verdicts.specs.Said.{IsTextOf, HasFields, HasRanges, HasClaims, HasClaimRanges, Says, SaysNothing};
+ghost use Rattle.verdicts.specs.Said.{HasFields, HasRanges, HasClaims, HasClaimRanges, Says, SaysNothing};
 
-use drawn_lines::{LineFault, angles_in, bends_in, outer_in, points_in, prices_in, turns_in};
+use drawn_lines::{
+    LineFault, angles_in, bends_in, outer_in, points_in, prices_in, turns_in, value_in,
+};
 use ortho_rep::Points;
 use referee::Claims;
-use serde_json::{Error, Value};
+use serde_json::Value;
 use std::alloc::Global;
 
 /// A drawing read from a line: its points, and the claims about them.
@@ -53,7 +53,7 @@ pub fn said_in(alloc: Global, line: &[u8]) -> Result<Said, LineFault>
     ensures ok { IfOk result (Says line.now) }
     ensures none { IfErr result (λ fault. fault ≢ Memory → SaysNothing line.now) }
 {
-    let value = match value_of(alloc, line) {
+    let value = match value_in(alloc, line) {
         Ok(value) => value,
         Err(fault) => return Err(fault),
     };
@@ -74,28 +74,6 @@ fn is_end(value: &Value) -> bool
     match value.get("end") {
         Some(_) => true,
         None => false,
-    }
-}
-
-/// The JSON value of a line.
-fn value_of(alloc: Global, line: &[u8]) -> Result<Value, LineFault>
-    ensures ok { IfOk result (λ value. IsTextOf line.now (view value)) }
-    ensures none { IfErr result (λ fault. fault ≢ Memory → (value : Data) → IsTextOf line.now value → ⊥) }
-{
-    match Value::from_slice(alloc, line) {
-        Ok(value) => Ok(value),
-        Err(error) => Err(fault_of(&error)),
-    }
-}
-
-/// The fault that parsing a line as JSON returned.
-fn fault_of(error: &Error) -> LineFault
-    ensures { result ≢ Memory → ¬ IsMemory error.now }
-{
-    if error.is_memory() {
-        LineFault::Memory
-    } else {
-        LineFault::Malformed
     }
 }
 

@@ -5,7 +5,7 @@ use mir.Syntax.{w32}
 use mir.Val.{SFits, of_z}
 use Rattle.networks.specs.Networks.{node_count}
 use Rattle.networks.specs.Flow.{at_nodes}
-use Rattle.networks.specs.ResidualArcs.{reverse_at}
+use Rattle.networks.specs.ResidualArcs.{IsLinked}
 use Rattle.networks.specs.Search.{far, labels, predecessors, orders, places, IsGraph, AreFeasiblePotentials, IsReached, IsNearest, AreFeasible, IsRemaining}
 use Rattle.networks.proofs.Signs.{same_from_bits}
 use Rattle.networks.proofs.Reaching.{strictly, reached_fits}
@@ -19,17 +19,17 @@ run-search-requires-clause-unlabelled c =
     let net = c.requires.ready.0 in
     let r = c.requires.ready.1 in
     let n : length c.args.nodes.now.potential.items ≡ node_count net = r.potentials in
-    let first = c.args.residual.now.first.items in
     let arcs = c.args.residual.now.arcs.items in
     let p = at_nodes c.args.nodes.now.potential.items in
     let e = at_nodes c.args.nodes.now.excess.items in
-    let g : IsGraph (node_count net) first arcs = is_graph _ _ _ _ _ _ r.network r.residual.arcs_built r.residual.filled in
-    let pr : AreFeasiblePotentials (node_count net) first arcs p e = is_priced _ _ _ _ _ _ _ _ r.network r.residual.arcs_built r.residual.filled r.round in
+    let g : IsGraph (node_count net) arcs = is_graph _ _ _ r.network r.residual.filled in
+    let pr : AreFeasiblePotentials (node_count net) arcs p e = is_priced _ _ _ _ _ r.network r.residual.filled r.round in
     rw (c.deref.ensures.value, c.deref-2.ensures.value, c.deref-3.ensures.value, c.deref-4.ensures.value) (record {
       input = record {
         excesses = r.excesses ∙ sym n;
-        graph = subst (λ (t : ℕ). IsGraph t first arcs) (sym n) g;
-        priced = subst (λ (t : ℕ). AreFeasiblePotentials t first arcs p e) (sym n) pr;
+        graph = subst (λ (t : ℕ). IsGraph t arcs) (sym n) g;
+        linked = subst (λ (t : ℕ). IsLinked t c.args.residual.now.first.items arcs) (sym n) r.residual.linked;
+        priced = subst (λ (t : ℕ). AreFeasiblePotentials t arcs p e) (sym n) pr;
         root = omega (arith, c.requires.root, r.excesses, n);
       };
       size = r.labels ∙ sym n;
@@ -43,23 +43,22 @@ returns-then-search-clause-stopped c net r =
     let h = f.search in
     let t = c.run-search.result in
     let res = c.args.residual.now in
-    let first = res.first.items in
     let arcs = res.arcs.items in
     let pot = c.args.nodes.now.potential.items in
     let exc = c.args.nodes.now.excess.items in
     let p = at_nodes pot in
     let x = at_nodes exc in
-    let re0 : IsReached (length pot) first arcs p x c.args.root (labels t) (predecessors t) (orders t) (places t) t.scanned t.ordered t.reached t.radius = rw (c.deref.ensures.value, c.deref-2.ensures.value, c.deref-3.ensures.value, c.deref-4.ensures.value) at h.reached in
-    let sv0 : AreFeasible (length pot) first arcs p (labels t) (places t) t.bound t.scanned = rw (c.deref.ensures.value, c.deref-2.ensures.value, c.deref-3.ensures.value) at f.served in
+    let re0 : IsReached (length pot) arcs p x c.args.root (labels t) (predecessors t) (orders t) (places t) t.scanned t.ordered t.reached t.radius = rw (c.deref-2.ensures.value, c.deref-3.ensures.value, c.deref-4.ensures.value) at h.reached in
+    let sv0 : AreFeasible (length pot) arcs p (labels t) (places t) t.bound t.scanned = rw (c.deref-2.ensures.value, c.deref-3.ensures.value) at f.served in
     let remaining0 : IsRemaining (length pot) p (labels t) (places t) t.scanned t.bound = rw c.deref-3.ensures.value at f.remaining in
     let n = r.potentials in
     let fc : SFits w32 t.bound = search rules in
     let ff : SFits w32 far = search rules in
     let bound : t.bound ≡ far = same_from_bits _ _ fc ff c.if-search.true in
-    let re = subst (λ (k : ℕ). IsReached k first arcs p x c.args.root (labels t) (predecessors t) (orders t) (places t) t.scanned t.ordered t.reached t.radius) n re0 in
-    let sv = subst (λ (k : ℕ). AreFeasible k first arcs p (labels t) (places t) t.bound t.scanned) n sv0 in
+    let re = subst (λ (k : ℕ). IsReached k arcs p x c.args.root (labels t) (predecessors t) (orders t) (places t) t.scanned t.ordered t.reached t.radius) n re0 in
+    let sv = subst (λ (k : ℕ). AreFeasible k arcs p (labels t) (places t) t.bound t.scanned) n sv0 in
     let remaining = subst (λ (k : ℕ). IsRemaining k p (labels t) (places t) t.scanned t.bound) n remaining0 in
-    let short : IsOverfull net (λ v. int_lt (labels t v) far) = nothing_found _ _ _ _ _ _ _ _ _ _ _ _ _ _ _ _ _ _ r.network r.residual.arcs_built r.residual.filled r.round re sv remaining bound c.requires.remaining in
+    let short : IsOverfull net (λ v. int_lt (labels t v) far) = nothing_found _ _ _ _ _ _ _ _ _ _ _ _ _ _ _ r.network r.residual.filled r.round re sv remaining bound c.requires.remaining in
     let size0 : length t.visits.now ≡ length pot = rw c.deref-3.ensures.value at h.size in
     let stopped : HasStopped net t.visits.now = record { labels = size0 ∙ n; overfull = short } in
     let also : (vs : List Visit) → vs ≡ t.visits.now → HasStopped net vs = λ vs same. subst (λ (us : List Visit). HasStopped net us) (sym same) stopped in
@@ -73,17 +72,16 @@ update_potentials-requires c =
     let h = f.search in
     let t = c.run-search.result in
     let res = c.args.residual.now in
-    let first = res.first.items in
     let arcs = res.arcs.items in
     let pot = c.args.nodes.now.potential.items in
     let exc = c.args.nodes.now.excess.items in
     let p = at_nodes pot in
     let x = at_nodes exc in
-    let re0 : IsReached (length pot) first arcs p x c.args.root (labels t) (predecessors t) (orders t) (places t) t.scanned t.ordered t.reached t.radius = rw (c.deref.ensures.value, c.deref-2.ensures.value, c.deref-3.ensures.value, c.deref-4.ensures.value) at h.reached in
-    let near0 : IsNearest (length pot) first arcs p x c.args.root (labels t) (places t) t.scanned t.radius t.bound t.found = rw (c.deref.ensures.value, c.deref-2.ensures.value, c.deref-3.ensures.value, c.deref-4.ensures.value) at h.nearest in
-    let g0 : IsGraph (length pot) first arcs = rw (c.deref.ensures.value, c.deref-2.ensures.value, c.deref-3.ensures.value) at h.input.graph in
+    let re0 : IsReached (length pot) arcs p x c.args.root (labels t) (predecessors t) (orders t) (places t) t.scanned t.ordered t.reached t.radius = rw (c.deref-2.ensures.value, c.deref-3.ensures.value, c.deref-4.ensures.value) at h.reached in
+    let near0 : IsNearest (length pot) arcs p x c.args.root (labels t) (places t) t.scanned t.radius t.bound t.found = rw (c.deref-2.ensures.value, c.deref-3.ensures.value, c.deref-4.ensures.value) at h.nearest in
+    let g0 : IsGraph (length pot) arcs = rw (c.deref-2.ensures.value, c.deref-3.ensures.value) at h.input.graph in
     let hit : t.bound <ℤ far = strictly _ _ near0.most (λ q. c.if-search.false (ap (of_z w32) q)) in
-    let pr0 = rw (c.deref.ensures.value, c.deref-2.ensures.value, c.deref-3.ensures.value, c.deref-4.ensures.value) at h.input.priced in
+    let pr0 = rw (c.deref-2.ensures.value, c.deref-3.ensures.value, c.deref-4.ensures.value) at h.input.priced in
     let b : c.args.root < node_count net = omega (arith, c.requires.root, r.excesses) in
     let size : length t.visits.now ≡ length pot = rw c.deref-3.ensures.value at h.size in
     let le : t.scanned ≤ node_count net = omega (arith, re0.counts, r.potentials) in
@@ -92,7 +90,7 @@ update_potentials-requires c =
       small = omega (arith, r.potentials, r.network.small);
       are_scanned = λ j b. re0.node j (omega (arith, re0.counts));
       sizes = size;
-      labels = λ j b. reached_fits _ _ _ _ _ _ _ _ _ _ _ _ _ _ (orders t j) g0 pr0 re0 (re0.node j (omega (arith, re0.counts))) (re0.has_label j (omega (arith, re0.counts)));
+      labels = λ j b. reached_fits _ _ _ _ _ _ _ _ _ _ _ _ _ (orders t j) g0 pr0 re0 (re0.node j (omega (arith, re0.counts))) (re0.has_label j (omega (arith, re0.counts)));
       bound = label_bounds _ t.scanned (p c.args.root) t.bound r.network.small.0 le (near0.hit hit).near (r.round.low c.args.root b);
     })
 
@@ -111,16 +109,15 @@ returns-clause-found c net r =
     let h = f.search in
     let t = c.run-search.result in
     let res = c.args.residual.now in
-    let first = res.first.items in
     let arcs = res.arcs.items in
     let pot = c.args.nodes.now.potential.items in
     let exc = c.args.nodes.now.excess.items in
     let p = at_nodes pot in
     let x = at_nodes exc in
-    let re0 : IsReached (length pot) first arcs p x c.args.root (labels t) (predecessors t) (orders t) (places t) t.scanned t.ordered t.reached t.radius = rw (c.deref.ensures.value, c.deref-2.ensures.value, c.deref-3.ensures.value, c.deref-4.ensures.value) at h.reached in
-    let near0 : IsNearest (length pot) first arcs p x c.args.root (labels t) (places t) t.scanned t.radius t.bound t.found = rw (c.deref.ensures.value, c.deref-2.ensures.value, c.deref-3.ensures.value, c.deref-4.ensures.value) at h.nearest in
-    let g0 : IsGraph (length pot) first arcs = rw (c.deref.ensures.value, c.deref-2.ensures.value, c.deref-3.ensures.value) at h.input.graph in
-    let sv0 : AreFeasible (length pot) first arcs p (labels t) (places t) t.bound t.scanned = rw (c.deref.ensures.value, c.deref-2.ensures.value, c.deref-3.ensures.value) at f.served in
+    let re0 : IsReached (length pot) arcs p x c.args.root (labels t) (predecessors t) (orders t) (places t) t.scanned t.ordered t.reached t.radius = rw (c.deref-2.ensures.value, c.deref-3.ensures.value, c.deref-4.ensures.value) at h.reached in
+    let near0 : IsNearest (length pot) arcs p x c.args.root (labels t) (places t) t.scanned t.radius t.bound t.found = rw (c.deref-2.ensures.value, c.deref-3.ensures.value, c.deref-4.ensures.value) at h.nearest in
+    let g0 : IsGraph (length pot) arcs = rw (c.deref-2.ensures.value, c.deref-3.ensures.value) at h.input.graph in
+    let sv0 : AreFeasible (length pot) arcs p (labels t) (places t) t.bound t.scanned = rw (c.deref-2.ensures.value, c.deref-3.ensures.value) at f.served in
     let remaining0 : IsRemaining (length pot) p (labels t) (places t) t.scanned t.bound = rw c.deref-3.ensures.value at f.remaining in
     let hit : t.bound <ℤ far = strictly _ _ near0.most (λ q. c.if-search.false (ap (of_z w32) q)) in
     let up = c.update_potentials.ensures in
@@ -141,19 +138,18 @@ returns-clause-short c =
     let h = f.search in
     let t = c.run-search.result in
     let res = c.args.residual.now in
-    let first = res.first.items in
     let arcs = res.arcs.items in
     let pot = c.args.nodes.now.potential.items in
     let exc = c.args.nodes.now.excess.items in
     let p = at_nodes pot in
     let x = at_nodes exc in
-    let re0 : IsReached (length pot) first arcs p x c.args.root (labels t) (predecessors t) (orders t) (places t) t.scanned t.ordered t.reached t.radius = rw (c.deref.ensures.value, c.deref-2.ensures.value, c.deref-3.ensures.value, c.deref-4.ensures.value) at h.reached in
-    let near0 : IsNearest (length pot) first arcs p x c.args.root (labels t) (places t) t.scanned t.radius t.bound t.found = rw (c.deref.ensures.value, c.deref-2.ensures.value, c.deref-3.ensures.value, c.deref-4.ensures.value) at h.nearest in
+    let re0 : IsReached (length pot) arcs p x c.args.root (labels t) (predecessors t) (orders t) (places t) t.scanned t.ordered t.reached t.radius = rw (c.deref-2.ensures.value, c.deref-3.ensures.value, c.deref-4.ensures.value) at h.reached in
+    let near0 : IsNearest (length pot) arcs p x c.args.root (labels t) (places t) t.scanned t.radius t.bound t.found = rw (c.deref-2.ensures.value, c.deref-3.ensures.value, c.deref-4.ensures.value) at h.nearest in
     let hit : t.bound <ℤ far = strictly _ _ near0.most (λ q. c.if-search.false (ap (of_z w32) q)) in
     let n = r.potentials in
     let q = c.clear.ensures.cleared in
-    let re = subst (λ (k : ℕ). IsReached k first arcs p x c.args.root (labels t) (predecessors t) (orders t) (places t) t.scanned t.ordered t.reached t.radius) n re0 in
-    let near = subst (λ (k : ℕ). IsNearest k first arcs p x c.args.root (labels t) (places t) t.scanned t.radius t.bound t.found) n near0 in
-    let short = path_looks _ _ _ _ _ _ _ _ _ _ _ _ _ _ _ _ _ _ _ r.residual.arcs_built r.residual.filled re (near.hit hit) in
-    let looks = rw c.deref.ensures.value at f.looks in
-    short_path _ t c.clear.new.search arcs (reverse_at res.capacities.items) first c.args.looks.now c.run-search.new.looks q (search (rules, f.list, c.clear.ensures.list)) short looks
+    let re = subst (λ (k : ℕ). IsReached k arcs p x c.args.root (labels t) (predecessors t) (orders t) (places t) t.scanned t.ordered t.reached t.radius) n re0 in
+    let near = subst (λ (k : ℕ). IsNearest k arcs p x c.args.root (labels t) (places t) t.scanned t.radius t.bound t.found) n near0 in
+    let short = path_looks _ _ _ _ _ _ _ _ _ _ _ _ _ _ _ _ r.residual.filled re (near.hit hit) in
+    let looks = rw c.deref-2.ensures.value at f.looks in
+    short_path _ t c.clear.new.search arcs c.args.looks.now c.run-search.new.looks q (search (rules, f.list, c.clear.ensures.list)) short looks

@@ -12,7 +12,9 @@ returns-clause-whole c =
     let corners : List (List Point) = c.args.points.now.corners in
     let total : 2 * length corners ≡ darts p = omega (arith, ap dart_count c.graph-graph.ensures.value) in
     record {
-      vertex_count = omega (arith, ap (length {A = List ℕ}) c.graph-graph.ensures.value);
-      edge_count = total;
+      counted = record {
+        vertex_count = omega (arith, ap (length {A = List ℕ}) c.graph-graph.ensures.value);
+        edge_count = total;
+      };
       short = λ k d lt. subst (λ (cs : List Point). length cs ≤ MAX_TURNS) (get_or_default corners k [] d lt) (c.loop-edge.invariant k (omega (arith, lt)));
     }

@@ -1,22 +1,21 @@
 use Rattle.std.proofs.Common.{◌≡◌, ◌≢◌, ◌<◌, ◌≤◌, ◌+◌, ℕ, List, length, pos, ◌+ℤ◌, refl, sym, ◌∙◌, ap, subst, arith}
 use Rattle.std.specs.Prelude.{ℤ, ◌-ℤ◌}
-use mathlib.Core.Path.{fun_ext}
 use Rattle.std.proofs.lemmas.List.{get_or_read, get_or-set_same, get_or-set_other, length-set, with_items_is}
 use Rattle.networks.specs.declared.residual.ResidualArc.{ResidualArc}
 use Rattle.networks.specs.Networks.{NetworkModel, node_count, raised, moved}
 use Rattle.networks.proofs.Moving.{length-moved}
 use Rattle.networks.specs.Flow.{at_nodes}
-use Rattle.networks.specs.ResidualArcs.{end_at, reverse_at, capacity_at, no_residual_arc, AreResidualArcs, carried}
+use Rattle.networks.specs.ResidualArcs.{start_at, end_at, reverse_of, capacity_at, no_residual_arc, AreResidualArcs, carried}
 use Rattle.min_cost_flow.specs.declared.state.Nodes.{Nodes}
 use Rattle.min_cost_flow.proofs.Augmenting.{place_read, enter_read}
 use Rattle.min_cost_flow.specs.declared.state.Solver.{Solver}
 use Rattle.min_cost_flow.specs.Excess.{Carries}
 use Rattle.min_cost_flow.specs.Path.{IsOnPath, previous_of}
-use Rattle.min_cost_flow.specs.Round.{IsRound, carrying}
+use Rattle.min_cost_flow.specs.Round.{carrying}
 use Rattle.min_cost_flow.specs.SolverState.{excess_at, potential_at, flow_in, last_node, CanAugment, IsBottleneck, predecessors_in, places_in}
 use Rattle.min_cost_flow.proofs.Changes.{taken_carries}
 use Rattle.min_cost_flow.proofs.Rounds.{IsSent, sent_round}
-use Rattle.min_cost_flow.proofs.Augmenting.{IsPushed, IsSending, is_paired, was_pushed, pushed_network, same_flow, same_filled, own_step, own_last, own_end, last_pair, step_pair, path_first, path_more, still_fits, sending_first, sending_more, filled_caps, few_remaining, sent_all, sent_less}
+use Rattle.min_cost_flow.proofs.Augmenting.{IsPushed, IsSending, is_paired, was_pushed, pushed_network, own_step, own_last, own_end, last_pair, step_pair, path_first, path_more, still_fits, sending_first, sending_more, filled_caps, few_remaining, sent_all, sent_less}
 use Rattle.min_cost_flow.proofs.state.Solver.augment.Goals as goal
 
 -- where the path ends
@@ -30,7 +29,7 @@ raised_others : (es : List ℤ) (v k w : ℕ) → w ≢ v → at_nodes (raised e
 raised_others es v k w ne = get_or-set_other es v w (at_nodes es v +ℤ pos k) (pos 0) ne
 
 -- so much has been sent from the root to the end of the path
-own_sent : (net : NetworkModel) (s : Solver) (root k : ℕ) (capacity : ℕ → ℕ) (arcs : List ResidualArc) → (h : CanAugment net s root) → IsBottleneck s root k → AreResidualArcs net (reverse_at s.residual.capacities.items) s.residual.forward.items capacity arcs → Carries net (carried (reverse_at s.residual.capacities.items) s.residual.forward.items capacity) (at_nodes (raised s.nodes.excess.items (end_of_path s) k)) root k → ((i : ℕ) → i < length net.arcs → carried (reverse_at s.residual.capacities.items) s.residual.forward.items capacity i ≤ flow_in s i + k) → IsSent net (flow_in s) (carried (reverse_at s.residual.capacities.items) s.residual.forward.items capacity) (excess_at s) (at_nodes (moved s.nodes.excess.items (end_of_path s) root k)) root k
+own_sent : (net : NetworkModel) (s : Solver) (root k : ℕ) (capacity : ℕ → ℕ) (arcs : List ResidualArc) → (h : CanAugment net s root) → IsBottleneck s root k → AreResidualArcs net capacity arcs → Carries net (carried capacity) (at_nodes (raised s.nodes.excess.items (end_of_path s) k)) root k → ((i : ℕ) → i < length net.arcs → carried capacity i ≤ flow_in s i + k) → IsSent net (flow_in s) (carried capacity) (excess_at s) (at_nodes (moved s.nodes.excess.items (end_of_path s) root k)) root k
 own_sent net s root k capacity arcs h b filled carries grown =
     let es = s.nodes.excess.items in
     let to = end_of_path s in
@@ -38,8 +37,8 @@ own_sent net s root k capacity arcs h b filled carries grown =
     let tb : to < length es = omega (arith, h.ready.excesses, own_end net s root h) in
     let long : length es' ≡ length es = length-set es to (at_nodes es to +ℤ pos k) in
     let sb : root < length es' = omega (arith, h.ready.excesses, h.root) in
-    sent_all net (flow_in s) (carried (reverse_at s.residual.capacities.items) s.residual.forward.items capacity) (excess_at s) (at_nodes es') (at_nodes (moved es to root k)) root to k h.root h.remaining h.deficit b.fitting.remaining b.fitting.short
-    (filled_caps net (reverse_at s.residual.capacities.items) s.residual.forward.items capacity arcs filled) carries
+    sent_all net (flow_in s) (carried capacity) (excess_at s) (at_nodes es') (at_nodes (moved es to root k)) root to k h.root h.remaining h.deficit b.fitting.remaining b.fitting.short
+    (filled_caps net capacity arcs filled) carries
     (raised_here es to k tb) (raised_others es to k)
     (get_or-set_same es' root (at_nodes es' root -ℤ pos k) (pos 0) sb)
     (λ w ne. get_or-set_other es' root w (at_nodes es' root -ℤ pos k) (pos 0) ne)
@@ -49,9 +48,7 @@ pub index-requires : goal.index-requires
 index-requires c = omega (arith, (last_pair c.requires.0 c.args.self.now c.args.root c.requires.1).here)
 
 pub start-node-requires : goal.start-node-requires
-start-node-requires c =
-    let n = last_pair c.requires.0 c.args.self.now c.args.root c.requires.1 in
-    record { number = omega (arith, n.here, n.sizes); reverse = n.there }
+start-node-requires c = (last_pair c.requires.0 c.args.self.now c.args.root c.requires.1).there
 
 pub move_units-requires : goal.move_units-requires
 move_units-requires c =
@@ -84,26 +81,20 @@ along-init c =
     let s = c.args.self.now in
     let k = c.bottleneck-amount.result in
     let q = c.push.ensures in
-    let first = s.residual.first.items in
-    let forward = s.residual.forward.items in
     let arcs = s.residual.arcs.items in
     let capacities = s.residual.capacities.items in
-    let reverse = reverse_at capacities in
     let es = s.nodes.excess.items in
     let place = places_in s in
-    let next = previous_of arcs capacities (predecessors_in s) in
+    let next = previous_of arcs (predecessors_in s) in
     let from = last_node s in
     let to = end_of_path s in
     let e = at_nodes (raised es to k) in
     let at : c.start-node.result ≡ from = c.start-node.ensures in
-    let pushed : IsPushed reverse (capacity_at capacities) (capacity_at c.push.new.residual.capacities.items) s.found k = was_pushed s.residual c.push.new.residual s.found k q in
+    let pushed : IsPushed (capacity_at capacities) (capacity_at c.push.new.residual.capacities.items) s.found k = was_pushed s.residual c.push.new.residual s.found k q in
     record {
       node = λ net h. subst (λ (t : ℕ). t < node_count net) (sym at) (own_last net s c.args.root h).node;
-      residual = λ net h. let l = own_last net s c.args.root h in pushed_network net s.residual c.push.new.residual from s.found k h.ready.residual l.node l.leaves q;
-      first = q.first;
-      forward = q.forward;
+      residual = λ net h. pushed_network net s.residual c.push.new.residual s.found k h.ready.residual (own_last net s c.args.root h).inside q;
       ends = q.ends;
-      reverse = q.reverse;
       nodes = refl;
       visits = refl;
       found = refl;
@@ -116,9 +107,8 @@ along-init c =
           let tb : to < length es = omega (arith, r.excesses, own_end net s c.args.root h) in
           let taken : Carries net (flow_in s) e to k = taken_carries net (flow_in s) (excess_at s) e to k r.round.leaves (raised_here es to k tb) (raised_others es to k) in
           let most = carrying net (flow_in s) + place from + 1 in
-          subst (λ (y : ℕ → ℕ). IsSending net (potential_at s) e h.path.on place (flow_in s) y c.start-node.result k most) (sym (same_flow s.residual c.push.new.residual q.reverse q.forward))
-          (subst (λ (t : ℕ). IsSending net (potential_at s) e h.path.on place (flow_in s) (carried reverse forward (capacity_at c.push.new.residual.capacities.items)) t k most) (sym at)
-          (sending_first net first reverse forward (capacity_at capacities) (capacity_at c.push.new.residual.capacities.items) (potential_at s) e h.path.on place from s.found to k r.residual.arcs_built (own_last net s c.args.root h).tight_arc h.path.off taken r.round.priced pushed));
+          subst (λ (t : ℕ). IsSending net (potential_at s) e h.path.on place (flow_in s) (carried (capacity_at c.push.new.residual.capacities.items)) t k most) (sym at)
+          (sending_first net (capacity_at capacities) (capacity_at c.push.new.residual.capacities.items) (potential_at s) e h.path.on place from s.found to k (own_last net s c.args.root h).tight_arc h.path.off taken r.round.priced pushed);
     }
 
 pub index-requires-in-along : goal.index-requires-in-along
@@ -151,19 +141,15 @@ push-requires-in-along c =
     let some : 0 < place v = omega (arith, c.along-test.true) in
     let en : c.index-in-along-2.result.now.predecessor ≡ predecessor v = rw i.visits at (enter_read t.visits.items v c.index-in-along-2.result.now (rw i.visits (omega (arith, i.node net h))) c.index-in-along-2.ensures) in
     let st = own_step net s c.args.root h v (i.on net h) some in
-    let first = s.residual.first.items in
-    let forward = s.residual.forward.items in
     let arcs = s.residual.arcs.items in
     let capacities = s.residual.capacities.items in
-    let reverse = reverse_at capacities in
     let from = last_node s in
     let to = end_of_path s in
     let e = at_nodes (raised s.nodes.excess.items to k) in
     let most = carrying net (flow_in s) + place from + 1 in
-    let sd = subst (λ (y : ℕ → ℕ). IsSending net (potential_at s) e h.path.on place (flow_in s) y v k most) (same_flow s.residual t.residual i.reverse i.forward) (i.sending net h) in
-    let fits : k ≤ capacity_at t.residual.capacities.items (predecessor v) = still_fits net reverse forward (capacity_at capacities) (capacity_at t.residual.capacities.items) arcs t.residual.arcs.items (potential_at s) e h.path.on place (previous_of arcs capacities (predecessors_in s) v) (predecessor v) v k most r.residual.filled (same_filled net s.residual t.residual i.reverse i.forward (i.residual net h)) st.tight_arc st.member (i.on net h) st.before sd (c.bottleneck-amount.ensures.fitting.fits v i.on_path some) in
+    let fits : k ≤ capacity_at t.residual.capacities.items (predecessor v) = still_fits net (capacity_at capacities) (capacity_at t.residual.capacities.items) arcs t.residual.arcs.items (potential_at s) e h.path.on place (previous_of arcs (predecessors_in s) v) (predecessor v) v k most r.residual.filled (i.residual net h).filled st.tight_arc st.member (i.on net h) st.before (i.sending net h) (c.bottleneck-amount.ensures.fitting.fits v i.on_path some) in
     rw en (record {
-      pair = is_paired net t.residual (previous_of arcs capacities (predecessors_in s) v) (predecessor v) r.network (i.residual net h) st.node (rw i.first st.leaves);
+      pair = is_paired net t.residual (predecessor v) r.network (i.residual net h) (omega (arith, st.inside, r.residual.filled.arc_size, (i.residual net h).filled.arc_size));
       some = c.bottleneck-amount.ensures.some;
       fits = fits;
     })
@@ -189,10 +175,7 @@ start-node-requires-in-along c =
     let q = c.push-in-along.ensures in
     let n = step_pair net s c.args.root v h (i.on net h) some in
     let long : length c.push-in-along.new.residual.arcs.items ≡ length s.residual.arcs.items = omega (arith, r.residual.filled.arc_size, q.arc_size, (i.residual net h).filled.arc_size) in
-    rw en (record {
-      number = omega (arith, n.here, long, r.residual.capacities_size, q.capacities_size, (i.residual net h).capacities_size, r.residual.filled.arc_size);
-      reverse = omega (arith, n.there, long, q.reverse (predecessor v) ∙ i.reverse (predecessor v));
-    })
+    rw en (omega (arith, n.there, long))
 
 pub along-smaller : goal.along-smaller
 along-smaller c =
@@ -213,9 +196,9 @@ along-smaller c =
     let en : c.index-in-along-2.result.now.predecessor ≡ predecessor v = rw i.visits at (enter_read t.visits.items v c.index-in-along-2.result.now (rw i.visits (omega (arith, i.node net h))) c.index-in-along-2.ensures) in
     let st = own_step net s c.args.root h v (i.on net h) some in
     let q = c.push-in-along.ensures in
-    let j = reverse_at s.residual.capacities.items (predecessor v) in
+    let j = reverse_of (predecessor v) in
     let start = rw en at c.start-node-in-along.ensures in
-    let at : c.start-node-in-along.result ≡ end_at s.residual.arcs.items j = start ∙ ap (end_at c.push-in-along.new.residual.arcs.items) (q.reverse (predecessor v) ∙ i.reverse (predecessor v)) ∙ q.ends j ∙ i.ends j in
+    let at : c.start-node-in-along.result ≡ start_at s.residual.arcs.items (predecessor v) = start ∙ q.ends j ∙ i.ends j in
     subst (λ (u : ℕ). place u < place v) (sym at) st.before
 
 pub along-preserved : goal.along-preserved
@@ -236,30 +219,23 @@ along-preserved c =
     let some : 0 < place v = omega (arith, c.along-test.true) in
     let en : c.index-in-along-2.result.now.predecessor ≡ predecessor v = rw i.visits at (enter_read t.visits.items v c.index-in-along-2.result.now (rw i.visits (omega (arith, i.node net h))) c.index-in-along-2.ensures) in
     let st = own_step net s c.args.root h v (i.on net h) some in
-    let first = s.residual.first.items in
-    let forward = s.residual.forward.items in
     let arcs = s.residual.arcs.items in
     let capacities = s.residual.capacities.items in
-    let reverse = reverse_at capacities in
     let from = last_node s in
     let to = end_of_path s in
     let e = at_nodes (raised s.nodes.excess.items to k) in
     let most = carrying net (flow_in s) + place from + 1 in
     let q = c.push-in-along.ensures in
     let new = c.push-in-along.new.residual in
-    let next = previous_of arcs capacities (predecessors_in s) in
-    let j = reverse (predecessor v) in
-    let undone : (m : ℕ) → reverse_at new.capacities.items m ≡ reverse m = λ m. q.reverse m ∙ i.reverse m in
+    let next = previous_of arcs (predecessors_in s) in
+    let j = reverse_of (predecessor v) in
     let start = rw en at c.start-node-in-along.ensures in
-    let at : c.start-node-in-along.result ≡ end_at arcs j = start ∙ ap (end_at new.arcs.items) (undone (predecessor v)) ∙ q.ends j ∙ i.ends j in
-    let pushed : IsPushed reverse (capacity_at t.residual.capacities.items) (capacity_at new.capacities.items) (predecessor v) k = subst (λ (backward : ℕ → ℕ). IsPushed backward (capacity_at t.residual.capacities.items) (capacity_at new.capacities.items) (predecessor v) k) (fun_ext i.reverse) (rw en at (was_pushed t.residual new c.index-in-along-2.result.now.predecessor k q)) in
+    let at : c.start-node-in-along.result ≡ start_at arcs (predecessor v) = start ∙ q.ends j ∙ i.ends j in
+    let pushed : IsPushed (capacity_at t.residual.capacities.items) (capacity_at new.capacities.items) (predecessor v) k = rw en at (was_pushed t.residual new c.index-in-along-2.result.now.predecessor k q) in
     record {
       node = λ net' g. subst (λ (u : ℕ). u < node_count net') (sym at) (own_step net' s c.args.root g v (i.on net' g) some).node;
-      residual = λ net' g. let l = own_step net' s c.args.root g v (i.on net' g) some in pushed_network net' t.residual new (next v) (predecessor v) k (i.residual net' g) l.node (rw i.first l.leaves) (rw en at q);
-      first = q.first ∙ i.first;
-      forward = q.forward ∙ i.forward;
+      residual = λ net' g. pushed_network net' t.residual new (predecessor v) k (i.residual net' g) (omega (arith, (own_step net' s c.args.root g v (i.on net' g) some).inside, g.ready.residual.filled.arc_size, (i.residual net' g).filled.arc_size)) (rw en at q);
       ends = λ m. q.ends m ∙ i.ends m;
-      reverse = undone;
       nodes = i.nodes;
       visits = i.visits;
       found = i.found;
@@ -270,10 +246,8 @@ along-preserved c =
       sending = λ net' g.
           let l = own_step net' s c.args.root g v (i.on net' g) some in
           let most' = carrying net' (flow_in s) + place from + 1 in
-          let sd = subst (λ (y : ℕ → ℕ). IsSending net' (potential_at s) e g.path.on place (flow_in s) y v k most') (same_flow s.residual t.residual i.reverse i.forward) (i.sending net' g) in
-          subst (λ (y : ℕ → ℕ). IsSending net' (potential_at s) e g.path.on place (flow_in s) y c.start-node-in-along.result k most') (sym (same_flow s.residual new undone (q.forward ∙ i.forward)))
-          (subst (λ (u : ℕ). IsSending net' (potential_at s) e g.path.on place (flow_in s) (carried reverse forward (capacity_at new.capacities.items)) u k most') (sym at)
-          (sending_more net' first reverse forward (capacity_at capacities) (capacity_at t.residual.capacities.items) (capacity_at new.capacities.items) (potential_at s) e g.path.on place (end_at arcs j) (predecessor v) v k most' g.ready.residual.arcs_built l.tight_arc l.member (i.on net' g) l.before sd pushed));
+          subst (λ (u : ℕ). IsSending net' (potential_at s) e g.path.on place (flow_in s) (carried (capacity_at new.capacities.items)) u k most') (sym at)
+          (sending_more net' (capacity_at capacities) (capacity_at t.residual.capacities.items) (capacity_at new.capacities.items) (potential_at s) e g.path.on place (start_at arcs (predecessor v)) (predecessor v) v k most' l.tight_arc l.member (i.on net' g) l.before (i.sending net' g) pushed);
     }
 
 pub returns-clause-sent : goal.returns-clause-sent
@@ -289,22 +263,18 @@ returns-clause-sent c net h =
     let size : length s.visits.items ≡ node_count net = r.labels in
     let wide : length s.visits.items ≡ node_count net = r.labels in
     let pl : c.index-in-along.result.now.place ≡ place v = rw i.visits at (place_read t.visits.items v c.index-in-along.result.now (rw i.visits (omega (arith, i.node net h))) c.index-in-along.ensures) in
-    let first = s.residual.first.items in
-    let forward = s.residual.forward.items in
     let arcs = s.residual.arcs.items in
     let capacities = s.residual.capacities.items in
-    let reverse = reverse_at capacities in
     let from = last_node s in
     let to = end_of_path s in
     let e = at_nodes (raised s.nodes.excess.items to k) in
     let most = carrying net (flow_in s) + place from + 1 in
     let none : place v ≡ 0 = omega (arith, c.along-test.false) in
     let at : v ≡ c.args.root = h.path.root_is v (i.on net h) none in
-    let y = carried reverse forward (capacity_at t.residual.capacities.items) in
-    let flow_is : flow_in t ≡ y = same_flow s.residual t.residual i.reverse i.forward in
-    let sd = subst (λ (x : ℕ → ℕ). IsSending net (potential_at s) e h.path.on place (flow_in s) x v k most) flow_is (i.sending net h) in
+    let y = carried (capacity_at t.residual.capacities.items) in
+    let sd = i.sending net h in
     let carries : Carries net y e c.args.root k = subst (λ (u : ℕ). Carries net y e u k) at sd.carries in
-    let sent : IsSent net (flow_in s) y (excess_at s) (at_nodes (moved s.nodes.excess.items to c.args.root k)) c.args.root k = own_sent net s c.args.root k (capacity_at t.residual.capacities.items) t.residual.arcs.items h c.bottleneck-amount.ensures (same_filled net s.residual t.residual i.reverse i.forward (i.residual net h)) carries sd.grown in
+    let sent : IsSent net (flow_in s) y (excess_at s) (at_nodes (moved s.nodes.excess.items to c.args.root k)) c.args.root k = own_sent net s c.args.root k (capacity_at t.residual.capacities.items) t.residual.arcs.items h c.bottleneck-amount.ensures (i.residual net h).filled carries sd.grown in
     let n = last_pair net s c.args.root h in
     let target : c.from-target.result ≡ to = c.from-target.ensures ∙ ap (λ (a : ResidualArc). a.end) (get_or_read arcs s.found c.index.result.now n.here c.index.ensures no_residual_arc) in
     let units = c.move_units.new.units in
@@ -318,11 +288,11 @@ returns-clause-sent c net h =
         potentials = rw potential_is r.potentials;
         excesses = rw excess_is (length-moved s.nodes.excess.items to c.args.root k ∙ r.excesses);
         labels = rw i.visits r.labels;
-        round = subst (λ (x : ℕ → ℕ). IsRound net x (potential_at t) (excess_at t)) (sym flow_is) (rw (potential_is, excess_is) (sent_round net (flow_in s) y (potential_at s) (excess_at s) (at_nodes (moved s.nodes.excess.items to c.args.root k)) c.args.root k sent sd.priced r.round));
+        round = rw (potential_is, excess_is) (sent_round net (flow_in s) y (potential_at s) (excess_at s) (at_nodes (moved s.nodes.excess.items to c.args.root k)) c.args.root k sent sd.priced r.round);
         unlabelled = rw i.visits r.unlabelled;
       };
       less = rw excess_is (sent_less net (flow_in s) y (excess_at s) (at_nodes (moved s.nodes.excess.items to c.args.root k)) c.args.root k sent c.bottleneck-amount.ensures.some);
-      carrying = subst (λ (x : ℕ → ℕ). carrying net x ≤ most) (sym flow_is) (omega (arith, sd.few));
+      carrying = omega (arith, sd.few);
     }
 
 pub returns-clause-work : goal.returns-clause-work

@@ -1,9 +1,8 @@
 use Rattle.std.proofs.Common.{◌≡◌, ◌<◌, ◌≤◌, ℕ, min, sym, ◌∙◌, ap, subst, arith}
 use Rattle.std.proofs.lemmas.List.{get_or_read}
 use Rattle.networks.specs.declared.residual.ResidualArc.{ResidualArc}
-use Rattle.networks.specs.declared.residual.ResidualCapacity.{ResidualCapacity}
 use Rattle.networks.specs.Networks.{node_count}
-use Rattle.networks.specs.ResidualArcs.{end_at, reverse_at, capacity_at, no_residual_arc, no_residual_capacity}
+use Rattle.networks.specs.ResidualArcs.{start_at, end_at, capacity_at, no_residual_arc}
 use Rattle.min_cost_flow.proofs.Augmenting.{place_read, enter_read}
 use Rattle.min_cost_flow.specs.Path.{previous_of, capacity_into}
 use Rattle.min_cost_flow.specs.SolverState.{excess_at, last_node, predecessors_in, places_in}
@@ -33,9 +32,7 @@ index-requires-2 c =
     let n = last_pair c.requires.0 c.args.self.now c.args.root c.requires.1 in omega (arith, n.here, n.sizes)
 
 pub start-node-requires : goal.start-node-requires
-start-node-requires c =
-    let n = last_pair c.requires.0 c.args.self.now c.args.root c.requires.1 in
-    record { number = omega (arith, n.here, n.sizes); reverse = n.there }
+start-node-requires c = (last_pair c.requires.0 c.args.self.now c.args.root c.requires.1).there
 
 pub narrow-init : goal.narrow-init
 narrow-init c =
@@ -47,15 +44,15 @@ narrow-init c =
     let l = own_last net s c.args.root h in
     let at : c.start-node.result ≡ last_node s = c.start-node.ensures in
     let target : c.from-target.result ≡ end_at s.residual.arcs.items s.found = c.from-target.ensures ∙ ap (λ (a : ResidualArc). a.end) (get_or_read s.residual.arcs.items s.found c.index.result.now n.here c.index.ensures no_residual_arc) in
-    let fits : c.index-2.result.now.capacity ≡ capacity_at s.residual.capacities.items s.found = ap (λ (a : ResidualCapacity). a.capacity) (get_or_read s.residual.capacities.items s.found c.index-2.result.now (omega (arith, n.here, n.sizes)) c.index-2.ensures no_residual_capacity) in
-    let least : c.min-amount.result ≡ min c.most_between-most.result c.index-2.result.now.capacity = c.min-amount.ensures in
+    let fits : c.index-2.result.now ≡ capacity_at s.residual.capacities.items s.found = get_or_read s.residual.capacities.items s.found c.index-2.result.now (omega (arith, n.here, n.sizes)) c.index-2.ensures 0 in
+    let least : c.min-amount.result ≡ min c.most_between-most.result c.index-2.result.now = c.min-amount.ensures in
     let m = c.most_between-most.ensures in
-    let next = previous_of s.residual.arcs.items s.residual.capacities.items (predecessors_in s) in
+    let next = previous_of s.residual.arcs.items (predecessors_in s) in
     let capacities = capacity_into s.residual.capacities.items (predecessors_in s) in
     record {
       node = λ net' g. subst (λ (t : ℕ). t < node_count net') (sym at) (own_last net' s c.args.root g).node;
       narrowed = subst (λ (t : ℕ). IsNarrowed next (places_in s) capacities (last_node s) t c.min-amount.result) (sym at) (narrowed_first next (places_in s) capacities (last_node s) c.min-amount.result);
-      some = lesser_some c.most_between-most.result c.index-2.result.now.capacity c.min-amount.result least m.some (omega (arith, l.tight_arc.some));
+      some = lesser_some c.most_between-most.result c.index-2.result.now c.min-amount.result least m.some (omega (arith, l.tight_arc.some));
       found = omega (arith, least);
       remaining = lesser_remaining c.most_between-most.result c.min-amount.result (excess_at s c.args.root) (omega (arith, least)) (rw d at m.remaining);
       short = lesser_short c.most_between-most.result c.min-amount.result (excess_at s (end_at s.residual.arcs.items s.found)) (omega (arith, least)) (rw (d, target) at m.deficit);
@@ -73,7 +70,7 @@ narrow-smaller c =
     let pl : c.index-in-narrow.result.now.place ≡ places_in s v = place_read s.visits.items v c.index-in-narrow.result.now (omega (arith, i.node net h, h.ready.labels)) c.index-in-narrow.ensures in
     let some : 0 < places_in s v = omega (arith, c.narrow-test.true) in
     let en : c.index-in-narrow-2.result.now.predecessor ≡ predecessors_in s v = enter_read s.visits.items v c.index-in-narrow-2.result.now (omega (arith, i.node net h, h.ready.labels)) c.index-in-narrow-2.ensures in
-    let at : c.start-node-in-narrow.result ≡ previous_of s.residual.arcs.items s.residual.capacities.items (predecessors_in s) v = c.start-node-in-narrow.ensures ∙ ap (λ (t : ℕ). end_at s.residual.arcs.items (reverse_at s.residual.capacities.items t)) en in
+    let at : c.start-node-in-narrow.result ≡ previous_of s.residual.arcs.items (predecessors_in s) v = c.start-node-in-narrow.ensures ∙ ap (λ (t : ℕ). start_at s.residual.arcs.items t) en in
     subst (λ (t : ℕ). places_in s t < places_in s v) (sym at) (own_step net s c.args.root h v (i.on net h) some).before
 
 pub index-requires-in-narrow : goal.index-requires-in-narrow
@@ -106,7 +103,7 @@ start-node-requires-in-narrow c =
     let some : 0 < places_in s v = omega (arith, c.narrow-test.true) in
     let en : c.index-in-narrow-2.result.now.predecessor ≡ predecessors_in s v = enter_read s.visits.items v c.index-in-narrow-2.result.now (omega (arith, i.node net h, h.ready.labels)) c.index-in-narrow-2.ensures in
     let n = step_pair net s c.args.root v h (i.on net h) some in
-    rw en (record { number = omega (arith, n.here, n.sizes); reverse = n.there })
+    rw en n.there
 
 pub narrow-preserved : goal.narrow-preserved
 narrow-preserved c =
@@ -119,18 +116,18 @@ narrow-preserved c =
     let some : 0 < places_in s v = omega (arith, c.narrow-test.true) in
     let en : c.index-in-narrow-2.result.now.predecessor ≡ predecessors_in s v = enter_read s.visits.items v c.index-in-narrow-2.result.now (omega (arith, i.node net h, h.ready.labels)) c.index-in-narrow-2.ensures in
     let n = step_pair net s c.args.root v h (i.on net h) some in
-    let rm : c.index-in-narrow-3.result.now.capacity ≡ capacity_at s.residual.capacities.items (predecessors_in s v) = ap (λ (a : ResidualCapacity). a.capacity) (get_or_read s.residual.capacities.items c.index-in-narrow-2.result.now.predecessor c.index-in-narrow-3.result.now (omega (arith, n.here, n.sizes)) c.index-in-narrow-3.ensures no_residual_capacity) ∙ ap (capacity_at s.residual.capacities.items) en in
-    let at : c.start-node-in-narrow.result ≡ previous_of s.residual.arcs.items s.residual.capacities.items (predecessors_in s) v = c.start-node-in-narrow.ensures ∙ ap (λ (t : ℕ). end_at s.residual.arcs.items (reverse_at s.residual.capacities.items t)) en in
+    let rm : c.index-in-narrow-3.result.now ≡ capacity_at s.residual.capacities.items (predecessors_in s v) = get_or_read s.residual.capacities.items c.index-in-narrow-2.result.now.predecessor c.index-in-narrow-3.result.now (omega (arith, n.here, n.sizes)) c.index-in-narrow-3.ensures 0 ∙ ap (capacity_at s.residual.capacities.items) en in
+    let at : c.start-node-in-narrow.result ≡ previous_of s.residual.arcs.items (predecessors_in s) v = c.start-node-in-narrow.ensures ∙ ap (λ (t : ℕ). start_at s.residual.arcs.items t) en in
     let st = own_step net s c.args.root h v (i.on net h) some in
     let k' = c.min-amount-in-narrow.result in
-    let least : k' ≡ min c.narrow.amount c.index-in-narrow-3.result.now.capacity = c.min-amount-in-narrow.ensures in
+    let least : k' ≡ min c.narrow.amount c.index-in-narrow-3.result.now = c.min-amount-in-narrow.ensures in
     let less : k' ≤ c.narrow.amount = omega (arith, least) in
-    let next = previous_of s.residual.arcs.items s.residual.capacities.items (predecessors_in s) in
+    let next = previous_of s.residual.arcs.items (predecessors_in s) in
     let capacities = capacity_into s.residual.capacities.items (predecessors_in s) in
     record {
       node = λ net' g. subst (λ (t : ℕ). t < node_count net') (sym at) (own_step net' s c.args.root g v (i.on net' g) some).node;
       narrowed = subst (λ (t : ℕ). IsNarrowed next (places_in s) capacities (last_node s) t k') (sym at) (narrowed_more next (places_in s) capacities (last_node s) v c.narrow.amount k' i.narrowed some less (omega (arith, least)));
-      some = lesser_some c.narrow.amount c.index-in-narrow-3.result.now.capacity k' least i.some (omega (arith, st.tight_arc.some));
+      some = lesser_some c.narrow.amount c.index-in-narrow-3.result.now k' least i.some (omega (arith, st.tight_arc.some));
       found = omega (arith, less, i.found);
       remaining = lesser_remaining c.narrow.amount k' (excess_at s c.args.root) less i.remaining;
       short = lesser_short c.narrow.amount k' (excess_at s (end_at s.residual.arcs.items s.found)) less i.short;
@@ -154,6 +151,6 @@ returns c =
         found = i.found;
         remaining = i.remaining;
         short = i.short;
-        fits = λ u on some. narrowed_all (previous_of s.residual.arcs.items s.residual.capacities.items (predecessors_in s)) (places_in s) (capacity_into s.residual.capacities.items (predecessors_in s)) (last_node s) v c.narrow.amount i.narrowed none u on some;
+        fits = λ u on some. narrowed_all (previous_of s.residual.arcs.items (predecessors_in s)) (places_in s) (capacity_into s.residual.capacities.items (predecessors_in s)) (last_node s) v c.narrow.amount i.narrowed none u on some;
       };
     }

@@ -9,7 +9,7 @@ use Rattle.min_cost_flow.proofs.state.Solver.bottleneck.Given as goal
 abbrev pub invariant-narrow : goal.invariant-narrow
 invariant-narrow l = record {
   node : (net : NetworkModel) → CanAugment net l.self l.root → l.node < node_count net;
-  narrowed : IsNarrowed (previous_of l.self.residual.arcs.items l.self.residual.capacities.items (predecessors_in l.self)) (places_in l.self) (capacity_into l.self.residual.capacities.items (predecessors_in l.self)) (last_node l.self) l.node l.amount;
+  narrowed : IsNarrowed (previous_of l.self.residual.arcs.items (predecessors_in l.self)) (places_in l.self) (capacity_into l.self.residual.capacities.items (predecessors_in l.self)) (last_node l.self) l.node l.amount;
   some : 0 < l.amount;
   found : l.amount ≤ capacity_at l.self.residual.capacities.items l.self.found;
   remaining : pos l.amount ≤ℤ excess_at l.self l.root;

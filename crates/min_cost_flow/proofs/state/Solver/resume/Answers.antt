@@ -5,12 +5,8 @@ use Rattle.std.proofs.lemmas.List.{with_items_is}
 use Rattle.networks.specs.Networks.{node_count, moved, shifted}
 use Rattle.networks.proofs.Moving.{length-moved}
 use Rattle.networks.specs.Flow.{at_nodes}
-use Rattle.min_cost_flow.proofs.Moved.{others_none, can_read, sized_moved, ready_moved, low_bounds}
+use Rattle.min_cost_flow.proofs.Moved.{others_none, sized_moved, ready_moved, low_bounds}
 use Rattle.min_cost_flow.proofs.state.Solver.resume.Goals as goal
-
-pub carries_little-requires-clause-read : goal.carries_little-requires-clause-read
-carries_little-requires-clause-read c =
-    rw (c.deref.ensures.value, c.deref-2.ensures.value) (can_read c.args.network.now c.args.self.now c.requires.all_sent.ready)
 
 pub solve-requires : goal.solve-requires
 solve-requires c =
@@ -54,7 +50,7 @@ resend-requires c =
     let value : es ≡ moved l.nodes.excess.items c.args.from c.args.to c.args.amount = c.move_units.ensures ∙ ap (λ (xs : List ℤ). moved xs c.args.from c.args.to c.args.amount) c.deref_mut-2.ensures.value in
     let base = rw d at c.rebase.ensures.moved in
     let low = c.rebase.ensures.low c.if-not-rebase.false in
-    let little = rw (c.deref.ensures.value, c.deref-2.ensures.value) at (c.carries_little.ensures c.if-not-carries_little.false) in
+    let little = rw c.deref.ensures.value at (c.carries_little.ensures c.if-not-carries_little.false) in
     let wide : length (with_items l.nodes.excess es).items ≡ node_count net = ap (length {A = ℤ}) (excess_is ∙ value) ∙ length-moved l.nodes.excess.items c.args.from c.args.to c.args.amount ∙ r.excesses in
     record {
       ready = (
@@ -62,7 +58,7 @@ resend-requires c =
         ready_moved net l _ _ c.args.from c.args.to c.args.amount st c.requires.in_range c.requires.from c.requires.to c.requires.few
             (λ v b. rw pot_is (base v (omega (arith, size))))
             (λ v b. rw pot_is (subst (λ (m : ℕ). (pos 0 ≤ℤ (at_nodes p' v +ℤ pos (2 * m))) × (at_nodes p' v ≤ℤ pos (2 * m))) size (low v (omega (arith, size)))))
-            (λ i b. little i (omega (arith, r.residual.arcs_built.forwards)))
+            (λ i b. little i (omega (arith, r.residual.capacities_size)))
             (rw pot_is (omega (arith, size, r.potentials))) (excess_is ∙ value),
       );
       root = omega (arith, wide, c.requires.from);
@@ -85,12 +81,12 @@ returns c =
     let value : es ≡ moved l.nodes.excess.items c.args.from c.args.to c.args.amount = c.move_units.ensures ∙ ap (λ (xs : List ℤ). moved xs c.args.from c.args.to c.args.amount) c.deref_mut-2.ensures.value in
     let base = rw d at c.rebase.ensures.moved in
     let low = c.rebase.ensures.low c.if-not-rebase.false in
-    let little = rw (c.deref.ensures.value, c.deref-2.ensures.value) at (c.carries_little.ensures c.if-not-carries_little.false) in
+    let little = rw c.deref.ensures.value at (c.carries_little.ensures c.if-not-carries_little.false) in
     record {
       network = c.shift.ensures;
       answer = rw c.shift.ensures (c.resend.ensures (shifted net c.args.from c.args.to c.args.amount) (ready_moved net l _ _ c.args.from c.args.to c.args.amount st c.requires.in_range c.requires.from c.requires.to c.requires.few
           (λ v b. rw pot_is (base v (omega (arith, size))))
           (λ v b. rw pot_is (subst (λ (m : ℕ). (pos 0 ≤ℤ (at_nodes p' v +ℤ pos (2 * m))) × (at_nodes p' v ≤ℤ pos (2 * m))) size (low v (omega (arith, size)))))
-          (λ i b. little i (omega (arith, r.residual.arcs_built.forwards)))
+          (λ i b. little i (omega (arith, r.residual.capacities_size)))
           (rw pot_is (omega (arith, size, r.potentials))) (excess_is ∙ value)));
     }

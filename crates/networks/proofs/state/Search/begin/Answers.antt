@@ -25,6 +25,6 @@ returns-clause-search c =
     record {
       input = b.input;
       size = q.same.size ∙ c.relabel.ensures.order.progress.size ∙ b.size;
-      reached = rw (q.same.scanned ∙ o.progress.scanned, q.ordered ∙ o.progress.ordered, q.same.reached ∙ o.reached, q.same.radius ∙ o.progress.radius) (root_reached _ _ _ _ _ _ (label_at c.args.visits.now) _ (predecessors p) _ _ b.input.graph.nodes b.input.root (b.input.priced.low v b.input.root).1 b.root b.unlabelled put q.order.here q.place.here);
+      reached = rw (q.same.scanned ∙ o.progress.scanned, q.ordered ∙ o.progress.ordered, q.same.reached ∙ o.reached, q.same.radius ∙ o.progress.radius) (root_reached _ _ _ _ _ (label_at c.args.visits.now) _ (predecessors p) _ _ b.input.graph.nodes b.input.root (b.input.priced.low v b.input.root).1 b.root b.unlabelled put q.order.here q.place.here);
       nearest = rw (q.same.scanned ∙ o.progress.scanned, q.same.radius ∙ o.progress.radius, q.same.bound ∙ o.progress.bound, q.same.found ∙ o.progress.found) (search rules);
     }

@@ -12,7 +12,7 @@ pub returns-then-self-clause-remaining : goal.returns-then-self-clause-remaining
 returns-then-self-clause-remaining c _ =
     let fl : SFits w32 c.args.self.now.radius = search rules in
     let fc : SFits w32 c.args.self.now.bound = search rules in
-    remaining_at_radius _ _ _ _ _ _ _ _ _ _ _ _ _ _ _ c.requires.search.reached (same_from_bits _ _ fl fc c.if-self.true)
+    remaining_at_radius _ _ _ _ _ _ _ _ _ _ _ _ _ _ c.requires.search.reached (same_from_bits _ _ fl fc c.if-self.true)
 
 pub returns-then-nearest-self-clause-remaining : goal.returns-then-nearest-self-clause-remaining
 returns-then-nearest-self-clause-remaining c _ =
@@ -20,7 +20,7 @@ returns-then-nearest-self-clause-remaining c _ =
     let fc : SFits w32 c.args.self.now.bound = search rules in
     let s = c.args.self.now in
     let same : c.least_distance-nearest.result ≡ s.bound = same_from_bits _ _ fn fc c.if-nearest-self.true in
-    remaining_behind _ _ _ _ _ _ _ _ _ _ _ _ _ _ _ c.requires.search.reached c.if-self-2.false (λ j a b. subst (λ (z : ℤ). z ≤ℤ (labels s (orders s j) -ℤ potential_of c.args.input (orders s j))) same (c.least_distance-nearest.ensures.least j a b))
+    remaining_behind _ _ _ _ _ _ _ _ _ _ _ _ _ _ c.requires.search.reached c.if-self-2.false (λ j a b. subst (λ (z : ℤ). z ≤ℤ (labels s (orders s j) -ℤ potential_of c.args.input (orders s j))) same (c.least_distance-nearest.ensures.least j a b))
 
 pub raise_radius-requires-clause-radius : goal.raise_radius-requires-clause-radius
 raise_radius-requires-clause-radius c =

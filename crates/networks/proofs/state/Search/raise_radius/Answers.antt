@@ -19,8 +19,8 @@ loop-j-init c =
         search = record {
           input = h.input;
           size = h.size;
-          reached = climbed _ _ _ _ _ _ _ _ _ _ _ _ _ _ c.args.radius h.reached n.done n.rises n.least;
-          nearest = nearest_kept _ _ _ _ _ _ _ _ _ _ _ _ c.args.radius _ _ h.nearest n.bound (kept_same _ _ _ _);
+          reached = climbed _ _ _ _ _ _ _ _ _ _ _ _ _ c.args.radius h.reached n.done n.rises n.least;
+          nearest = nearest_kept _ _ _ _ _ _ _ _ _ _ _ c.args.radius _ _ h.nearest n.bound (kept_same _ _ _ _);
         };
         list = refl;
         kept = kept_same _ _ _ _;

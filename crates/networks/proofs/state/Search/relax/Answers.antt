@@ -17,13 +17,13 @@ bounds-self-node c =
 pub overflow_add-label : goal.overflow_add-label
 overflow_add-label c =
     let n = c.requires.scanning in
-    let cost : IsArcCost c.args.arc.cost = subst IsArcCost (sym c.requires.cost) (n.search.input.graph.cost c.args.node c.args.number n.node c.requires.number) in
+    let cost : IsArcCost c.args.arc.now.cost = subst IsArcCost (sym c.requires.cost) (n.search.input.graph.cost c.args.number c.requires.number.inside) in
     added_fits _ _ (label_fits_at c.args.input c.args.self.now c.args.node n.search n.node n.labelled) cost
 
 pub bounds-self-end : goal.bounds-self-end
 bounds-self-end c =
     let n = c.requires.scanning in
-    omega (arith, n.search.size, c.requires.end, n.search.input.graph.end c.args.node c.args.number n.node c.requires.number)
+    omega (arith, n.search.size, c.requires.end, n.search.input.graph.end c.args.number c.requires.number.inside)
 
 pub reach-requires : goal.reach-requires
 reach-requires c =
@@ -32,9 +32,9 @@ reach-requires c =
     let g = c.args.input in
     let u = c.args.node in
     let k = c.args.number in
-    let arc = c.args.arc in
+    let arc = c.args.arc.now in
     let known = label_fits_at g s u n.search n.node n.labelled in
-    let cost : IsArcCost arc.cost = subst IsArcCost (sym c.requires.cost) (n.search.input.graph.cost u k n.node c.requires.number) in
+    let cost : IsArcCost arc.cost = subst IsArcCost (sym c.requires.cost) (n.search.input.graph.cost k c.requires.number.inside) in
     let sum : to_z w16 (of_z w16 (added (labels s u) arc.cost)) ≡ labels s u +ℤ cost_at (arcs_of g) k = added_is _ _ known cost ∙ ap (λ (z : ℤ). labels s u +ℤ z) c.requires.cost in
     let fe : SFits w16 (labels s arc.end) = search rules in
     let less : (labels s u +ℤ cost_at (arcs_of g) k) <ℤ labels s arc.end = label_under (added (labels s u) arc.cost) _ _ sum fe c.if-label-self.true in
@@ -47,9 +47,9 @@ returns-then-label-self c =
     let g = c.args.input in
     let u = c.args.node in
     let k = c.args.number in
-    let arc = c.args.arc in
+    let arc = c.args.arc.now in
     let known = label_fits_at g s u n.search n.node n.labelled in
-    let cost : IsArcCost arc.cost = subst IsArcCost (sym c.requires.cost) (n.search.input.graph.cost u k n.node c.requires.number) in
+    let cost : IsArcCost arc.cost = subst IsArcCost (sym c.requires.cost) (n.search.input.graph.cost k c.requires.number.inside) in
     let sum : to_z w16 (of_z w16 (added (labels s u) arc.cost)) ≡ labels s u +ℤ cost_at (arcs_of g) k = added_is _ _ known cost ∙ ap (λ (z : ℤ). labels s u +ℤ z) c.requires.cost in
     let new = c.reach.new.self in
     let r = c.reach.ensures.relaxed in
@@ -66,9 +66,9 @@ returns-else-label-self c =
     let g = c.args.input in
     let u = c.args.node in
     let k = c.args.number in
-    let arc = c.args.arc in
+    let arc = c.args.arc.now in
     let known = label_fits_at g s u n.search n.node n.labelled in
-    let cost : IsArcCost arc.cost = subst IsArcCost (sym c.requires.cost) (n.search.input.graph.cost u k n.node c.requires.number) in
+    let cost : IsArcCost arc.cost = subst IsArcCost (sym c.requires.cost) (n.search.input.graph.cost k c.requires.number.inside) in
     let sum : to_z w16 (of_z w16 (added (labels s u) arc.cost)) ≡ labels s u +ℤ cost_at (arcs_of g) k = added_is _ _ known cost ∙ ap (λ (z : ℤ). labels s u +ℤ z) c.requires.cost in
     let fe : SFits w16 (labels s arc.end) = search rules in
     record {

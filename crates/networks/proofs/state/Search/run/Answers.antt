@@ -1,6 +1,7 @@
 use Rattle.std.proofs.Common.{◌≡◌, ◌≤◌, ◌+◌, arith, refl, ◌∙◌}
 use Rattle.std.specs.Prelude.{length}
-use Rattle.networks.specs.Search.{first_of, arcs_of, orders, looked, out_degree}
+use Rattle.networks.specs.ResidualArcs.{out_degree}
+use Rattle.networks.specs.Search.{arcs_of, orders, looked}
 use Rattle.networks.proofs.Searching.{served_still, looked_ordered, looked_scanned, looked_few}
 use Rattle.networks.proofs.state.Search.run.Goals as goal
 
@@ -23,7 +24,7 @@ pub scan-requires-clause-few : goal.scan-requires-clause-few
 scan-requires-clause-few c =
     let i = c.nodes.invariant in
     let g = c.args.input in
-    let most : looked (first_of g) (orders c.nodes.search) c.nodes.search.scanned ≤ length (arcs_of g) = looked_few g c.nodes.search i.search in
+    let most : looked (arcs_of g) (orders c.nodes.search) c.nodes.search.scanned ≤ length (arcs_of g) = looked_few g c.nodes.search i.search in
     let few : length (arcs_of g) ≤ 8192 = i.search.input.graph.few in
     omega (arith, i.looks, c.requires.few)
 
@@ -39,8 +40,8 @@ nodes-preserved c =
     let s = c.nodes.search in
     let t = c.goes_on.new.self in
     let u = c.scan.new.self in
-    let one : looked (first_of g) (orders t) t.scanned ≡ looked (first_of g) (orders s) s.scanned = looked_ordered g s t i.search o in
-    let two : looked (first_of g) (orders u) u.scanned ≡ looked (first_of g) (orders t) t.scanned + out_degree (first_of g) (orders t t.scanned) = looked_scanned g t u o.search (c.goes_on.ensures.more c.nodes-test.true) f.search f.kept f.scanned in
+    let one : looked (arcs_of g) (orders t) t.scanned ≡ looked (arcs_of g) (orders s) s.scanned = looked_ordered g s t i.search o in
+    let two : looked (arcs_of g) (orders u) u.scanned ≡ looked (arcs_of g) (orders t) t.scanned + out_degree (arcs_of g) (orders t t.scanned) = looked_scanned g t u o.search (c.goes_on.ensures.more c.nodes-test.true) f.search f.kept f.scanned in
     record {
       search = f.search;
       list = f.list ∙ o.list ∙ i.list;
@@ -63,12 +64,12 @@ pub returns-clause-looks : goal.returns-clause-looks
 returns-clause-looks c =
     let i = c.nodes.invariant in
     let g = c.args.input in
-    let one : looked (first_of g) (orders c.goes_on.new.self) c.goes_on.new.self.scanned ≡ looked (first_of g) (orders c.nodes.search) c.nodes.search.scanned = looked_ordered g c.nodes.search c.goes_on.new.self i.search c.goes_on.ensures.ordered in
+    let one : looked (arcs_of g) (orders c.goes_on.new.self) c.goes_on.new.self.scanned ≡ looked (arcs_of g) (orders c.nodes.search) c.nodes.search.scanned = looked_ordered g c.nodes.search c.goes_on.new.self i.search c.goes_on.ensures.ordered in
     omega (arith, i.looks)
 
 pub returns-clause-once : goal.returns-clause-once
 returns-clause-once c =
     let i = c.nodes.invariant in
     let g = c.args.input in
-    let most : looked (first_of g) (orders c.nodes.search) c.nodes.search.scanned ≤ length (arcs_of g) = looked_few g c.nodes.search i.search in
+    let most : looked (arcs_of g) (orders c.nodes.search) c.nodes.search.scanned ≤ length (arcs_of g) = looked_few g c.nodes.search i.search in
     omega (arith, i.looks)

@@ -1,5 +1,5 @@
 use Rattle.std.proofs.Common.{◌≡◌, ◌+◌, ◌-◌}
-use Rattle.networks.specs.Search.{nodes_of, looked, first_of, orders, IsSearch, HasFeasibleLabels, HasSameList}
+use Rattle.networks.specs.Search.{nodes_of, looked, arcs_of, orders, IsSearch, HasFeasibleLabels, HasSameList}
 use Rattle.networks.proofs.state.Search.run.Given as goal
 
 abbrev pub invariant-nodes : goal.invariant-nodes
@@ -7,7 +7,7 @@ invariant-nodes l = record {
   search : IsSearch l.input l.search;
   list : HasSameList l.initial.search l.search;
   served : HasFeasibleLabels l.input l.search;
-  looks : l.looks ≡ l.initial.looks + looked (first_of l.input) (orders l.search) l.search.scanned;
+  looks : l.looks ≡ l.initial.looks + looked (arcs_of l.input) (orders l.search) l.search.scanned;
 }
 
 abbrev pub decreases-nodes : goal.decreases-nodes

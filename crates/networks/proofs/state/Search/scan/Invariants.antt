@@ -1,11 +1,14 @@
-use Rattle.std.proofs.Common.{◌≡◌, ◌≤◌, ◌<◌, ◌+◌, ℕ}
-use Rattle.networks.specs.ResidualArcs.{numbers}
-use Rattle.networks.specs.Search.{IsRelaxed, IsFeasibleAt, labels, first_of, arcs_of, potential_of}
+use Rattle.std.proofs.Common.{◌-◌}
+use Rattle.networks.specs.ResidualArcs.{out_degree}
+use Rattle.networks.specs.Search.{IsRelaxed, arcs_of}
+use Rattle.networks.proofs.Searching.{HasLooked}
 use Rattle.networks.proofs.state.Search.scan.Given as goal
 
-abbrev pub invariant-loop-number : goal.invariant-loop-number
-invariant-loop-number l = record {
+abbrev pub invariant-arcs : goal.invariant-arcs
+invariant-arcs l = record {
   relaxed : IsRelaxed l.input l.initial.self l.self;
-  serves : (k : ℕ) → numbers (first_of l.input) l.node ≤ k → k < l.number → IsFeasibleAt (arcs_of l.input) (potential_of l.input) (labels l.self) l.self.bound l.node k;
-  looks : l.here + numbers (first_of l.input) l.node ≡ l.number;
+  looked : HasLooked l.input l.self l.node l.number l.here;
 }
+
+abbrev pub decreases-arcs : goal.decreases-arcs
+decreases-arcs l = out_degree (arcs_of l.input) l.node - l.here

@@ -61,13 +61,13 @@ returns-then-distance-self-clause-ordered c =
     let a = c.advance.ensures in
     let k = a.same in
     let low : s.ordered ≤ places s w = omega (arith, m.place, c.requires.waiting.behind) in
-    let (moved, kept) = swapped _ _ _ _ _ _ _ _ _ _ _ _ _ _ _ _ w (places s w) h.reached m.node m.labelled refl low near a.swapped in
+    let (moved, kept) = swapped _ _ _ _ _ _ _ _ _ _ _ _ _ _ _ w (places s w) h.reached m.node m.labelled refl low near a.swapped in
     record {
       search = record {
         input = h.input;
         size = k.size ∙ h.size;
         reached = rw (fun_ext k.label, fun_ext k.predecessor, k.scanned, a.ordered, k.reached, k.radius) moved;
-        nearest = rw (fun_ext k.label, k.scanned, k.radius, k.bound, k.found) (nearest_kept _ _ _ _ _ _ _ _ _ _ _ _ _ _ _ h.nearest h.nearest.above kept);
+        nearest = rw (fun_ext k.label, k.scanned, k.radius, k.bound, k.found) (nearest_kept _ _ _ _ _ _ _ _ _ _ _ _ _ _ h.nearest h.nearest.above kept);
       };
       list = k.list;
       kept = rw (fun_ext k.label) kept;
