@@ -6,7 +6,8 @@ ghost use Rattle.ortho_rep.specs.declared.turn.Turn.{Turn};
 ghost use Rattle.ortho_rep.specs.Prices.{PricesModel};
 ghost use Rattle.ortho_rep.specs.Storage.{lists_in};
 ghost use Rattle.drawn_lines.specs.Said.{natural, array_of, letter_of, turns_data, IsOf32Bits, AreOf32Bits, AreIntegers, HasIntegers, HasPriceLists, SaysPrices};
-ghost use Rattle.drawn_lines.specs.declared.fault.LineFault.TheVariants.{Memory};
+ghost use Rattle.drawn_lines.specs.Wrong.{IsWrongField, IsWrongAngles, IsWrongTurns, IsWrongPriceList, IsWrongPrices, IsWrongPriceValue};
+ghost use Rattle.drawn_lines.specs.declared.fault.LineFault.TheVariants.{Number, Turns, Memory};
 
 use crate::fault::LineFault;
 use crate::numbers::{claim_in, integer_in, list_in, number_in, text_in};
@@ -18,11 +19,12 @@ use std::alloc::Global;
 ///
 /// # Errors
 ///
-/// The field is no integer from 0 to 4,294,967,295.
+/// `Number`: the field is no integer from 0 to 4,294,967,295.
 pub fn bends_in(value: &Value) -> Result<Option<u32>, LineFault>
     ensures ok { IfOk result (λ said. get (codes "bends") (view value.now) ≡ option_map natural said) }
     ensures none { IfErr result (λ _. (n : ℕ) → n < 2 ^ 32 → get (codes "bends") (view value.now) ≢ Some (natural n)) }
     ensures made { IfErr result (λ _. get (codes "bends") (view value.now) ≢ None) }
+    ensures fault { IfErr result (λ fault. fault ≡ Number) }
 {
     match claim_in(value, "bends") {
         Some(field) => match number_in(field, 4_294_967_295) {
@@ -37,11 +39,12 @@ pub fn bends_in(value: &Value) -> Result<Option<u32>, LineFault>
 ///
 /// # Errors
 ///
-/// The field is no integer from 0 to 65,535.
+/// `Number`: the field is no integer from 0 to 65,535.
 pub fn outer_in(value: &Value) -> Result<Option<u16>, LineFault>
     ensures ok { IfOk result (λ said. get (codes "outer") (view value.now) ≡ option_map natural said) }
     ensures none { IfErr result (λ _. (n : ℕ) → n < 2 ^ 16 → get (codes "outer") (view value.now) ≢ Some (natural n)) }
     ensures made { IfErr result (λ _. get (codes "outer") (view value.now) ≢ None) }
+    ensures fault { IfErr result (λ fault. fault ≡ Number) }
 {
     match claim_in(value, "outer") {
         Some(field) => match number_in(field, 65_535) {
@@ -56,13 +59,15 @@ pub fn outer_in(value: &Value) -> Result<Option<u16>, LineFault>
 ///
 /// # Errors
 ///
-/// `Memory` if memory runs out. Otherwise the field is no list of integers from 0 to 255.
+/// `Memory` if memory runs out. Otherwise `Angles` if the field is no list, and `Number` if one of its elements is no
+/// integer from 0 to 255.
 pub fn angles_in(alloc: Global, value: &Value) -> Result<Option<Vec<u8>>, LineFault>
     ensures ok { IfOk result (λ said. get (codes "angles") (view value.now)
         ≡ option_map (λ angles. array_of natural angles.items) said) }
     ensures none { IfErr result (λ fault. fault ≢ Memory → (angles : List ℕ) → All (λ angle. angle ≤ 255) angles
         → get (codes "angles") (view value.now) ≢ Some (array_of natural angles)) }
     ensures made { IfErr result (λ fault. fault ≢ Memory → get (codes "angles") (view value.now) ≢ None) }
+    ensures fault { IfErr result (λ fault. fault ≢ Memory → IsWrongField IsWrongAngles (codes "angles") (view value.now) fault) }
 {
     match claim_in(value, "angles") {
         Some(field) => match angle_list(alloc, field) {
@@ -78,6 +83,7 @@ fn angle_list(alloc: Global, value: &Value) -> Result<Vec<u8>, LineFault>
     ensures ok { IfOk result (λ angles. view value.now ≡ array_of natural angles.items) }
     ensures none { IfErr result (λ fault. fault ≢ Memory
         → (angles : List ℕ) → All (λ angle. angle ≤ 255) angles → view value.now ≢ array_of natural angles) }
+    ensures fault { IfErr result (λ fault. fault ≢ Memory → IsWrongAngles (view value.now) fault) }
 {
     let mut angles = Vec::new(alloc);
     let elements = list_in(value, LineFault::Angles)?;
@@ -95,13 +101,15 @@ fn angle_list(alloc: Global, value: &Value) -> Result<Vec<u8>, LineFault>
 ///
 /// # Errors
 ///
-/// `Memory` if memory runs out. Otherwise the field has no lists of integers of 32 bits in `vertices` and `faces`.
+/// `Memory` if memory runs out. Otherwise `Prices` if the field has no list in `vertices` or `faces`, and `Number` if an
+/// element is no integer of 32 bits. `vertices` is read before `faces`; the first error counts.
 pub fn prices_in(alloc: Global, value: &Value) -> Result<Option<Prices>, LineFault>
     ensures ok { IfOk result (λ said. MatchOption said (get (codes "prices") (view value.now) ≡ None)
         (SaysPrices (view value.now))) }
     ensures none { IfErr result (λ fault. fault ≢ Memory
         → (prices : PricesModel) → AreOf32Bits prices → SaysPrices (view value.now) prices → ⊥) }
     ensures made { IfErr result (λ fault. fault ≢ Memory → get (codes "prices") (view value.now) ≢ None) }
+    ensures fault { IfErr result (λ fault. fault ≢ Memory → IsWrongField IsWrongPrices (codes "prices") (view value.now) fault) }
 {
     match claim_in(value, "prices") {
         Some(field) => match two_price_lists(alloc, field) {
@@ -117,6 +125,7 @@ fn two_price_lists(alloc: Global, field: &Value) -> Result<Prices, LineFault>
     ensures ok { IfOk result (HasPriceLists (view field.now)) }
     ensures none { IfErr result (λ fault. fault ≢ Memory
         → (prices : PricesModel) → AreOf32Bits prices → HasPriceLists (view field.now) prices → ⊥) }
+    ensures fault { IfErr result (λ fault. fault ≢ Memory → IsWrongPrices (view field.now) fault) }
 {
     let vertices = prices_at(alloc, field, "vertices")?;
     let faces = match prices_at(alloc, field, "faces") {
@@ -129,8 +138,10 @@ fn two_price_lists(alloc: Global, field: &Value) -> Result<Prices, LineFault>
 /// The prices that a value has in the field of this name.
 fn prices_at(alloc: Global, value: &Value, name: &str) -> Result<Vec<i32>, LineFault>
     ensures ok { IfOk result (λ prices. HasIntegers name.now (view value.now) prices.items) }
+    ensures within { IfOk result (λ prices. All IsOf32Bits prices.items) }
     ensures none { IfErr result (λ fault. fault ≢ Memory
         → (prices : List ℤ) → All IsOf32Bits prices → HasIntegers name.now (view value.now) prices → ⊥) }
+    ensures fault { IfErr result (λ fault. fault ≢ Memory → IsWrongPriceList name.now (view value.now) fault) }
 {
     match claim_in(value, name) {
         Some(list) => price_list(alloc, list),
@@ -141,8 +152,10 @@ fn prices_at(alloc: Global, value: &Value, name: &str) -> Result<Vec<i32>, LineF
 /// The prices that a value is.
 fn price_list(alloc: Global, value: &Value) -> Result<Vec<i32>, LineFault>
     ensures ok { IfOk result (λ prices. AreIntegers (view value.now) prices.items) }
+    ensures within { IfOk result (λ prices. All IsOf32Bits prices.items) }
     ensures none { IfErr result (λ fault. fault ≢ Memory
         → (prices : List ℤ) → All IsOf32Bits prices → AreIntegers (view value.now) prices → ⊥) }
+    ensures fault { IfErr result (λ fault. fault ≢ Memory → IsWrongPriceValue (view value.now) fault) }
 {
     let mut prices = Vec::new(alloc);
     let elements = list_in(value, LineFault::Prices)?;
@@ -160,13 +173,14 @@ fn price_list(alloc: Global, value: &Value) -> Result<Vec<i32>, LineFault>
 ///
 /// # Errors
 ///
-/// `Memory` if memory runs out. Otherwise the field is no list of texts of the letters L and R.
+/// `Memory` if memory runs out. Otherwise `Turns`: the field is no list of texts of the letters L and R.
 pub fn turns_in(alloc: Global, value: &Value) -> Result<Option<Vec<Vec<Turn>>>, LineFault>
     ensures ok { IfOk result (λ said. get (codes "turns") (view value.now)
         ≡ option_map (λ strings. array_of turns_data (lists_in strings.items)) said) }
     ensures none { IfErr result (λ fault. fault ≢ Memory → (strings : List (List Turn))
         → get (codes "turns") (view value.now) ≢ Some (array_of turns_data strings)) }
     ensures made { IfErr result (λ fault. fault ≢ Memory → get (codes "turns") (view value.now) ≢ None) }
+    ensures fault { IfErr result (λ fault. fault ≢ Memory → IsWrongField IsWrongTurns (codes "turns") (view value.now) fault) }
 {
     match claim_in(value, "turns") {
         Some(field) => match string_list(alloc, field) {
@@ -182,6 +196,7 @@ fn string_list(alloc: Global, value: &Value) -> Result<Vec<Vec<Turn>>, LineFault
     ensures ok { IfOk result (λ strings. view value.now ≡ array_of turns_data (lists_in strings.items)) }
     ensures none { IfErr result (λ fault. fault ≢ Memory
         → (strings : List (List Turn)) → view value.now ≢ array_of turns_data strings) }
+    ensures fault { IfErr result (λ fault. fault ≢ Memory → fault ≡ Turns) }
 {
     let mut strings = Vec::new(alloc);
     let elements = list_in(value, LineFault::Turns)?;
@@ -200,6 +215,7 @@ fn turns_of(alloc: Global, value: &Value) -> Result<Vec<Turn>, LineFault>
     ensures ok { IfOk result (λ turns. view value.now ≡ turns_data turns.items) }
     ensures none { IfErr result (λ fault. fault ≢ Memory
         → (turns : List Turn) → view value.now ≢ turns_data turns) }
+    ensures fault { IfErr result (λ fault. fault ≢ Memory → fault ≡ Turns) }
 {
     let text = text_in(value, LineFault::Turns)?;
     match letters_of(alloc, text.as_bytes()) {
@@ -212,6 +228,7 @@ fn turns_of(alloc: Global, value: &Value) -> Result<Vec<Turn>, LineFault>
 fn letters_of(alloc: Global, letters: &[u8]) -> Result<Vec<Turn>, LineFault>
     ensures ok { IfOk result (λ turns. letters.now ≡ map letter_of turns.items) }
     ensures none { IfErr result (λ fault. fault ≢ Memory → (turns : List Turn) → letters.now ≢ map letter_of turns) }
+    ensures fault { IfErr result (λ fault. fault ≢ Memory → fault ≡ Turns) }
 {
     let mut turns = Vec::new(alloc);
     for letter in letters {

@@ -4,7 +4,7 @@ ghost use Rattle.serde_json.specs.Data.{Items, array, string};
 ghost use Rattle.serde_json.specs.Find.{get};
 ghost use Rattle.serde_json.specs.View.{view, items_of};
 ghost use Rattle.drawn_lines.specs.Said.{natural, integer_of, IsOf32Bits};
-ghost use Rattle.drawn_lines.specs.declared.fault.LineFault.TheVariants.{Memory};
+ghost use Rattle.drawn_lines.specs.declared.fault.LineFault.TheVariants.{Points, Number};
 
 use crate::fault::LineFault;
 use serde_json::Value;
@@ -12,8 +12,9 @@ use serde_json::Value;
 /// The coordinate that a value is.
 pub(crate) fn coordinate_in(value: &Value) -> Result<u32, LineFault>
     ensures ok { IfOk result (λ n. view value.now ≡ natural n) }
+    ensures short { IfOk result (λ n. n < 2 ^ 32) }
     ensures none { IfErr result (λ _. (n : ℕ) → n < 2 ^ 32 → view value.now ≢ natural n) }
-    ensures kind { IfErr result (λ fault. fault ≢ Memory) }
+    ensures fault { IfErr result (λ fault. fault ≡ Number) }
 {
     match value.as_u64() {
         Some(number) if number <= 4_294_967_295 => Ok(number as u32),
@@ -26,6 +27,7 @@ pub(crate) fn number_in(value: &Value, most: u64) -> Result<u64, LineFault>
     ensures ok { IfOk result (λ n. view value.now ≡ natural n) }
     ensures within { IfOk result (λ n. n ≤ most) }
     ensures none { IfErr result (λ _. (n : ℕ) → n ≤ most → view value.now ≢ natural n) }
+    ensures fault { IfErr result (λ fault. fault ≡ Number) }
 {
     match value.as_u64() {
         Some(number) if number <= most => Ok(number),
@@ -36,7 +38,9 @@ pub(crate) fn number_in(value: &Value, most: u64) -> Result<u64, LineFault>
 /// The integer of 32 bits that a value is.
 pub(crate) fn integer_in(value: &Value) -> Result<i32, LineFault>
     ensures ok { IfOk result (λ z. integer_of (view value.now) ≡ Some z) }
+    ensures within { IfOk result IsOf32Bits }
     ensures none { IfErr result (λ _. (z : ℤ) → IsOf32Bits z → integer_of (view value.now) ≢ Some z) }
+    ensures fault { IfErr result (λ fault. fault ≡ Number) }
 {
     match value.as_i64() {
         Some(number) if -2_147_483_648 <= number && number <= 2_147_483_647 => Ok(number as i32),
@@ -48,6 +52,7 @@ pub(crate) fn integer_in(value: &Value) -> Result<i32, LineFault>
 pub(crate) fn text_in(value: &Value, otherwise: LineFault) -> Result<&str, LineFault>
     ensures ok { IfOk result (λ text. view value.now ≡ string text.now) }
     ensures none { IfErr result (λ _. (text : List ℕ) → view value.now ≢ string text) }
+    ensures fault { IfErr result (λ fault. fault ≡ otherwise) }
 {
     match value.as_str() {
         Some(text) => Ok(text),
@@ -66,6 +71,7 @@ pub(crate) fn claim_in<'v>(value: &'v Value, name: &str) -> Option<&'v Value>
 pub(crate) fn list_in(value: &Value, otherwise: LineFault) -> Result<&[Value], LineFault>
     ensures ok { IfOk result (λ values. view value.now ≡ array (items_of (map view values.now))) }
     ensures none { IfErr result (λ _. (items : Items) → view value.now ≢ array items) }
+    ensures fault { IfErr result (λ fault. fault ≡ otherwise) }
 {
     match value.as_array() {
         Some(values) => Ok(values.as_slice()),
@@ -77,7 +83,7 @@ pub(crate) fn list_in(value: &Value, otherwise: LineFault) -> Result<&[Value], L
 pub(crate) fn field_in<'v>(value: &'v Value, name: &str) -> Result<&'v Value, LineFault>
     ensures ok { IfOk result (λ field. get name.now (view value.now) ≡ Some (view field.now)) }
     ensures none { IfErr result (λ _. get name.now (view value.now) ≡ None) }
-    ensures kind { IfErr result (λ fault. fault ≢ Memory) }
+    ensures fault { IfErr result (λ fault. fault ≡ Points) }
 {
     match value.get(name) {
         Some(field) => Ok(field),

@@ -5,6 +5,7 @@ ghost use Rattle.ortho_rep.specs.declared.points.Point.{Point};
 ghost use Rattle.ortho_rep.specs.Points.{PointsModel};
 ghost use Rattle.ortho_rep.specs.Storage.{lists_in};
 ghost use Rattle.drawn_lines.specs.Said.{point_data, list_data, lists_data, IsShort, AreShort, SaysPoints};
+ghost use Rattle.drawn_lines.specs.Wrong.{IsWrongPoint, IsWrongPointList, IsWrongCorners, IsWrongPoints};
 ghost use Rattle.drawn_lines.specs.declared.fault.LineFault.TheVariants.{Memory};
 
 use crate::fault::LineFault;
@@ -17,11 +18,14 @@ use std::alloc::Global;
 ///
 /// # Errors
 ///
-/// `Memory` if memory runs out. Otherwise the value has no points whose coordinates have 32 bits.
+/// `Memory` if memory runs out. Otherwise `Points` if a field, a list or a point is missing or malformed, and `Number` if a
+/// coordinate is no integer of 32 bits. `vertices` is read before `corners`; the first error counts.
 pub fn points_in(alloc: Global, value: &Value) -> Result<Points, LineFault>
     ensures ok { IfOk result (SaysPoints (view value.now)) }
+    ensures short { IfOk result AreShort }
     ensures none { IfErr result (λ fault. fault ≢ Memory
         → (points : PointsModel) → AreShort points → SaysPoints (view value.now) points → ⊥) }
+    ensures fault { IfErr result (λ fault. fault ≢ Memory → IsWrongPoints (view value.now) fault) }
 {
     let field = field_in(value, "points")?;
     let vertices = point_list(alloc, field_in(field, "vertices")?)?;
@@ -32,8 +36,10 @@ pub fn points_in(alloc: Global, value: &Value) -> Result<Points, LineFault>
 /// The lists of points that a value is.
 fn corner_lists(alloc: Global, value: &Value) -> Result<Vec<Vec<Point>>, LineFault>
     ensures ok { IfOk result (λ lists. view value.now ≡ lists_data (lists_in lists.items)) }
+    ensures short { IfOk result (λ lists. All (All IsShort) (lists_in lists.items)) }
     ensures none { IfErr result (λ fault. fault ≢ Memory
         → (lists : List (List Point)) → All (All IsShort) lists → view value.now ≢ lists_data lists) }
+    ensures fault { IfErr result (λ fault. fault ≢ Memory → IsWrongCorners (view value.now) fault) }
 {
     let mut lists = Vec::new(alloc);
     let elements = list_in(value, LineFault::Points)?;
@@ -50,8 +56,10 @@ fn corner_lists(alloc: Global, value: &Value) -> Result<Vec<Vec<Point>>, LineFau
 /// The points that a value is.
 fn point_list(alloc: Global, value: &Value) -> Result<Vec<Point>, LineFault>
     ensures ok { IfOk result (λ points. view value.now ≡ list_data points.items) }
+    ensures short { IfOk result (λ points. All IsShort points.items) }
     ensures none { IfErr result (λ fault. fault ≢ Memory
         → (points : List Point) → All IsShort points → view value.now ≢ list_data points) }
+    ensures fault { IfErr result (λ fault. fault ≢ Memory → IsWrongPointList (view value.now) fault) }
 {
     let mut points = Vec::new(alloc);
     let elements = list_in(value, LineFault::Points)?;
@@ -68,7 +76,9 @@ fn point_list(alloc: Global, value: &Value) -> Result<Vec<Point>, LineFault>
 /// The point that a value is.
 fn point_in(value: &Value) -> Result<Point, LineFault>
     ensures ok { IfOk result (λ point. view value.now ≡ point_data point) }
+    ensures short { IfOk result IsShort }
     ensures none { IfErr result (λ _. (point : Point) → IsShort point → view value.now ≢ point_data point) }
+    ensures fault { IfErr result (IsWrongPoint (view value.now)) }
 {
     let coordinates = list_in(value, LineFault::Points)?;
     if coordinates.len() != 2 {

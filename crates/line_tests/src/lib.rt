@@ -3,3 +3,5 @@
 
 #[cfg(test)]
 mod lines;
+#[cfg(test)]
+mod longest;

@@ -1,8 +1,12 @@
-use Rattle.std.proofs.Common.{rules, ◌≡◌, ◌<◌, ℤ, List, [], ◌∷◌, ◌++◌, length, arith, map, Some, sym, ap, ◌∙◌, w32}
+use Rattle.std.proofs.Common.{rules, ◌≡◌, ◌<◌, ℤ, List, [], ◌∷◌, ◌++◌, length, arith, map, Some, sym, ap, ◌∙◌, subst, All, w32}
 use Rattle.std.proofs.lemmas.Int.{to_z-of_z}
 use mir.Val.{SFits}
 use Rattle.serde_json.specs.View.{view}
 use Rattle.drawn_lines.specs.Said.{IsOf32Bits}
+use Rattle.std.proofs.lemmas.List.Elements.{All-push}
+use Rattle.std.proofs.lemmas.Result.{err_from_is_err_and}
+use Rattle.serde_json.specs.View.{items_of}
+use Rattle.drawn_lines.specs.Wrong.{IsWrongPriceValue}
 use Rattle.drawn_lines.proofs.Prices.{says_no_integers, one_more_integer}
 use Rattle.drawn_lines.proofs.claims.price_list.Goals as goal
 
@@ -18,6 +22,19 @@ loop-element-preserved c =
     let fits : SFits w32 c.in-Ok.price = search rules in
     let pushed : c.push.new.self.items ≡ c.loop-element.prices.items ++ c.in-Ok.price ∷ [] =
     c.in_ok-push.ensures.items ∙ ap (λ (z : ℤ). c.loop-element.prices.items ++ z ∷ []) (to_z-of_z w32 c.in-Ok.price fits) in
-    one_more_integer c.in_ok-elements.elements.now c.loop-element.element-index c.element-item.result c.loop-element.prices.items c.in-Ok.price
-    below c.element-item.is c.loop-element.invariant c.in-Ok.ensures.ok
-    ∙ ap (λ (zs : List ℤ). map Some zs) (sym pushed)
+    record {
+      said = one_more_integer c.in_ok-elements.elements.now c.loop-element.element-index c.element-item.result c.loop-element.prices.items c.in-Ok.price
+          below c.element-item.is c.loop-element.invariant.said c.in-Ok.ensures.ok
+          ∙ ap (λ (zs : List ℤ). map Some zs) (sym pushed);
+      within = subst (All IsOf32Bits) (sym pushed) (All-push IsOf32Bits c.loop-element.prices.items c.in-Ok.price c.loop-element.invariant.within c.in-Ok.ensures.within);
+    }
+
+pub returns-in_err-elements-clause-fault : goal.returns-in_err-elements-clause-fault
+returns-in_err-elements-clause-fault c =
+    let q = err_from_is_err_and c.from_residual.result c.from_residual.ensures.1 in
+    rw q.1 (λ memory. subst (IsWrongPriceValue (view c.args.value.now)) (sym (q.2 ∙ c.in_err-elements.ensures.fault)) (λ (items, is). c.in_err-elements.ensures.none items is))
+
+pub returns-in-Err-clause-fault : goal.returns-in-Err-clause-fault
+returns-in-Err-clause-fault c = λ memory.
+    subst (IsWrongPriceValue (view c.args.value.now)) (sym c.in-Err.ensures.fault)
+    ((items_of (map view c.in_ok-elements.elements.now), c.in_ok-elements.ensures.ok), returns-in-Err-clause-none c memory)

@@ -1,4 +1,5 @@
 use Rattle.serde_json.specs.View.{view}
+use Rattle.drawn_lines.proofs.Wrong.{wrong_list_at}
 use Rattle.drawn_lines.proofs.Parts.{weaker}
 use Rattle.drawn_lines.proofs.Prices.{list_named}
 use Rattle.drawn_lines.proofs.claims.prices_at.Goals as goal
@@ -8,3 +9,8 @@ returns-in-Some-clause-none c = weaker c.price_list.result
     (λ fault none memory prices short has. none memory prices short
     (list_named c.args.name.now (view c.args.value.now) (view c.in-Some.list.now) prices c.in-Some.ensures has))
     c.price_list.ensures.none
+
+pub returns-in-Some-clause-fault : goal.returns-in-Some-clause-fault
+returns-in-Some-clause-fault c = weaker c.price_list.result
+    (λ fault wrong memory. wrong_list_at c.args.name.now (view c.args.value.now) (view c.in-Some.list.now) fault c.in-Some.ensures (wrong memory))
+    c.price_list.ensures.fault

@@ -1,7 +1,10 @@
-use Rattle.std.proofs.Common.{◌≡◌, map, take}
+use Rattle.std.proofs.Common.{◌≡◌, map, take, All}
 use Rattle.serde_json.specs.View.{view}
-use Rattle.drawn_lines.specs.Said.{point_data}
+use Rattle.drawn_lines.specs.Said.{point_data, IsShort}
 use Rattle.drawn_lines.proofs.points.point_list.Given as goal
 
 abbrev pub invariant-loop-element : goal.invariant-loop-element
-invariant-loop-element l = map view (take l.element-index l.elements) ≡ map point_data l.points.items
+invariant-loop-element l = record {
+  said : map view (take l.element-index l.elements) ≡ map point_data l.points.items;
+  short : All IsShort l.points.items;
+}
