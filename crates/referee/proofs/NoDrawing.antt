@@ -12,7 +12,11 @@ use Rattle.drawing_check.specs.declared.fault.CheckFault.TheVariants.{OutOfGrid,
 use Rattle.drawing_check.specs.Paths.{paths}
 use Rattle.drawing_check.specs.Draws.{AreInGrid, AreOnAxes, HasPoints, TurnAsSaid}
 use Rattle.drawing_check.specs.Faults.{IsFirstFault}
+use Rattle.referee.specs.declared.fault.Fault.{Fault}
+use Rattle.referee.specs.declared.fault.Fault.TheVariants as fault
+use Rattle.referee.specs.declared.fault.Fault.TheVariants.{Vertices, Edges, Long, VertexOutOfGrid, CornerOutOfGrid, NoTurn, Embedding, Outer}
 use Rattle.referee.specs.Drawings.{HasBoundedPoints, IsDrawn}
+use Rattle.referee.specs.Faults.{IsDisorderFault}
 use Rattle.referee.specs.Taken.{IsTaken}
 use Rattle.referee.proofs.OnlyShape.{is_rep}
 
@@ -33,7 +37,7 @@ none_by_axes p points never is = never is.drawn.draws.axes
 turns_back : (p : PlaneModel) (outer : ℕ) (shape : ShapeModel) (points : PointsModel) → TurnAsSaid (with_outer p outer) shape points → TurnAsSaid p shape points
 turns_back p outer shape points is = record { edges = is.edges; heads = is.heads }
 
-turns_there : (p : PlaneModel) (outer : ℕ) (shape : ShapeModel) (points : PointsModel) → TurnAsSaid p shape points → TurnAsSaid (with_outer p outer) shape points
+pub turns_there : (p : PlaneModel) (outer : ℕ) (shape : ShapeModel) (points : PointsModel) → TurnAsSaid p shape points → TurnAsSaid (with_outer p outer) shape points
 turns_there p outer shape points is = record { edges = is.edges; heads = is.heads }
 
 pub none_by_turns : (p : PlaneModel) (points : PointsModel) → ((shape : ShapeModel) → ¬ TurnAsSaid p shape points) → ¬ IsDrawn p points
@@ -54,20 +58,33 @@ taken_is_rep : (p : PlaneModel) (points : PointsModel) (shape : ShapeModel) → 
 taken_is_rep p points shape ends taken is =
     is_rep (with_outer p is.outer) points shape is.shape (ends_turned p is.outer ends) (taken_there p is.outer points shape taken) is.drawn.shape_is.rep is.drawn.draws.turns
 
-pub none_by_vertex : (p : PlaneModel) (points : PointsModel) (shape : ShapeModel) (v : ℕ) → HasEnds p → IsTaken p points shape → 1 ≤ v → v ≤ vertices p → angles_around p (angle_at shape) v ≢ 4 → ¬ IsDrawn p points
+none_by_vertex : (p : PlaneModel) (points : PointsModel) (shape : ShapeModel) (v : ℕ) → HasEnds p → IsTaken p points shape → 1 ≤ v → v ≤ vertices p → angles_around p (angle_at shape) v ≢ 4 → ¬ IsDrawn p points
 none_by_vertex p points shape v ends taken from to never is = never ((taken_is_rep p points shape ends taken is).around v from to)
 
-outer_turn : (p : PlaneModel) (f : ℕ) → whole_turn (with_outer p f) f ≡ negsuc 3
+pub none_by_disorder : (p : PlaneModel) (points : PointsModel) (shape : ShapeModel) (fault : Fault) → HasEnds p → IsTaken p points shape → IsDisorderFault p shape fault → ¬ IsDrawn p points
+none_by_disorder p points shape (Embedding v) ends taken is = none_by_vertex p points shape v ends taken is.here.0 is.here.1 is.here.2
+none_by_disorder p points shape Vertices ends taken is = absurd is
+none_by_disorder p points shape Edges ends taken is = absurd is
+none_by_disorder p points shape (Long e) ends taken is = absurd is
+none_by_disorder p points shape (VertexOutOfGrid v) ends taken is = absurd is
+none_by_disorder p points shape (CornerOutOfGrid e k) ends taken is = absurd is
+none_by_disorder p points shape (fault.NotAxis e k) ends taken is = absurd is
+none_by_disorder p points shape (NoTurn e k) ends taken is = absurd is
+none_by_disorder p points shape Outer ends taken is = absurd is
+none_by_disorder p points shape fault.Meet ends taken is = absurd is
+none_by_disorder p points shape fault.Memory ends taken is = absurd is
+
+pub outer_turn : (p : PlaneModel) (f : ℕ) → whole_turn (with_outer p f) f ≡ negsuc 3
 outer_turn p f = cond-true (eqb f f) (negsuc 3) (pos 4) (eq-eqb f f refl)
 
-inner_turn : (p : PlaneModel) (f g : ℕ) → g ≢ f → whole_turn (with_outer p f) g ≡ pos 4
+pub inner_turn : (p : PlaneModel) (f g : ℕ) → g ≢ f → whole_turn (with_outer p f) g ≡ pos 4
 inner_turn p f g other = cond-false (eqb g f) (negsuc 3) (pos 4) (ne_eqb g f other)
 
 pub none_by_outer : (p : PlaneModel) (points : PointsModel) (shape : ShapeModel) → HasEnds p → IsTaken p points shape → ((f : ℕ) → f < p.faces → turning_around p (angle_at shape) (turns_at shape) f ≢ negsuc 3) → ¬ IsDrawn p points
 none_by_outer p points shape ends taken never is =
     never is.outer is.named ((taken_is_rep p points shape ends taken is).faces is.outer is.named ∙ outer_turn p is.outer)
 
-four_is_positive : negsuc 3 ≡ pos 4 → ⊥
+pub four_is_positive : negsuc 3 ≡ pos 4 → ⊥
 four_is_positive same = cc
 
 pub none_by_shape : (p : PlaneModel) (points : PointsModel) (shape : ShapeModel) (g : ℕ) → HasEnds p → IsTaken p points shape → g < p.faces → turning_around p (angle_at shape) (turns_at shape) g ≡ negsuc 3 → ¬ IsShape (with_outer p g) shape → ¬ IsDrawn p points

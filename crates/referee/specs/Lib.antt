@@ -1,3 +1,4 @@
 pub mod Drawings
 pub mod Claims
 pub mod Taken
+pub mod Faults

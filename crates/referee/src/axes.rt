@@ -1,10 +1,11 @@
 //! Whether the parts of paths are parallel to an axis.
 
-ghost use Rattle.std.specs.Prelude.{◌↔◌, IsTrue, OnOk, OnErr};
-ghost use Rattle.drawing_check.specs.Draws.{IsAxis, IsOnAxes, AreOnAxes};
+ghost use Rattle.std.specs.Prelude.{◌↔◌, IsTrue, OnOk, OnErr, IfErr};
+ghost use Rattle.drawing_check.specs.Draws.{IsAxis, IsOnAxes, AreInGrid, AreOnAxes};
 ghost use Rattle.drawing_check.specs.Paths.{paths};
 ghost use Rattle.drawing_check.specs.Routes.{path_of};
 ghost use Rattle.referee.specs.Drawings.{HasBoundedPoints};
+ghost use Rattle.referee.specs.Faults.{IsAxisFault, IsFirstFailure};
 
 use crate::fault::Fault;
 use drawing_check::{Route, route_of};
@@ -16,6 +17,7 @@ pub(crate) fn check_axes(plane: &Plane, points: &Points) -> Result<(), Fault>
     requires { HasBoundedPoints plane.now points.now }
     ensures on_axes { OnOk result (AreOnAxes (paths plane.now points.now)) }
     ensures refused { OnErr result (¬ AreOnAxes (paths plane.now points.now)) }
+    ensures first { IfErr result (λ fault. AreInGrid points.now → IsFirstFailure plane.now points.now fault) }
 {
     let graph = plane.graph();
     let mut edge = 0;
@@ -34,6 +36,7 @@ pub(crate) fn check_axes(plane: &Plane, points: &Points) -> Result<(), Fault>
 fn check_route(route: &Route<'_>, edge: u16) -> Result<(), Fault>
     ensures on_axes { OnOk result (IsOnAxes (path_of route.now)) }
     ensures refused { OnErr result (¬ IsOnAxes (path_of route.now)) }
+    ensures first { IfErr result (IsAxisFault (path_of route.now) edge) }
 {
     for part in 0..route.corners.len() + 1 {
         if !is_axis(route.point_at(part), route.point_at(part + 1)) {

@@ -1,7 +1,8 @@
 //! How many points and corners there are.
 
-ghost use Rattle.std.specs.Prelude.{OnOk, OnErr};
+ghost use Rattle.std.specs.Prelude.{OnOk, OnErr, IfErr};
 ghost use Rattle.referee.specs.Drawings.{HasBoundedPoints};
+ghost use Rattle.referee.specs.Faults.{IsFirstFailure};
 
 use crate::fault::Fault;
 use faces::Plane;
@@ -11,6 +12,7 @@ use ortho_rep::{MAX_TURNS, Points};
 pub(crate) fn check_counts(plane: &Plane, points: &Points) -> Result<(), Fault>
     ensures whole { OnOk result (HasBoundedPoints plane.now points.now) }
     ensures refused { OnErr result (¬ HasBoundedPoints plane.now points.now) }
+    ensures first { IfErr result (IsFirstFailure plane.now points.now) }
 {
     let graph = plane.graph();
     if points.vertex_count() != usize::from(graph.vertices()) {

@@ -1,9 +1,10 @@
 //! Whether the edges at each vertex leave it in the order of the record: whether the angles at it make one round.
 
-ghost use Rattle.std.specs.Prelude.{◌≡◌, ◌≢◌, ◌≤◌, ◌<◌, ℕ, OnErr, length, replicate, slice_index};
+ghost use Rattle.std.specs.Prelude.{◌≡◌, ◌≤◌, ◌<◌, ℕ, OnOk, IfErr, length, replicate, slice_index};
 ghost use Rattle.faces.specs.Planes.{vertices};
 ghost use Rattle.ortho_rep.specs.Shapes.{angle_at};
 ghost use Rattle.ortho_rep.specs.Representation.{HasDarts, angles_around};
+ghost use Rattle.referee.specs.Faults.{AreOrdered, IsDisorderFault};
 
 use crate::fault::Fault;
 use faces::Plane;
@@ -12,7 +13,8 @@ use ortho_rep::Shape;
 /// That the angles round each vertex sum to four quarters.
 pub(crate) fn check_embedding(plane: &Plane, shape: &Shape) -> Result<(), Fault>
     requires { HasDarts plane.now shape.now }
-    ensures { OnErr result ((v : ℕ) × (1 ≤ v) × (v ≤ vertices plane.now) × (angles_around plane.now (angle_at shape.now) v ≢ 4)) }
+    ensures ordered { OnOk result (AreOrdered plane.now shape.now) }
+    ensures first { IfErr result (IsDisorderFault plane.now shape.now) }
 {
     let vertices = plane.graph().vertices();
     let mut sums = [0; 256];

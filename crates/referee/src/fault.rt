@@ -6,7 +6,8 @@ ghost use Rattle.referee.specs.declared.fault.Fault.TheVariants.{Memory};
 use std::alloc::AllocError;
 use thiserror::Error;
 
-/// The first condition of a drawing that fails; the variants are in the order in which they are checked.
+/// The first condition of a drawing that fails, in the order of the variants, at the first place where it fails: the
+/// least vertex; or the least edge, and on it the least corner or part.
 ///
 /// Edges are numbered from 0 in the order of their lesser darts. The path of an edge leads from the tail of its lesser
 /// dart, point 0, by its corners to the head.

@@ -3,6 +3,7 @@
 ghost use Rattle.std.specs.Prelude.{◌≡◌, ◌≢◌, IfOk, IfErr};
 ghost use Rattle.faces.specs.Planes.{with_outer};
 ghost use Rattle.referee.specs.Drawings.{IsDrawnBy, IsDrawn};
+ghost use Rattle.referee.specs.Faults.{IsFirstFailure};
 
 use crate::axes::check_axes;
 use crate::counts::check_counts;
@@ -30,8 +31,8 @@ pub struct Judged {
 ///
 /// # Errors
 ///
-/// The first condition that fails; then they draw no representation of the embedding. `Memory` says nothing of the
-/// points.
+/// The first condition that fails, at the first place where it fails; then they draw no representation of the embedding.
+/// `Memory` says nothing of the points.
 pub fn judge_in(
     alloc: Global,
     scratch: &mut Scratch,
@@ -41,6 +42,7 @@ pub fn judge_in(
     ensures same_plane { plane.new ≡ with_outer plane.old plane.new.outer }
     ensures drawn { IfOk result (λ judged. IsDrawnBy plane.new judged.drawing judged.shape) }
     ensures refused { IfErr result (λ fault. fault ≢ Fault.Memory → ¬ IsDrawn plane.old points) }
+    ensures first { IfErr result (λ fault. fault ≢ Fault.Memory → IsFirstFailure plane.old points fault) }
     ensures same_points { IfOk result (λ judged. judged.drawing ≡ points) }
 {
     // Only the proof needs this: `graph` says where darts end.
@@ -63,7 +65,8 @@ pub fn judge_in(
 
 /// A meeting, unless memory ran out: no other condition can fail if the shape is that of the points.
 fn meeting(fault: CheckFault) -> Fault
-    ensures { result ≢ Fault.Memory → fault ≢ CheckFault.Memory }
+    ensures real { result ≢ Fault.Memory → fault ≢ CheckFault.Memory }
+    ensures kind { result ≢ Fault.Memory → result ≡ Fault.Meet }
 {
     match fault {
         CheckFault::Memory => Fault::Memory,

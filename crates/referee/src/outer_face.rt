@@ -1,6 +1,6 @@
 //! The outer face of a drawing: the one that turns once to the right.
 
-ghost use Rattle.std.specs.Prelude.{◌≡◌, ◌≢◌, ◌≤◌, ◌<◌, ◌↔◌, ℕ, IsTrue, IfOk, OnErr, negsuc, length, replicate, slice_index, pos, ◌-ℤ◌};
+ghost use Rattle.std.specs.Prelude.{◌≡◌, ◌≢◌, ◌≤◌, ◌<◌, ◌↔◌, ℕ, IsTrue, IfOk, IfErr, OnErr, negsuc, length, replicate, slice_index, pos, ◌-ℤ◌};
 ghost use Rattle.ortho_rep.specs.Shapes.{angle_at, turns_at};
 ghost use Rattle.ortho_rep.specs.Representation.{HasDarts, turning_around};
 
@@ -13,6 +13,7 @@ pub(crate) fn find_outer(plane: &Plane, shape: &Shape) -> Result<u16, Fault>
     requires { HasDarts plane.now shape.now }
     ensures named { IfOk result (λ outer. outer < plane.now.faces) }
     ensures turns { IfOk result (λ outer. turning_around plane.now (angle_at shape.now) (turns_at shape.now) outer ≡ negsuc 3) }
+    ensures kind { IfErr result (λ fault. fault ≡ Fault.Outer) }
     ensures none { OnErr result ((f : ℕ) → f < plane.now.faces → turning_around plane.now (angle_at shape.now) (turns_at shape.now) f ≢ negsuc 3) }
 {
     let faces = plane.face_count();

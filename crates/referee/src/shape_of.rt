@@ -8,6 +8,7 @@ ghost use Rattle.drawing_check.specs.Draws.{TurnAsSaid};
 ghost use Rattle.drawing_check.specs.Routes.{direction_at};
 ghost use Rattle.referee.specs.Drawings.{HasBoundedPoints};
 ghost use Rattle.referee.specs.Taken.{IsTaken};
+ghost use Rattle.referee.specs.Faults.{AreOnGridLines, IsFirstFailure};
 
 use crate::directions::list_directions;
 use crate::fault::Fault;
@@ -23,6 +24,8 @@ pub(crate) fn shape_of(alloc: Global, plane: &Plane, points: &Points) -> Result<
     requires { HasBoundedPoints plane.now points.now }
     ensures taken { IfOk result (IsTaken plane.now points.now) }
     ensures refused { IfErr result (λ fault. fault ≢ Fault.Memory → (shape : ShapeModel) → ¬ TurnAsSaid plane.now shape points.now) }
+    ensures first { IfErr result (λ fault. fault ≢ Fault.Memory
+        → AreOnGridLines plane.now points.now → IsFirstFailure plane.now points.now fault) }
 {
     // Only the proof needs this: `graph` says how many darts there are at most.
     let _graph = plane.graph();

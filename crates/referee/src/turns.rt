@@ -1,6 +1,7 @@
 //! The turns of edges, as their corners have them.
 
-ghost use Rattle.std.specs.Prelude.{◌≡◌, ◌≢◌, ◌≤◌, ℕ, ◌<◌, ◌∷◌, ◌++◌, [], List, OnOk, IsTrue, false, length, vec_len, All, IfOk, IfErr, IfSome, IfNone, slice_index_or};
+ghost use Rattle.std.specs.Prelude.{◌≡◌, ◌≢◌, ◌≤◌, ◌⊎◌, ℕ, ◌<◌, ◌∷◌, ◌++◌, [], List, OnOk, IsTrue, false, length, vec_len, All, IfOk, IfErr, IfSome, IfNone, slice_index_or};
+ghost use Rattle.geometry.specs.Directions.{opposite_of};
 ghost use Rattle.faces.specs.Planes.{darts, reverse_dart};
 ghost use Rattle.ortho_rep.specs.declared.strings.TheConstants.{MAX_TURNS};
 ghost use Rattle.ortho_rep.specs.declared.turn.Turn.{Turn};
@@ -12,6 +13,7 @@ ghost use Rattle.drawing_check.specs.Draws.{turned, IsTurning, TurnAsSaid};
 ghost use Rattle.drawing_check.specs.Paths.{path_along};
 ghost use Rattle.drawing_check.specs.Routes.{path_of};
 ghost use Rattle.referee.specs.Drawings.{HasBoundedPoints};
+ghost use Rattle.referee.specs.Faults.{AreOnGridLines, IsTurnFault, IsFirstFailure};
 
 use crate::fault::Fault;
 use drawing_check::{Route, direction_from, route_of};
@@ -34,6 +36,8 @@ pub(crate) fn list_turns(
     ensures mirrored { IfOk result (λ strings. (d : ℕ) → d < darts plane.now
         → slice_index_or (lists_in strings.items) (reverse_dart plane.now d) [] ≡ mirrored (slice_index_or (lists_in strings.items) d [])) }
     ensures refused { IfErr result (λ fault. fault ≢ Fault.Memory → (shape : ShapeModel) → ¬ TurnAsSaid plane.now shape points.now) }
+    ensures first { IfErr result (λ fault. fault ≢ Fault.Memory
+        → AreOnGridLines plane.now points.now → IsFirstFailure plane.now points.now fault) }
 {
     let graph = plane.graph();
     let mut strings = Vec::with_capacity(alloc, usize::from(graph.darts()))?;
@@ -68,6 +72,8 @@ fn string_of(
     ensures mirrored { IfOk result (λ string. is_lesser plane.now dart ≡ false
         → string.items ≡ mirrored (slice_index_or (lists_in strings.now) (reverse_dart plane.now dart) [])) }
     ensures refused { IfErr result (λ fault. fault ≢ Fault.Memory → (shape : ShapeModel) → ¬ TurnAsSaid plane.now shape points.now) }
+    ensures first { IfErr result (λ fault. fault ≢ Fault.Memory → IsTurnFault (path_along plane.now points.now dart) edge fault) }
+    ensures lesser { IfErr result (λ fault. fault ≢ Fault.Memory → IsTrue (is_lesser plane.now dart)) }
 {
     let reverse = plane.graph().reverse(dart);
     if dart < reverse {
@@ -85,6 +91,7 @@ fn turns_along(alloc: Global, route: &Route<'_>, edge: u16) -> Result<Vec<Turn>,
     ensures turning { IfOk result (λ turns. IsTurning (path_of route.now) turns.items) }
     ensures short { IfOk result (λ turns. vec_len turns ≤ MAX_TURNS) }
     ensures refused { IfErr result (λ fault. fault ≢ Fault.Memory → (turns : List Turn) → ¬ IsTurning (path_of route.now) turns) }
+    ensures first { IfErr result (λ fault. fault ≢ Fault.Memory → IsTurnFault (path_of route.now) edge fault) }
 {
     let mut turns = Vec::with_capacity(alloc, route.corners.len())?;
     let mut heading = direction_from(route.start, route.point_at(1));
@@ -103,6 +110,7 @@ fn turns_along(alloc: Global, route: &Route<'_>, edge: u16) -> Result<Vec<Turn>,
 fn turn_between(heading: Direction, onward: Direction) -> Option<Turn>
     ensures some { IfSome result (λ turn. onward ≡ turned turn heading) }
     ensures none { IfNone result ((turn : Turn) → onward ≢ turned turn heading) }
+    ensures straight { IfNone result ((onward ≡ heading) ⊎ (onward ≡ opposite_of heading)) }
 {
     if onward == heading.left() {
         return Some(Turn::Left);

@@ -9,6 +9,10 @@ use Rattle.drawing_check.specs.Paths.{path_along}
 use Rattle.drawing_check.specs.Draws.{IsOnAxes}
 use Rattle.drawing_check.proofs.Leaving.{number_of_lesser, number_of_greater}
 use Rattle.drawing_check.proofs.Routing.{each_more, axes_each}
+use Rattle.referee.specs.Faults.{IsAxisFault, IsFirstFailure}
+use Rattle.drawing_check.specs.Draws.{AreInGrid}
+use Rattle.referee.specs.declared.fault.Fault.{Fault}
+use Rattle.referee.proofs.FirstFaults.{first_slanted}
 use Rattle.referee.proofs.axes.check_axes.Goals as goal
 use Rattle.referee.proofs.axes.check_axes.Goals.{then-dart-reverse+in_ok-check_route, else-dart-reverse}
 
@@ -58,3 +62,17 @@ returns-in_err-check_route-clause-refused c =
     let q = err_from_is_err_and c.from_residual.result c.from_residual.ensures.1 in
     rw q.1 (λ all. c.in_err-check_route.ensures.refused
     (subst IsOnAxes (sym c.route_of-route.ensures.path) ((axes_each p points).0 all dart inside lesser)))
+
+pub returns-in_err-check_route-clause-first : goal.returns-in_err-check_route-clause-first
+returns-in_err-check_route-clause-first c =
+    let p = c.args.plane.now in
+    let points = c.args.points.now in
+    let dart = c.loop-dart.dart in
+    let reverse_dart_is : c.reverse-reverse.result ≡ reverse_dart p dart = rw c.graph-graph.ensures.value at c.reverse-reverse.ensures.value in
+    let count : c.darts-dart-end.result ≡ darts p = rw c.graph-graph.ensures.value at c.darts-dart-end.ensures.count in
+    let inside : dart < darts p = omega (arith, count) in
+    let lesser : is_lesser p dart ≡ true = lt-ltb dart (reverse_dart p dart) (omega (arith, reverse_dart_is, c.if-dart-reverse.true)) in
+    let here = subst (λ (path : List Point). IsAxisFault path c.loop-dart.edge c.in_err-check_route.field-0.0) c.route_of-route.ensures.path c.in_err-check_route.ensures.first in
+    let q = err_from_is_err_and c.from_residual.result c.from_residual.ensures.1 in
+    rw q.1 (subst (λ (fault : Fault). AreInGrid points → IsFirstFailure p points fault) (sym q.2)
+    (first_slanted p points dart inside c.loop-dart.edge _ c.loop-dart.invariant.number lesser c.requires c.loop-dart.invariant.on_axes here))

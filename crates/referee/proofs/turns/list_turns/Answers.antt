@@ -11,6 +11,9 @@ use Rattle.ortho_rep.proofs.EdgeNumbers.{edge_number-le}
 use Rattle.drawing_check.proofs.Leaving.{number_of_lesser, number_of_greater}
 use Rattle.std.proofs.lemmas.List.{length-map, map_push}
 use Rattle.ortho_rep.specs.Storage.{lists_in}
+use Rattle.referee.specs.Faults.{AreOnGridLines, IsFirstFailure}
+use Rattle.referee.specs.declared.fault.Fault.{Fault}
+use Rattle.referee.proofs.FirstFaults.{first_straight}
 use Rattle.referee.proofs.Listed.{AreListed, listed_more, listed_none, listed_mirrors}
 use Rattle.referee.proofs.turns.list_turns.Goals as goal
 use Rattle.referee.proofs.turns.list_turns.Goals.{then-dart-reverse, else-dart-reverse}
@@ -83,3 +86,15 @@ pub returns-in_err-string-clause-refused : goal.returns-in_err-string-clause-ref
 returns-in_err-string-clause-refused c =
     let q = err_from_is_err_and c.from_residual-in_err-string.result c.from_residual-in_err-string.ensures.1 in
     rw q.1 (λ some. c.in_err-string.ensures.refused (λ m. some (q.2 ∙ m)))
+
+pub returns-in_err-string-clause-first : goal.returns-in_err-string-clause-first
+returns-in_err-string-clause-first c =
+    let p = c.args.plane.now in
+    let points = c.args.points.now in
+    let dart = c.loop-dart.dart in
+    let count : c.darts-dart-end.result ≡ darts p = rw c.graph-graph.ensures.value at c.darts-dart-end.ensures.count in
+    let inside : dart < darts p = omega (arith, count) in
+    let q = err_from_is_err_and c.from_residual-in_err-string.result c.from_residual-in_err-string.ensures.1 in
+    rw q.1 (λ some. subst (λ (fault : Fault). AreOnGridLines p points → IsFirstFailure p points fault) (sym q.2)
+    (first_straight p points dart inside c.loop-dart.edge _ (lists_in c.loop-dart.strings.items) c.loop-dart.invariant.number (c.in_err-string.ensures.lesser (λ m. some (q.2 ∙ m)))
+    c.loop-dart.invariant.listed.lesser (c.in_err-string.ensures.first (λ m. some (q.2 ∙ m)))))

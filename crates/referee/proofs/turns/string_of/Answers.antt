@@ -9,6 +9,8 @@ use Rattle.ortho_rep.specs.Edges.{is_lesser}
 use Rattle.drawing_check.specs.Paths.{path_along}
 use Rattle.drawing_check.specs.Draws.{IsTurning}
 use Rattle.drawing_check.proofs.Routing.{each_lesser}
+use Rattle.referee.specs.Faults.{IsTurnFault}
+use Rattle.referee.specs.declared.fault.Fault.{Fault}
 use Rattle.referee.proofs.turns.string_of.Goals as goal
 
 pub returns-then-dart-reverse-clause-turning : goal.returns-then-dart-reverse-clause-turning
@@ -26,3 +28,9 @@ returns-in_err-turns-clause-refused c =
     rw q.1 (λ some shape said. c.in_err-turns.ensures.refused (λ m. some (q.2 ∙ m)) (turns_at shape dart)
     (subst (λ (ps : List Point). IsTurning ps (turns_at shape dart)) (sym c.route_of-route.ensures.path)
     ((each_lesser (λ d. IsTurning (path_along p points d) (turns_at shape d)) p).0 said.edges dart c.requires.inside lesser)))
+
+pub returns-in_err-turns-clause-first : goal.returns-in_err-turns-clause-first
+returns-in_err-turns-clause-first c =
+    let q = err_from_is_err_and c.from_residual.result c.from_residual.ensures.1 in
+    rw q.1 (λ some. subst (IsTurnFault (path_along c.args.plane.now c.args.points.now c.args.dart) c.args.edge) (sym q.2)
+    (subst (λ (path : List Point). IsTurnFault path c.args.edge c.in_err-turns.field-0.0) c.route_of-route.ensures.path (c.in_err-turns.ensures.first (λ m. some (q.2 ∙ m)))))

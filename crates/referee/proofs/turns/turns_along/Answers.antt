@@ -1,12 +1,14 @@
-use Rattle.std.proofs.Common.{◌≡◌, ℕ, ◌+◌, ◌<◌, List, [], ◌∷◌, ◌++◌, length, length-append, get_or, sym, ap, ◌∙◌, below_more, arith}
+use Rattle.std.proofs.Common.{◌≡◌, ℕ, ◌+◌, ◌<◌, ◌⊎◌, inl, inr, refl, List, [], ◌∷◌, ◌++◌, length, length-append, get_or, sym, ap, ◌∙◌, below_more, arith}
 use Rattle.std.proofs.lemmas.List.{get_or_append_left, get_or_push}
 use Rattle.geometry.specs.declared.direction.Direction.{Direction}
+use Rattle.geometry.specs.Directions.{opposite_of}
 use Rattle.ortho_rep.specs.declared.points.Point.{Point}
 use Rattle.ortho_rep.specs.declared.turn.Turn.{Turn}
 use Rattle.ortho_rep.specs.declared.turn.Turn.TheVariants.{Left}
 use Rattle.drawing_check.specs.Paths.{point_of}
 use Rattle.drawing_check.specs.Draws.{direction_between, direction_of, turned}
 use Rattle.drawing_check.specs.Routes.{path_of}
+use Rattle.referee.proofs.FirstFaults.{none_straight}
 use Rattle.referee.proofs.turns.turns_along.Goals as goal
 
 -- the direction after corner k
@@ -24,6 +26,12 @@ turn_more path old new k turn heading onward is_new size is_heading is_onward is
     below_more _ _
     (λ j lt. before j lt ∙ ap (λ (t : Turn). turned t (direction_of path j)) (sym (here j lt)))
     (sym is_onward ∙ is_turn ∙ ap (turned turn) is_heading ∙ ap (λ (t : Turn). turned t (direction_of path k)) (sym last))
+
+-- a corner where the direction goes on or turns back
+straight_here : (path : List Point) (k : ℕ) (heading onward : Direction) → heading ≡ direction_of path k → onward ≡ direction_of path (k + 1) → (onward ≡ heading) ⊎ (onward ≡ opposite_of heading)
+    → (direction_of path (k + 1) ≡ direction_of path k) ⊎ (direction_of path (k + 1) ≡ opposite_of (direction_of path k))
+straight_here path k heading onward is_heading is_onward (inl on) = inl (sym is_onward ∙ on ∙ is_heading)
+straight_here path k heading onward is_heading is_onward (inr back) = inr (sym is_onward ∙ back ∙ ap opposite_of is_heading)
 
 pub loop-corner-preserved : goal.loop-corner-preserved
 loop-corner-preserved c =
@@ -45,3 +53,16 @@ returns-in-None-clause-refused c = λ _ turns is.
     let inside : k < length turns = omega (arith, is.corners, length-append c.args.route.now.corners.now (c.args.route.now.end ∷ [])) in
     c.in-None.ensures.none (get_or turns k Left)
     (onward ∙ is.each k inside ∙ ap (turned (get_or turns k Left)) (sym c.loop-corner.invariant.heading))
+
+pub returns-in-None-clause-first : goal.returns-in-None-clause-first
+returns-in-None-clause-first c = λ _.
+    let path = path_of c.args.route.now in
+    let k : ℕ = c.loop-corner.corner in
+    let onward = onward_is path k c.point_at-in-loop-corner.result c.point_at-in-loop-corner-2.result c.direction_from-onward.result c.point_at-in-loop-corner.ensures c.point_at-in-loop-corner-2.ensures c.direction_from-onward.ensures in
+    let inside : k + 2 < length path = omega (arith, length-append c.args.route.now.corners.now (c.args.route.now.end ∷ [])) in (
+      refl,
+      record {
+        here = (inside, straight_here path k c.loop-corner.heading c.direction_from-onward.result c.loop-corner.invariant.heading onward c.in-None.ensures.straight);
+        before = none_straight path c.loop-corner.turns.items k c.loop-corner.invariant.each;
+      },
+    )
