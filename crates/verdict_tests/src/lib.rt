@@ -4,6 +4,8 @@
 #[cfg(test)]
 mod drawings;
 #[cfg(test)]
+mod largest;
+#[cfg(test)]
 mod refusals;
 #[cfg(test)]
 mod verdict_on;

@@ -1,5 +1,5 @@
 -- What a line does not say.
-use Rattle.std.proofs.Common.{◌≡◌, ℕ, List, None, Some, codes, sym, subst, ◌∙◌}
+use Rattle.std.proofs.Common.{◌≡◌, ℕ, List, Option, None, Some, is_some, true, false, refl, codes, sym, subst, ◌∙◌}
 use Rattle.serde_json.specs.Data.{Data}
 use Rattle.serde_json.specs.Find.{get}
 use Rattle.ortho_rep.specs.Points.{PointsModel}
@@ -19,3 +19,12 @@ nothing_said line value text goes_on none = record {
   no_drawing = λ points claims fits says.
       none points claims fits (subst (λ (v : Data). HasFields v points claims) (sym (same_value line value says.value text says.text)) says.fields);
 }
+
+-- whether there is something
+pub none_of : {A : Type 0} (o : Option A) → is_some o ≡ false → o ≡ None
+none_of None is = refl
+none_of (Some x) is = cc
+
+pub some_of : {A : Type 0} (o : Option A) → is_some o ≡ true → o ≡ None → ⊥
+some_of None is none = cc
+some_of (Some x) is none = cc

@@ -1,10 +1,16 @@
 -- What a line says.
-use Rattle.std.specs.Prelude.{◌≡◌, ◌≢◌, ℕ, ◌^◌, ◌<◌, ◌≤◌, List, Some, None, IfSome, MatchOption, All, codes, option_map}
+use Rattle.std.specs.Prelude.{◌≡◌, ◌≢◌, ℕ, ◌^◌, ◌<◌, ◌≤◌, ◌⊎◌, List, Option, Some, None, IfSome, MatchOption, All, Vec, codes, option_map}
 use Rattle.serde_json.specs.Data.{Data}
-use Rattle.serde_json.specs.Find.{get}
+use Rattle.serde_json.specs.Find.{get, as_object}
+use Rattle.std.specs.declared.alloc.Global.{Global}
+use Rattle.ortho_rep.specs.declared.turn.Turn.{Turn}
 use Rattle.ortho_rep.specs.Points.{PointsModel}
+use Rattle.ortho_rep.specs.Prices.{PricesModel}
 use Rattle.ortho_rep.specs.Storage.{lists_in}
 use Rattle.drawn_lines.specs.Said.{natural, array_of, turns_data, IsTextOf, SaysPoints, SaysPrices, AreShort, AreOf32Bits}
+use Rattle.drawn_lines.specs.declared.fault.LineFault.{LineFault}
+use Rattle.drawn_lines.specs.declared.fault.LineFault.TheVariants as line
+use Rattle.drawn_lines.specs.Wrong.{IsWrongField, IsWrongAngles, IsWrongTurns, IsWrongPrices, IsWrongPoints}
 use Rattle.referee.specs.declared.claims.Claims.{Claims}
 use Rattle.verdicts.specs.declared.said.Said.{Said}
 use Rattle.verdicts.specs.declared.said.Said.TheVariants as said
@@ -55,3 +61,45 @@ Says line (said.Drawing drawing) = SaysDrawing line drawing.points drawing.claim
 pub record SaysNothing (line : List ℕ) : Type 0 where
   pub no_end : ¬ IsEndLine line
   pub no_drawing : (points : PointsModel) (claims : Claims) → HasRanges points claims → SaysDrawing line points claims → ⊥
+
+-- ---- why a line says nothing: the first of its fields that is wrong
+
+-- a value has a field of this name, which is no natural number below this bound
+abbrev pub IsWrongNumber : List ℕ → ℕ → Data → LineFault → Type 0
+IsWrongNumber name bound value fault =
+    (fault ≡ line.Number) × (get name value ≢ None) × ((n : ℕ) → n < bound → get name value ≢ Some (natural n))
+
+abbrev pub SaysAngles : Data → Type 0
+SaysAngles value =
+    (angles : Option (Vec ℕ Global)) × (get (codes "angles") value ≡ option_map (λ angles. array_of natural angles.items) angles)
+
+abbrev pub SaysTurns : Data → Type 0
+SaysTurns value =
+    (turns : Option (Vec (Vec Turn Global) Global))
+    × (get (codes "turns") value ≡ option_map (λ strings. array_of turns_data (lists_in strings.items)) turns)
+
+abbrev pub SaysOrLacksPrices : Data → Type 0
+SaysOrLacksPrices value =
+    (prices : Option PricesModel) × MatchOption prices (get (codes "prices") value ≡ None) (SaysPrices value)
+
+-- the claims are read in this order
+pub data IsWrongClaim (value : Data) (fault : LineFault) : Type 0 where
+  wrong_angles : IsWrongField IsWrongAngles (codes "angles") value fault → IsWrongClaim value fault
+  wrong_turns : SaysAngles value → IsWrongField IsWrongTurns (codes "turns") value fault → IsWrongClaim value fault
+  wrong_prices : SaysAngles value → SaysTurns value → IsWrongField IsWrongPrices (codes "prices") value fault → IsWrongClaim value fault
+  wrong_bends : SaysAngles value → SaysTurns value → SaysOrLacksPrices value → IsWrongNumber (codes "bends") (2 ^ 32) value fault → IsWrongClaim value fault
+  wrong_outer :
+      SaysAngles value → SaysTurns value → SaysOrLacksPrices value → ((bends : Option ℕ) × (get (codes "bends") value ≡ option_map natural bends))
+      → IsWrongNumber (codes "outer") (2 ^ 16) value fault → IsWrongClaim value fault
+
+-- a value is no object, or its points are wrong, or else a claim
+pub data IsWrongValue (value : Data) (fault : LineFault) : Type 0 where
+  no_object : as_object value ≡ None → fault ≡ line.Malformed → IsWrongValue value fault
+  no_points : as_object value ≢ None → IsWrongPoints value fault → IsWrongValue value fault
+  no_claims : as_object value ≢ None → ((points : PointsModel) × AreShort points × SaysPoints value points) → IsWrongClaim value fault → IsWrongValue value fault
+
+-- a line is no text of a value, or its value is wrong
+abbrev pub IsWrongLine : List ℕ → LineFault → Type 0
+IsWrongLine bytes fault =
+    ((fault ≡ line.Malformed) × ((value : Data) → ¬ IsTextOf bytes value))
+    ⊎ ((value : Data) × IsTextOf bytes value × IsWrongValue value fault)

@@ -13,6 +13,7 @@ use Rattle.referee.specs.declared.claims.Claims.{Claims}
 use Rattle.referee.specs.Claims.{Hold, IsFirstFalse}
 use Rattle.referee.specs.declared.fault.Fault.TheVariants as drawn
 use Rattle.referee.specs.Drawings.{IsDrawn, IsDrawnBy}
+use Rattle.referee.specs.Faults.{IsFirstFailure}
 use Rattle.verdicts.specs.declared.said.Given.{Given}
 use Rattle.verdicts.specs.declared.said.Given.TheVariants as given
 use Rattle.verdicts.specs.declared.verdict.Verdict.{Verdict}
@@ -43,8 +44,11 @@ pub record IsFoundOf (faces : Bool) (p : PlaneModel) (points : PointsModel) (cla
   pub drawn : IsDrawnBy (with_outer p outer) points shape
   pub found : IsFound faces (with_outer p outer) points shape claims v
 
+-- the points draw no representation: of the conditions of a drawing the one that the fault names is the first to fail, and
+-- at the place that it names
 abbrev pub IsVerdictOnDrawing : Bool → PlaneModel → PointsModel → Claims → Verdict → Type 0
-IsVerdictOnDrawing faces p points claims (verdict.Drawn fault) = (fault ≢ drawn.Memory) × ¬ IsDrawn p points
+IsVerdictOnDrawing faces p points claims (verdict.Drawn fault) =
+    (fault ≢ drawn.Memory) × ¬ IsDrawn p points × IsFirstFailure p points fault
 IsVerdictOnDrawing faces p points claims verdict.Memory = ⊤
 IsVerdictOnDrawing faces p points claims v = IsFoundOf faces p points claims v
 

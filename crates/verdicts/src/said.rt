@@ -5,7 +5,7 @@ ghost use Rattle.serde_json.specs.View.{view};
 ghost use Rattle.ortho_rep.specs.Points.{PointsModel};
 ghost use Rattle.referee.specs.declared.claims.Claims.{Claims};
 ghost use Rattle.drawn_lines.specs.declared.fault.LineFault.TheVariants.{Memory};
-ghost use Rattle.verdicts.specs.Said.{HasFields, HasRanges, HasClaims, HasClaimRanges, Says, SaysNothing};
+ghost use Rattle.verdicts.specs.Said.{HasFields, HasRanges, HasClaims, HasClaimRanges, Says, SaysNothing, IsWrongClaim, IsWrongValue, IsWrongLine};
 
 use drawn_lines::{
     LineFault, angles_in, bends_in, outer_in, points_in, prices_in, turns_in, value_in,
@@ -48,10 +48,13 @@ pub enum Given {
 ///
 /// # Errors
 ///
-/// `Memory` if memory runs out. Otherwise the line says neither a drawing whose numbers have their ranges nor an end.
+/// `Memory` if memory runs out. Otherwise the line says neither a drawing whose numbers have their ranges nor an end:
+/// `Malformed` if it is no JSON object, and else the fault of its first wrong field, in the order `points`, `angles`,
+/// `turns`, `prices`, `bends`, `outer`.
 pub fn said_in(alloc: Global, line: &[u8]) -> Result<Said, LineFault>
     ensures ok { IfOk result (Says line.now) }
     ensures none { IfErr result (λ fault. fault ≢ Memory → SaysNothing line.now) }
+    ensures fault { IfErr result (λ fault. fault ≢ Memory → IsWrongLine line.now fault) }
 {
     let value = match value_in(alloc, line) {
         Ok(value) => value,
@@ -82,6 +85,7 @@ fn drawing_in(alloc: Global, value: &Value) -> Result<SaidDrawing, LineFault>
     ensures ok { IfOk result (λ said. HasFields (view value.now) said.points said.claims) }
     ensures none { IfErr result (λ fault. fault ≢ Memory → (points : PointsModel) (claims : Claims)
         → HasRanges points claims → HasFields (view value.now) points claims → ⊥) }
+    ensures fault { IfErr result (λ fault. fault ≢ Memory → IsWrongValue (view value.now) fault) }
 {
     if !value.is_object() {
         return Err(LineFault::Malformed);
@@ -101,6 +105,7 @@ fn claims_in(alloc: Global, value: &Value) -> Result<Claims, LineFault>
     ensures ok { IfOk result (HasClaims (view value.now)) }
     ensures none { IfErr result (λ fault. fault ≢ Memory → (claims : Claims)
         → HasClaimRanges claims → HasClaims (view value.now) claims → ⊥) }
+    ensures fault { IfErr result (λ fault. fault ≢ Memory → IsWrongClaim (view value.now) fault) }
 {
     let angles = match angles_in(alloc, value) {
         Ok(angles) => angles,

@@ -15,7 +15,7 @@ pub enum Verdict {
     Unread,
     /// The line describes no drawing, for this reason.
     Line(LineFault),
-    /// The points do not draw the record's embedding: the first condition that fails.
+    /// The points do not draw the record's embedding: the first condition that fails, and where.
     Drawn(Fault),
     /// A region of the drawing is not its face.
     Regions,
