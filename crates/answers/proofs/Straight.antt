@@ -1,5 +1,5 @@
 -- Edges without turns in a drawing.
-use Rattle.std.proofs.Common.{◌≡◌, ◌⊎◌, ◌++◌, ◌∷◌, [], Bool, true, false, ◌||◌, Result, Ok, Err, IfOk, length, ap, arith, inl, inr, refl, length-append}
+use Rattle.std.proofs.Common.{◌≡◌, ◌⊎◌, ◌++◌, ◌∷◌, [], Bool, true, false, ◌||◌, length, ap, arith, inl, inr, refl, length-append}
 use Rattle.std.proofs.lemmas.Bool.{both_ways}
 use Rattle.std.proofs.lemmas.List.{nil_from_length}
 use Rattle.common.specs.declared.choice.Choice.{Choice}
@@ -14,7 +14,6 @@ use Rattle.drawing_check.specs.Draws.{Draws, IsTurning}
 use Rattle.drawing_check.proofs.Routing.{each_lesser}
 use Rattle.conditions.specs.declared.conditions.Conditions.{Conditions}
 use Rattle.conditions.specs.Chosen.{IsKept}
-use Rattle.compact.specs.declared.fault.CompactFault.{CompactFault}
 use Rattle.answers.specs.Kept.{AreDrawnStraight, AreKeptStraight}
 
 pub drawn_straight : (p : PlaneModel) (shape : ShapeModel) (points : PointsModel) → Draws p shape points → AreDrawnStraight p shape points
@@ -39,9 +38,3 @@ kept_straight conditions choice p shape prices points ends kept drawn d inside l
       | inr there ↦ inr ((kept.asked.straight back (ends.reverse_dart_in_range d inside)).1 there)
     ]) in
     drawn d inside lesser (kept.least.keeps d inside marked)
-
--- so it is in a drawing, if there is one
-pub kept_straight-if : (conditions : Conditions) (choice : Choice) (p : PlaneModel) (shape : ShapeModel) (prices : PricesModel) (drawing : Result PointsModel CompactFault)
-    → HasEnds p → IsKept conditions choice p shape prices → IfOk drawing (AreDrawnStraight p shape) → IfOk drawing (AreKeptStraight conditions p)
-kept_straight-if conditions choice p shape prices (Ok points) ends kept drawn = kept_straight conditions choice p shape prices points ends kept drawn
-kept_straight-if conditions choice p shape prices (Err fault) ends kept drawn = tt

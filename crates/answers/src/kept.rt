@@ -4,11 +4,14 @@ ghost use Rattle.std.specs.Prelude.{◌≡◌, IfOk, IfErr};
 ghost use Rattle.entries.specs.declared.cause.Cause.TheVariants.{Wide};
 ghost use Rattle.entries.specs.Drawn.{IsCause};
 ghost use Rattle.answers.specs.Drawings.{IsDrawing};
-ghost use Rattle.answers.specs.Kept.{IsKeptPlane, IsUnkept, AreDrawnStraight};
+ghost use Rattle.answers.specs.Kept.{IsKeptPlane, IsUnkept, AreDrawnStraight, AreKeptStraight};
+ghost use Rattle.common.specs.declared.choice.Choice.{Choice};
+ghost use Rattle.conditions.specs.declared.conditions.Conditions.{Conditions};
+ghost use Rattle.conditions.specs.Chosen.{IsKept};
 ghost use Rattle.entries.specs.Lengths.{IsQuick};
 ghost use Rattle.answers.specs.Steps.{IsRefused, IsShaped};
 
-use crate::drawing::{DrawScratch, draw, drawing_of, least_points};
+use crate::drawing::{DrawScratch, draw, points_of};
 use crate::kept_plane::KeptPlane;
 use crate::shaped_plane::ShapedPlane;
 use crate::shaping::{ShapeScratch, with_shape_keeping};
@@ -42,7 +45,7 @@ impl RecordScratch {
 
     /// The plane of a record with the chosen outer face, a least shape of it, and prices that prove it.
     ///
-    /// The shape is for this kind of drawing. Nothing is drawn.
+    /// The shape is for this kind of drawing, which the plane names. Nothing is drawn.
     ///
     /// # Errors
     ///
@@ -55,13 +58,14 @@ impl RecordScratch {
         choice: Choice,
         drawing_kind: DrawingKind,
     ) -> Result<ShapedPlane, ReadFault>
-        ensures { IsShaped choice rec.now result }
+        ensures shaped { IsShaped choice rec.now result }
+        ensures kind { IfOk result (λ shaped_plane. shaped_plane.drawing_kind ≡ drawing_kind) }
     {
         let plane = embed(alloc, &mut self.planes, rec);
         shape(alloc, &mut self.shapes, plane, choice, drawing_kind)
     }
 
-    /// Returns a drawing of the plane that has the shape of `shaped_plane`: quick or short, as `drawing_kind` says.
+    /// Returns points that draw a shaped plane: a drawing of the kind that its shape is for.
     ///
     /// Each least shape has a drawing. The edges of a short one are in all no longer than those of a quick one. For n
     /// vertices and b bends, coordinates are below 3n + 2b + 5.
@@ -69,38 +73,20 @@ impl RecordScratch {
     /// # Errors
     ///
     /// `AllocError` if memory runs out.
-    pub fn draw(
-        &mut self,
-        alloc: Global,
-        shaped_plane: &ShapedPlane,
-        drawing_kind: DrawingKind,
-    ) -> Result<Drawing, AllocError>
-        ensures drawn { IfOk result (IsDrawing shaped_plane.now.plane shaped_plane.now.shape) }
-        ensures quick { drawing_kind ≡ DrawingKind.Quick
-            → IfOk result (IsQuick shaped_plane.now.plane shaped_plane.now.shape) }
-    {
-        drawing_of(alloc, &mut self.drawings, shaped_plane, drawing_kind)
-    }
-
-    /// Returns the points of a quick drawing, as `draw` makes them; no check of them is needed, as they are proved.
-    ///
-    /// # Errors
-    ///
-    /// `AllocError` if memory runs out.
-    pub fn quick_points(
+    pub fn points(
         &mut self,
         alloc: Global,
         shaped_plane: &ShapedPlane,
     ) -> Result<Points, AllocError>
         ensures drawn { IfOk result (IsDrawing shaped_plane.now.plane shaped_plane.now.shape) }
-        ensures quick { IfOk result (IsQuick shaped_plane.now.plane shaped_plane.now.shape) }
+        ensures quick { shaped_plane.now.drawing_kind ≡ DrawingKind.Quick
+            → IfOk result (IsQuick shaped_plane.now.plane shaped_plane.now.shape) }
     {
-        least_points(
+        points_of(
             alloc,
             &mut self.drawings,
-            &shaped_plane.plane,
-            &shaped_plane.shape,
-            &shaped_plane.directions,
+            shaped_plane,
+            shaped_plane.drawing_kind,
         )
     }
 
@@ -108,7 +94,7 @@ impl RecordScratch {
     ///
     /// The outer face is the chosen one of those that may be outside. `First` is the face with the most darts, and
     /// `Best` the one that minimises bends; among equals both are the one with the least number, which has the least
-    /// dart. Nothing is drawn.
+    /// dart. Nothing is drawn; the plane names this kind of drawing.
     ///
     /// # Errors
     ///
@@ -120,18 +106,27 @@ impl RecordScratch {
         rec: &Record,
         conditions: &Conditions<'_>,
         choice: Choice,
+        drawing_kind: DrawingKind,
     ) -> Result<Result<KeptPlane, KeepFault>, ReadFault>
         ensures kept { IfOk result (λ made. IfOk made (IsKeptPlane conditions.now choice rec.now)) }
+        ensures kind { IfOk result (λ made. IfOk made (λ kept. kept.drawing_kind ≡ drawing_kind)) }
         ensures unkept { IfOk result (λ made. IfErr made (IsUnkept conditions.now choice rec.now)) }
         ensures refused { IfErr result (IsRefused rec.now) }
     {
         let plane = embed(alloc, &mut self.planes, rec)?;
-        Ok(with_shape_keeping(alloc, &mut self.shapes, plane, conditions, choice))
+        Ok(with_shape_keeping(
+            alloc,
+            &mut self.shapes,
+            plane,
+            conditions,
+            choice,
+            drawing_kind,
+        ))
     }
 
-    /// A drawing of a shape that keeps conditions, in which an edge without turns has no corners.
+    /// A drawing, of the kind that the plane names, of a shape that keeps conditions.
     ///
-    /// It is made as by [`RecordScratch::draw`].
+    /// An edge without turns has no corners. Lengths and coordinates are as for [`RecordScratch::points`].
     ///
     /// # Errors
     ///
@@ -141,11 +136,13 @@ impl RecordScratch {
         &mut self,
         alloc: Global,
         kept: &KeptPlane,
-        drawing_kind: DrawingKind,
     ) -> Result<Drawing, CompactFault>
         ensures drawn { IfOk result (IsDrawing kept.now.plane kept.now.shape) }
         ensures straight { IfOk result (AreDrawnStraight kept.now.plane kept.now.shape) }
-        ensures quick { drawing_kind ≡ DrawingKind.Quick
+        ensures kept { IfOk result (λ drawing. (conditions : Conditions) (choice : Choice)
+            → IsKept conditions choice kept.now.plane kept.now.shape kept.now.prices
+            → AreKeptStraight conditions kept.now.plane drawing) }
+        ensures quick { kept.now.drawing_kind ≡ DrawingKind.Quick
             → IfOk result (IsQuick kept.now.plane kept.now.shape) }
         ensures wide { IfErr result (λ fault. fault ≡ CompactFault.Wide → IsCause kept.now.plane kept.now.shape Wide) }
     {
@@ -157,7 +154,7 @@ impl RecordScratch {
             &kept.plane,
             &kept.shape,
             &kept.directions,
-            drawing_kind,
+            kept.drawing_kind,
         );
         match drawn {
             Ok(Ok(drawing)) => Ok(drawing),

@@ -4,6 +4,7 @@ ghost use Rattle.ortho_rep.specs.Representation.{IsShape};
 ghost use Rattle.compact.specs.Monotone.{AreDirectionsOf};
 ghost use Rattle.std.proofs.Props.{props};
 
+use common::DrawingKind;
 use faces::Plane;
 use ortho_rep::{Prices, Shape};
 
@@ -16,6 +17,8 @@ pub struct KeptPlane {
     pub shape: Shape,
     pub prices: Prices,
     pub directions: Vec<u8>,
+    /// The kind of drawing to make of it.
+    pub drawing_kind: DrawingKind,
     pub ghost shape_is: { IsShape plane shape } by { Prim.hlevel props },
     pub ghost directed: { AreDirectionsOf plane shape directions.items } by { Prim.hlevel props },
 }

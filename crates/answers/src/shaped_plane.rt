@@ -5,6 +5,7 @@ ghost use Rattle.ortho_rep.specs.Prices.{IsProof};
 ghost use Rattle.compact.specs.Monotone.{AreDirectionsOf};
 ghost use Rattle.std.proofs.Props.{props};
 
+use common::DrawingKind;
 use faces::Plane;
 use ortho_rep::{Prices, Shape};
 
@@ -17,6 +18,8 @@ pub struct ShapedPlane {
     pub shape: Shape,
     pub prices: Prices,
     pub directions: Vec<u8>,
+    /// The kind of drawing that the shape is for.
+    pub drawing_kind: DrawingKind,
     pub ghost shape_is: { IsShape plane shape } by { Prim.hlevel props },
     pub ghost least: { IsLeast plane shape } by { Prim.hlevel props },
     pub ghost proof: { IsProof plane shape prices } by { Prim.hlevel props },

@@ -74,6 +74,7 @@ impl ShapeScratch {
                     shape,
                     prices,
                     directions,
+                    drawing_kind: _,
                 } = spent;
                 shape.give_back(&mut self.shapes);
                 prices.give_back(&mut self.shapes);
@@ -140,8 +141,9 @@ pub(crate) fn with_least_shape(
     choice: Choice,
     drawing_kind: DrawingKind,
 ) -> Result<ShapedPlane, AllocError>
-    ensures { IfOk result (λ shaped_plane. (bytes : List ℕ)
+    ensures shaped { IfOk result (λ shaped_plane. (bytes : List ℕ)
         → IsTracedPlane bytes plane → IsPlaneOf choice bytes shaped_plane.plane) }
+    ensures kind { IfOk result (λ shaped_plane. shaped_plane.drawing_kind ≡ drawing_kind) }
 {
     let (shape, prices) = shape_of(alloc, &mut scratch.shapes, &mut plane, choice)?;
     let shape = shape_for(
@@ -159,6 +161,7 @@ pub(crate) fn with_least_shape(
         shape,
         prices,
         directions,
+        drawing_kind,
     })
 }
 
@@ -174,9 +177,11 @@ pub(crate) fn with_shape_keeping(
     mut plane: Plane,
     conditions: &Conditions<'_>,
     choice: Choice,
+    drawing_kind: DrawingKind,
 ) -> Result<KeptPlane, KeepFault>
     ensures kept { IfOk result (λ made. (bytes : List ℕ)
         → IsTracedPlane bytes plane → IsKeptPlane conditions.now choice bytes made) }
+    ensures kind { IfOk result (λ made. made.drawing_kind ≡ drawing_kind) }
     ensures fault { IfErr result (IsKeepFault conditions.now choice plane) }
 {
     let shapes = &mut scratch.shapes;
@@ -193,6 +198,7 @@ pub(crate) fn with_shape_keeping(
             shape,
             prices,
             directions,
+            drawing_kind,
         }),
         Err(AllocError) => Err(KeepFault::Memory),
     }

@@ -1,6 +1,6 @@
 //! The stages that answer a record.
 
-ghost use Rattle.std.specs.Prelude.{◌≡◌, ℕ, List};
+ghost use Rattle.std.specs.Prelude.{◌≡◌, ℕ, List, IfOk};
 ghost use Rattle.entries.specs.Lengths.{IfDrawn, IsNear, IsNoLonger, IsQuick};
 ghost use Rattle.answers.specs.Steps.{IsRefused, IsEmbedded, IsShaped, IsFoundFor, answer_in};
 ghost use Rattle.common.specs.declared.choice.Choice.{Choice};
@@ -62,7 +62,8 @@ pub(crate) fn shape(
     choice: Choice,
     drawing_kind: DrawingKind,
 ) -> Result<ShapedPlane, ReadFault>
-    ensures { (bytes : List ℕ) → IsEmbedded bytes plane → IsShaped choice bytes result }
+    ensures shaped { (bytes : List ℕ) → IsEmbedded bytes plane → IsShaped choice bytes result }
+    ensures kind { IfOk result (λ shaped_plane. shaped_plane.drawing_kind ≡ drawing_kind) }
 {
     match with_least_shape(alloc, scratch, plane?, choice, drawing_kind) {
         Ok(shaped_plane) => Ok(shaped_plane),
@@ -89,6 +90,7 @@ pub(crate) fn answer_with(
         shape,
         prices,
         directions,
+        drawing_kind: _,
     } = match shaped_plane {
         Ok(shaped_plane) => shaped_plane,
         Err(ReadFault::Rule(rule)) => return Answer::Refused(rule),

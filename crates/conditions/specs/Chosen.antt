@@ -81,11 +81,16 @@ IsToldOf p marks face NoOuter = ⊥
 abbrev pub LacksDart : PlaneModel → Conditions → Type 0
 LacksDart p conditions = (¬ All (IsDart p) conditions.straight.now) ⊎ (¬ All (IsDart p) conditions.inner.now)
 
+-- all pairs are ends of darts, and each face is to stay inside
+pub record HasNoOuter (p : PlaneModel) (conditions : Conditions) : Type 0 where
+  pub edges : All (IsDart p) conditions.straight.now
+  pub faces : All (IsDart p) conditions.inner.now
+  pub inside : (f : ℕ) → f < p.faces → IsLeftOf p conditions.inner.now f
+
 -- what a fault shows of the plane
 abbrev pub IsKeepFault : Conditions → Choice → PlaneModel → KeepFault → Type 0
 IsKeepFault conditions choice p NoEdge = LacksDart p conditions
--- each face is to stay inside
-IsKeepFault conditions choice p NoOuter = (f : ℕ) → f < p.faces → IsLeftOf p conditions.inner.now f
+IsKeepFault conditions choice p NoOuter = HasNoOuter p conditions
 IsKeepFault conditions choice p (NoShape why) = HasNoKept conditions choice p why
 -- nothing is said
 IsKeepFault conditions choice p Memory = ⊤

@@ -1,4 +1,4 @@
-use Rattle.std.proofs.Common.{ℕ, List, subst}
+use Rattle.std.proofs.Common.{subst}
 use Rattle.answers.specs.Steps.{IsShaped, IsPlaneOf}
 use Rattle.answers.proofs.stages.find_points.Goals as goal
 

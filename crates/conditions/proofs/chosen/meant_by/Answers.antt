@@ -10,5 +10,9 @@ pub returns-then-not-are_darts-2-clause-fault : goal.returns-then-not-are_darts-
 returns-then-not-are_darts-2-clause-fault c = λ _. inr (λ all. both_ways c.are_darts-2.result c.if-not-are_darts-2.true (c.are_darts-2.ensures.1 all))
 
 pub returns-in-None-clause-fault : goal.returns-in-None-clause-fault
-returns-in-None-clause-fault c = λ _ f lt.
-    (c.in-Ok-barred_of.ensures f lt).0 (subst (λ (b : List Bool). is_marked b f ≡ true) c.deref.ensures.value (c.in-None.ensures f lt))
+returns-in-None-clause-fault c = λ _. record {
+  edges = c.are_darts.ensures.0 c.if-not-are_darts.false;
+  faces = c.are_darts-2.ensures.0 c.if-not-are_darts-2.false;
+  inside = λ f lt.
+      (c.in-Ok-barred_of.ensures f lt).0 (subst (λ (b : List Bool). is_marked b f ≡ true) c.deref.ensures.value (c.in-None.ensures f lt));
+}

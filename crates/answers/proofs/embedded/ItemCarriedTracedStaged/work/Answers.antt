@@ -8,5 +8,5 @@ invariant_of-result g c =
     record {
       known = c.args.self.known;
       made = ∥∥₁_map c.args.self.made
-          (λ made. c.hold.ensures c.args.self.task.choice _ (c.shape-shaped_plane.ensures _ (subst (IsEmbedded (g.P.Carried.Carried.bytes c.args.self.rec)) (sym c.unpack-plane.ensures) made)));
+          (λ made. c.hold.ensures c.args.self.task.choice _ (c.shape-shaped_plane.ensures.shaped _ (subst (IsEmbedded (g.P.Carried.Carried.bytes c.args.self.rec)) (sym c.unpack-plane.ensures) made)));
     }

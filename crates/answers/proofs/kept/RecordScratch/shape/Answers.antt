@@ -1,4 +1,4 @@
 use Rattle.answers.proofs.kept.RecordScratch.shape.Goals as goal
 
-pub returns : goal.returns
-returns c = c.shape.ensures c.args.rec.now c.embed-plane.ensures
+pub returns-clause-shaped : goal.returns-clause-shaped
+returns-clause-shaped c = c.shape.ensures.shaped c.args.rec.now c.embed-plane.ensures
