@@ -1,5 +1,5 @@
 -- From what is told of a finding to what comes of a call.
-use Rattle.std.proofs.Common.{◌≡◌, ℕ, List, Option, Some, is_some}
+use Rattle.std.proofs.Common.{◌≡◌, ◌∙◌, ℕ, List, Bool, false, Option, Some, None, ap, is_some, sym}
 use Rattle.planar_code.specs.Stream.{IsRecord}
 use Rattle.common.specs.declared.choice.Choice.{Choice}
 use Rattle.common.specs.declared.drawing_kind.DrawingKind.{DrawingKind}
@@ -12,13 +12,13 @@ use Rattle.planarbend_c.specs.Cuts.{CutModel}
 use Rattle.planarbend_c.specs.Faults.{IsFault, IsKeepingFault}
 use Rattle.planarbend_c.specs.Requests.{choice_in, drawing_in}
 use Rattle.planarbend_c.specs.Held.{ListsModel}
-use Rattle.planarbend_c.specs.Found.{Finding}
+use Rattle.planarbend_c.specs.Found.{Finding, IsAsAsked}
 use Rattle.planarbend_c.specs.Outcomes.{IsAnswerOf, IsOutcome, IsOutcomeKeeping, IsOutcomeOf, IsTold}
 
 -- what is found is an answer
 pub answer_of : (Is : Choice → List ℕ → Finding → Type 0) (bytes : List ℕ) (outer drawing : ℕ) (choice : Choice) (kind : Option DrawingKind) (found : Finding)
     → choice_in outer ≡ Some choice → drawing_in drawing ≡ Some kind → IsRecord bytes → Is choice bytes found
-    → is_some found.points ≡ is_some kind
+    → IsAsAsked kind found
     → IsAnswerOf Is bytes outer drawing found
 answer_of Is bytes outer drawing choice kind found choice_asked kind_asked is_record is_found asked =
     record {
@@ -26,7 +26,7 @@ answer_of Is bytes outer drawing choice kind found choice_asked kind_asked is_re
       choice_asked = choice_asked;
       kind = kind;
       kind_asked = kind_asked;
-      points_asked = asked;
+      as_asked = asked;
       is_record = is_record;
       is_found = is_found;
     }
@@ -89,3 +89,13 @@ unlaid_anyhow conditions choice bytes cut NoShape shown = absurd shown
 unlaid_anyhow conditions choice bytes cut NoEdge shown = absurd shown
 unlaid_anyhow conditions choice bytes cut NoOuter shown = absurd shown
 unlaid_anyhow conditions choice bytes cut Wide shown = absurd shown
+
+-- whether a kind of drawing is asked for
+abbrev is_drawn_in : Option (Option DrawingKind) → Bool
+is_drawn_in None = false
+is_drawn_in (Some kind) = is_some kind
+
+-- where no drawing is asked for there are no points
+pub not_drawn : (drawing : ℕ) (kind : Option DrawingKind) (found : Finding) → drawing_in drawing ≡ Some kind → IsAsAsked kind found
+    → drawing_in drawing ≡ Some None → is_some found.points ≡ false
+not_drawn drawing kind found asked as_asked none = as_asked.points ∙ ap is_drawn_in (sym asked ∙ none)

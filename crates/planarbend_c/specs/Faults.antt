@@ -3,7 +3,7 @@ use Rattle.std.specs.Prelude.{◌≡◌, ℕ, List, ⊤}
 use Rattle.planar_code.specs.Stream.{IsRecord, lists_of}
 use Rattle.embedding.specs.Rules.{FirstBroken}
 use Rattle.common.specs.declared.choice.Choice.{Choice}
-use Rattle.faces.specs.Planes.{PlaneModel}
+use Rattle.faces.specs.Planes.{PlaneModel, IsPlane}
 use Rattle.ortho_rep.specs.Shapes.{ShapeModel}
 use Rattle.ortho_rep.specs.Prices.{PricesModel}
 use Rattle.entries.specs.declared.cause.Cause.TheVariants as cause
@@ -33,6 +33,7 @@ pub record IsTooWide (conditions : Conditions) (choice : Choice) (bytes : List �
   pub shape : ShapeModel
   pub prices : PricesModel
   pub lists : plane.lists ≡ lists_of bytes
+  pub rules : IsPlane plane
   pub kept : IsKept conditions choice plane shape prices
   pub shown : IsCause plane shape cause.Wide
 

@@ -1,8 +1,10 @@
 -- What a call finds of a record, and how it is told to C.
-use Rattle.std.specs.Prelude.{◌≡◌, ℕ, ◌+◌, ◌*◌, ◌<◌, ◌≤◌, List, length, map, take, slice_index, Bool, true, Option, Some, None, ⊤}
+use Rattle.std.specs.Prelude.{◌≡◌, ℕ, ◌+◌, ◌*◌, ◌<◌, ◌≤◌, List, length, map, take, slice_index, Bool, true, Option, Some, None, is_some, ⊤}
 use Rattle.std.specs.List.{flat_map}
 use Rattle.planar_code.specs.Stream.{lists_of}
 use Rattle.common.specs.declared.choice.Choice.{Choice}
+use Rattle.common.specs.declared.drawing_kind.DrawingKind.{DrawingKind}
+use Rattle.common.specs.declared.drawing_kind.DrawingKind.TheVariants.{Quick}
 use Rattle.faces.specs.Planes.{PlaneModel, IsPlane, darts, vertices}
 use Rattle.ortho_rep.specs.declared.turn.Turn.{Turn}
 use Rattle.ortho_rep.specs.declared.points.Point.{Point}
@@ -14,12 +16,14 @@ use Rattle.ortho_rep.specs.Representation.{IsShape, IsLeast, bends_of}
 use Rattle.ortho_rep.specs.Best.{IsChosen}
 use Rattle.conditions.specs.declared.conditions.Conditions.{Conditions}
 use Rattle.conditions.specs.Chosen.{IsKept}
+use Rattle.entries.specs.Lengths.{IsQuick}
 use Rattle.answers.specs.Drawings.{IsDrawing}
-use Rattle.answers.specs.Kept.{AreDrawnStraight}
+use Rattle.answers.specs.Kept.{AreDrawnStraight, AreKeptStraight}
 use Rattle.planarbend_c.specs.declared.counts.Counts.{Counts}
 use Rattle.planarbend_c.specs.declared.laid.Layout.{Layout}
 use Rattle.planarbend_c.specs.declared.lists.DartTurns.{DartTurns}
 use Rattle.planarbend_c.specs.declared.lists.GridPoint.{GridPoint}
+use Rattle.planarbend_c.specs.Requests.{shape_kind}
 use Rattle.planarbend_c.specs.Held.{ListsModel, HasRoom, Holds}
 
 -- ---- what is found
@@ -29,19 +33,31 @@ abbrev pub IsDrawnIfAsked : PlaneModel → ShapeModel → Option PointsModel →
 IsDrawnIfAsked plane shape None = ⊤
 IsDrawnIfAsked plane shape (Some points) = IsDrawing plane shape points
 
--- what is found of a record: its plane, a shape of it, prices, and points where a drawing is asked for
+-- a quick drawing, where a drawing is asked for
+abbrev pub IsQuickIfAsked : PlaneModel → ShapeModel → Option PointsModel → Type 0
+IsQuickIfAsked plane shape None = ⊤
+IsQuickIfAsked plane shape (Some points) = IsQuick plane shape points
+
+-- what is found of a record: its plane, a shape of it, prices, the kind of drawing that the shape is for, and points
+-- where a drawing is asked for
 pub record Finding : Type 0 where
   pub plane : PlaneModel
   pub shape : ShapeModel
   pub prices : PricesModel
+  pub kind : DrawingKind
   pub points : Option PointsModel
 
-abbrev pub finding : PlaneModel → ShapeModel → PricesModel → Option PointsModel → Finding
-finding plane shape prices points = record { plane = plane; shape = shape; prices = prices; points = points }
+abbrev pub finding : PlaneModel → ShapeModel → PricesModel → DrawingKind → Option PointsModel → Finding
+finding plane shape prices kind points = record { plane = plane; shape = shape; prices = prices; kind = kind; points = points }
 
 -- what a layout holds
 abbrev pub finding_of : Layout → Finding
-finding_of layout = finding layout.plane layout.shape layout.prices layout.drawing
+finding_of layout = finding layout.plane layout.shape layout.prices layout.drawing_kind layout.drawing
+
+-- there are points exactly where a drawing is asked for, and the shape is for a drawing of that kind
+pub record IsAsAsked (kind : Option DrawingKind) (found : Finding) : Type 0 where
+  pub points : is_some found.points ≡ is_some kind
+  pub shape : found.kind ≡ shape_kind kind
 
 -- it is of a record of these bytes under a choice of the outer face
 pub record IsFound (choice : Choice) (bytes : List ℕ) (found : Finding) : Type 0 where
@@ -59,11 +75,18 @@ pub record IsFound (choice : Choice) (bytes : List ℕ) (found : Finding) : Type
   pub proof : IsProof found.plane found.shape found.prices
   -- the points draw the shape
   pub drawn : IsDrawnIfAsked found.plane found.shape found.points
+  -- if the shape is for a quick drawing, they are one
+  pub quick : found.kind ≡ Quick → IsQuickIfAsked found.plane found.shape found.points
 
 -- an edge without turns has no corners, where a drawing is asked for
 abbrev pub AreStraightIfAsked : PlaneModel → ShapeModel → Option PointsModel → Type 0
 AreStraightIfAsked plane shape None = ⊤
 AreStraightIfAsked plane shape (Some points) = AreDrawnStraight plane shape points
+
+-- no edge that is to stay straight has corners, where a drawing is asked for
+abbrev pub AreKeptStraightIfAsked : Conditions → PlaneModel → Option PointsModel → Type 0
+AreKeptStraightIfAsked conditions plane None = ⊤
+AreKeptStraightIfAsked conditions plane (Some points) = AreKeptStraight conditions plane points
 
 -- it is of a record of these bytes under a choice of the outer face and conditions
 pub record IsFoundKeeping (conditions : Conditions) (choice : Choice) (bytes : List ℕ) (found : Finding) : Type 0 where
@@ -74,7 +97,10 @@ pub record IsFoundKeeping (conditions : Conditions) (choice : Choice) (bytes : L
   pub kept : IsKept conditions choice found.plane found.shape found.prices
   -- the points draw the shape
   pub drawn : IsDrawnIfAsked found.plane found.shape found.points
+  -- if the shape is for a quick drawing, they are one
+  pub quick : found.kind ≡ Quick → IsQuickIfAsked found.plane found.shape found.points
   pub straight : AreStraightIfAsked found.plane found.shape found.points
+  pub kept_straight : AreKeptStraightIfAsked conditions found.plane found.points
 
 -- ---- how it is told
 

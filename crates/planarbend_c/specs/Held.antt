@@ -1,5 +1,5 @@
 -- Lists that C lends, and what a call leaves in them.
-use Rattle.std.specs.Prelude.{◌≡◌, ℕ, ◌<◌, ◌≤◌, ℤ, List, length, take}
+use Rattle.std.specs.Prelude.{◌≡◌, ℕ, ◌<◌, ◌≤◌, ℤ, List, length, take, drop}
 use Rattle.planarbend_c.specs.declared.lists.DartTurns.{DartTurns}
 use Rattle.planarbend_c.specs.declared.lists.GridPoint.{GridPoint}
 use Rattle.planarbend_c.specs.declared.lists.Lists.{Lists}
@@ -32,3 +32,8 @@ HasRoom list count = 0 < length list → count ≤ length list
 -- these items stand first in a list, unless it is left out
 abbrev pub Holds : {A : Type 0} → List A → List A → Type 0
 Holds list items = 0 < length list → take (length items) list ≡ items
+
+-- a list is as long as before, and the items after the first `count` are the same
+pub record IsSameAfter {A : Type 0} (count : ℕ) (before after : List A) : Type 0 where
+  pub long : length after ≡ length before
+  pub rest : drop count after ≡ drop count before

@@ -4,7 +4,6 @@ use Rattle.planar_code.specs.Stream.{IsRecord, lists_of}
 use Rattle.embedding.specs.Rules.{FirstBroken}
 use Rattle.common.specs.declared.choice.Choice.{Choice}
 use Rattle.common.specs.declared.drawing_kind.DrawingKind.{DrawingKind}
-use Rattle.conditions.specs.declared.conditions.Conditions.{Conditions}
 use Rattle.planarbend_c.specs.declared.request.Request.{Request}
 use Rattle.planarbend_c.specs.Cuts.{CutModel}
 use Rattle.planarbend_c.specs.Faults.{IsKeepingFault}
@@ -13,7 +12,7 @@ use Rattle.planarbend_c.specs.declared.outcome.Outcome.{Outcome}
 use Rattle.planarbend_c.specs.declared.outcome.Outcome.TheVariants.{Laid, Refused, NotARecord, Memory, Room, Argument, NoShape, NoEdge, NoOuter, Wide}
 use Rattle.planarbend_c.specs.Requests.{choice_in, drawing_in}
 use Rattle.planarbend_c.specs.Held.{ListsModel}
-use Rattle.planarbend_c.specs.Found.{Finding, IsFound, IsFoundKeeping, AreCounts, HoldFinding, HaveRoom}
+use Rattle.planarbend_c.specs.Found.{Finding, IsAsAsked, IsFound, IsFoundKeeping, AreCounts, HoldFinding, HaveRoom}
 
 -- the bytes are a record, of which something is found under what the numbers of an outer face and of a drawing ask for:
 -- `Is` says what
@@ -22,8 +21,8 @@ pub record IsAnswerOf (Is : Choice → List ℕ → Finding → Type 0) (bytes :
   pub choice_asked : choice_in outer ≡ Some choice
   pub kind : Option DrawingKind
   pub kind_asked : drawing_in drawing ≡ Some kind
-  -- there are points exactly where a drawing is asked for
-  pub points_asked : is_some found.points ≡ is_some kind
+  -- it is what this kind of drawing asks for
+  pub as_asked : IsAsAsked kind found
   pub is_record : IsRecord bytes
   pub is_found : Is choice bytes found
 

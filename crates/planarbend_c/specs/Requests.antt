@@ -17,3 +17,8 @@ drawing_in zero = Some None
 drawing_in (suc zero) = Some (Some Quick)
 drawing_in (suc (suc zero)) = Some (Some Short)
 drawing_in (suc (suc (suc _))) = None
+
+-- the kind of drawing that a shape is for: the one that is asked for, or a quick one where none is
+abbrev pub shape_kind : Option DrawingKind → DrawingKind
+shape_kind (Some kind) = kind
+shape_kind None = Quick

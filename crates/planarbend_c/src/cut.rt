@@ -1,7 +1,8 @@
 //! Why no shape keeps the edges straight, in lists for C.
 
-ghost use Rattle.std.specs.Prelude.{◌≡◌};
+ghost use Rattle.std.specs.Prelude.{◌≡◌, length};
 ghost use Rattle.planarbend_c.specs.Cuts.{HoldsCut, HoldsMarks, cut_contents};
+ghost use Rattle.planarbend_c.specs.Left.{AreAsLong};
 
 use conditions::Unkept;
 
@@ -20,7 +21,8 @@ pub struct CutLists<'a> {
 
 /// Puts the vertices and faces, and the outer face.
 pub(crate) fn put_cut(out: &mut CutLists<'_>, why: &Unkept)
-    ensures { HoldsCut why.now (cut_contents out.new) }
+    ensures held { HoldsCut why.now (cut_contents out.new) }
+    ensures long { AreAsLong (cut_contents out.old) (cut_contents out.new) }
 {
     put_marks(out.vertices, &why.cut.vertices);
     put_marks(out.faces, &why.cut.faces);
@@ -29,7 +31,8 @@ pub(crate) fn put_cut(out: &mut CutLists<'_>, why: &Unkept)
 
 /// Puts 1 for each mark, and 0 everywhere else.
 fn put_marks(out: &mut [u8], marks: &[bool])
-    ensures { HoldsMarks out.new marks.now }
+    ensures held { HoldsMarks out.new marks.now }
+    ensures long { length out.new ≡ length out.old }
 {
     for place in 0..out.len() {
         out[place] = u8::from(place < marks.len() && marks[place]);

@@ -1,11 +1,13 @@
 //! The calls that C makes.
 
-ghost use Rattle.std.specs.Prelude.{◌≡◌, is_some};
+ghost use Rattle.std.specs.Prelude.{◌≡◌, false, Some, None, is_some};
 ghost use Rattle.planarbend_c.specs.declared.outcome.Outcome.{Outcome};
 ghost use Rattle.planarbend_c.specs.Codes.{code_of};
 ghost use Rattle.planarbend_c.specs.Held.{contents};
 ghost use Rattle.planarbend_c.specs.Cuts.{cut_contents};
 ghost use Rattle.planarbend_c.specs.Found.{AreCounts, HaveRoom, HoldFinding, IsDrawnIfAsked, finding_of};
+ghost use Rattle.planarbend_c.specs.Requests.{drawing_in};
+ghost use Rattle.planarbend_c.specs.Left.{AreAsLong, AreSameAfter, HaveSamePoints};
 ghost use Rattle.planarbend_c.specs.Outcomes.{IsOutcome, IsOutcomeKeeping, IsTold};
 
 use crate::counts::{Counts, counts_of};
@@ -33,8 +35,12 @@ pub extern "C" fn planarbend_c_layout(
     counts: &mut Counts,
     lists: &mut Lists<'_>,
 ) -> u32
-    ensures { (outcome : Outcome) × (result ≡ code_of outcome)
+    ensures outcome { (outcome : Outcome) × (result ≡ code_of outcome)
         × IsOutcome bytes.now outer drawing counts.new (contents lists.new) outcome }
+    ensures refused { ¬ (result ≡ code_of Outcome.Laid) → contents lists.new ≡ contents lists.old }
+    ensures rest { AreSameAfter counts.new (contents lists.old) (contents lists.new) }
+    ensures undrawn { drawing_in drawing ≡ Some None → HaveSamePoints (contents lists.old) (contents lists.new) }
+    ensures uncounted { ¬ (result ≡ code_of Outcome.Laid) → ¬ (result ≡ code_of Outcome.Room) → counts.new ≡ counts.old }
 {
     answer(alloc, bytes, outer, drawing, counts, lists).code()
 }
@@ -52,8 +58,14 @@ pub extern "C" fn planarbend_c_layout_keeping(
     lists: &mut Lists<'_>,
     cut: &mut CutLists<'_>,
 ) -> u32
-    ensures { (outcome : Outcome) × (result ≡ code_of outcome)
+    ensures outcome { (outcome : Outcome) × (result ≡ code_of outcome)
         × IsOutcomeKeeping request.now bytes.now counts.new (contents lists.new) (cut_contents cut.new) outcome }
+    ensures refused { ¬ (result ≡ code_of Outcome.Laid) → contents lists.new ≡ contents lists.old }
+    ensures rest { AreSameAfter counts.new (contents lists.old) (contents lists.new) }
+    ensures undrawn { drawing_in request.now.drawing ≡ Some None → HaveSamePoints (contents lists.old) (contents lists.new) }
+    ensures uncounted { ¬ (result ≡ code_of Outcome.Laid) → ¬ (result ≡ code_of Outcome.Room) → counts.new ≡ counts.old }
+    ensures uncut { ¬ (result ≡ code_of Outcome.NoShape) → cut_contents cut.new ≡ cut_contents cut.old }
+    ensures cut_room { AreAsLong (cut_contents cut.old) (cut_contents cut.new) }
 {
     answer_keeping(alloc, bytes, request, counts, lists, cut).code()
 }
@@ -67,7 +79,13 @@ fn answer_keeping(
     lists: &mut Lists<'_>,
     cut: &mut CutLists<'_>,
 ) -> Outcome
-    ensures { IsOutcomeKeeping request.now bytes.now counts.new (contents lists.new) (cut_contents cut.new) result }
+    ensures outcome { IsOutcomeKeeping request.now bytes.now counts.new (contents lists.new) (cut_contents cut.new) result }
+    ensures refused { ¬ (result ≡ Outcome.Laid) → contents lists.new ≡ contents lists.old }
+    ensures rest { AreSameAfter counts.new (contents lists.old) (contents lists.new) }
+    ensures undrawn { drawing_in request.now.drawing ≡ Some None → HaveSamePoints (contents lists.old) (contents lists.new) }
+    ensures uncounted { ¬ (result ≡ Outcome.Laid) → ¬ (result ≡ Outcome.Room) → counts.new ≡ counts.old }
+    ensures uncut { ¬ (result ≡ Outcome.NoShape) → cut_contents cut.new ≡ cut_contents cut.old }
+    ensures cut_room { AreAsLong (cut_contents cut.old) (cut_contents cut.new) }
 {
     let Some(choice) = choice_of(request.outer) else {
         return Outcome::Argument;
@@ -90,7 +108,11 @@ fn answer(
     counts: &mut Counts,
     lists: &mut Lists<'_>,
 ) -> Outcome
-    ensures { IsOutcome bytes.now outer drawing counts.new (contents lists.new) result }
+    ensures outcome { IsOutcome bytes.now outer drawing counts.new (contents lists.new) result }
+    ensures refused { ¬ (result ≡ Outcome.Laid) → contents lists.new ≡ contents lists.old }
+    ensures rest { AreSameAfter counts.new (contents lists.old) (contents lists.new) }
+    ensures undrawn { drawing_in drawing ≡ Some None → HaveSamePoints (contents lists.old) (contents lists.new) }
+    ensures uncounted { ¬ (result ≡ Outcome.Laid) → ¬ (result ≡ Outcome.Room) → counts.new ≡ counts.old }
 {
     let Some(choice) = choice_of(outer) else {
         return Outcome::Argument;
@@ -107,7 +129,11 @@ fn answer(
 /// Writes the counts of a layout, and the lists if each has room.
 fn tell(layout: &Layout, counts: &mut Counts, lists: &mut Lists<'_>) -> Outcome
     requires { IsDrawnIfAsked layout.now.plane layout.now.shape layout.now.drawing }
-    ensures { IsTold (finding_of layout.now) counts.new (contents lists.new) result }
+    ensures told { IsTold (finding_of layout.now) counts.new (contents lists.new) result }
+    ensures refused { ¬ (result ≡ Outcome.Laid) → contents lists.new ≡ contents lists.old }
+    ensures rest { AreSameAfter counts.new (contents lists.old) (contents lists.new) }
+    ensures undrawn { is_some layout.now.drawing ≡ false → HaveSamePoints (contents lists.old) (contents lists.new) }
+    ensures uncounted { ¬ (result ≡ Outcome.Laid) → ¬ (result ≡ Outcome.Room) → counts.new ≡ counts.old }
 {
     let Some(found) = counts_of(layout) else {
         return Outcome::Memory;
@@ -125,7 +151,9 @@ fn write(layout: &Layout, counts: Counts, lists: &mut Lists<'_>)
     requires drawn { IsDrawnIfAsked layout.now.plane layout.now.shape layout.now.drawing }
     requires counted { AreCounts (finding_of layout.now) counts }
     requires room { HaveRoom (is_some layout.now.drawing) counts (contents lists.old) }
-    ensures { HoldFinding (finding_of layout.now) (contents lists.new) }
+    ensures held { HoldFinding (finding_of layout.now) (contents lists.new) }
+    ensures rest { AreSameAfter counts (contents lists.old) (contents lists.new) }
+    ensures undrawn { is_some layout.now.drawing ≡ false → HaveSamePoints (contents lists.old) (contents lists.new) }
 {
     let plane = &layout.plane;
     put_angles(lists.angles, plane, &layout.shape);

@@ -1,21 +1,25 @@
 //! What is found of a record whose layout keeps conditions.
 
-ghost use Rattle.std.specs.Prelude.{◌≡◌, ℕ, List, IfOk, IfErr, is_some};
+ghost use Rattle.std.specs.Prelude.{◌≡◌, ℕ, List, OnOk, IfOk, IfErr, is_some};
 ghost use Rattle.planar_code.specs.Stream.{IsRecord};
 ghost use Rattle.common.specs.declared.choice.Choice.{Choice};
 ghost use Rattle.conditions.specs.declared.conditions.Conditions.{Conditions};
+ghost use Rattle.conditions.specs.Chosen.{IsKept};
 ghost use Rattle.ortho_rep.specs.Prices.{HasPrices};
 ghost use Rattle.entries.specs.declared.cause.Cause.TheVariants.{Wide};
 ghost use Rattle.entries.specs.Drawn.{IsCause};
 ghost use Rattle.answers.specs.Kept.{IsKeptPlane, IsUnkept};
+ghost use Rattle.planarbend_c.specs.declared.outcome.Outcome.{Outcome};
 ghost use Rattle.planarbend_c.specs.Cuts.{cut_contents};
-ghost use Rattle.planarbend_c.specs.Found.{IsDrawnIfAsked, AreStraightIfAsked, IsFoundKeeping, finding, finding_of};
+ghost use Rattle.planarbend_c.specs.Left.{AreAsLong};
+ghost use Rattle.planarbend_c.specs.Found.{AreKeptStraightIfAsked, AreStraightIfAsked, IsAsAsked, IsDrawnIfAsked, IsFoundKeeping, IsQuickIfAsked, finding, finding_of};
 ghost use Rattle.planarbend_c.specs.Faults.{IsKeepingFault};
 
 use crate::cut::{CutLists, put_cut};
 use crate::laid::Layout;
 use crate::layout::parsed;
 use crate::outcome::Outcome;
+use crate::request::shape_kind;
 use answers::{KeptPlane, RecordScratch};
 use common::{Choice, DrawingKind};
 use compact::CompactFault;
@@ -37,9 +41,12 @@ pub(crate) fn lay_out_keeping(
     cut: &mut CutLists<'_>,
 ) -> Result<Layout, Outcome>
     ensures found { IfOk result (λ layout. IsFoundKeeping conditions.now choice bytes.now (finding_of layout)) }
-    ensures asked { IfOk result (λ layout. is_some layout.drawing ≡ is_some kind) }
+    ensures asked { IfOk result (λ layout. IsAsAsked kind (finding_of layout)) }
     ensures is_record { IfOk result (λ _. IsRecord bytes.now) }
     ensures fault { IfErr result (IsKeepingFault conditions.now choice bytes.now (cut_contents cut.new)) }
+    ensures laid { OnOk result (cut_contents cut.new ≡ cut_contents cut.old) }
+    ensures uncut { IfErr result (λ fault. ¬ (fault ≡ Outcome.NoShape) → cut_contents cut.new ≡ cut_contents cut.old) }
+    ensures long { AreAsLong (cut_contents cut.old) (cut_contents cut.new) }
 {
     let rec = match parsed(alloc, bytes) {
         Ok(rec) => rec,
@@ -59,11 +66,14 @@ fn laid_keeping(
 ) -> Result<Layout, Outcome>
     requires { IsRecord rec.now }
     ensures found { IfOk result (λ layout. IsFoundKeeping conditions.now choice rec.now (finding_of layout)) }
-    ensures asked { IfOk result (λ layout. is_some layout.drawing ≡ is_some kind) }
+    ensures asked { IfOk result (λ layout. IsAsAsked kind (finding_of layout)) }
     ensures fault { IfErr result (IsKeepingFault conditions.now choice rec.now (cut_contents cut.new)) }
+    ensures laid { OnOk result (cut_contents cut.new ≡ cut_contents cut.old) }
+    ensures uncut { IfErr result (λ fault. ¬ (fault ≡ Outcome.NoShape) → cut_contents cut.new ≡ cut_contents cut.old) }
+    ensures long { AreAsLong (cut_contents cut.old) (cut_contents cut.new) }
 {
     let mut scratch = RecordScratch::empty(alloc);
-    let kept = match scratch.shape_keeping(alloc, rec, conditions, choice) {
+    let kept = match scratch.shape_keeping(alloc, rec, conditions, choice, shape_kind(kind)) {
         Ok(Ok(kept)) => kept,
         Ok(Err(fault)) => return Err(unkept(fault, cut)),
         Err(ReadFault::Rule(rule)) => return Err(Outcome::Refused(rule)),
@@ -79,18 +89,20 @@ fn laid_keeping(
 /// A plane whose shape keeps conditions as a layout, with this drawing or none.
 fn laid_kept(kept: KeptPlane, drawing: Option<Points>) -> Layout
     requires { HasPrices kept.plane kept.prices }
-    ensures { finding_of result ≡ finding kept.plane kept.shape kept.prices drawing }
+    ensures { finding_of result ≡ finding kept.plane kept.shape kept.prices kept.drawing_kind drawing }
 {
     let KeptPlane {
         plane,
         shape,
         prices,
         directions: _,
+        drawing_kind,
     } = kept;
     Layout {
         plane,
         shape,
         prices,
+        drawing_kind,
         drawing,
     }
 }
@@ -98,8 +110,10 @@ fn laid_kept(kept: KeptPlane, drawing: Option<Points>) -> Layout
 /// The outcome of a call if the plane of a record has no shape that keeps the conditions for this reason. If none keeps
 /// the edges straight, the cut is written.
 fn unkept(fault: KeepFault, cut: &mut CutLists<'_>) -> Outcome
-    ensures { (conditions : Conditions) (choice : Choice) (bytes : List ℕ) → IsRecord bytes
+    ensures told { (conditions : Conditions) (choice : Choice) (bytes : List ℕ) → IsRecord bytes
         → IsUnkept conditions choice bytes fault → IsKeepingFault conditions choice bytes (cut_contents cut.new) result }
+    ensures uncut { ¬ (result ≡ Outcome.NoShape) → cut_contents cut.new ≡ cut_contents cut.old }
+    ensures long { AreAsLong (cut_contents cut.old) (cut_contents cut.new) }
 {
     match fault {
         KeepFault::NoShape(why) => {
@@ -112,7 +126,7 @@ fn unkept(fault: KeepFault, cut: &mut CutLists<'_>) -> Outcome
     }
 }
 
-/// The drawing that was asked for, or none.
+/// The drawing, of the kind that the plane names, or none if none was asked for.
 fn drawn_keeping(
     alloc: Global,
     scratch: &mut RecordScratch,
@@ -121,13 +135,18 @@ fn drawn_keeping(
 ) -> Result<Option<Points>, CompactFault>
     ensures drawn { IfOk result (IsDrawnIfAsked kept.now.plane kept.now.shape) }
     ensures straight { IfOk result (AreStraightIfAsked kept.now.plane kept.now.shape) }
+    ensures kept { IfOk result (λ drawing. (conditions : Conditions) (choice : Choice)
+        → IsKept conditions choice kept.now.plane kept.now.shape kept.now.prices
+        → AreKeptStraightIfAsked conditions kept.now.plane drawing) }
+    ensures quick { kept.now.drawing_kind ≡ DrawingKind.Quick
+        → IfOk result (IsQuickIfAsked kept.now.plane kept.now.shape) }
     ensures asked { IfOk result (λ drawing. is_some drawing ≡ is_some kind) }
     ensures wide { IfErr result (λ fault. fault ≡ CompactFault.Wide → IsCause kept.now.plane kept.now.shape Wide) }
 {
-    let Some(kind) = kind else {
+    if kind.is_none() {
         return Ok(None);
-    };
-    match scratch.draw_keeping(alloc, kept, kind) {
+    }
+    match scratch.draw_keeping(alloc, kept) {
         Ok(drawing) => Ok(Some(drawing.into_points())),
         Err(fault) => Err(fault),
     }

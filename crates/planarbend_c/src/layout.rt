@@ -3,11 +3,13 @@
 ghost use Rattle.std.specs.Prelude.{◌≡◌, IfOk, IfErr, is_some};
 ghost use Rattle.answers.specs.Steps.{IsPlaneOf};
 ghost use Rattle.planar_code.specs.Stream.{IsRecord};
-ghost use Rattle.planarbend_c.specs.Found.{IsDrawnIfAsked, IsFound, finding, finding_of};
+ghost use Rattle.planarbend_c.specs.Requests.{shape_kind};
+ghost use Rattle.planarbend_c.specs.Found.{IsAsAsked, IsDrawnIfAsked, IsFound, IsQuickIfAsked, finding, finding_of};
 ghost use Rattle.planarbend_c.specs.Faults.{IsFault};
 
 use crate::laid::Layout;
 use crate::outcome::Outcome;
+use crate::request::shape_kind;
 use answers::{RecordScratch, ShapedPlane};
 use common::{Choice, DrawingKind};
 use embedding::ReadFault;
@@ -23,7 +25,7 @@ pub(crate) fn lay_out(
     kind: Option<DrawingKind>,
 ) -> Result<Layout, Outcome>
     ensures found { IfOk result (λ layout. IsFound choice bytes.now (finding_of layout)) }
-    ensures asked { IfOk result (λ layout. is_some layout.drawing ≡ is_some kind) }
+    ensures asked { IfOk result (λ layout. IsAsAsked kind (finding_of layout)) }
     ensures is_record { IfOk result (λ _. IsRecord bytes.now) }
     ensures fault { IfErr result (IsFault bytes.now) }
 {
@@ -41,7 +43,7 @@ fn laid_record(
     kind: Option<DrawingKind>,
 ) -> Result<Layout, Outcome>
     ensures found { IfOk result (λ layout. IsFound choice rec.now (finding_of layout)) }
-    ensures asked { IfOk result (λ layout. is_some layout.drawing ≡ is_some kind) }
+    ensures asked { IfOk result (λ layout. IsAsAsked kind (finding_of layout)) }
     ensures fault { IfErr result (IsFault rec.now) }
 {
     let shaped_plane = shaped(alloc, scratch, rec, choice, kind)?;
@@ -51,18 +53,20 @@ fn laid_record(
 
 /// A shaped plane as a layout, with this drawing or none.
 fn laid_shape(shaped_plane: ShapedPlane, drawing: Option<Points>) -> Layout
-    ensures { finding_of result ≡ finding shaped_plane.plane shaped_plane.shape shaped_plane.prices drawing }
+    ensures { finding_of result ≡ finding shaped_plane.plane shaped_plane.shape shaped_plane.prices shaped_plane.drawing_kind drawing }
 {
     let ShapedPlane {
         plane,
         shape,
         prices,
         directions: _,
+        drawing_kind,
     } = shaped_plane;
     Layout {
         plane,
         shape,
         prices,
+        drawing_kind,
         drawing,
     }
 }
@@ -80,7 +84,7 @@ pub(crate) fn parsed(alloc: Global, bytes: &[u8]) -> Result<Record, Outcome>
     }
 }
 
-/// The plane of the record with a least shape and prices.
+/// The plane of the record with prices and a least shape for this drawing, or for a quick one.
 fn shaped(
     alloc: Global,
     scratch: &mut RecordScratch,
@@ -89,18 +93,19 @@ fn shaped(
     kind: Option<DrawingKind>,
 ) -> Result<ShapedPlane, Outcome>
     ensures plane { IfOk result (λ shaped_plane. IsPlaneOf choice rec.now shaped_plane.plane) }
+    ensures kind { IfOk result (λ shaped_plane. shaped_plane.drawing_kind ≡ shape_kind kind) }
     ensures fault { IfErr result (IsFault rec.now) }
 {
     // Only the proof needs this: `bytes` says that the record is one.
     let _bytes = rec.bytes();
-    match scratch.shape(alloc, rec, choice, kind.unwrap_or(DrawingKind::Quick)) {
+    match scratch.shape(alloc, rec, choice, shape_kind(kind)) {
         Ok(shaped_plane) => Ok(shaped_plane),
         Err(ReadFault::Rule(rule)) => Err(Outcome::Refused(rule)),
         Err(ReadFault::Memory) => Err(Outcome::Memory),
     }
 }
 
-/// The drawing of a shaped plane that was asked for, or none.
+/// The drawing of a shaped plane, of the kind that its shape is for, or none if none was asked for.
 fn drawn(
     alloc: Global,
     scratch: &mut RecordScratch,
@@ -108,18 +113,16 @@ fn drawn(
     kind: Option<DrawingKind>,
 ) -> Result<Option<Points>, Outcome>
     ensures drawn { IfOk result (IsDrawnIfAsked shaped_plane.now.plane shaped_plane.now.shape) }
+    ensures quick { shaped_plane.now.drawing_kind ≡ DrawingKind.Quick
+        → IfOk result (IsQuickIfAsked shaped_plane.now.plane shaped_plane.now.shape) }
     ensures asked { IfOk result (λ drawing. is_some drawing ≡ is_some kind) }
     ensures fault { IfErr result (λ fault. fault ≡ Outcome.Memory) }
 {
-    match kind {
-        None => Ok(None),
-        Some(DrawingKind::Quick) => match scratch.quick_points(alloc, shaped_plane) {
-            Ok(points) => Ok(Some(points)),
-            Err(AllocError) => Err(Outcome::Memory),
-        },
-        Some(DrawingKind::Short) => match scratch.draw(alloc, shaped_plane, DrawingKind::Short) {
-            Ok(drawing) => Ok(Some(drawing.into_points())),
-            Err(AllocError) => Err(Outcome::Memory),
-        },
+    if kind.is_none() {
+        return Ok(None);
+    }
+    match scratch.points(alloc, shaped_plane) {
+        Ok(points) => Ok(Some(points)),
+        Err(AllocError) => Err(Outcome::Memory),
     }
 }

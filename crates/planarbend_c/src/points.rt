@@ -2,7 +2,7 @@
 
 ghost use Rattle.std.specs.Prelude.{◌≡◌, ◌≤◌, ◌<◌, ◌+◌, ◌++◌, ◌^◌, length, map, take, All, IfSome};
 ghost use Rattle.drawing_check.specs.Draws.{IsInGrid};
-ghost use Rattle.planarbend_c.specs.Held.{HasRoom, Holds};
+ghost use Rattle.planarbend_c.specs.Held.{HasRoom, Holds, IsSameAfter};
 ghost use Rattle.planarbend_c.specs.Found.{HoldsStarts, all_corners, grid_point};
 
 use crate::lists::GridPoint;
@@ -12,7 +12,8 @@ use ortho_rep::{Point, Points};
 pub(crate) fn put_points(out: &mut [GridPoint], points: &[Point])
     requires grid { All IsInGrid points.now }
     requires room { HasRoom out.old (length points.now) }
-    ensures { Holds out.new (map grid_point points.now) }
+    ensures held { Holds out.new (map grid_point points.now) }
+    ensures rest { IsSameAfter (length points.now) out.old out.new }
 {
     if out.is_empty() {
         return;
@@ -50,7 +51,8 @@ pub(crate) fn put_corner_starts(out: &mut [u32], edges: u16, points: &Points)
     requires edges { edges ≡ length points.now.corners }
     requires few { length (all_corners points.now.corners) < 2 ^ 32 }
     requires room { HasRoom out.old (edges + 1) }
-    ensures { HoldsStarts out.new points.now.corners }
+    ensures held { HoldsStarts out.new points.now.corners }
+    ensures rest { IsSameAfter (edges + 1) out.old out.new }
 {
     if out.is_empty() {
         return;
@@ -68,7 +70,8 @@ pub(crate) fn put_corners(out: &mut [GridPoint], edges: u16, points: &Points)
     requires edges { edges ≡ length points.now.corners }
     requires grid { All (All IsInGrid) points.now.corners }
     requires room { HasRoom out.old (length (all_corners points.now.corners)) }
-    ensures { Holds out.new (all_corners points.now.corners) }
+    ensures held { Holds out.new (all_corners points.now.corners) }
+    ensures rest { IsSameAfter (length (all_corners points.now.corners)) out.old out.new }
 {
     if out.is_empty() {
         return;
@@ -85,7 +88,8 @@ pub(crate) fn put_corners(out: &mut [GridPoint], edges: u16, points: &Points)
 fn put_corners_at(out: &mut [GridPoint], start: usize, corners: &[Point])
     requires grid { All IsInGrid corners.now }
     requires room { start + length corners.now ≤ length out.old }
-    ensures { take (start + length corners.now) out.new ≡ take start out.old ++ map grid_point corners.now }
+    ensures put { take (start + length corners.now) out.new ≡ take start out.old ++ map grid_point corners.now }
+    ensures rest { IsSameAfter (start + length corners.now) out.old out.new }
 {
     for (place, corner) in corners.iter().enumerate() {
         out[start + place] = grid_point(*corner);

@@ -1,7 +1,7 @@
 //! How a record is to be laid out.
 
 ghost use Rattle.std.specs.Prelude.{◌≡◌};
-ghost use Rattle.planarbend_c.specs.Requests.{choice_in, drawing_in};
+ghost use Rattle.planarbend_c.specs.Requests.{choice_in, drawing_in, shape_kind};
 
 use common::{Choice, DrawingKind};
 use conditions::Conditions;
@@ -35,5 +35,15 @@ pub(crate) fn drawing_of(drawing: u32) -> Option<Option<DrawingKind>>
         1 => Some(Some(DrawingKind::Quick)),
         2 => Some(Some(DrawingKind::Short)),
         _ => None,
+    }
+}
+
+/// The kind of drawing that a shape is for: the one that is asked for, or a quick one if none is.
+pub(crate) fn shape_kind(kind: Option<DrawingKind>) -> DrawingKind
+    ensures { result ≡ shape_kind kind }
+{
+    match kind {
+        Some(kind) => kind,
+        None => DrawingKind::Quick,
     }
 }

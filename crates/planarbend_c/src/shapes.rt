@@ -4,7 +4,7 @@ ghost use Rattle.std.specs.Prelude.{◌≡◌, ◌≤◌, length, map};
 ghost use Rattle.ortho_rep.specs.declared.strings.TheConstants.{MAX_TURNS};
 ghost use Rattle.ortho_rep.specs.Representation.{HasDarts};
 ghost use Rattle.ortho_rep.specs.Prices.{HasPrices};
-ghost use Rattle.planarbend_c.specs.Held.{HasRoom, Holds};
+ghost use Rattle.planarbend_c.specs.Held.{HasRoom, Holds, IsSameAfter};
 ghost use Rattle.planarbend_c.specs.Found.{turns_counted};
 
 use crate::lists::DartTurns;
@@ -15,7 +15,8 @@ use ortho_rep::{Prices, Shape, Turn, count_lefts};
 pub(crate) fn put_angles(out: &mut [u8], plane: &Plane, shape: &Shape)
     requires darts { HasDarts plane.now shape.now }
     requires room { HasRoom out.old (length shape.now.angles) }
-    ensures { Holds out.new shape.now.angles }
+    ensures held { Holds out.new shape.now.angles }
+    ensures rest { IsSameAfter (length shape.now.angles) out.old out.new }
 {
     if out.is_empty() {
         return;
@@ -29,7 +30,8 @@ pub(crate) fn put_angles(out: &mut [u8], plane: &Plane, shape: &Shape)
 pub(crate) fn put_turns(out: &mut [DartTurns], plane: &Plane, shape: &Shape)
     requires darts { HasDarts plane.now shape.now }
     requires room { HasRoom out.old (length shape.now.strings) }
-    ensures { Holds out.new (map turns_counted shape.now.strings) }
+    ensures held { Holds out.new (map turns_counted shape.now.strings) }
+    ensures rest { IsSameAfter (length shape.now.strings) out.old out.new }
 {
     if out.is_empty() {
         return;
@@ -55,7 +57,8 @@ fn turns_counted(turns: &[Turn]) -> DartTurns
 pub(crate) fn put_vertex_prices(out: &mut [i32], plane: &Plane, prices: &Prices)
     requires prices { HasPrices plane.now prices.now }
     requires room { HasRoom out.old (length prices.now.vertices) }
-    ensures { Holds out.new prices.now.vertices }
+    ensures held { Holds out.new prices.now.vertices }
+    ensures rest { IsSameAfter (length prices.now.vertices) out.old out.new }
 {
     if out.is_empty() {
         return;
@@ -69,7 +72,8 @@ pub(crate) fn put_vertex_prices(out: &mut [i32], plane: &Plane, prices: &Prices)
 pub(crate) fn put_face_prices(out: &mut [i32], plane: &Plane, prices: &Prices)
     requires prices { HasPrices plane.now prices.now }
     requires room { HasRoom out.old (length prices.now.faces) }
-    ensures { Holds out.new prices.now.faces }
+    ensures held { Holds out.new prices.now.faces }
+    ensures rest { IsSameAfter (length prices.now.faces) out.old out.new }
 {
     if out.is_empty() {
         return;

@@ -3,20 +3,20 @@ use Rattle.planarbend_c.specs.Held.{contents}
 use Rattle.planarbend_c.specs.Found.{IsFoundKeeping, finding_of}
 use Rattle.planarbend_c.specs.Cuts.{cut_contents}
 use Rattle.planarbend_c.specs.Outcomes.{IsUnlaid}
-use Rattle.planarbend_c.proofs.Told.{answer_of, told, unlaid_told}
+use Rattle.planarbend_c.proofs.Told.{answer_of, not_drawn, told, unlaid_told}
 use Rattle.planarbend_c.proofs.export.answer_keeping.Goals as goal
 
-pub returns-in_default : goal.returns-in_default
-returns-in_default c = inl (sym c.choice_of.ensures ∙ c.in_default.is)
+pub returns-in_default-clause-outcome : goal.returns-in_default-clause-outcome
+returns-in_default-clause-outcome c = inl (sym c.choice_of.ensures ∙ c.in_default.is)
 
-pub returns-in_default-drawing_of : goal.returns-in_default-drawing_of
-returns-in_default-drawing_of c = inr (sym c.drawing_of.ensures ∙ c.in_default-drawing_of.is)
+pub returns-in_default-drawing_of-clause-outcome : goal.returns-in_default-drawing_of-clause-outcome
+returns-in_default-drawing_of-clause-outcome c = inr (sym c.drawing_of.ensures ∙ c.in_default-drawing_of.is)
 
 pub tell-requires : goal.tell-requires
 tell-requires c = c.in-Ok.ensures.found.drawn
 
-pub returns-in-Ok : goal.returns-in-Ok
-returns-in-Ok c =
+pub returns-in-Ok-clause-outcome : goal.returns-in-Ok-clause-outcome
+returns-in-Ok-clause-outcome c =
     let request = c.args.request.now in
     let layout = c.in-Ok.layout in
     let found = c.in-Ok.ensures in
@@ -24,9 +24,13 @@ returns-in-Ok c =
     (answer_of (IsFoundKeeping request.conditions) c.args.bytes.now request.outer request.drawing c.in-Some.choice c.in-Some-drawing_of.kind (finding_of layout)
     (sym c.choice_of.ensures ∙ c.in-Some.is) (sym c.drawing_of.ensures ∙ c.in-Some-drawing_of.is) found.is_record found.found
     found.asked)
-    c.tell.ensures
+    c.tell.ensures.told
 
-pub returns-in-Err : goal.returns-in-Err
-returns-in-Err c =
+pub returns-in-Err-clause-outcome : goal.returns-in-Err-clause-outcome
+returns-in-Err-clause-outcome c =
     unlaid_told c.args.request.now c.in-Some.choice c.args.bytes.now c.args.counts.now (contents c.args.lists.now) (cut_contents c.lay_out_keeping.new.cut) c.in-Err.outcome
     (sym c.choice_of.ensures ∙ c.in-Some.is) c.in-Err.ensures.fault
+
+pub returns-in-Ok-clause-undrawn : goal.returns-in-Ok-clause-undrawn
+returns-in-Ok-clause-undrawn c none =
+    c.tell.ensures.undrawn (not_drawn c.args.request.now.drawing c.in-Some-drawing_of.kind (finding_of c.in-Ok.layout) (sym c.drawing_of.ensures ∙ c.in-Some-drawing_of.is) c.in-Ok.ensures.asked none)

@@ -1,10 +1,10 @@
-use Rattle.std.proofs.Common.{◌≡◌, ℕ, List, IfErr, IfOk, is_some, subst, sym}
+use Rattle.std.proofs.Common.{ℕ, List, IfErr, IfOk, subst, sym}
 use Rattle.std.proofs.lemmas.Result.{IfOk-weaker}
 use Rattle.planar_code.specs.Stream.{IsRecord}
 use Rattle.planarbend_c.specs.declared.laid.Layout.{Layout}
 use Rattle.planarbend_c.specs.Cuts.{cut_contents}
 use Rattle.planarbend_c.specs.Faults.{IsKeepingFault}
-use Rattle.planarbend_c.specs.Found.{IsFoundKeeping, finding_of}
+use Rattle.planarbend_c.specs.Found.{IsAsAsked, IsFoundKeeping, finding_of}
 use Rattle.planarbend_c.proofs.Told.{unlaid_anyhow}
 use Rattle.planarbend_c.proofs.keeping.lay_out_keeping.Goals as goal
 
@@ -22,7 +22,7 @@ returns-clause-found c =
 
 pub returns-clause-is_record : goal.returns-clause-is_record
 returns-clause-is_record c =
-    IfOk-weaker c.laid_keeping.result (λ (layout : Layout). is_some layout.drawing ≡ is_some c.args.kind) (λ (layout : Layout). IsRecord c.args.bytes.now)
+    IfOk-weaker c.laid_keeping.result (λ (layout : Layout). IsAsAsked c.args.kind (finding_of layout)) (λ (layout : Layout). IsRecord c.args.bytes.now)
     (λ layout known. c.in-Ok.ensures.is_record) c.laid_keeping.ensures.asked
 
 pub returns-clause-fault : goal.returns-clause-fault

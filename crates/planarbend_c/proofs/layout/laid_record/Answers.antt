@@ -1,7 +1,7 @@
-use Rattle.std.proofs.Common.{◌∙◌, ap, is_some, subst, sym}
+use Rattle.std.proofs.Common.{subst, sym}
 use Rattle.std.proofs.lemmas.Result.{err_from_is_err_and}
 use Rattle.planarbend_c.specs.Faults.{IsFault}
-use Rattle.planarbend_c.specs.Found.{Finding, IsFound}
+use Rattle.planarbend_c.specs.Found.{IsAsAsked, IsFound}
 use Rattle.planarbend_c.proofs.layout.laid_record.Goals as goal
 
 pub returns-in_err-shaped_plane-clause-found : goal.returns-in_err-shaped_plane-clause-found
@@ -38,7 +38,11 @@ returns-clause-found c =
       least = shaped.least;
       proof = shaped.proof;
       drawn = c.in_ok-drawing.ensures.drawn;
+      quick = c.in_ok-drawing.ensures.quick;
     })
 
 pub returns-clause-asked : goal.returns-clause-asked
-returns-clause-asked c = ap (λ (found : Finding). is_some found.points) c.laid_shape.ensures ∙ c.in_ok-drawing.ensures.asked
+returns-clause-asked c = subst (IsAsAsked c.args.kind) (sym c.laid_shape.ensures) (record {
+  points = c.in_ok-drawing.ensures.asked;
+  shape = c.in_ok-shaped_plane.ensures.kind;
+})

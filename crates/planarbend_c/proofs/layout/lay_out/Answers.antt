@@ -1,9 +1,9 @@
-use Rattle.std.proofs.Common.{◌≡◌, ℕ, List, IfErr, IfOk, is_some, subst}
+use Rattle.std.proofs.Common.{ℕ, List, IfErr, IfOk, subst}
 use Rattle.std.proofs.lemmas.Result.{IfOk-weaker, err_from_is_err_and}
 use Rattle.planar_code.specs.Stream.{IsRecord}
 use Rattle.planarbend_c.specs.declared.laid.Layout.{Layout}
 use Rattle.planarbend_c.specs.Faults.{IsFault}
-use Rattle.planarbend_c.specs.Found.{IsFound, finding_of}
+use Rattle.planarbend_c.specs.Found.{IsAsAsked, IsFound, finding_of}
 use Rattle.planarbend_c.proofs.layout.lay_out.Goals as goal
 
 pub returns-in_err-rec-clause-found : goal.returns-in_err-rec-clause-found
@@ -30,7 +30,7 @@ returns-clause-asked c = c.laid_record.ensures.asked
 
 pub returns-clause-is_record : goal.returns-clause-is_record
 returns-clause-is_record c =
-    IfOk-weaker c.laid_record.result (λ (layout : Layout). is_some layout.drawing ≡ is_some c.args.kind) (λ (layout : Layout). IsRecord c.args.bytes.now)
+    IfOk-weaker c.laid_record.result (λ (layout : Layout). IsAsAsked c.args.kind (finding_of layout)) (λ (layout : Layout). IsRecord c.args.bytes.now)
     (λ layout known. c.in_ok-rec.ensures.is_record) c.laid_record.ensures.asked
 
 pub returns-clause-fault : goal.returns-clause-fault

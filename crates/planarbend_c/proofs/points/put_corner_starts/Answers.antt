@@ -1,5 +1,6 @@
 use Rattle.std.proofs.Common.{◌≡◌, ◌≢◌, ◌∙◌, ◌+◌, ◌<◌, ℕ, ap, arith, length, refl, set, sym}
 use Rattle.std.proofs.Common.{below_more, get_or-set_other, length-set, get_or-set_same}
+use Rattle.std.proofs.lemmas.List.{drop-set-lt}
 use Rattle.std.specs.List.{slice_index}
 use Rattle.planarbend_c.specs.Found.{corners_before}
 use Rattle.planarbend_c.proofs.Corners.{count_below, count_more}
@@ -15,6 +16,7 @@ loop-edge-init c =
           ap (slice_index (set c.args.out.now 0 0)) (first e none)
           ∙ get_or-set_same c.args.out.now 0 0 0 some
           ∙ ap (corners_before c.args.points.now.corners) (sym (first e none)),
+      refl,
     )
 
 pub overflow_cast-start : goal.overflow_cast-start
@@ -52,7 +54,14 @@ loop-edge-preserved c =
           (ap (slice_index (set c.loop-edge.out (c.from.result + 1) _)) (sym place)
           ∙ get_or-set_same c.loop-edge.out (c.from.result + 1) _ 0 room
           ∙ sum),
+      drop-set-lt (c.args.edges + 1) c.loop-edge.out (c.from.result + 1) _ (omega (arith, c.from.ensures, c.loop-edge-test.true)) ∙ c.loop-edge.invariant.2,
     )
 
-pub returns : goal.returns
-returns c some e inside = c.loop-edge.invariant.1 e (omega (arith, inside, c.requires.edges, c.loop-edge-test.false))
+pub returns-clause-held : goal.returns-clause-held
+returns-clause-held c some e inside = c.loop-edge.invariant.1 e (omega (arith, inside, c.requires.edges, c.loop-edge-test.false))
+
+pub returns-clause-rest : goal.returns-clause-rest
+returns-clause-rest c = record {
+  long = c.loop-edge.auto.out ∙ length-set c.args.out.now 0 0;
+  rest = c.loop-edge.invariant.2 ∙ drop-set-lt (c.args.edges + 1) c.args.out.now 0 0 (omega arith);
+}
