@@ -7,3 +7,5 @@ mod ahead;
 mod by_lane;
 #[cfg(test)]
 mod commanded;
+#[cfg(test)]
+mod waiting;

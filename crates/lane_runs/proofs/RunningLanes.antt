@@ -1,19 +1,23 @@
 -- Lanes that are started, that run, and that have run.
-use Rattle.std.proofs.Common.{◌≡◌, ℕ, zero, suc, ◌+◌, List, take, drop, [], ◌∷◌, ◌++◌, length, map, append_assoc, All, Some, slice_get, refl, sym, ap, subst, ◌∙◌, arith}
+use Rattle.std.proofs.Common.{◌≡◌, ℕ, zero, suc, ◌+◌, List, take, drop, [], ◌∷◌, ◌++◌, length, map, append_assoc, All, Some, Result, Ok, IfOk, OnOk, slice_get, refl, sym, ap, subst, ◌∙◌, arith}
 use Rattle.std.proofs.lemmas.List.{map-append}
 use Rattle.std.proofs.lemmas.List.Elements.{All-nil, All-cons, All-head, All-tail, All-append}
+use Rattle.std.specs.PromisedHandle.{KeepsEach}
+use Rattle.std.specs.declared.thread.PromisedHandle.{PromisedHandle}
+use Rattle.std.specs.declared.thread.Promise as Promise
 use Rattle.crossbeam_channel.specs.Ends.{sends_on, receives_on}
 use Rattle.common.specs.declared.choice.Choice.{Choice}
 use Rattle.ruled_lanes.specs.declared.fan_ends.LaneGiver.{LaneGiver}
 use Rattle.ruled_lanes.specs.declared.fan_ends.Gatherer.{Gatherer}
 use Rattle.ruled_lanes.specs.declared.dealing.Tickets.{Tickets}
 use Rattle.ruled_lanes.specs.declared.dealing.Seat.{Seat}
-use Rattle.ruled_lanes.specs.FanEnds.{lane_of, given_at, AreGiversOf, TakesFromSameFan, GivesToSameLane}
+use Rattle.ruled_lanes.specs.declared.errors.Closed.{Closed}
+use Rattle.ruled_lanes.specs.FanEnds.{lane_of, given_at, AreGiversOf, TakesFromSameFan}
 use Rattle.lanes.specs.declared.message.Message.{Message}
 use Rattle.lanes.specs.Notes.{About}
 use Rattle.lanes.specs.Opening.{Meaning}
-use Rattle.lane_runs.specs.Lanes.{TellsSeat}
-use Rattle.lane_runs.specs.Running.{AreNumbered, GivesAt, IsIdle, IsRunning, HasRun, HaveRun}
+use Rattle.lane_runs.specs.Lanes.{TellsSeat, LeavesLane}
+use Rattle.lane_runs.specs.Running.{AreNumbered, AreMatched, GivesAt, IsIdle, IsRunning, HasEnded, HasRun, HaveRun}
 
 module _ {X : Type 0} where
   pub numbered_weaker : (fits suits : ℕ → X → Type 0) → ((k : ℕ) (x : X) → fits k x → suits k x) → (first : ℕ) (xs : List X) → AreNumbered fits first xs → AreNumbered suits first xs
@@ -87,16 +91,35 @@ module _ {E M : Type 0} (about : E → About) where
   run_more choice meaning tickets fan first (h ∷ givers) (z ∷ seats) g s (was, run) is =
       (was, run_more choice meaning tickets fan (first + 1) givers seats g s run (let e : first + length (z ∷ seats) ≡ first + 1 + length seats = omega arith in subst (λ k. HasRun about choice meaning tickets fan k g s) e is))
 
-  -- a lane that kept its promise has run
-  pub has_run : {O : Type 0} (meaning_of : O → ℕ → Meaning) (fan : Gatherer (Message E M)) (choice : Choice) (opener : O) (tickets : Tickets) (lane : ℕ) (promised_choice : Choice) (promised : O) (promised_tickets : Tickets) (giver after : LaneGiver (Message E M)) (seat : Seat)
-      → IsRunning fan choice opener tickets lane promised_choice promised promised_tickets giver → GivesToSameLane giver after → TellsSeat about promised_choice (meaning_of promised) promised_tickets seat (given_at after)
-      → HasRun about choice (meaning_of opener) tickets fan lane after seat
-  has_run meaning_of fan choice opener tickets lane promised_choice promised promised_tickets giver after seat is same tells = record {
-    gives_at = record { to_fan = is.gives_at.to_fan ∙ sym same.0; at_lane = same.1 ∙ is.gives_at.at_lane };
-    tells = subst (λ t. TellsSeat about choice (meaning_of opener) t seat (given_at after)) is.same_tickets
-        (subst (λ o. TellsSeat about choice (meaning_of o) promised_tickets seat (given_at after)) is.same_opener
-        (subst (λ x. TellsSeat about x (meaning_of promised) promised_tickets seat (given_at after)) is.same_choice tells));
-  }
+  -- a lane that has ended and lost nothing has run
+  pub ended_run : {R F : Type 0} (choice : Choice) (meaning : ℕ → Meaning) (tickets : Tickets) (fan : Gatherer (Message E M)) (lane : ℕ) (after giver : LaneGiver (Message E M)) (stop : Result R (Closed (Message E M))) (ended : Result Seat F) (r : R) (seat : Seat)
+      → HasEnded about fan choice meaning tickets lane after stop ended → giver ≡ after → stop ≡ Ok r → ended ≡ Ok seat → HasRun about choice meaning tickets fan lane giver seat
+  ended_run choice meaning tickets fan lane after giver stop ended r seat has same stopped seated =
+      let tells = λ (s : Seat). TellsSeat about choice meaning tickets s (given_at after) in
+      subst (λ g. HasRun about choice meaning tickets fan lane g seat) (sym same) (record {
+        gives_at = record { to_fan = has.gives_at.to_fan ∙ sym has.leaves.to_same.0; at_lane = has.leaves.to_same.1 ∙ has.gives_at.at_lane };
+        tells = subst (λ x. IfOk x tells) seated (subst (λ x. OnOk x (IfOk ended tells)) stopped has.leaves.tells);
+      })
+
+  -- lanes that run have ended if their threads kept what they promised
+  pub lanes_ended : {R F H X O : Type 0} (choice_of : H → Choice) (opener_of : H → O) (tickets_of : H → Tickets) (giver_of : H → LaneGiver (Message E M)) (after_of : X → LaneGiver (Message E M)) (stop_of : X → Result R (Closed (Message E M))) (ended_of : X → Result Seat F)
+      (meaning_of : O → ℕ → Meaning) (fan : Gatherer (Message E M)) (choice : Choice) (opener : O) (tickets : Tickets) (first : ℕ) (hs : List H) (xs : List X)
+      → AreNumbered (λ lane h. IsRunning fan choice opener tickets lane (choice_of h) (opener_of h) (tickets_of h) (giver_of h)) first hs
+      → AreMatched (λ h x. LeavesLane about (choice_of h) (meaning_of (opener_of h)) (tickets_of h) (giver_of h) (after_of x) (stop_of x) (ended_of x)) hs xs
+      → AreNumbered (λ lane x. HasEnded about fan choice (meaning_of opener) tickets lane (after_of x) (stop_of x) (ended_of x)) first xs
+  lanes_ended choice_of opener_of tickets_of giver_of after_of stop_of ended_of meaning_of fan choice opener tickets first [] [] are left = tt
+  lanes_ended choice_of opener_of tickets_of giver_of after_of stop_of ended_of meaning_of fan choice opener tickets first [] (x ∷ xs) are left = absurd left
+  lanes_ended choice_of opener_of tickets_of giver_of after_of stop_of ended_of meaning_of fan choice opener tickets first (h ∷ hs) [] are left = absurd left
+  lanes_ended choice_of opener_of tickets_of giver_of after_of stop_of ended_of meaning_of fan choice opener tickets first (h ∷ hs) (x ∷ xs) (is, are) (one, left) = (
+    record {
+      giver = giver_of h;
+      gives_at = is.gives_at;
+      leaves = subst (λ t. LeavesLane about choice (meaning_of opener) t (giver_of h) (after_of x) (stop_of x) (ended_of x)) is.same_tickets
+          (subst (λ o. LeavesLane about choice (meaning_of o) (tickets_of h) (giver_of h) (after_of x) (stop_of x) (ended_of x)) is.same_opener
+          (subst (λ z. LeavesLane about z (meaning_of (opener_of h)) (tickets_of h) (giver_of h) (after_of x) (stop_of x) (ended_of x)) is.same_choice one));
+    },
+    lanes_ended choice_of opener_of tickets_of giver_of after_of stop_of ended_of meaning_of fan choice opener tickets (first + 1) hs xs are left,
+  )
 
   -- each lane that has run has its seat
   pub many_ran : (choice : Choice) (meaning : ℕ → Meaning) (tickets : Tickets) (fan : Gatherer (Message E M)) (first : ℕ) (givers : List (LaneGiver (Message E M))) (seats : List Seat)
@@ -142,3 +165,18 @@ module _ {X G : Type 0} where
       ap (λ (zs : List X). map giver_of zs ++ rest') pushed ∙ ap (λ (zs : List G). zs ++ rest') (map-append giver_of rs (r ∷ []))
       ∙ append_assoc (map giver_of rs) (giver_of r ∷ []) rest' ∙ ap (λ (g : G). map giver_of rs ++ g ∷ rest') is
       ∙ ap (λ (zs : List G). map giver_of rs ++ zs) (sym next) ∙ same
+
+module _ {T P : Type 0} (g : Promise.Ghosts P T) where
+  -- each thread that was joined kept what it promised
+  pub kept_each : (handles : List (PromisedHandle T P)) (ended : List T) → length ended ≡ length handles → KeepsEach g (length handles) handles ended
+      → AreMatched (λ h end. g.kept_by h.promise end) handles ended
+  kept_each [] [] same each = tt
+  kept_each [] (x ∷ xs) same each = absurd (omega (arith, same))
+  kept_each (h ∷ hs) [] same each = absurd (omega (arith, same))
+  kept_each (h ∷ hs) (x ∷ xs) same each =
+      let first = (each 0 x (omega arith)).1 in (
+        subst (λ z. g.kept_by z.promise x) first.handle_is first.kept,
+        kept_each hs xs (omega (arith, same)) (λ k d below.
+            let one = (each (suc k) d (omega (arith, below))).1 in
+            (refl, record { handle = one.handle; handle_is = one.handle_is; kept = one.kept })),
+      )

@@ -7,6 +7,7 @@ use Rattle.ruled_lanes.specs.declared.fan_ends.LaneGiver.{LaneGiver}
 use Rattle.ruled_lanes.specs.declared.fan_ends.Gatherer.{Gatherer}
 use Rattle.ruled_lanes.specs.declared.dealing.Tickets.{Tickets}
 use Rattle.ruled_lanes.specs.declared.dealing.Seat.{Seat}
+use Rattle.ruled_lanes.specs.declared.errors.Closed.{Closed}
 use Rattle.ruled_lanes.specs.declared.limits.TheConstants.{LANES}
 use Rattle.ruled_lanes.specs.FanEnds.{lane_of, given_at, gathered}
 use Rattle.ruled_lanes.specs.TicketProtocol.{times}
@@ -15,7 +16,7 @@ use Rattle.lanes.specs.declared.message.Message.{Message}
 use Rattle.lanes.specs.Notes.{About, Note}
 use Rattle.lanes.specs.Opening.{Meaning}
 use Rattle.lanes.specs.Files.{HasFile}
-use Rattle.lane_runs.specs.Lanes.{TellsSeat}
+use Rattle.lane_runs.specs.Lanes.{TellsSeat, LeavesLane}
 use Rattle.lanes.specs.declared.fault.RunFault.{RunFault}
 use Rattle.lanes.specs.Faults.{HoldsOnFault}
 
@@ -23,6 +24,12 @@ use Rattle.lanes.specs.Faults.{HoldsOnFault}
 abbrev pub AreNumbered : {X : Type 0} → (ℕ → X → Type 0) → ℕ → List X → Type 0
 AreNumbered fits number [] = ⊤
 AreNumbered fits number (x ∷ xs) = fits number x × AreNumbered fits (number + 1) xs
+
+-- each element of one list fits that of the other at the same place
+abbrev pub AreMatched : {X Y : Type 0} → (X → Y → Type 0) → List X → List Y → Type 0
+AreMatched fits [] [] = ⊤
+AreMatched fits (x ∷ xs) (y ∷ ys) = fits x y × AreMatched fits xs ys
+AreMatched fits _ _ = ⊥
 
 module _ {E : Type 0} where
   -- it gives at this lane of the fan
@@ -44,6 +51,12 @@ module _ {E : Type 0} where
     pub same_tickets : promised_tickets ≡ tickets
 
 module _ {E M : Type 0} where
+  -- the thread of this lane has ended, and left what a lane leaves that was started with an end at this lane of the fan
+  pub record HasEnded {R F : Type 0} (about : E → About) (fan : Gatherer (Message E M)) (choice : Choice) (meaning : ℕ → Meaning) (tickets : Tickets) (lane : ℕ) (after : LaneGiver (Message E M)) (stop : Result R (Closed (Message E M))) (seat : Result Seat F) : Type 0 where
+    pub giver : LaneGiver (Message E M)
+    pub gives_at : GivesAt fan lane giver
+    pub leaves : LeavesLane about choice meaning tickets giver after stop seat
+
   -- a lane has given all of the files that its seat drew
   pub record HasRun (about : E → About) (choice : Choice) (meaning : ℕ → Meaning) (tickets : Tickets) (fan : Gatherer (Message E M)) (lane : ℕ) (giver : LaneGiver (Message E M)) (seat : Seat) : Type 0 where
     pub gives_at : GivesAt fan lane giver

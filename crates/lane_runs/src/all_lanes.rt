@@ -9,6 +9,7 @@ ghost use Rattle.lane_runs.specs.Running.{StartsRun, LeavesRun};
 ghost use Rattle.lanes.specs.Faults.{HoldsOnFault};
 ghost use Rattle.lane_runs.specs.Accepting.{AcceptsFiles, AcceptsAll};
 
+use crate::joining::drop_lanes;
 use crate::lane::Lane;
 use crate::lane_kind::LaneKind;
 use crate::new_fan::{Fan, new_fan};
@@ -21,6 +22,9 @@ use std::snapshot::Snapshot;
 use std::sync::Wait;
 use std::thread;
 use std::thread::{Scope, Threads};
+
+/// The handles of lanes that run.
+type RunningLanes<E, M, O> = Vec<Running<E, M, O>>;
 
 /// Runs the lanes of a run, each in threads of its own, and passes their messages to the consumer, which is returned.
 ///
@@ -113,17 +117,22 @@ impl<'s, R: Threads + Wait + Sync, O: Opener, G: Gate, L: LaneKind + 's> Shared<
         } = fan;
         match self.start_lanes(scope, seats, givers) {
             Ok(running) => self.finish_lanes(gatherer, running, idle, consumer),
-            Err(fault) => Err(fault.of_any_consumer()),
+            Err((running, fault)) => {
+                // Without the gatherer no lane waits for room in the fan.
+                drop(gatherer);
+                drop_lanes(self.run.rt, running);
+                Err(fault.of_any_consumer())
+            }
         }
     }
 
-    /// Starts a lane for each seat, with the givers in order.
+    /// Starts a lane for each seat, with the givers in order. An error has the lanes that were started before.
     fn start_lanes<'e>(
         &'s self,
         scope: &'s Scope<'s, &'e ()>,
         mut seats: Vec<Seat>,
         givers: Vec<LaneGiver<Message<L::Entry, L::End>>>,
-    ) -> Result<Vec<Running<L::Entry, L::End, O>>, LaneFault>
+    ) -> Result<RunningLanes<L::Entry, L::End, O>, (RunningLanes<L::Entry, L::End, O>, LaneFault)>
         requires each { vec_len givers ≡ vec_len seats }
         requires seats { All (IsSeatOf self.now.tickets.now) seats.items }
         requires unused { All IsUnused seats.items }
@@ -136,14 +145,16 @@ impl<'s, R: Threads + Wait + Sync, O: Opener, G: Gate, L: LaneKind + 's> Shared<
         ensures tickets { IfOk result (λ running. All (λ r. r.promise.tickets.value ≡ self.now.tickets.now) running.items) }
     {
         let Ok(mut running) = Vec::with_capacity(self.run.alloc, seats.len()) else {
-            return Err(LaneFault::Memory);
+            return Err((Vec::new(self.run.alloc), LaneFault::Memory));
         };
         for giver in givers {
             let Some(seat) = seats.pop() else {
                 unreachable!()
             };
-            let started = self.start_lane(scope, Lane { seat, giver })?;
-            running.push_reserved(started);
+            match self.start_lane(scope, Lane { seat, giver }) {
+                Ok(started) => running.push_reserved(started),
+                Err(fault) => return Err((running, fault)),
+            }
         }
         Ok(running)
     }

@@ -115,9 +115,14 @@ impl<'s, R: Threads + Wait + Sync, O: Opener, G: Gate, L: LaneKind + 's> Shared<
             return None;
         };
         let Some(shape) = start_stage(scope, run.rt, run.alloc, run.gate, lane, shape) else {
+            // Without the end of its link the started stage does not wait.
+            drop(read);
+            let _embedded = embed.join(run.rt);
             return None;
         };
         let Some(read) = self.start_read(scope, read) else {
+            let _embedded = embed.join(run.rt);
+            let _shaped = shape.join(run.rt);
             return None;
         };
         Some(StartedStages { read, embed, shape })

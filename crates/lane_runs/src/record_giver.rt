@@ -62,7 +62,12 @@ impl<R: Wait, G: Gate, L: LaneKind> Keep for RecordGiver<'_, R, G, L> {
         self.filling.give(self.rt, &mut self.giver)
     }
 
-    fn pass_on(&mut self, file: u32) -> Result<(), Gone> {
+    fn pass_on(&mut self, file: u32) -> Result<(), Gone>
+        ensures kept { OnOk result (notes L.Framed.about (given self.new.giver) ++ notes_of_items L.Framed.about self.new.filling.items.items
+            ≡ notes L.Framed.about (given self.old.giver) ++ notes_of_items L.Framed.about self.old.filling.items.items) }
+        ensures none_waits { OnOk result (self.new.filling.items.items ≡ []) }
+        ensures stays { GivesToSame self.old.giver self.new.giver }
+    {
         self.bytes = 0;
         self.filling.give(self.rt, &mut self.giver)?;
         self.pauses.wait(self.rt, file);

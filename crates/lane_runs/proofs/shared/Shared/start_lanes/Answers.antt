@@ -9,7 +9,7 @@ use Rattle.lane_runs.proofs.shared.Shared.start_lanes.Goals as goal
 pub loop-giver-preserved : goal.loop-giver-preserved
 loop-giver-preserved g c =
     let inv = c.loop-giver.invariant in
-    let started = c.in_ok-started.ensures in
+    let started = c.in-Ok-start_lane.ensures in
     let pushed = c.push_reserved.ensures in
     record {
       each = omega (arith, inv.each, ap length c.in-Some.ensures.steps.0, c.in-Some-pop.ensures.cases);
