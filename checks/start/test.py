@@ -1,7 +1,7 @@
 #!/usr/bin/env python3
 """Runs all tests: `rt ci`, which proves and tries the crates and builds the program; those of the library for C, which
-is built from what was proved; and those of the Python package with both. The last line is 'N passed, M failed, K
-skipped'; the exit status is 0 if nothing failed, otherwise 1.
+is built from what was proved; those of the Python package with both; and checks/orders --quick. The last line is 'N
+passed, M failed, K skipped'; the exit status is 0 if nothing failed, otherwise 1.
 
 What `rt ci` proves is kept for `planarbend --build`. What was built stays, also if a test fails or is stopped. If
 `rt ci` fails, no library is built, and the Python tests run with what was built before.
@@ -124,6 +124,7 @@ def run() -> tuple[int, ...]:
     if not os.access(program(), os.X_OK):
         print("there is no program: the tests that need it fail")
     results.append(counts("Python tests", ROOT / "python", python(), "tests/run.py"))
+    results.append(counts("checks/orders", ROOT, sys.executable, "checks/orders", "--quick"))
     return tuple(map(sum, zip(*results)))
 
 
