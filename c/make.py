@@ -1,40 +1,29 @@
 #!/usr/bin/env python3
-"""Makes the library for C in out/: libplanarbend.a, libplanarbend.so.1 with the link libplanarbend.so, and planarbend.pc, by
-which pkg-config finds them here. Both libraries consist of the crate planarbend_c, which this script proves over the
-libraries that build.py has proved, and of c/planarbend.c. They export the names in c/planarbend.map and no others. Needs a
-C compiler (CC, or cc) and binutils.
+"""Makes the library for C in out/ from an archive of the crate planarbend_c: libplanarbend.a, libplanarbend.so.1, the
+same file as libplanarbend.so, and planarbend.pc, by which pkg-config finds them here. Both libraries consist of the
+archive and of c/planarbend.c. They export the names in c/planarbend.map and no others. Needs a C compiler (CC, or cc)
+and binutils.
 
-`planarbend --build` runs it last. With one argument, an archive, it uses that instead of the proved crate.
+`planarbend --build` and `--test` make it from what they have proved. Called directly, this script takes an archive as
+its argument.
 """
 import os
 import re
 import shutil
 import subprocess
 import sys
-import tempfile
 from pathlib import Path
 
 sys.dont_write_bytecode = True
 sys.path.append(str(Path(__file__).resolve().parent.parent / "checks/start"))
-import build
-from common import ROOT, START, end_on_signals, say, stop
+from common import ROOT, START, say, stop
 
 TOP = Path(ROOT)
 SOURCE, OUT = TOP / "c", TOP / "out"
 SONAME = "libplanarbend.so.1"
+FILES = ["libplanarbend.a", SONAME, "libplanarbend.so", "planarbend.pc"]
+COMPILER = os.environ.get("CC") or "cc"
 FLAGS = ["-std=c11", "-O2", "-fPIC", "-Wall", "-Wextra", "-Werror"]
-
-
-def prove():
-    """Proves the crate and compiles it to the archive, unless the archive was made from the current sources."""
-    crates = build.Crates(build.LIBRARY)
-    missing = [name for name in crates.libraries if not crates.is_built(name)]
-    if missing and missing != [build.LIBRARY]:
-        stop(f"libraries below {build.LIBRARY} are not proved: planarbend --build proves them")
-    if missing:
-        say("proving and compiling the library for C")
-        with build.kept_out(crates.uses) as held:
-            build.prove(crates, build.Work(crates, build.processors()), held)
 
 
 def version():
@@ -63,41 +52,35 @@ def run(*words):
         stop(f"the library could not be made: {Path(words[0]).name} failed")
 
 
-def make(archive, out, folder):
-    """Makes the libraries in the folder `out`, with temporary files in `folder`."""
-    compiler = os.environ.get("CC") or "cc"
-    own, whole = folder / "planarbend.o", folder / "whole.o"
-    run(compiler, *FLAGS, f'-DPLANARBEND_VERSION="{version()}"', f"-I{SOURCE}", "-c", SOURCE / "planarbend.c", "-o", own)
+def missing():
+    """The first of the tools that is not on the path, or None."""
+    return next((tool for tool in (COMPILER, "ld", "objcopy", "ar") if shutil.which(tool) is None), None)
+
+
+def make(archive):
+    """Makes the libraries. Each file in out/ is whole at any time."""
+    if tool := missing():
+        stop(f"{tool} is not on the path, and the library for C needs it: install a C compiler and binutils")
+    folder = OUT / "new"
+    shutil.rmtree(folder, ignore_errors=True)  # of a script that was killed
+    folder.mkdir(parents=True)
+    own, whole, static, shared = (folder / name for name in ("planarbend.o", "whole.o", "libplanarbend.a", SONAME))
+    run(COMPILER, *FLAGS, f'-DPLANARBEND_VERSION="{version()}"', f"-I{SOURCE}", "-c", SOURCE / "planarbend.c", "-o",
+        own)
     run("ld", "-r", "-o", whole, own, "--whole-archive", archive)
     run("objcopy", *[f"--keep-global-symbol={name}" for name in exported()], whole)
-    static, shared = folder / "libplanarbend.a", folder / SONAME
     run("ar", "rcsD", static, whole)
-    run(compiler, "-shared", "-Wl,-z,defs", f"-Wl,-soname,{SONAME}", f"-Wl,--version-script={SOURCE}/planarbend.map", "-o",
-        shared, whole)
-    out.mkdir(exist_ok=True)
-    for made in (static, shared):
-        made.replace(out / made.name)
-    link = out / "libplanarbend.so"
-    link.unlink(missing_ok=True)
-    link.symlink_to(SONAME)
-    (out / "planarbend.pc").write_text(package_text(TOP, OUT, SOURCE), encoding="utf-8")
-
-
-def main():
-    archive = Path(sys.argv[1] if len(sys.argv) > 1 else build.library_of(build.LIBRARY))
-    for tool in (os.environ.get("CC") or "cc", "ld", "objcopy", "ar"):
-        if shutil.which(tool) is None:
-            stop(f"{tool} is not on the path, and the library for C needs it: install a C compiler and binutils")
-    if len(sys.argv) == 1:
-        end_on_signals()
-        prove()
-    elif not archive.is_file():
-        stop(f"no archive {archive}")
-    OUT.mkdir(exist_ok=True)
-    with tempfile.TemporaryDirectory(dir=OUT) as folder:
-        make(archive, OUT, Path(folder))
+    run(COMPILER, "-shared", "-Wl,-z,defs", f"-Wl,-soname,{SONAME}", f"-Wl,--version-script={SOURCE}/planarbend.map",
+        "-o", shared, whole)
+    shutil.copy2(shared, folder / "libplanarbend.so")  # rt takes no link
+    (folder / "planarbend.pc").write_text(package_text(TOP, OUT, SOURCE), encoding="utf-8")
+    for name in FILES:
+        (folder / name).replace(OUT / name)
+    shutil.rmtree(folder)
     say(f"the library for C is in {OUT}")
 
 
 if __name__ == "__main__":
-    main()
+    if len(sys.argv) != 2 or not Path(sys.argv[1]).is_file():
+        stop("c/make.py takes one argument, an archive of the crate planarbend_c")
+    make(Path(sys.argv[1]))

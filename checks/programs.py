@@ -177,7 +177,7 @@ def commit() -> str:
 
 def planarbend() -> str:
     """The built program: PLANARBEND, or that of ./planarbend --build."""
-    return built(os.environ.get("PLANARBEND") or f"{ROOT}/crates/planarbend/out/planarbend", "./planarbend --build")
+    return built(os.environ.get("PLANARBEND") or f"{ROOT}/out/planarbend", "./planarbend --build")
 
 
 def of_crate(crate: str, command: str) -> str:

@@ -61,7 +61,7 @@ def version_text() -> bytes:
     number = re.search(r"^## ([0-9.]+), ", read(f"{ROOT}/CHANGELOG.md").decode(), re.MULTILINE)
     toolchain = subprocess.run(["rt", "version"], stdout=subprocess.PIPE, text=True, check=True).stdout.strip()
     kit = re.sub(r"^(rattle-kit-\d+)[a-z]*", r"\1", toolchain)
-    return f"planarbend {number[1] if number else ''}\nproved with {kit}\n".encode()
+    return f"planarbend {number[1] if number else ''}\ntoolchain {kit}\n".encode()
 
 
 # ---- The command `check`: two files, of which one may be standard input, with the verdicts of docs/CHECK.md, found by

@@ -1,10 +1,12 @@
 #!/usr/bin/env python3
-"""Proves and builds the program and the library for C, and shows its progress and an estimate of the time left. Proved
-crates are kept, so a build that was stopped continues from them. The exit status is 0 if both are built, otherwise 1.
+"""Proves and builds the program and the library for C in out/, and shows its progress and an estimate of the time left.
+Proved crates are kept, so a build that was stopped continues from them. The exit status is 0 if both are built,
+otherwise 1.
 
 Libraries are proved in parallel, first those on which the longest chain of others depends. Each is built with only its
 statements, as in `rt ci`, so that crates above need not load its proofs. rt builds libraries with their proofs, so the
-kit's compiler is called directly, and its output is kept next to that of rt.
+kit's compiler is called directly. Its output is kept where rt looks for libraries, since `rt ci` puts back what it
+finds there. A file next to each library records its sources, and those of all libraries below.
 
 A file next to the program records its sources: their checksums, as `sha256sum` writes them, and as comments their lines
 of crates.txt. With it, `planarbend` detects whether a source has changed. `planarbend --build` starts this script.
@@ -25,11 +27,16 @@ from pathlib import Path
 
 sys.dont_write_bytecode = True
 from common import (
-    BUILD_MINUTES, CRATE, ROOT, START, end_on_signals, free_memory, look_at_machine, say, stop, write_error)
+    BUILD_MINUTES, CRATE, PROGRAM, ROOT, START, alone, end_on_signals, free_memory, look_at_machine, replace_text, say,
+    stop, write_error)
 
-PROGRAM = os.path.join(CRATE, "out", "planarbend")
+sys.path.append(os.path.join(ROOT, "c"))
+import make
+
 SUMS = PROGRAM + ".sources"
+LINKED = os.path.join(CRATE, "out", "planarbend")
 LIBRARY = "planarbend_c"  # the crate that is the library for C
+MARK = "sources"  # the file next to a library that records what it was built from
 CRATE_LIST = os.path.join(ROOT, "crates.txt")
 KIT = os.path.dirname(os.path.dirname(os.path.realpath(shutil.which("rt") or "")))
 MEMORY, DISK = 4000, 8000  # MB
@@ -47,15 +54,15 @@ class Crates:
     it."""
 
     def __init__(self, *targets):
-        text = Path(CRATE_LIST).read_text(encoding="utf-8")
-        listed = {name: used.split() for name, used in re.findall(r"^(\w+)[^:#\n]*:([^#\n]*)", text, re.M)}
+        all_crates, text = listed(), read(CRATE_LIST)
         self.uses, waiting = {}, list(targets or ["planarbend"])
         while waiting:
             name = waiting.pop()
-            self.uses[name] = [used for used in listed[name] if used in listed]
+            self.uses[name] = [used for used in all_crates[name] if used in all_crates]
             waiting += [used for used in self.uses[name] if used not in self.uses]
         self.users = {name: [user for user in self.uses if name in self.uses[user]] for name in self.uses}
-        self.of_kit = {name: ["std", *[used for used in listed[name] if used not in listed]] for name in self.uses}
+        self.of_kit = {name: ["std", *[used for used in all_crates[name] if used not in all_crates]]
+                       for name in self.uses}
         self.sums_of_crates = {name: self.sum_of_texts(name) for name in self.uses}
         self.libraries = [name for name in self.uses if name != "planarbend"]
         self.lines = [line for line in text.splitlines() if re.split(r"\W", line)[0] in self.uses]
@@ -78,14 +85,40 @@ class Crates:
         return "".join(f"{crate} {self.sums_of_crates[crate]}\n" for crate in sorted({name} | self.below(name)))
 
     def is_built(self, name):
-        with contextlib.suppress(FileNotFoundError):
-            return Path(stamp_of(name)).read_text(encoding="utf-8") == self.stamp(name)
+        with contextlib.suppress(OSError):
+            return os.path.exists(library_of(name)) and read(stamp_of(name)) == self.stamp(name)
         return False
 
     def keep(self, name):
-        """Marks a library as built from the current sources, if they are still those with which this build began."""
+        """Marks a library as built from the current sources, if they are still those with which this script began."""
         if self.sum_of_texts(name) == self.sums_of_crates[name]:
-            Path(stamp_of(name)).write_text(self.stamp(name), encoding="utf-8")
+            replace_text(stamp_of(name), self.stamp(name))
+
+    def set_outdated_aside(self):
+        """Moves libraries that are not built from the current sources away, since `rt ci` would put them back in place
+        of its own. If there is no folder for them, removes them."""
+        for name in self.libraries:
+            place = os.path.dirname(library_of(name))
+            if os.path.isdir(place) and not self.is_built(name):
+                if OUTDATED:
+                    os.makedirs(OUTDATED, exist_ok=True)
+                    shutil.move(place, os.path.join(OUTDATED, name))
+                else:
+                    shutil.rmtree(place)
+
+    def put_outdated_back(self):
+        """Moves these libraries back, except those that were built anew, and those of `rt check` over them."""
+        if not OUTDATED or not os.path.isdir(OUTDATED):
+            return
+        names = set(self.libraries).intersection(os.listdir(OUTDATED))
+        new = set(filter(self.is_built, names))
+        for name in names - new:
+            old, place = os.path.join(OUTDATED, name), os.path.dirname(library_of(name))
+            if os.path.exists(os.path.join(old, MARK)) or not new.intersection(self.below(name)):
+                shutil.rmtree(place, ignore_errors=True)
+                os.makedirs(os.path.dirname(place), exist_ok=True)
+                shutil.move(old, place)
+        shutil.rmtree(OUTDATED)
 
     def sums(self):
         """The record next to the program: first its checksum, then its sources."""
@@ -97,14 +130,18 @@ class Crates:
     def is_program_built(self):
         """Whether the existing program was built from the current sources."""
         with contextlib.suppress(OSError):
-            return os.access(PROGRAM, os.X_OK) and Path(SUMS).read_text(encoding="utf-8") == self.sums()
+            return os.access(PROGRAM, os.X_OK) and read(SUMS) == self.sums()
         return False
 
     def keep_program(self):
-        """Writes the record next to the program, if no source has changed while its crate was proved."""
+        """Moves the program that was linked or that `rt ci` left to out/, with its record, unless a source has changed
+        since this script began."""
         is_same = self.sum_of_texts("planarbend") == self.sums_of_crates["planarbend"]
         if is_same and all(map(self.is_built, self.libraries)):
-            Path(SUMS).write_text(self.sums(), encoding="utf-8")
+            os.makedirs(os.path.dirname(PROGRAM), exist_ok=True)
+            shutil.copy2(LINKED, f"{PROGRAM}.new")
+            os.replace(f"{PROGRAM}.new", PROGRAM)
+            replace_text(SUMS, self.sums())
 
     def command(self, name, jobs):
         """The command that proves a crate and builds it, in the crate's folder, without the output file."""
@@ -117,6 +154,20 @@ class Crates:
             words += ["-L", f"dependency={folder}"]
         words += ["--antt-project", f"{KIT}/rattle/logic/antt-project.json", "--logic-built", f"{KIT}/logic_built"]
         return [*words, "--jobs", str(jobs)]
+
+
+def git_folder():
+    """The folder in which git keeps the state of this checkout, or None. A worktree names it in a file."""
+    path = os.path.join(ROOT, ".git")
+    if os.path.isfile(path):
+        path = os.path.join(ROOT, read(path).strip().removeprefix("gitdir: "))
+    return path if os.path.isdir(path) else None
+
+
+def listed():
+    """What each crate of crates.txt uses."""
+    found = re.findall(r"^(\w+)[^:#\n]*:([^#\n]*)", read(CRATE_LIST), re.M)
+    return {name: used.split() for name, used in found}
 
 
 def folder_of(name):
@@ -138,20 +189,51 @@ def sum_of_file(path):
 
 
 def library_of(name):
-    """The path where this script builds a library; rt uses another one."""
-    if name == LIBRARY:
-        return os.path.join(folder_of(name), "out", "archive", f"lib{name}.a")
-    return os.path.join(folder_of(name), "out", "statements", f"{name}.rlib")
+    """The path of a built library."""
+    return os.path.join(folder_of(name), "out", "rlib", f"lib{name}.a" if name == LIBRARY else f"{name}.rlib")
 
 
 def stamp_of(name):
-    return os.path.join(os.path.dirname(library_of(name)), "stamp")
+    return os.path.join(os.path.dirname(library_of(name)), MARK)
+
+
+def read(path):
+    return Path(path).read_text(encoding="utf-8")
+
+
+def take_back():
+    """Puts back what a test that was killed had set aside: libraries, if they were not built anew, and what `rt check`
+    keeps of its work. `rt ci` sets it aside in a folder of git's, and otherwise for good."""
+    aside = GIT and os.path.join(GIT, "rt-aside")
+    if not GIT or not os.path.isdir(aside) and not os.path.isdir(OUTDATED):
+        return
+    with open(os.path.join(GIT, "rt-ci.lock"), "a", encoding="utf-8") as lock, contextlib.ExitStack() as stack:
+        try:
+            fcntl.flock(lock, fcntl.LOCK_EX | fcntl.LOCK_NB)
+        except BlockingIOError:
+            return  # it still runs
+        stack.enter_context(kept_out(listed()))
+        for name in os.listdir(aside) if os.path.isdir(aside) else []:
+            for part, mark in [("rlib", MARK), ("incremental", "")]:
+                old, here = os.path.join(aside, name, part), os.path.join(folder_of(name), "out", part)
+                is_new = os.path.exists(os.path.join(here, mark))
+                if os.path.isdir(old) and os.path.isdir(folder_of(name)) and not is_new:
+                    shutil.rmtree(here, ignore_errors=True)
+                    os.makedirs(os.path.dirname(here), exist_ok=True)
+                    shutil.move(old, here)
+        shutil.rmtree(aside, ignore_errors=True)
+        Crates(*listed()).put_outdated_back()
+    say("put back the libraries that a stopped test had set aside")
+
+
+GIT = git_folder()
+OUTDATED = GIT and os.path.join(GIT, "planarbend-outdated")
 
 
 def seconds_of(crates):
     """The approximate processor seconds for the proof of each crate, from a file of such figures, and the crates that
     do not gain from several jobs."""
-    lines = re.findall(r"^(\w+) (\d+)( alone)?$", Path(SECONDS).read_text(encoding="utf-8"), re.M)
+    lines = re.findall(r"^(\w+) (\d+)( alone)?$", read(SECONDS), re.M)
     known = {name: int(seconds) for name, seconds, _ in lines}
     return {name: known.get(name, OTHER_SECONDS) for name in crates}, {name for name, _, is_alone in lines if is_alone}
 
@@ -316,6 +398,8 @@ def prove(crates, work, held):
             proved.add(name)
             work.drop(name, stood=True)
     waiting = set(crates.libraries) - proved
+    if proved:
+        tell_state(f"{len(proved)} of {len(crates.libraries)} libraries are already proved")
     with Proofs(crates, work, held) as proofs:
         begin_ready(proofs, waiting, proved)
         while proofs.running:
@@ -335,7 +419,7 @@ def compile_proved(crates, work, held):
     linked = [f"{KIT}/c/libos_c.a", f"{KIT}/c/liblibc_c.a"]
     for words in [
         [*crates.command("planarbend", min(JOBS, work.at_once)), *toolchain, "--backend", "llvm", "-o", made],
-        [f"{KIT}/bin/rattle-link", "--target", TARGET, *toolchain, "-o", "out/planarbend", made, *linked],
+        [f"{KIT}/bin/rattle-link", "--target", TARGET, *toolchain, "-o", LINKED, made, *linked],
     ]:
         process = start(words, "planarbend", held)
         try:
@@ -353,50 +437,57 @@ def processors():
 
 
 def build(crates):
-    begun, both = time.time(), Crates("planarbend", LIBRARY)
+    both = Crates("planarbend", LIBRARY)
     work = Work(both, processors())
-    say(f"proving and building: about {BUILD_MINUTES} minutes on 4 idle cores from scratch; if this is stopped, the next"
-        " --build continues")
+    say(f"proving and building: about {BUILD_MINUTES} minutes on 4 idle cores from scratch; if this is stopped, the"
+        " next --build continues")
     with kept_out(both.uses) as held:
         prove(both, work, held)
         work.tell("proving and compiling the program itself")
-        os.makedirs(os.path.dirname(PROGRAM), exist_ok=True)
-        with contextlib.suppress(FileNotFoundError):
-            os.remove(SUMS)
+        os.makedirs(os.path.dirname(LINKED), exist_ok=True)
         compile_proved(crates, work, held)
-        os.utime(PROGRAM, (begun, begun))  # a source that was changed in the meantime is newer
         crates.keep_program()
     clear_line()
+    if not crates.is_program_built():
+        stop("a source was changed during the build: start --build again")
     say(f"proved and built the program in {work.minutes():.0f} min")
 
 
 def make_library():
-    """Makes the libraries for C of what is proved."""
-    if status := subprocess.run([sys.executable, os.path.join(ROOT, "c/make.py")]).returncode:
-        sys.exit(status)
+    """Proves the library for C, unless it is proved, and makes its files."""
+    crates = Crates(LIBRARY)
+    if not all(map(crates.is_built, crates.libraries)):
+        say("proving and compiling the library for C")
+        with kept_out(crates.uses) as held:
+            prove(crates, Work(crates, processors()), held)
+    make.make(Path(library_of(LIBRARY)))
+
+
+def give_to_rt():
+    """Lets `rt check` use what is proved. Otherwise it would prove it again, and replace it."""
+    subprocess.run([sys.executable, os.path.join(ROOT, "checks/libraries")], stdout=subprocess.DEVNULL)
 
 
 def main():
-    crates = Crates()
-    if crates.is_program_built():
-        say("the program is already proved and built from these sources")
-        make_library()
-        return
     end_on_signals()
-    look_at_machine("the build", MEMORY, DISK, ROOT)
-    with open(CRATE_LIST, "rb") as lock:
-        try:
-            fcntl.flock(lock, fcntl.LOCK_EX | fcntl.LOCK_NB)
-        except BlockingIOError:
-            stop("another --build is running here, and shows its progress")
-        try:
-            build(crates)
+    try:
+        with alone():
+            take_back()
+            crates = Crates()
+            if crates.is_program_built():
+                say("the program is already proved and built from these sources")
+            else:
+                look_at_machine("the build", MEMORY, DISK, ROOT)
+                build(crates)
             make_library()
-        except SystemExit as ended:
-            if ended.code > 128:  # a signal
-                clear_line()
-                say("stopped: the next --build continues from what is proved")
-            raise
+            give_to_rt()
+    except SystemExit as ended:
+        if isinstance(ended.code, int) and ended.code > 128:  # a signal
+            clear_line()
+            say("stopped: the next --build continues from what is proved")
+        raise
+    except OSError as error:
+        stop(f"the build failed: {error.filename}: {error.strerror}", "the next --build continues from what is proved")
 
 
 if __name__ == "__main__":

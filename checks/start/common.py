@@ -1,5 +1,6 @@
-"""Shared by the trial run and the build: the program's folder, lines on standard error, and queries of the machine."""
+"""Shared by the scripts of this folder: paths, lines on standard error, queries of the machine, signals and locks."""
 import contextlib
+import fcntl
 import os
 import re
 import shutil
@@ -9,6 +10,7 @@ import sys
 START = os.path.dirname(os.path.abspath(__file__))
 ROOT = os.path.dirname(os.path.dirname(START))
 CRATE = os.path.join(ROOT, "crates", "planarbend")
+PROGRAM = os.path.join(ROOT, "out", "planarbend")  # of --build or --test; `rt ci` leaves the folder out/ alone
 
 BUILD_MINUTES = 21  # from nothing, on 4 free cores
 
@@ -41,21 +43,52 @@ def look_at_machine(what, memory, disk, folder):
     """Exits if there is less memory, or less disk space in this folder, than this needs, both in MB."""
     if free_memory() < memory:
         stop(f"{what} needs {memory} MB of free memory, and {free_memory()} MB are free",
-             "end other programs, or build on another machine and copy crates/planarbend/out/planarbend")
+             "end other programs, or build on another machine and copy out/planarbend")
     free = shutil.disk_usage(folder).free // 1000000
     if free < disk:
         stop(f"{what} needs {disk} MB of disk space in {folder}, and {free} MB are free", "free some space there")
 
 
+SIGNALS = (signal.SIGINT, signal.SIGTERM, signal.SIGHUP)  # that end a program
+
+
 def end_on_signals():
-    """Makes signals that end a program raise SystemExit, so that processes are ended and temporary files removed."""
-    for number in (signal.SIGINT, signal.SIGTERM, signal.SIGHUP):
+    """Makes these signals raise SystemExit, so that processes are ended and temporary files removed."""
+    for number in SIGNALS:
         signal.signal(number, lambda number, _: sys.exit(128 + number))
+
+
+def ignore_signals():
+    for number in SIGNALS:
+        signal.signal(number, signal.SIG_IGN)
+
+
+@contextlib.contextmanager
+def alone():
+    """Waits for other builds, tests and installations in this checkout, and keeps later ones waiting."""
+    folder = os.open(ROOT, os.O_RDONLY)
+    try:
+        try:
+            fcntl.flock(folder, fcntl.LOCK_EX | fcntl.LOCK_NB)
+        except BlockingIOError:
+            say("waiting for another --build, --test or --install in this checkout")
+            fcntl.flock(folder, fcntl.LOCK_EX)
+        except OSError:
+            pass  # some file systems have no locks
+        yield
+    finally:
+        os.close(folder)
+
+
+def replace_text(path, text):
+    """Writes a file that is whole at any time."""
+    with open(f"{path}.new", "w", encoding="utf-8") as out:
+        out.write(text)
+    os.replace(f"{path}.new", path)
 
 
 def end(process):
     """Ends a process that may still run, and waits for it."""
-    for number in (signal.SIGINT, signal.SIGTERM, signal.SIGHUP):
-        signal.signal(number, signal.SIG_IGN)
+    ignore_signals()
     process.terminate()
     process.wait()

@@ -1,11 +1,16 @@
 #!/usr/bin/env python3
 """Copies what --build has made to folders below PREFIX: the program and planarbend-draw to bin, the library to lib, its
 header to include, the man page to share/man/man1, and the Python package to the folder below PREFIX where this version
-of Python looks for packages. Files of an earlier version are replaced; each file is complete at any time.
+of Python looks for packages. The list of all these files is share/planarbend/files.
 
-`planarbend --install PREFIX` starts this script. The exit status is 0 if everything was copied; otherwise it is 1, and
-a message says why.
+All files are first written next to their places under temporary names, and then renamed, so that each is complete at
+any time. If one cannot be written or renamed, all are as they were before. Files that only an earlier installation has
+put there are removed. If DESTDIR is set, files go to PREFIX below that folder, and name PREFIX without it.
+
+`planarbend --install PREFIX` starts this script, and `planarbend --uninstall PREFIX` too, to remove the listed files
+and the folders that are then empty. The exit status is 0 if all was done; otherwise it is 1, and a message says why.
 """
+import contextlib
 import os
 import shutil
 import sys
@@ -13,13 +18,14 @@ import sysconfig
 from pathlib import Path
 
 sys.dont_write_bytecode = True
-from common import CRATE, ROOT, say, stop
+from common import PROGRAM, ROOT, alone, end_on_signals, ignore_signals, say, stop
 
 sys.path.append(os.path.join(ROOT, "c"))
 import make
 
 TOP = Path(ROOT)
-PROGRAM = Path(CRATE) / "out/planarbend"
+LIST = "share/planarbend/files"
+NEW, OLD = ".planarbend-new", ".planarbend-old"  # endings of temporary names
 DRAW = """#!{python}
 import sys
 
@@ -30,66 +36,143 @@ sys.exit(run())
 """
 
 
-def put(source, target, mode):
-    """Replaces a file atomically, so that processes that run or read the old one keep it."""
-    target.parent.mkdir(parents=True, exist_ok=True)
-    new = target.with_name(f".{target.name}.{os.getpid()}")
-    try:
-        shutil.copyfile(source, new)
-        new.chmod(mode)
-        new.replace(target)
-    finally:
-        new.unlink(missing_ok=True)
-
-
-def put_text(text, target, mode):
-    """Writes a file."""
-    target.parent.mkdir(parents=True, exist_ok=True)
-    target.write_text(text, encoding="utf-8")
-    target.chmod(mode)
-
-
-def put_library(prefix):
-    """Copies both libraries and the header, with a planarbend.pc for their folder."""
-    put(make.OUT / "libplanarbend.a", prefix / "lib/libplanarbend.a", 0o644)
-    put(make.OUT / make.SONAME, prefix / "lib" / make.SONAME, 0o755)
-    link = prefix / "lib/libplanarbend.so"
-    link.unlink(missing_ok=True)
-    link.symlink_to(make.SONAME)
-    text = make.package_text(prefix, "${prefix}/lib", "${prefix}/include")
-    put_text(text, prefix / "lib/pkgconfig/planarbend.pc", 0o644)
-    put(make.SOURCE / "planarbend.h", prefix / "include/planarbend.h", 0o644)
-
-
-def put_package(prefix):
-    """Copies the Python package, and returns the folder in which Python finds it."""
-    folder = Path(sysconfig.get_path("purelib", "posix_prefix", {"base": str(prefix), "platbase": str(prefix)}))
-    shutil.rmtree(folder / "planarbend", ignore_errors=True)
-    shutil.copytree(TOP / "python/planarbend", folder / "planarbend", ignore=shutil.ignore_patterns("__pycache__"))
-    return folder
-
-
-def install(prefix):
-    put(PROGRAM, prefix / "bin/planarbend", 0o755)
+def files_of(prefix):
+    """What each path below PREFIX gets: a file, a text, or for a link its target, each with its mode."""
+    found = {"bin/planarbend": (Path(PROGRAM), 0o755),
+             "share/man/man1/planarbend.1": (TOP / "docs/planarbend.1", 0o644)}
     if (make.OUT / make.SONAME).is_file():
-        put_library(prefix)
+        found |= {"lib/libplanarbend.a": (make.OUT / "libplanarbend.a", 0o644),
+                  f"lib/{make.SONAME}": (make.OUT / make.SONAME, 0o755), "lib/libplanarbend.so": (make.SONAME, None),
+                  "include/planarbend.h": (make.SOURCE / "planarbend.h", 0o644)}
+        package = make.package_text(prefix, "${prefix}/lib", "${prefix}/include")
+        found["lib/pkgconfig/planarbend.pc"] = package, 0o644
     else:
         say("there is no C library here, so none is installed: planarbend --build makes it")
-    put(TOP / "docs/planarbend.1", prefix / "share/man/man1/planarbend.1", 0o644)
-    packages = put_package(prefix)
-    put_text(DRAW.format(python=sys.executable, packages=str(packages)), prefix / "bin/planarbend-draw", 0o755)
-    say(f"installed below {prefix}; the Python package is in {packages}")
+    packages = sysconfig.get_path("purelib", "posix_prefix", {"base": str(prefix), "platbase": str(prefix)})
+    place = os.path.relpath(packages, prefix)
+    for path in sorted((TOP / "python/planarbend").rglob("*")):
+        if path.is_file() and "__pycache__" not in path.parts:
+            found[f"{place}/{path.relative_to(TOP / 'python')}"] = path, 0o644
+    found["bin/planarbend-draw"] = DRAW.format(python=sys.executable, packages=packages), 0o755
+    return found
 
 
-def main():
-    prefix = Path(os.path.abspath(sys.argv[1]))
-    if not PROGRAM.is_file():
-        stop("there is no proved program here yet", "planarbend --build proves and builds it")
+def listed(place):
+    """The files that earlier installations have put here, and the folders that they have made, which end in a slash."""
+    found = []
+    for path in (place / LIST, beside(place / LIST, NEW)):  # the second of one that was killed
+        with contextlib.suppress(OSError):
+            found += path.read_text(encoding="utf-8").splitlines()
+    return list(dict.fromkeys(found))
+
+
+def beside(path, ending):
+    return path.with_name(f".{path.name}{ending}")
+
+
+def write(path, content, mode):
+    """Writes a file, or a link if there is no mode."""
+    path.unlink(missing_ok=True)
+    if mode is None:
+        path.symlink_to(content)
+        return
+    if isinstance(content, Path):
+        shutil.copyfile(content, path)
+    else:
+        path.write_text(content, encoding="utf-8")
+    path.chmod(mode)
+
+
+def make_folders(path, made):
+    """Makes a folder and those above it, and notes each."""
+    for folder in reversed([path, *path.parents]):
+        if not folder.is_dir():
+            folder.mkdir()
+            made.append(folder)
+
+
+def rename(path, renamed):
+    """Puts the file with the temporary name in its place, and keeps the one that stood there."""
+    beside(path, OLD).unlink(missing_ok=True)
+    if os.path.lexists(path):
+        os.link(path, beside(path, OLD), follow_symlinks=False)
+    renamed.append(path)
+    beside(path, NEW).replace(path)
+
+
+def undo(paths, renamed, made):
+    """Undoes what an installation has done so far."""
+    for path in renamed:
+        if os.path.lexists(beside(path, OLD)):
+            beside(path, OLD).replace(path)
+        else:
+            path.unlink(missing_ok=True)
+    for path in paths:
+        beside(path, NEW).unlink(missing_ok=True)
+    for folder in reversed(made):
+        with contextlib.suppress(OSError):
+            folder.rmdir()
+
+
+def remove(place, names):
+    """Removes files with what temporary names have left, and listed folders that are empty; last the list."""
+    for name in sorted(names, key=lambda name: (name == LIST, name)):
+        for path in (place / name, beside(place / name, NEW), beside(place / name, OLD)):
+            if not name.endswith("/"):
+                path.unlink(missing_ok=True)
+    for name in sorted(names, reverse=True):
+        if name.endswith("/"):
+            shutil.rmtree(place / name / "__pycache__", ignore_errors=True)
+            with contextlib.suppress(OSError):
+                (place / name).rmdir()
+
+
+def install(prefix, place):
+    """Writes all files, then renames them. On a failure or a signal, nothing has changed."""
+    files, before, made, renamed = files_of(prefix), listed(place), [], []
+    paths = [place / name for name in [LIST, *files]]
     try:
-        install(prefix)
-    except OSError as error:
-        stop(f"cannot install below {prefix}: {error.filename}: {error.strerror}")
+        for path in paths:
+            make_folders(path.parent, made)
+        folders = [f"{folder.relative_to(place)}/" for folder in made if place in folder.parents]
+        folders += [name for name in before if name.endswith("/")]
+        files = {LIST: ("".join(f"{name}\n" for name in [LIST, *files, *folders]), 0o644)} | files
+        for name, what in files.items():
+            write(beside(place / name, NEW), *what)
+        for path in paths:
+            rename(path, renamed)
+    except BaseException:
+        ignore_signals()
+        undo(paths, renamed, made)
+        raise
+    ignore_signals()
+    for path in paths:
+        beside(path, OLD).unlink(missing_ok=True)
+    remove(place, [name for name in before if name not in files and name not in folders])
+    say(f"installed {len(files)} files below {place}; --uninstall {prefix} removes them")
+
+
+def uninstall(prefix, place):
+    names = listed(place)
+    if not names:
+        stop(f"nothing is installed below {place}: there is no {LIST}")
+    remove(place, names)
+    say(f"removed what was installed below {place}")
+
+
+def main(what, folder):
+    prefix = Path(os.path.abspath(folder))
+    place = Path(os.environ.get("DESTDIR", "") + str(prefix))
+    is_new = what == "--install"
+    end_on_signals()
+    with alone():
+        if is_new and not os.path.isfile(PROGRAM):
+            stop("there is no proved program here yet", "planarbend --build proves and builds it")
+        try:
+            (install if is_new else uninstall)(prefix, place)
+        except OSError as error:
+            stop(f"cannot {what[2:]} below {place}: {error.filename}: {error.strerror}")
 
 
 if __name__ == "__main__":
-    main()
+    main(*sys.argv[1:])

@@ -18,7 +18,7 @@ PACKAGE = TESTS.parent
 ROOT = PACKAGE.parent
 EXAMPLES = ROOT / "examples"
 GRAPHS = {path.name: path for path in [*sorted((TESTS / "graphs").iterdir()), EXAMPLES / "amplifier.net", EXAMPLES / "flat.dot"]}
-BUILT = ROOT / "crates/planarbend/out/planarbend"  # where `rt ci` and `./planarbend --build` leave the program
+BUILT = ROOT / "out/planarbend"  # where `./planarbend --build` and `--test` leave the program
 sys.path.insert(0, str(PACKAGE))
 os.environ.setdefault("PLANARBEND", str(BUILT))
 
