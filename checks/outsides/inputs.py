@@ -43,7 +43,8 @@ def check_files(machine: Machine) -> None:
         with machine.case(command, "a name that is no UTF-8"):
             path = machine.file(TWO, os.path.join(machine.folder.encode(), b"\xff\xfe"))
             place = len(command.words) + 1
-            is_fault(machine.run([*command.words, path]), 2, f"planarbend: argument {place} is not valid UTF-8\n")
+            is_fault(machine.run([*command.words, path]), 2,
+                     f"planarbend: argument {place} is not valid UTF-8, as the name of a file must be\n")
         cut_at_each_byte(machine, command)
 
 

@@ -1,5 +1,5 @@
 -- The lines of a source to its end, where a reader has given some.
-use Rattle.std.proofs.Common.{◌≡◌, ℕ, Bool, true, false, List, [], ◌++◌, Option, None, Some, length, refl, ap, sym, subst, ◌∙◌, append_assoc}
+use Rattle.std.proofs.Common.{◌≡◌, ℕ, Bool, true, false, List, [], ◌++◌, Option, None, Some, length, inr, refl, ap, sym, subst, ◌∙◌, append_assoc}
 use Rattle.std.specs.Prelude.{All}
 use Rattle.std.specs.List.{flat_map}
 use Rattle.std.specs.Io.KnownBytes.{Consumes}
@@ -14,6 +14,7 @@ use Rattle.text_lines.specs.declared.lines.State.TheVariants as state
 use Rattle.text_lines.specs.Lines.{IsNoEnd, IsOpenAfter, HasGivenAll, HasGiven, lines_of, ended_line, state_in, rest_in, fails_in}
 use Rattle.text_lines.proofs.Dividing.{lines-given, ended_lines-given}
 use Rattle.verdicts.specs.declared.verdict.Verdict.{Verdict}
+use Rattle.verdicts.specs.Text.{verdict_lines, last_line}
 use Rattle.checking.specs.declared.run.Asked.{Asked}
 use Rattle.checking.specs.Pairs.{KeepsAllBut, AreVerdicts}
 use Rattle.checking.specs.Runs.{verdicts_text}
@@ -84,9 +85,14 @@ pub settled : {L : Type 0} (to_come : L → Option (List ℕ)) (fails : L → Bo
 settled to_come fails known known_fails faces lines kept records verdicts has many each =
     settled_in (state_in lines) known (rest_in to_come lines) known_fails (fails_in fails lines) faces has.given kept records verdicts has.has_given has.keeps many each
 
--- a prefix of the text of verdicts was added
+-- a prefix of a text is one of what goes on from it
+longer : (start now : Option (List ℕ)) (text more whole : List ℕ) → whole ≡ text ++ more → AppendsPrefix start now text → AppendsPrefix start now whole
+longer start now text more whole is prefix =
+    (prefix.0, prefix.1 ++ more, is ∙ ap (λ (l : List ℕ). l ++ more) prefix.2 ∙ append_assoc prefix.0 prefix.1 more, prefix.3)
+
+-- a prefix of the lines of verdicts was added
 pub cut_short : (asked : Asked) (known : Option (List ℕ)) (known_fails : Bool) (start now : Option (List ℕ)) (mark : Mark) (surplus : ℕ) (records : List (List ℕ)) (verdicts : List Verdict)
-    → AreSettled known known_fails asked.faces records verdicts → AppendsPrefix start now (verdicts_text asked.json verdicts mark surplus)
+    → AreSettled known known_fails asked.faces records verdicts → AppendsPrefix start now (verdict_lines asked.json 1 verdicts)
     → IsCutShort asked known known_fails start now mark surplus records
 cut_short asked known known_fails start now mark surplus records verdicts is text = record {
   line_bytes = is.line_bytes;
@@ -96,13 +102,9 @@ cut_short asked known known_fails start now mark surplus records verdicts is tex
   keeps = is.keeps;
   verdicts = verdicts;
   each = is.each;
-  text = text;
+  behind = inr text;
+  text = longer start now (verdict_lines asked.json 1 verdicts) (last_line asked.json mark (length verdicts) surplus) (verdicts_text asked.json verdicts mark surplus) refl text;
 }
-
--- a prefix of a text is one of what goes on from it
-pub longer : (start now : Option (List ℕ)) (text more whole : List ℕ) → whole ≡ text ++ more → AppendsPrefix start now text → AppendsPrefix start now whole
-longer start now text more whole is prefix =
-    (prefix.0, prefix.1 ++ more, is ∙ ap (λ (l : List ℕ). l ++ more) prefix.2 ∙ append_assoc prefix.0 prefix.1 more, prefix.3)
 
 -- nothing was judged
 pub nothing_judged : (asked : Asked) (known : Option (List ℕ)) (known_fails : Bool) (start : Option (List ℕ)) (mark : Mark) (surplus : ℕ) → IsCutShort asked known known_fails start start mark surplus []
@@ -116,5 +118,6 @@ nothing_judged asked known known_fails start mark surplus =
       keeps = all_kept (lines_of left.0 left.1);
       verdicts = [];
       each = tt;
+      behind = inr ([], [], refl, added_none start);
       text = ([], verdicts_text asked.json [] mark surplus, refl, added_none start);
     }

@@ -20,7 +20,7 @@ use Rattle.checking.specs.Runs.{IsOk, verdicts_text}
 use Rattle.checking.specs.UnderWay.{KeepsNext, IsUnderWay, IsCutShort}
 use Rattle.checking.proofs.Pairing.{as_many}
 use Rattle.checking.proofs.Reading.{exactly, some_failing, pairs_next}
-use Rattle.checking.proofs.Settled.{settled, cut_short, longer}
+use Rattle.checking.proofs.Settled.{settled, cut_short}
 use Rattle.checking.proofs.Texts.{verdict_lines-next, all_next, line_added}
 
 -- a test that is true if it was so far and this holds
@@ -81,20 +81,13 @@ module _ {L : Type 0} (to_come : L → Option (List ℕ)) (fails : L → Bool) (
       let failing = some_failing (state_in judge.lines) in
       u.counted ∙ as_many judge.asked.faces failing.0 records u.kept u.verdicts (u.each failing.0 failing.1)
 
-  -- the output fails
-  pub stops_short : (start old_out new_out : Option (List ℕ)) (judge : Judge L) (records : List (List ℕ)) (mark : Mark) (surplus : ℕ)
-      → (u : IsUnderWay to_come fails known known_fails start old_out judge records)
-      → AppendsPrefix start new_out (verdicts_text judge.asked.json u.verdicts mark surplus) → IsCutShort judge.asked known known_fails start new_out mark surplus records
-  stops_short start old_out new_out judge records mark surplus u text =
-      cut_short judge.asked known known_fails start new_out mark surplus records u.verdicts
-      (settled to_come fails known known_fails judge.asked.faces judge.lines u.kept records u.verdicts u.has_kept u.as_many u.each) text
-
+  -- before the last line
   pub stops_before : (start old_out new_out : Option (List ℕ)) (judge : Judge L) (records : List (List ℕ)) (mark : Mark) (surplus : ℕ)
       → (u : IsUnderWay to_come fails known known_fails start old_out judge records)
       → AppendsPrefix start new_out (verdict_lines judge.asked.json 1 u.verdicts) → IsCutShort judge.asked known known_fails start new_out mark surplus records
   stops_before start old_out new_out judge records mark surplus u text =
-      stops_short start old_out new_out judge records mark surplus u
-      (longer start new_out (verdict_lines judge.asked.json 1 u.verdicts) (last_line judge.asked.json mark (length u.verdicts) surplus) (verdicts_text judge.asked.json u.verdicts mark surplus) refl text)
+      cut_short judge.asked known known_fails start new_out mark surplus records u.verdicts
+      (settled to_come fails known known_fails judge.asked.faces judge.lines u.kept records u.verdicts u.has_kept u.as_many u.each) text
 
   -- the last line is added
   pub ends_text : (start old_out mid_out : Option (List ℕ)) (judge : Judge L) (records : List (List ℕ)) (asked : Asked) (text mid waits : List ℕ) (count surplus : ℕ) (mark : Mark) (failed : Bool)

@@ -15,6 +15,7 @@ use Rattle.streams.specs.declared.reading.PieceOutcome.{PieceOutcome}
 use Rattle.streams.specs.declared.reading.PieceOutcome.TheVariants as step
 use Rattle.streams.specs.Marks.{IsBeginningOf}
 use Rattle.streams.specs.Reading.{IsKnownOf, IsFoundIn, LeadsTo}
+use Rattle.streams.specs.Sink.{AppendsPrefix}
 use Rattle.streams.proofs.Marks.{beginning_stands}
 use Rattle.streams.proofs.Placed.{marked_first}
 use Rattle.text_lines.specs.declared.lines.Lines.{Lines}
@@ -108,6 +109,7 @@ begun asked graphs cut known known_fails start now found surplus records is shor
   verdicts = short.verdicts;
   each = short.each;
   surplus = surplus;
+  behind = short.behind;
   text = short.text;
 }
 
@@ -168,6 +170,22 @@ all_read to_come fails known known_fails faces before lines kept records verdict
             (behind_none kept (length records) rest.surplus (at_most before (length kept) (length records) many) (is.all.counted ∙ ap (λ (l : List (List ℕ)). min (length l) (2 ^ 64 - 1)) none.1))
       ];
     }
+
+-- a prefix of the whole text was added
+pub all_cut_short : (asked : Asked) (known : Option (List ℕ)) (known_fails : Bool) (start now : Option (List ℕ)) (found : Mark) (failed : Bool) (records : List (List ℕ)) (verdicts : List Verdict) (surplus : ℕ)
+    → AreAll known known_fails asked.faces failed records verdicts surplus → AppendsPrefix start now (verdicts_text asked.json verdicts found surplus)
+    → IsCutShort asked known known_fails start now found surplus records
+all_cut_short asked known known_fails start now found failed records verdicts surplus all text = record {
+  line_bytes = all.line_bytes;
+  lines_cut = failed;
+  gave = all.gave;
+  kept = all.kept;
+  keeps = all.keeps;
+  verdicts = verdicts;
+  each = all.each;
+  behind = inl all.behind;
+  text = text;
+}
 
 -- ---- the status
 

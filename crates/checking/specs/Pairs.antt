@@ -3,7 +3,7 @@ use Rattle.std.specs.Prelude.{◌≡◌, ◌≢◌, ◌⊎◌, ◌<◌, ◌≤�
 use Rattle.text_lines.specs.declared.TheConstants.{MAX_LINE}
 use Rattle.drawn_lines.specs.declared.fault.LineFault.{LineFault}
 use Rattle.drawn_lines.specs.declared.fault.LineFault.TheVariants as line
-use Rattle.verdicts.specs.Said.{IsEndLine, SaysDrawing, SaysNothing}
+use Rattle.verdicts.specs.Said.{IsEndLine, SaysDrawing, SaysNothing, IsWrongLine}
 use Rattle.verdicts.specs.Verdicts.{IsVerdict}
 use Rattle.verdicts.specs.declared.said.Given.{Given}
 use Rattle.verdicts.specs.declared.said.Given.TheVariants as given
@@ -20,9 +20,9 @@ abbrev pub KeepsAllBut : List (List ℕ) → List (List ℕ) → Type 0
 KeepsAllBut [] kept = kept ≡ []
 KeepsAllBut (line ∷ lines) kept = (EndsRun line × KeepsAllBut lines kept) ⊎ ((rest : List (List ℕ)) × (kept ≡ line ∷ rest) × KeepsAllBut lines rest)
 
--- a line gives no drawing: it says none, or is too long to be read
+-- a line gives no drawing: it says none, and the fault is that of its first wrong field; or it is too long to be read
 abbrev pub GivesNone : List ℕ → LineFault → Type 0
-GivesNone bytes fault = ((length bytes ≤ MAX_LINE) × SaysNothing bytes) ⊎ ((MAX_LINE < length bytes) × (fault ≡ line.Malformed))
+GivesNone bytes fault = ((length bytes ≤ MAX_LINE) × SaysNothing bytes × IsWrongLine bytes fault) ⊎ ((MAX_LINE < length bytes) × (fault ≡ line.Malformed))
 
 -- what is given tells of a line, or that there is none: the source ended, or a read failed. Want of memory tells nothing
 abbrev pub TellsOf : Bool → Option (List ℕ) → Given → Type 0

@@ -1,5 +1,5 @@
 -- The text of a run, and its status.
-use Rattle.std.specs.Prelude.{◌≡◌, ◌≢◌, ◌↔◌, ℕ, Bool, false, List, ◌++◌, length, Option, Some, All, ⊤}
+use Rattle.std.specs.Prelude.{◌≡◌, ◌≢◌, ◌↔◌, ◌⊎◌, ℕ, Bool, false, List, ◌++◌, length, Option, Some, All, ⊤}
 use Rattle.std.specs.Io.KnownBytes.{Appends}
 use Rattle.planar_code.specs.declared.ending.Ending.{Ending}
 use Rattle.streams.specs.declared.frames.Mark.{Mark}
@@ -51,7 +51,8 @@ pub record IsTextOfVerdicts (asked : Asked) (known : Option (List ℕ)) (fails :
   pub other : status ≢ 0 → status ≢ 3 → status ≡ 4
 
 -- A prefix of the text of a run was added to the output. The records and the mark are those of some bytes, and the lines
--- those of some bytes, as in a whole text; if memory ran out, the file of graphs may have more records.
+-- those of some bytes, as in a whole text; if memory ran out, the file of graphs may have more records. The last line has
+-- the number of lines that are left, or no byte of it was added.
 pub record IsBegunTextOfVerdicts (asked : Asked) (known : Option (List ℕ)) (fails : Bool) (known_lines : Option (List ℕ)) (lines_fail : Bool) (old new : Option (List ℕ)) : Type 0 where
   pub bytes : List ℕ
   pub cut : Bool
@@ -67,4 +68,5 @@ pub record IsBegunTextOfVerdicts (asked : Asked) (known : Option (List ℕ)) (fa
   pub verdicts : List Verdict
   pub each : AreVerdicts asked.faces lines_cut records kept verdicts
   pub surplus : ℕ
+  pub behind : AreSurplus (length records) kept surplus ⊎ AppendsPrefix old new (verdict_lines asked.json 1 verdicts)
   pub text : AppendsPrefix old new (verdicts_text asked.json verdicts mark surplus)

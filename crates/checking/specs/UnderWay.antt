@@ -19,7 +19,7 @@ use Rattle.checking.specs.declared.judge.Behind.{Behind}
 use Rattle.checking.specs.declared.judge.Behind.TheVariants as behind
 use Rattle.checking.specs.declared.judge.Rest.{Rest}
 use Rattle.checking.specs.declared.run.Asked.{Asked}
-use Rattle.checking.specs.Pairs.{EndsRun, KeepsAllBut, TellsOf, AreVerdicts}
+use Rattle.checking.specs.Pairs.{EndsRun, KeepsAllBut, TellsOf, AreVerdicts, AreSurplus}
 use Rattle.checking.specs.Runs.{IsOk, verdicts_text}
 
 -- whether a read of the lines fails, as far as it is known by now
@@ -98,7 +98,8 @@ pub record IsUnderWay {L : Type 0} (to_come : L → Option (List ℕ)) (fails : 
   pub wants : (judge.wants_memory ≡ false) ↔ All (λ v. v ≢ verdict.Memory) verdicts
 
 -- Of a source of lines of which this is known, some belong to these records, and of the text of their verdicts and a last
--- line with this mark and this number of lines, a prefix was added to the output.
+-- line with this mark and this number of lines, a prefix was added to the output. That is the number of the lines that
+-- are left, or no byte of the last line was added.
 pub record IsCutShort (asked : Asked) (known : Option (List ℕ)) (known_fails : Bool) (start now : Option (List ℕ)) (mark : Mark) (surplus : ℕ) (records : List (List ℕ)) : Type 0 where
   pub line_bytes : List ℕ
   pub lines_cut : Bool
@@ -107,6 +108,7 @@ pub record IsCutShort (asked : Asked) (known : Option (List ℕ)) (known_fails :
   pub keeps : KeepsAllBut (lines_of line_bytes lines_cut) kept
   pub verdicts : List Verdict
   pub each : AreVerdicts asked.faces lines_cut records kept verdicts
+  pub behind : AreSurplus (length records) kept surplus ⊎ AppendsPrefix start now (verdict_lines asked.json 1 verdicts)
   pub text : AppendsPrefix start now (verdicts_text asked.json verdicts mark surplus)
 
 -- so it is of some of these records, the first ones

@@ -40,7 +40,8 @@ pub struct Checked {
 /// # Errors
 ///
 /// `Write` exactly if the sink has then failed. `Memory` if memory runs out for the buffers, or before it is known
-/// whether a line after the last record is the end of a run. A prefix of the text was then written.
+/// whether a line after the last record is the end of a run. A prefix of the text was then written; if a byte of the last
+/// line was, that line has the number of lines that are left.
 pub fn check_files<R: AllocGlobal + Wait, G: Tap, L: Tap, S: Sink>(
     rt: &R,
     mut graphs: G,

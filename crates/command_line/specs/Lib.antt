@@ -1,3 +1,4 @@
 pub mod Refusals
 pub mod Faults
 pub mod Requests
+pub mod Helps

@@ -1,6 +1,7 @@
 -- The requests that the arguments of a command line make.
-use Rattle.std.specs.Prelude.{◌≡◌, ◌<◌, ◌≤◌, ◌↔◌, ◌&&◌, ◌||◌, if◌then◌else◌, ℕ, Bool, true, false, not, nat_eq, List, [], ◌∷◌, map, length, drop, String, Vec, Option, None, Some, Result, Ok, Err, ⊤, codes, bytes_eq, slice_index, string_bytes, vec_len}
+use Rattle.std.specs.Prelude.{◌≡◌, ◌<◌, ◌≤◌, ◌+◌, ◌++◌, ◌↔◌, ◌&&◌, ◌||◌, if◌then◌else◌, ℕ, Bool, true, false, not, nat_eq, List, [], ◌∷◌, map, length, drop, String, Vec, Option, None, Some, Result, Ok, Err, ⊤, codes, bytes_eq, slice_index, string_bytes, vec_len}
 use Rattle.std.specs.List.{count_by, starts_with}
+use Rattle.std.specs.Option.{option_map_or}
 use Rattle.std.specs.Str.Parse.{ParsesUnsigned}
 use Rattle.std.specs.Borrow.{Bor}
 use Rattle.std.specs.declared.alloc.Global.{Global}
@@ -44,6 +45,10 @@ abbrev pub is_file : Role → List ℕ → Bool
 is_file Any word = not (has_prefix 45 45 word)
 is_file File word = true
 is_file _ word = false
+
+-- the argument is an option: it begins with '-', and is not that alone
+abbrev pub is_option : List ℕ → Bool
+is_option word = nat_eq (slice_index word 0) 45 && not (bytes_eq word (codes "-"))
 
 -- the argument asks for this
 abbrev pub asks : Keyword → Role → List ℕ → Bool
@@ -110,6 +115,88 @@ number_text number.Waiting Waiting word = Some word
 number_text number.Waiting Any word = given_after (codes "--waiting=") word
 number_text _ _ word = None
 
+-- what follows the name of an option is nothing, or '=' and a value
+abbrev pub ends_option : Option (List ℕ) → Bool
+ends_option None = false
+ends_option (Some []) = true
+ends_option (Some (byte ∷ bytes)) = nat_eq byte 61
+
+-- the argument is the option with this name, alone or with '=' and a value
+abbrev pub is_of : List ℕ → List ℕ → Bool
+is_of name word = ends_option (given_after name word)
+
+abbrev pub is_outer : List ℕ → Bool
+is_outer word = bytes_eq word (codes "first") || bytes_eq word (codes "best")
+
+abbrev pub is_drawing : List ℕ → Bool
+is_drawing word = bytes_eq word (codes "short") || bytes_eq word (codes "quick")
+
+-- the argument is the option with this name, alone or with '=' and a value that passes a test
+abbrev pub is_of_with : List ℕ → (List ℕ → Bool) → List ℕ → Bool
+is_of_with name passes word = bytes_eq word name || option_map_or passes (given_after (name ++ codes "=") word) false
+
+-- the argument is an option of `layout`
+abbrev pub is_layout_option : List ℕ → Bool
+is_layout_option word =
+    if bytes_eq word (codes "--json") then true
+    else if bytes_eq word (codes "--progress") then true
+    else if is_of (codes "--lanes") word then true
+    else if is_of (codes "--waiting") word then true
+    else if is_of_with (codes "--outer") is_outer word then true
+    else is_of_with (codes "--drawing") is_drawing word
+
+-- the argument is an option of this command
+abbrev pub is_option_of : Keyword → List ℕ → Bool
+is_option_of keyword.Layout word = is_layout_option word
+is_option_of keyword.Check word = bytes_eq word (codes "--json") || bytes_eq word (codes "--faces")
+is_option_of _ word = false
+
+-- an argument of this command may stand in this role: it is no option, or one of this command, and a value is one that
+-- its option takes
+abbrev pub fits : Keyword → Role → List ℕ → Bool
+fits command Any word =
+    if bytes_eq word (codes "--") then true else if is_option word then is_option_of command word else true
+fits command Outer word = is_outer word
+fits command Drawing word = is_drawing word
+fits command _ word = true
+
+-- no value of an option is missing before an argument in this role
+abbrev pub may_end : Role → Bool
+may_end Command = true
+may_end Any = true
+may_end File = true
+may_end _ = false
+
+-- each of these arguments fits this command, the first of which has this role, and no value is missing after them
+abbrev pub fit_from : Keyword → Role → List (String Global) → Bool
+fit_from command role [] = may_end role
+fit_from command role (word ∷ words) =
+    if fits command role (string_bytes word) then fit_from command (role_after role (string_bytes word)) words else false
+
+-- an argument in this role uses the option with this name
+abbrev pub is_use : List ℕ → Role → List ℕ → Bool
+is_use name Any word = is_of name word
+is_use name _ word = false
+
+-- how often these arguments use the option with this name, the first of which has this role
+abbrev pub uses_from : List ℕ → Role → List (String Global) → ℕ
+uses_from name role [] = 0
+uses_from name role (word ∷ words) =
+    (if is_use name role (string_bytes word) then 1 else 0) + uses_from name (role_after role (string_bytes word)) words
+
+abbrev pub uses_in : List ℕ → List (String Global) → ℕ
+uses_in name words = uses_from name Command words
+
+-- The arguments of a command line are valid for this command: each fits, and no option but `--progress` is used twice.
+pub record AreValid (command : Keyword) (words : List (String Global)) : Type 0 where
+  pub fit : fit_from command Command words ≡ true
+  pub lanes : uses_in (codes "--lanes") words ≤ 1
+  pub waiting : uses_in (codes "--waiting") words ≤ 1
+  pub outer : uses_in (codes "--outer") words ≤ 1
+  pub drawing : uses_in (codes "--drawing") words ≤ 1
+  pub json : uses_in (codes "--json") words ≤ 1
+  pub faces : uses_in (codes "--faces") words ≤ 1
+
 -- the first of two texts that there is
 abbrev pub text_or : Option (List ℕ) → Option (List ℕ) → Option (List ℕ)
 text_or (Some text) other = Some text
@@ -141,11 +228,16 @@ AreLanesIn words n = IsNumberOf 1 (number_text_in number.Lanes words) n
 abbrev pub IsWaitingIn : List (String Global) → ℕ → Type 0
 IsWaitingIn words n = IsNumberOf 64 (number_text_in number.Waiting words) n
 
+-- this limit on buffered text, in megabytes, is in range
+abbrev pub IsWaiting : ℕ → Type 0
+IsWaiting waiting = (1 ≤ waiting) × (waiting ≤ 65536)
+
 -- the arguments ask for a layout of these files, of which at most one is standard input, under this choice and in this
 -- style, over this many lanes, with this limit on buffered text in megabytes. A kind of drawing is named for JSON lines
--- alone. Here and below, arguments that ask for help ask for nothing else
+-- alone. Here and below, arguments that are not valid, and those that ask for help, ask for nothing
 pub record AsksLayout (words : List (String Global)) (names : Vec (Bor (List ℕ)) Global) (choice : Choice) (style : Style) (lanes waiting : ℕ) : Type 0 where
   pub command : asks_in keyword.Layout words ≡ true
+  pub valid : AreValid keyword.Layout words
   pub no_help : asks_in keyword.Help words ≡ false
   pub files : map (λ name. name.now) names.items ≡ files_in words
   pub some : 0 < vec_len names
@@ -155,11 +247,13 @@ pub record AsksLayout (words : List (String Global)) (names : Vec (Bor (List ℕ
   pub drawing : style.drawing_kind ≡ drawing_in words
   pub lanes_in : AreLanesIn words lanes
   pub waiting_in : IsWaitingIn words waiting
+  pub in_range : IsWaiting waiting
   pub needs_json : (asks_in keyword.ShortDrawing words || asks_in keyword.QuickDrawing words) ≡ true → asks_in keyword.Json words ≡ true
 
 -- the arguments ask for the records of this file
 pub record AsksFrames (words : List (String Global)) (name : List ℕ) : Type 0 where
   pub command : asks_in keyword.Frames words ≡ true
+  pub valid : AreValid keyword.Frames words
   pub no_help : asks_in keyword.Help words ≡ false
   pub file : files_in words ≡ name ∷ []
 
@@ -167,15 +261,12 @@ pub record AsksFrames (words : List (String Global)) (name : List ℕ) : Type 0 
 -- most one is standard input, in this form; `faces` says whether each region must also be its face
 pub record AsksCheck (words : List (String Global)) (graphs lines : List ℕ) (form : Form) (faces : Bool) : Type 0 where
   pub command : asks_in keyword.Check words ≡ true
+  pub valid : AreValid keyword.Check words
   pub no_help : asks_in keyword.Help words ≡ false
   pub files : files_in words ≡ graphs ∷ lines ∷ []
   pub once : inputs_in words ≤ 1
   pub json : (form ≡ Form.Json) ↔ (asks_in keyword.Json words ≡ true)
   pub faces_in : faces ≡ asks_in keyword.Faces words
-
--- this limit on buffered text, in megabytes, is in range
-abbrev pub IsWaiting : ℕ → Type 0
-IsWaiting waiting = (1 ≤ waiting) × (waiting ≤ 65536)
 
 -- if the request has a limit on buffered text, it is in range
 abbrev pub HasWaiting : Request → Type 0
@@ -188,3 +279,7 @@ abbrev pub IsAskedBy : List (String Global) → Request → Type 0
 IsAskedBy words (Frames name) = AsksFrames words name.now
 IsAskedBy words (Layout asked) = AsksLayout words asked.names asked.choice asked.style asked.lanes asked.waiting
 IsAskedBy words (Check asked) = AsksCheck words asked.graphs.now asked.lines.now asked.form asked.faces
+
+-- the arguments ask for nothing
+abbrev pub AsksNothing : List (String Global) → Type 0
+AsksNothing words = (request : Request) → ¬ IsAskedBy words request

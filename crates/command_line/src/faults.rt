@@ -12,8 +12,8 @@ pub enum Fault {
     /// Out of memory for the arguments, for the text of help or of an error message, or while a file was opened.
     #[error("out of memory")]
     Memory,
-    /// The argument with this number, from 1, is not valid UTF-8.
-    #[error("argument {0} is not valid UTF-8")]
+    /// The argument with this number, from 1, is not valid UTF-8. Files are opened by names that are text.
+    #[error("argument {0} is not valid UTF-8, as the name of a file must be")]
     NotText(u32),
     /// The value of `--waiting` is out of range.
     #[error("waiting must be 1 to 65536")]

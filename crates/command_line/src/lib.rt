@@ -3,6 +3,7 @@
 
 mod fault_line;
 mod faults;
+mod help;
 mod progress;
 mod reading;
 mod request;
@@ -10,6 +11,7 @@ mod terminal;
 
 pub use fault_line::write_fault;
 pub use faults::Fault;
+pub use help::help_text;
 pub use progress::{Console, Meter, Progress};
 pub use reading::{Keyword, Number, asks};
 pub use request::{CheckRequest, LayoutRequest, ParseFault, Request, parse};

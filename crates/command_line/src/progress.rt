@@ -23,7 +23,7 @@ pub enum Progress {
 
 impl Progress {
     /// The progress setting for an option that is given this many times.
-    pub fn of_count(count: u8) -> Progress {
+    pub fn of_count(count: usize) -> Progress {
         match count {
             0 => Progress::Nowhere,
             1 => Progress::OnTerminal,

@@ -1,8 +1,10 @@
 //! The meaning of the arguments of a command line, one after another.
-ghost use Rattle.std.specs.Prelude.{◌≡◌, ◌<◌, IfOk, map, option_map};
+ghost use Rattle.std.specs.Prelude.{◌≡◌, ◌<◌, ◌≤◌, ◌↔◌, IfOk, codes, map, option_map, true};
 ghost use Rattle.std.specs.List.{count_by};
 ghost use Rattle.named_sources.specs.Naming as naming;
 ghost use Rattle.command_line.specs.Requests.{role_after, asks, asks_in, files_in, given_after, has_prefix, is_file, is_help, number_text, number_text_in};
+ghost use Rattle.command_line.specs.Requests.{AreValid, fit_from, fits, is_drawing, is_layout_option, is_of, is_of_with, is_option, is_option_of, is_outer, is_use, may_end, uses_in};
+ghost use Rattle.command_line.specs.declared.reading.Role.{Role};
 
 use named_sources::is_input;
 use std::alloc::{AllocError, Global};
@@ -77,6 +79,36 @@ impl Role {
         }
     }
 
+    /// Whether an argument of this command may stand in this role: it is no option, or one of the command, and a value
+    /// is one that its option takes.
+    fn fits(self, command: Keyword, word: &str) -> bool
+        ensures { result ≡ fits command self word.now }
+    {
+        match self {
+            Role::Any => word == "--" || !is_option(word) || is_option_of(command, word),
+            Role::Outer => is_outer(word),
+            Role::Drawing => is_drawing(word),
+            _ => true,
+        }
+    }
+
+    /// Whether arguments may end before one in this role: it is no value of an option.
+    fn may_end(self) -> bool
+        ensures { result ≡ may_end self }
+    {
+        matches!(self, Role::Command | Role::Any | Role::File)
+    }
+
+    /// Whether an argument in this role uses the option with this name.
+    fn is_use(self, name: &str, word: &str) -> bool
+        ensures { result ≡ is_use name.now self word.now }
+    {
+        match self {
+            Role::Any => is_of(name, word),
+            _ => false,
+        }
+    }
+
     /// Whether an argument in this role asks for `keyword`.
     fn asks(self, keyword: Keyword, word: &str) -> bool
         ensures { result ≡ asks keyword self word.now }
@@ -120,6 +152,127 @@ fn given_after<'a>(front: &str, word: &'a str) -> Option<&'a str>
     ensures { option_map (λ text. text.now) result ≡ given_after front.now word.now }
 {
     word.strip_prefix(front)
+}
+
+/// Whether an argument is an option: it begins with `-`, and is not that alone.
+fn is_option(word: &str) -> bool
+    ensures { result ≡ is_option word.now }
+{
+    word.as_bytes().first() == Some(&b'-') && word != "-"
+}
+
+/// Whether an argument is the option with this name, alone or with `=` and a value.
+fn is_of(name: &str, word: &str) -> bool
+    ensures { result ≡ is_of name.now word.now }
+{
+    match given_after(name, word) {
+        Some(rest) => matches!(rest.as_bytes(), [] | [b'=', ..]),
+        None => false,
+    }
+}
+
+/// Whether an argument is an option of this command.
+fn is_option_of(command: Keyword, word: &str) -> bool
+    ensures { result ≡ is_option_of command word.now }
+{
+    match command {
+        Keyword::Layout => is_layout_option(word),
+        Keyword::Check => word == "--json" || word == "--faces",
+        _ => false,
+    }
+}
+
+/// Whether an argument is an option of `layout`.
+fn is_layout_option(word: &str) -> bool
+    ensures { result ≡ is_layout_option word.now }
+{
+    match word {
+        _ if word == "--json" => true,
+        _ if word == "--progress" => true,
+        _ if is_of("--lanes", word) => true,
+        _ if is_of("--waiting", word) => true,
+        _ => is_outer_option(word) || is_drawing_option(word),
+    }
+}
+
+/// Whether an argument is the option `--outer`, alone or with `=` and a choice.
+fn is_outer_option(word: &str) -> bool
+    ensures { result ≡ is_of_with (codes "--outer") is_outer word.now }
+{
+    word == "--outer" || given_after("--outer=", word).is_some_and(is_outer)
+}
+
+/// Whether an argument is the option `--drawing`, alone or with `=` and a kind of drawing.
+fn is_drawing_option(word: &str) -> bool
+    ensures { result ≡ is_of_with (codes "--drawing") is_drawing word.now }
+{
+    word == "--drawing" || given_after("--drawing=", word).is_some_and(is_drawing)
+}
+
+/// Whether an argument is a choice of the outer face.
+fn is_outer(word: &str) -> bool
+    ensures { result ≡ is_outer word.now }
+{
+    word == "first" || word == "best"
+}
+
+/// Whether an argument is a kind of drawing.
+fn is_drawing(word: &str) -> bool
+    ensures { result ≡ is_drawing word.now }
+{
+    word == "short" || word == "quick"
+}
+
+/// Whether arguments are valid for this command, which is the first of them: each fits, no value is missing after them,
+/// and no option but `--progress` is used twice.
+pub fn are_valid(command: Keyword, words: &[String]) -> bool
+    ensures { (result ≡ true) ↔ AreValid command words.now }
+{
+    all_fit(command, words)
+        && is_once("--lanes", words)
+        && is_once("--waiting", words)
+        && is_once("--outer", words)
+        && is_once("--drawing", words)
+        && is_once("--json", words)
+        && is_once("--faces", words)
+}
+
+/// Whether each argument fits this command, and no value is missing after them.
+fn all_fit(command: Keyword, words: &[String]) -> bool
+    ensures { result ≡ fit_from command Role.Command words.now }
+{
+    let mut role = Role::Command;
+    for word in words {
+        let text = word.as_str();
+        if !role.fits(command, text) {
+            return false;
+        }
+        role = role.role_after(text);
+    }
+    role.may_end()
+}
+
+/// Whether the option with this name is used at most once.
+fn is_once(name: &str, words: &[String]) -> bool
+    ensures { (result ≡ true) ↔ (uses_in name.now words.now ≤ 1) }
+{
+    uses(name, words) <= 1
+}
+
+/// How often arguments use the option with this name.
+pub fn uses(name: &str, words: &[String]) -> usize
+    ensures { result ≡ uses_in name.now words.now }
+{
+    let mut count = 0;
+    let mut role = Role::Command;
+    for word in words {
+        let text = word.as_str();
+        if role.is_use(name, text) {
+            count += 1;
+        }
+        role = role.role_after(text);
+    }
+    count
 }
 
 /// The value of the first option that sets `number`, unparsed; `None` if no option does.

@@ -1,14 +1,17 @@
 //! Parsing of the command line.
-ghost use Rattle.std.specs.Prelude.{◌≡◌, ◌≢◌, ◌≤◌, ◌↔◌, ◌∷◌, [], ◌||◌, IfOk, IfNone, IfSome, IsTrue, length, map, option_map, true};
+ghost use Rattle.std.specs.Prelude.{◌≡◌, ◌≢◌, ◌<◌, ◌≤◌, ◌↔◌, ◌∷◌, [], ◌||◌, Err, IfErr, IfOk, IfNone, IfSome, length, map, option_map, true, false};
+ghost use Rattle.std.specs.List.{count_by};
 ghost use Rattle.common.specs.declared.choice.Choice.{Choice};
 ghost use Rattle.reports.specs.declared.form.Form.{Form};
 ghost use Rattle.command_line.specs.declared.reading.Keyword.{Keyword};
-ghost use Rattle.command_line.specs.Requests.{AreLanesIn, HasWaiting, IsAskedBy, IsNumberOf, IsWaitingIn, asks_in, drawing_in, files_in, inputs_in};
+ghost use Rattle.command_line.specs.declared.request.ParseFault.{ParseFault};
+ghost use Rattle.named_sources.specs.Naming as naming;
+ghost use Rattle.command_line.specs.Requests.{AreLanesIn, AsksNothing, HasWaiting, IsAskedBy, IsNumberOf, IsWaiting, IsWaitingIn, asks_in, drawing_in, files_in};
 
 use crate::progress::Progress;
-use crate::reading::{Keyword, Number, asks, files_of, inputs_among, number_text};
+use crate::reading::{Keyword, Number, are_valid, asks, files_of, inputs_among, number_text, uses};
 use clap::error::ErrorKind;
-use clap::{Arg, ArgAction, ArgMatches, Command, Error};
+use clap::{Arg, ArgAction, Command, Error};
 use common::{Choice, DrawingKind};
 use reports::{Form, Style};
 use std::alloc::{AllocError, Global};
@@ -54,15 +57,19 @@ pub struct CheckRequest<'a> {
     pub faces: bool,
 }
 
-/// The reason why no request was returned: help was asked for, or the arguments are not valid.
+/// The reason why the arguments make no request.
 #[derive(Drop)]
 pub enum ParseFault {
-    /// The error of `clap`: the help, if it is asked for; why the arguments are refused; or that memory ran out.
-    ///
-    /// The last is of the kind `OutOfMemory`.
-    Told(Error),
+    /// Memory ran out for the list of files.
+    Memory,
+    /// There are no arguments.
+    NoArguments,
+    /// They ask for help.
+    Help,
     /// The value of `--waiting` is not 1 to 65536.
     BadWaiting,
+    /// The error of `clap`: why they are not valid; or, of the kind `OutOfMemory`, that memory ran out for the message.
+    Told(Error),
 }
 
 /// Parses the arguments after the program's name into a request.
@@ -72,101 +79,174 @@ pub enum ParseFault {
 ///
 /// # Errors
 ///
-/// `Told` if the arguments are refused, and `BadWaiting` if only the value of `--waiting` is bad.
+/// `Memory` if memory runs out for the list of files. Otherwise the arguments ask for nothing, and the fault says why:
+/// `NoArguments`, `Help`, `BadWaiting` if only the value of `--waiting` is bad, and otherwise `Told`.
 pub fn parse<'a>(alloc: Global, words: &'a [String]) -> Result<Request<'a>, ParseFault>
     ensures asked { IfOk result (IsAskedBy words.now) }
     ensures waits { IfOk result HasWaiting }
+    ensures refused { IfErr result (λ fault. fault ≢ ParseFault.Memory → AsksNothing words.now) }
+    ensures help { result ≡ Err ParseFault.Help → asks_in Keyword.Help words.now ≡ true }
 {
-    let request = match read(alloc, words) {
-        Ok(request) => request,
-        Err(error) => return Err(ParseFault::Told(error)),
+    let Ok(files) = files_of(alloc, words) else {
+        return Err(ParseFault::Memory);
     };
-    if can_wait(&request) {
-        Ok(request)
-    } else {
-        Err(ParseFault::BadWaiting)
+    match request_of(words, files) {
+        Some(request) => Ok(request),
+        None => Err(fault_of(alloc, words)),
     }
 }
 
-/// Whether the limit on buffered text of a request is in range.
-fn can_wait(request: &Request) -> bool
-    ensures { IsTrue result → HasWaiting request.now }
+/// The reason why arguments that ask for nothing make no request.
+fn fault_of(alloc: Global, words: &[String]) -> ParseFault
+    ensures known { result ≢ ParseFault.Memory }
+    ensures help { result ≡ ParseFault.Help → asks_in Keyword.Help words.now ≡ true }
 {
-    match request {
-        Request::Frames { .. } | Request::Check(_) => true,
-        Request::Layout(asked) => 1 <= asked.waiting && asked.waiting <= GREATEST_WAITING,
+    if words.is_empty() {
+        return ParseFault::NoArguments;
     }
+    let error = match why(alloc, words) {
+        Ok(Some(error)) => error,
+        Ok(None) => return ParseFault::BadWaiting,
+        Err(error) => error,
+    };
+    if error.kind() == ErrorKind::DisplayHelp && asks(Keyword::Help, words) {
+        return ParseFault::Help;
+    }
+    ParseFault::Told(error)
 }
 
-/// The request that the arguments make, whose limit on buffered text is not checked.
+/// The error for arguments that make no request, except those of which only the value of `--waiting` is bad.
 ///
 /// # Errors
 ///
-/// The help, if it is asked for; the reason why the arguments are refused; or that memory ran out, of the kind
-/// `OutOfMemory`.
-fn read<'a>(alloc: Global, words: &'a [String]) -> Result<Request<'a>, Error>
-    ensures { IfOk result (IsAskedBy words.now) }
-{
+/// The error of clap: the help, if it is asked for; the reason why the arguments are refused; or that memory ran out, of
+/// the kind `OutOfMemory`.
+fn why(alloc: Global, words: &[String]) -> Result<Option<Error>, Error> {
     let mut program = describe(alloc)?;
-    let matches = program.try_get_matches_from_mut(words)?;
+    program.try_get_matches_from_mut(words)?;
     let files = files_of(alloc, words)?;
     if inputs_among(files.as_slice()) > 1 {
-        return Err(program.error(ErrorKind::ArgumentConflict, INPUT_TWICE)?);
+        return Ok(Some(program.error(ErrorKind::ArgumentConflict, INPUT_TWICE)?));
     }
-    if names_drawing(words) && !asks(Keyword::Json, words) {
-        return Err(program.error(ErrorKind::MissingRequiredArgument, DRAWING_ALONE)?);
+    if lacks_json(words) {
+        return Ok(Some(program.error(ErrorKind::MissingRequiredArgument, DRAWING_ALONE)?));
     }
-    match request_of(words, files, &matches) {
-        Some(request) => Ok(request),
-        // Clap accepts only arguments that name the files, and none that ask for help.
-        None => Err(program.error(ErrorKind::MissingRequiredArgument, "a file is missing")?),
+    if asks(Keyword::Layout, words) && !is_waiting(waiting_of(words)) {
+        return Ok(None);
     }
+    // Clap refuses all other arguments that make no request, except some that ask for help.
+    Ok(Some(program.error(ErrorKind::MissingRequiredArgument, "a file is missing")?))
 }
 
-/// The request made by arguments that clap has accepted and that name these files; `None` if they name too few or too
-/// many, or ask for help. Clap's own reading gives the progress; the rest is taken from the arguments, as `command`
-/// promises.
-fn request_of<'a>(
-    words: &[String],
-    files: Vec<&'a str>,
-    matches: &ArgMatches<'_>,
-) -> Option<Request<'a>>
+/// The request of arguments that name these files; `None` if they ask for nothing.
+fn request_of<'a>(words: &[String], files: Vec<&'a str>) -> Option<Request<'a>>
     requires files { map (λ file. file.now) files.items ≡ files_in words.now }
-    requires once { inputs_in words.now ≤ 1 }
-    requires needs_json { (asks_in Keyword.ShortDrawing words.now || asks_in Keyword.QuickDrawing words.now) ≡ true
-        → asks_in Keyword.Json words.now ≡ true }
-    ensures { IfSome result (IsAskedBy words.now) }
+    ensures some { IfSome result (IsAskedBy words.now) }
+    ensures none { IfNone result (AsksNothing words.now) }
 {
     if asks(Keyword::Help, words) {
         return None;
     }
     if asks(Keyword::Frames, words) {
-        let name = only_file(files.as_slice())?;
-        return Some(Request::Frames { name });
+        return frames_of(words, files.as_slice());
     }
     if asks(Keyword::Check, words) {
-        let (graphs, lines) = two_files(files.as_slice())?;
-        return Some(Request::Check(CheckRequest {
+        return check_of(words, files.as_slice());
+    }
+    if asks(Keyword::Layout, words) {
+        return layout_of(words, files);
+    }
+    None
+}
+
+/// The request of arguments for `frames` that name these files.
+fn frames_of<'a>(words: &[String], files: &[&'a str]) -> Option<Request<'a>>
+    requires command { asks_in Keyword.Frames words.now ≡ true }
+    requires no_help { asks_in Keyword.Help words.now ≡ false }
+    requires files { map (λ file. file.now) files.now ≡ files_in words.now }
+    ensures some { IfSome result (IsAskedBy words.now) }
+    ensures none { IfNone result (AsksNothing words.now) }
+{
+    if !are_valid(Keyword::Frames, words) {
+        return None;
+    }
+    match only_file(files) {
+        Some(name) => Some(Request::Frames { name }),
+        None => None,
+    }
+}
+
+/// The request of arguments for `check` that name these files.
+fn check_of<'a>(words: &[String], files: &[&'a str]) -> Option<Request<'a>>
+    requires command { asks_in Keyword.Check words.now ≡ true }
+    requires no_help { asks_in Keyword.Help words.now ≡ false }
+    requires files { map (λ file. file.now) files.now ≡ files_in words.now }
+    ensures some { IfSome result (IsAskedBy words.now) }
+    ensures none { IfNone result (AsksNothing words.now) }
+{
+    if !are_valid(Keyword::Check, words) {
+        return None;
+    }
+    if !has_files(files) {
+        return None;
+    }
+    match two_files(files) {
+        Some((graphs, lines)) => Some(Request::Check(CheckRequest {
             graphs,
             lines,
             form: form_of(words),
             faces: asks(Keyword::Faces, words),
-        }));
+        })),
+        None => None,
     }
-    if files.is_empty() || !asks(Keyword::Layout, words) {
+}
+
+/// The request of arguments for `layout` that name these files.
+fn layout_of<'a>(words: &[String], files: Vec<&'a str>) -> Option<Request<'a>>
+    requires command { asks_in Keyword.Layout words.now ≡ true }
+    requires no_help { asks_in Keyword.Help words.now ≡ false }
+    requires files { map (λ file. file.now) files.items ≡ files_in words.now }
+    ensures some { IfSome result (IsAskedBy words.now) }
+    ensures none { IfNone result (AsksNothing words.now) }
+{
+    if !are_valid(Keyword::Layout, words) {
+        return None;
+    }
+    if !has_files(files.as_slice()) {
+        return None;
+    }
+    let waiting = waiting_of(words);
+    if !is_waiting(waiting) {
+        return None;
+    }
+    if lacks_json(words) {
         return None;
     }
     Some(Request::Layout(LayoutRequest {
         names: files,
         lanes: lanes_of(words),
-        waiting: waiting_of(words),
+        waiting,
         choice: choice_of(words),
         style: Style {
             form: form_of(words),
             drawing_kind: drawing_of(words),
         },
-        progress: progress_of(matches),
+        progress: Progress::of_count(uses("--progress", words)),
     }))
+}
+
+/// Whether there are files, of which at most one is standard input.
+fn has_files(files: &[&str]) -> bool
+    ensures { (result ≡ true) ↔ ((0 < length files.now) × (count_by naming.is_input (map (λ file. file.now) files.now) ≤ 1)) }
+{
+    !files.is_empty() && inputs_among(files) <= 1
+}
+
+/// Whether this limit on buffered text is in range.
+fn is_waiting(waiting: u32) -> bool
+    ensures { (result ≡ true) ↔ IsWaiting waiting }
+{
+    1 <= waiting && waiting <= GREATEST_WAITING
 }
 
 /// The only one of these files; `None` if their number is not 1.
@@ -222,12 +302,14 @@ fn names_drawing(words: &[String]) -> bool
     asks(Keyword::ShortDrawing, words) || asks(Keyword::QuickDrawing, words)
 }
 
-/// Where progress is shown, according to clap.
-fn progress_of(matches: &ArgMatches) -> Progress {
-    match matches.subcommand_matches("layout") {
-        Some(layout) => Progress::of_count(layout.get_count("progress")),
-        None => Progress::Nowhere,
-    }
+/// Whether the arguments name a kind of drawing, and do not ask for JSON Lines.
+fn lacks_json(words: &[String]) -> bool
+    ensures lacks { result ≡ true
+        → ((asks_in Keyword.ShortDrawing words.now || asks_in Keyword.QuickDrawing words.now) ≡ true) × (asks_in Keyword.Json words.now ≡ false) }
+    ensures has { result ≡ false
+        → (asks_in Keyword.ShortDrawing words.now || asks_in Keyword.QuickDrawing words.now) ≡ true → asks_in Keyword.Json words.now ≡ true }
+{
+    names_drawing(words) && !asks(Keyword::Json, words)
 }
 
 /// The choice of the outer face that the arguments ask for.
@@ -267,7 +349,7 @@ fn drawing_of(words: &[String]) -> DrawingKind
     }
 }
 
-/// The definition of the command line for clap, with the texts of its help.
+/// The definition of the command line for clap, which tells why arguments are refused.
 fn describe<'a>(alloc: Global) -> Result<Command<'a>, AllocError> {
     describe_program(alloc)?
         .subcommand(describe_layout(alloc)?)?
@@ -278,118 +360,49 @@ fn describe<'a>(alloc: Global) -> Result<Command<'a>, AllocError> {
 fn describe_program<'a>(alloc: Global) -> Result<Command<'a>, AllocError> {
     Command::new(alloc, "planarbend")
         .bin_name("planarbend")?
-        .about("Draw embedded planar graphs in planar_code with the fewest bends")
-        .after_help(HELP)
         .no_binary_name(true)
         .subcommand_required(true)
-        .arg_required_else_help(true)
-        .arg(version_option(alloc))
-}
-
-fn version_option<'a>(alloc: Global) -> Arg<'a> {
-    Arg::new(alloc, "version")
-        .long("version")
-        .help("Print the version, and the toolchain that proved the program")
-        .action(ArgAction::SetTrue)
+        .arg(flag(alloc, "version"))
 }
 
 fn describe_layout<'a>(alloc: Global) -> Result<Command<'a>, AllocError> {
     Command::new(alloc, "layout")
-        .about("Lay out the graphs of planar_code files, and print a line for each")
-        .after_help(LAYOUT_HELP)
-        .arg(lanes_option(alloc))?
-        .arg(waiting_option(alloc))?
-        .arg(outer_option(alloc))?
-        .arg(drawing_option(alloc))?
-        .arg(json_option(alloc).help("Write JSON Lines, with shapes, dual prices and coordinates"))?
-        .arg(progress_option(alloc))?
+        .arg(valued(alloc, "lanes", "N").allow_hyphen_values(true))?
+        .arg(valued(alloc, "waiting", "MB").allow_hyphen_values(true))?
+        .arg(valued(alloc, "outer", "CHOICE").value_parser(OUTER))?
+        .arg(valued(alloc, "drawing", "KIND").value_parser(DRAWING))?
+        .arg(flag(alloc, "json"))?
+        .arg(flag(alloc, "progress").action(ArgAction::Count))?
         .arg(layout_files(alloc))
 }
 
-fn lanes_option<'a>(alloc: Global) -> Arg<'a> {
-    Arg::new(alloc, "lanes")
-        .long("lanes")
-        .value_name("N")
-        .help("Number of files to process in parallel (1 to 8)")
-        .allow_hyphen_values(true)
-        .default_value("1")
+/// The option with this name that has no value.
+fn flag<'a>(alloc: Global, name: &'a str) -> Arg<'a> {
+    Arg::new(alloc, name).long(name).action(ArgAction::SetTrue)
 }
 
-fn waiting_option<'a>(alloc: Global) -> Arg<'a> {
-    Arg::new(alloc, "waiting")
-        .long("waiting")
-        .value_name("MB")
-        .help("Pause later files once this many MB of their output are buffered (1 to 65536)")
-        .allow_hyphen_values(true)
-        .default_value("64")
-}
-
-fn outer_option<'a>(alloc: Global) -> Arg<'a> {
-    Arg::new(alloc, "outer")
-        .long("outer")
-        .value_name("CHOICE")
-        .help("Outer face: longest boundary (first) or fewest bends (best)")
-        .value_parser(OUTER)
-        .default_value("first")
-}
-
-fn drawing_option<'a>(alloc: Global) -> Arg<'a> {
-    Arg::new(alloc, "drawing")
-        .long("drawing")
-        .value_name("KIND")
-        .help("Drawing in JSON output: short edges (the default), or quick to compute")
-        .value_parser(DRAWING)
-}
-
-fn json_option<'a>(alloc: Global) -> Arg<'a> {
-    Arg::new(alloc, "json")
-        .long("json")
-        .action(ArgAction::SetTrue)
-}
-
-fn progress_option<'a>(alloc: Global) -> Arg<'a> {
-    Arg::new(alloc, "progress")
-        .long("progress")
-        .help("Show progress on standard error if it is a terminal; repeat to force")
-        .action(ArgAction::Count)
+/// The option with this name that has a value, which messages call `value`.
+fn valued<'a>(alloc: Global, name: &'a str, value: &'a str) -> Arg<'a> {
+    Arg::new(alloc, name).long(name).value_name(value)
 }
 
 fn layout_files<'a>(alloc: Global) -> Arg<'a> {
     Arg::new(alloc, "FILE")
-        .help(
-            "Planar_code files, at most 256: the 15 bytes >>planar_code<< and then records; - is standard input",
-        )
         .required(true)
         .num_args(1..)
         .action(ArgAction::Append)
 }
 
 fn describe_frames<'a>(alloc: Global) -> Result<Command<'a>, AllocError> {
-    Command::new(alloc, "frames")
-        .about("Print a line for each record of a planar_code file, and how the file ends")
-        .after_help(FRAMES_HELP)
-        .arg(file_of(alloc, "FILE").help(GRAPHS))
+    Command::new(alloc, "frames").arg(file_of(alloc, "FILE"))
 }
 
 fn describe_check<'a>(alloc: Global) -> Result<Command<'a>, AllocError> {
     Command::new(alloc, "check")
-        .about(
-            "Check drawings of the graphs of a planar_code file, and print their bends and the fewest possible",
-        )
-        .after_help(CHECK_HELP)
-        .arg(json_option(alloc).help("Write JSON Lines"))?
-        .arg(faces_option(alloc))?
-        .arg(file_of(alloc, "GRAPHS").help(GRAPHS))?
-        .arg(file_of(alloc, "LINES").help(
-            "JSON Lines with the points of a drawing for each graph, as layout --json writes; - is standard input",
-        ))
-}
-
-fn faces_option<'a>(alloc: Global) -> Arg<'a> {
-    Arg::new(alloc, "faces")
-        .long("faces")
-        .help("Also check that each region is the face on the left of its darts")
-        .action(ArgAction::SetTrue)
+        .arg(flag(alloc, "json"))?
+        .arg(flag(alloc, "faces"))?
+        .arg(file_of(alloc, "GRAPHS"))?
+        .arg(file_of(alloc, "LINES"))
 }
 
 /// The argument with this name, which is one file.
@@ -399,10 +412,6 @@ fn file_of<'a>(alloc: Global, name: &'a str) -> Arg<'a> {
 
 /// The maximum limit on buffered text, in megabytes.
 const GREATEST_WAITING: u32 = 65_536;
-
-/// The help for a file of graphs.
-const GRAPHS: &str =
-    "A planar_code file: the 15 bytes >>planar_code<< and then records; - is standard input";
 
 /// The error message for a kind of drawing with the report.
 const DRAWING_ALONE: &str = "--drawing needs --json: the report has no drawings";
@@ -415,39 +424,3 @@ const OUTER: &[&str] = &["first", "best"];
 
 /// The values of `--drawing`.
 const DRAWING: &[&str] = &["short", "quick"];
-
-const HELP: &str = "Examples:
-  planarbend layout examples/two.pc
-  planarbend frames examples/two.pc
-  planarbend check examples/two.pc examples/two.jsonl";
-
-const LAYOUT_HELP: &str = "Examples:
-  planarbend layout examples/two.pc
-prints
-  file 1
-  graph 1 ok n=2 m=1 f=1 bends=0 drawn=yes
-  graph 2 ok n=3 m=3 f=2 bends=1 drawn=yes
-  end complete graphs=2
-and from a generator
-  geng -c -D4 8 | planarg -p | planarbend layout -
-With --json, each line is a JSON object: one for each graph, and one for each file's end.
-Exit status: 0 if every file was complete and every graph answered, otherwise 3.";
-
-const FRAMES_HELP: &str = "Example:
-  planarbend frames examples/two.pc
-prints
-  record 1 n=2 bytes=5
-  record 2 n=3 bytes=10
-  end complete records=2
-Exit status: 0 if the file was complete, otherwise 3.";
-
-const CHECK_HELP: &str = "Examples:
-  planarbend check examples/two.pc examples/two.jsonl
-prints
-  graph 1 ok bends=0 fewest=0
-  graph 2 ok bends=1 fewest=1
-  end complete graphs=2 surplus=0
-and of planarbend's own drawings
-  planarbend layout --json examples/two.pc | planarbend check examples/two.pc -
-Exit status: 3 if a file was not complete or memory ran out for a graph; otherwise 4 if a drawing is not ok or a line has
-no graph; otherwise 0.";

@@ -5,3 +5,4 @@ pub mod Verdicts
 pub mod Judged
 pub mod Begun
 pub mod Accepting
+pub mod Refusing

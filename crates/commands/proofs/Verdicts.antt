@@ -56,5 +56,6 @@ module _ (how asked : Asked) (same : how â‰¡ asked) (known less : Option (List â
     verdicts = is.verdicts;
     each = is.each;
     surplus = is.surplus;
+    behind = is.behind;
     text = is.text;
   })

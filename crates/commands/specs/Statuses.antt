@@ -21,6 +21,7 @@ use Rattle.checking.specs.declared.run.Asked.{Asked}
 use Rattle.commands.specs.TextRuns.{IsBegun}
 use Rattle.named_sources.specs.Naming.{meanings_in}
 use Rattle.command_line.specs.Requests.{IsAskedBy, AsksCheck, asks_in}
+use Rattle.command_line.specs.Helps.{help_in}
 use Rattle.command_line.specs.declared.reading.Keyword.{Keyword}
 use Rattle.entries.specs.declared.limits.TheConstants.{MAX_FILES}
 use Rattle.ruled_lanes.specs.declared.limits.TheConstants.{LANES}
@@ -30,13 +31,18 @@ use Rattle.command_line.specs.declared.request.CheckRequest.{CheckRequest}
 
 -- the output of '--version'
 abbrev pub version_text : List ℕ
-version_text = codes "planarbend 1.0.0\nproved with rattle-kit-13 logic dac8208d650f15bf\n"
+version_text = codes "planarbend 1.0.0\ntoolchain rattle-kit-13 logic dac8208d650f15bf\n"
 
 -- this text and nothing else was added to the output, with status 0; or the output failed, with a prefix of it and
 -- status 1
 abbrev pub IsPrinted : List ℕ → Option (List ℕ) → Option (List ℕ) → Bool → ℕ → Type 0
 IsPrinted text old new failed status =
     ((status ≡ 0) × (failed ≡ false) × Appends old new text) ⊎ ((status ≡ 1) × (failed ≡ true) × AppendsPrefix old new text)
+
+-- the help that the arguments ask for, and nothing else, was added to the output; or the output failed, with a prefix
+-- of it and status 1
+abbrev pub IsHelped : List (String Global) → Option (List ℕ) → Option (List ℕ) → Bool → ℕ → Type 0
+IsHelped words = IsPrinted (help_in words)
 
 -- the file ended complete
 abbrev pub IsComplete : FramesModel → Type 0
@@ -123,13 +129,13 @@ IsBegunToBeDone files (Layout asked) old new =
     IsBegunTextOfBooks asked.choice asked.style.form (meanings_in files asked.names.items) (vec_len asked.names) old new
 IsBegunToBeDone files (Check asked) old new = IsBegunTextOfChecked files asked old new
 
--- The meaning of status 0 or 3: the version was asked for, with status 0; or help was, and some text was added to the
+-- The meaning of status 0 or 3: the version was asked for, with status 0; or help was, and its text was added to the
 -- output, with status 0; or the text of all files that the arguments name was added, as they ask for it. Arguments that
--- ask for help make no request: what the text of help says is not promised.
+-- ask for help make no request.
 abbrev pub IsDoneFor : (List ℕ → Meaning) → List (String Global) → Option (List ℕ) → Option (List ℕ) → Bool → ℕ → Type 0
 IsDoneFor files words old new failed status =
     ((status ≡ 0) × (asks_in Keyword.Version words ≡ true))
-    ⊎ (((status ≡ 0) × (asks_in Keyword.Help words ≡ true) × ((text : List ℕ) × Appends old new text))
+    ⊎ (((status ≡ 0) × (asks_in Keyword.Help words ≡ true) × Appends old new (help_in words))
     ⊎ ((request : Request) × IsAskedBy words request × IsDone files request old new failed status))
 
 -- The meaning of status 4: the command line asks for verdicts on two files, and their whole text was added to the
@@ -151,7 +157,10 @@ pub record IsOutcome {S : Type 0} (files : List ℕ → Meaning) (words : List (
   pub in_range : status ≤ 4
   pub failed_write : failed new ≡ true → status ≡ 1
   pub refused : status ≡ 2 → new ≡ old
+  pub refusable : status ≡ 2 → (request : Request) → IsAskedBy words request → IsRefusable request
   pub version : asks_in Keyword.Version words ≡ true → IsPrinted version_text (taken old) (taken new) (failed new) status
+  pub help : asks_in Keyword.Version words ≡ false → asks_in Keyword.Help words ≡ true
+      → IsHelped words (taken old) (taken new) (failed new) status ⊎ ((new ≡ old) × ((status ≡ 1) ⊎ (status ≡ 2)))
   pub done : (status ≡ 0) ⊎ (status ≡ 3) → IsDoneFor files words (taken old) (taken new) (failed new) status
   pub judged : status ≡ 4 → IsJudgedFor files words (taken old) (taken new) (failed new)
   pub begun : status ≡ 1 → asks_in Keyword.Version words ≡ false → asks_in Keyword.Help words ≡ false

@@ -1,7 +1,6 @@
 //! The program as a function of its arguments.
 ghost use Rattle.std.specs.Prelude.{◌≡◌, ◌<◌, ◌≤◌, ◌⊎◌, ℕ, List, length, vec_len, true, false, IfOk, IfErr, OnErr};
 ghost use Rattle.std.specs.Borrow.{Bor};
-ghost use Rattle.std.specs.Io.KnownBytes.{Appends};
 ghost use Rattle.common.specs.declared.choice.Choice.{Choice};
 ghost use Rattle.reports.specs.declared.form.Form.{Form};
 ghost use Rattle.command_line.specs.Refusals.{IsMisuse};
@@ -13,7 +12,7 @@ ghost use Rattle.clap.specs.declared.error.kind.ErrorKind.{ErrorKind};
 ghost use Rattle.command_line.specs.declared.reading.Keyword.{Keyword};
 ghost use Rattle.command_line.specs.declared.request.Request.{Request};
 ghost use Rattle.command_line.specs.declared.request.CheckRequest.{CheckRequest};
-ghost use Rattle.commands.specs.Statuses.{IsTextOfRecords, IsTextOfBooks, IsTextOfChecked, IsDone, IsDoneFor, IsBegunTextOfBooks, IsBegunTextOfRecords, IsBegunToBeDone, IsJudged, IsJudgedFor, IsPrinted, IsRefusable, version_text};
+ghost use Rattle.commands.specs.Statuses.{IsTextOfRecords, IsTextOfBooks, IsTextOfChecked, IsDone, IsDoneFor, IsBegunTextOfBooks, IsBegunTextOfRecords, IsBegunToBeDone, IsJudged, IsJudgedFor, IsHelped, IsPrinted, IsRefusable, version_text};
 ghost use Rattle.command_line.specs.Requests.{IsAskedBy, asks_in};
 
 use crate::check_run::check;
@@ -22,7 +21,8 @@ use crate::version::VERSION;
 use clap::Error;
 use clap::error::ErrorKind;
 use command_line::{
-    Console, Fault, Keyword, LayoutRequest, Meter, ParseFault, Request, asks, parse, write_fault,
+    Console, Fault, Keyword, LayoutRequest, Meter, ParseFault, Request, asks, help_text, parse,
+    write_fault,
 };
 use named_sources::{FileNotes, KeepsReason, NamedFiles, Reason, open_source};
 use reports::status_of;
@@ -52,8 +52,10 @@ pub fn command<
     ensures in_range { result ≤ 4 }
     ensures failed_write { S.failed out.new ≡ true → result ≡ 1 }
 
-    // If the command line is refused, nothing is written.
+    // If the command line is refused, nothing is written, and each request that the arguments ask for is one of too many
+    // files, or of no lanes or too many.
     ensures refused { result ≡ 2 → out.new ≡ out.old }
+    ensures refusable { result ≡ 2 → (request : Request) → IsAskedBy words.now request → IsRefusable request }
 
     // With status 3 the text is whole: of a file that does not end complete, or of files of which one does not or lacks
     // an answer because memory ran out, or of verdicts that are not about all graphs and lines.
@@ -69,6 +71,12 @@ pub fn command<
     // If the first argument is `--version`, the version is printed.
     ensures version { asks_in Keyword.Version words.now ≡ true
         → IsPrinted version_text (S.taken out.old) (S.taken out.new) (S.failed out.new) result }
+
+    // If help is asked for, and not the version, the help for the command that the arguments name is printed; or nothing,
+    // if the arguments are refused or memory ran out.
+    ensures help { asks_in Keyword.Version words.now ≡ false → asks_in Keyword.Help words.now ≡ true
+        → IsHelped words.now (S.taken out.old) (S.taken out.new) (S.failed out.new) result
+        ⊎ ((out.new ≡ out.old) × ((result ≡ 1) ⊎ (result ≡ 2))) }
 
     // With status 0 and 3 the output is the version, or help, or the text of all files that the arguments name, as they
     // ask for it, each of what the file with its name gives. Arguments that ask for help ask for no such text.
@@ -88,15 +96,18 @@ pub fn command<
         × IsBegunToBeDone (N.meaning files.now) request (S.taken out.old) (S.taken out.new)) }
 {
     if asks(Keyword::Version, words) {
-        return show_version(out, err);
+        return show(VERSION, out, err);
     }
     match parse(rt.alloc(), words) {
         Ok(request) => perform(rt, request, files, console, out, err),
+        Err(ParseFault::Help) => show(help_text(words), out, err),
+        Err(ParseFault::Memory) => end_by(Fault::Memory, Reason::UNKNOWN, err),
         Err(ParseFault::BadWaiting) => end_by(Fault::BadWaiting, Reason::UNKNOWN, err),
-        Err(ParseFault::Told(error)) if error.use_stderr() || !asks(Keyword::Help, words) => {
-            refuse(rt.alloc(), &error, err)
+        Err(ParseFault::NoArguments) => {
+            let _ = put_all(err, help_text(words).as_bytes());
+            2
         }
-        Err(ParseFault::Told(error)) => show_help(rt.alloc(), &error, out, err),
+        Err(ParseFault::Told(error)) => refuse(rt.alloc(), &error, err),
     }
 }
 
@@ -226,34 +237,12 @@ fn refuse<E: Sink>(alloc: Global, error: &Error, err: &mut E) -> u8
     }
 }
 
-/// Writes the version, and returns the exit status.
-fn show_version<S: Sink + KeepsReason, E: Sink>(out: &mut S, err: &mut E) -> u8
+/// Writes the version or help, and returns the exit status.
+fn show<S: Sink + KeepsReason, E: Sink>(text: &str, out: &mut S, err: &mut E) -> u8
     requires out_is_intact { S.failed out.old ≡ false }
     requires err_is_intact { E.failed err.old ≡ false }
-    ensures { IsPrinted version_text (S.taken out.old) (S.taken out.new) (S.failed out.new) result }
+    ensures { IsPrinted text.now (S.taken out.old) (S.taken out.new) (S.failed out.new) result }
 {
-    match put_all(out, VERSION.as_bytes()) {
-        Ok(()) => 0,
-        Err(fault) => end_by(Fault::Write(fault), out.reason(), err),
-    }
-}
-
-/// Writes the help that was asked for, and returns the exit status.
-fn show_help<S: Sink + KeepsReason, E: Sink>(
-    alloc: Global,
-    help: &Error,
-    out: &mut S,
-    err: &mut E,
-) -> u8
-    requires out_is_intact { S.failed out.old ≡ false }
-    requires err_is_intact { E.failed err.old ≡ false }
-    ensures in_range { result ≤ 1 }
-    ensures shown { result ≡ 0 → ((text : List ℕ) × Appends (S.taken out.old) (S.taken out.new) text) }
-    ensures failed_write { S.failed out.new ≡ true → result ≡ 1 }
-{
-    let Ok(text) = help.to_string(alloc) else {
-        return end_by(Fault::Memory, Reason::UNKNOWN, err);
-    };
     match put_all(out, text.as_bytes()) {
         Ok(()) => 0,
         Err(fault) => end_by(Fault::Write(fault), out.reason(), err),

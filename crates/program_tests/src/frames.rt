@@ -152,7 +152,7 @@ const FAULTS: [(Fault, &[u8], u8); 10] = [
     (Fault::Memory, MEMORY, 1),
     (
         Fault::NotText(2),
-        b"planarbend: argument 2 is not valid UTF-8\n",
+        b"planarbend: argument 2 is not valid UTF-8, as the name of a file must be\n",
         2,
     ),
     (
@@ -191,7 +191,7 @@ const FAULTS: [(Fault, &[u8], u8); 10] = [
 
 /// The line of a fault.
 fn line_of(fault: Fault) -> Narrow {
-    let mut err = IoSink::new(Narrow::new(64, usize::MAX, true));
+    let mut err = IoSink::new(Narrow::new(80, usize::MAX, true));
     write_fault(fault, Reason::UNKNOWN, &mut err);
     err.into_writer()
 }

@@ -15,6 +15,8 @@ mod layouts;
 #[cfg(test)]
 mod lines;
 #[cfg(test)]
+mod long_checks;
+#[cfg(test)]
 mod shared;
 #[cfg(test)]
 mod side_by_side;

@@ -6,9 +6,9 @@ use Rattle.text_lines.specs.Lines.{state_in}
 use Rattle.verdicts.specs.declared.verdict.Verdict.TheVariants as found
 use Rattle.verdicts.specs.Text.{verdict_lines}
 use Rattle.checking.specs.Runs.{IsOk, verdicts_text}
-use Rattle.checking.proofs.Steps.{stops_before, stops_short, ends_text}
+use Rattle.checking.proofs.Steps.{stops_before, ends_text}
 use Rattle.checking.proofs.Texts.{sent_only, room_lost, flush_lost, room_fault, flush_fault, memory_fault}
-use Rattle.checking.proofs.Whole.{all_read, status_is, whole_text}
+use Rattle.checking.proofs.Whole.{all_read, all_cut_short, status_is, whole_text}
 use Rattle.checking.proofs.judge.Judge.finish.Goals as goal
 
 pub returns-in-Err-clause-begun : goal.returns-in-Err-clause-begun
@@ -43,7 +43,8 @@ returns-in-Err-flush-clause-begun g c = λ known fails start records u.
     let way = ends_text g.L.Tap.to_come g.L.Tap.fails known fails start old_out mid_out judge records after.asked after.text c.make_room.new.self c.push_end.new.lines after.count rest.surplus c.args.mark
     (g.S.Sink.failed c.make_room.new.sink) u c.read_rest.ensures.asked c.read_rest.ensures.text c.read_rest.ensures.count c.in-Ok-make_room.ensures.writes c.push_end.ensures in (
       rest.surplus,
-      stops_short g.L.Tap.to_come g.L.Tap.fails known fails start old_out new_out judge records c.args.mark rest.surplus u
+      all_cut_short judge.asked known fails start new_out c.args.mark rest.failed records u.verdicts rest.surplus
+          (all_read g.L.Tap.to_come g.L.Tap.fails known fails judge.asked.faces (state_in judge.lines) after.lines u.kept records u.verdicts rest u.as_many u.each (c.in-Ok.ensures.reads known fails u.kept u.has_kept))
           (flush_lost start mid_out new_out c.push_end.new.lines (verdicts_text judge.asked.json u.verdicts c.args.mark rest.surplus) (g.S.Sink.failed c.flush.new.sink) c.in-Err-flush.fault c.in-Err-flush.ensures.writes way),
     )
 

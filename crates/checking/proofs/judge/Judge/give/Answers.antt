@@ -1,6 +1,6 @@
 use Rattle.std.proofs.Common.{true, false, inl, inr, refl, subst}
 use Rattle.text_lines.specs.Lines.{state_in}
-use Rattle.verdicts.specs.Said.{SaysNothing}
+use Rattle.verdicts.specs.Said.{SaysNothing, IsWrongLine}
 use Rattle.verdicts.specs.declared.said.Given.TheVariants as told
 use Rattle.checking.proofs.Ends.{says_drawing, says_end}
 use Rattle.checking.proofs.Reading.{open_first, open_at_line, open_at_long, may_first, may_end, may_fail, leaves_out, keeps_line, keeps_long, keeps_none}
@@ -47,7 +47,11 @@ returns-in-Err-clause-gives g c = λ known fails kept has.
     let so_far = c.loop.invariant.keeps known fails kept has in
     keeps_line g.L.Tap.to_come g.L.Tap.fails known fails c.next-in-loop.new.self (state_in c.args.self.now.lines) c.loop.self.lines kept (told.Fault c.in-Err.fault)
     (open_first _ _ c.loop.invariant.since (open_at_line _ c.in-Line.ensures.closed)) so_far
-    (λ short other. inl (short, subst SaysNothing c.line.ensures (c.in-Err.ensures.none other)))
+    (λ short other. inl (
+      short,
+      subst SaysNothing c.line.ensures (c.in-Err.ensures.none other),
+      subst (λ bytes. IsWrongLine bytes c.in-Err.fault) c.line.ensures (c.in-Err.ensures.fault other),
+    ))
     (c.in-Line.ensures.gives known fails so_far.given so_far.has_given)
 
 pub returns-in-TooLong-clause-gives : goal.returns-in-TooLong-clause-gives
