@@ -162,7 +162,7 @@ def first_not_utf8(words):
 def main(called, why, *words):
     end_on_signals()
     if number := first_not_utf8(words):
-        stop(f"argument {number} is not valid UTF-8", status=2)
+        stop(f"argument {number} is not valid UTF-8, as the name of a file must be", status=2)
     with tempfile.TemporaryDirectory(prefix="planarbend-") as folder:
         look_at_machine("a trial run", MEMORY, DISK, folder)
         trial = Trial(words, called, folder)
