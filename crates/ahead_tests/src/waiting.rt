@@ -104,7 +104,7 @@ impl<R: Wait + Clock> Tap for Edges<'_, R> {
             return Ok(0);
         }
         match self.fill(buf) {
-            Ok(count) => Ok(count),
+            Ok(count) => Ok(count.min(buf.len())),
             Err(_) => Err(TapFault),
         }
     }
