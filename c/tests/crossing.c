@@ -146,6 +146,8 @@ static void look_at_passing(planarbend *object) {
             }
     look_at_passed(object, -1, NULL, NULL);
     look_at_passed(object, 3, NULL, &cut);
+    returned = PLANARBEND_NOT_A_RECORD; /* no bytes and no counts: neither pointer that is passed is null */
+    LOOK(planarbend_layout(object, NULL, 0, 0, 0, NULL, NULL) == PLANARBEND_NOT_A_RECORD && last.size == 0);
 }
 
 /* Calls that are refused before the proved ones. */

@@ -38,6 +38,7 @@ static void look_at_words(void) {
 
 static void look_at_buffer(void) {
     static planarbend_buffer buffer;
+    LOOK(sizeof buffer == 20428 && PLANARBEND_MAX_RECORD == 1 + 255 * 255);
     memset(&buffer, UNTOUCHED, sizeof buffer);
     planarbend_lists lists = planarbend_lists_of(&buffer);
     look_untouched(&buffer, sizeof buffer);
@@ -351,7 +352,7 @@ int main(int count, char **words) {
     }
     planarbend_conditions straight = {SIDES, 3, NULL, 0};
     look_at_memory(call_of(NULL, TRIANGLE, sizeof TRIANGLE, 0, 1, &straight), 1);
-    look_at_growth(240);
+    look_at_growth(96);
     look_at_graph(NULL, EDGE, sizeof EDGE, 1);
     look_at_graph(NULL, TRIANGLE, sizeof TRIANGLE, 1);
     planarbend *object = new_object(0);

@@ -104,9 +104,30 @@ static void set_straight(struct asked *asked, int dart) {
     asked->straight[dart] = asked->straight[plane.back[dart]] = 1;
 }
 
-enum { WAYS = 8 };
+/* Leaves only those edges free that lead from a face to one that was not met, along ever longer paths: then there is a shape,
+   and it may have many bends. */
+static void set_all_but_tree(struct asked *asked) {
+    static int path[PLANARBEND_MAX_FACES], length;
+    uint8_t is_met[PLANARBEND_MAX_FACES] = {1};
+    memset(asked->straight, 1, sizeof asked->straight);
+    for (length = 1, path[0] = 0; length > 0;) {
+        int next = -1;
+        for (int dart = 0; dart < plane.darts && next < 0; dart++)
+            if (plane.face[dart] == path[length - 1] && !is_met[plane.face[plane.back[dart]]]) next = dart;
+        if (next < 0) {
+            length--;
+            continue;
+        }
+        asked->straight[next] = asked->straight[plane.back[next]] = 0;
+        path[length] = plane.face[plane.back[next]];
+        is_met[path[length++]] = 1;
+    }
+}
 
-/* One way to ask: 0 nothing, 1 to 4 some at random, 5 all edges straight, 6 all faces inside, 7 all but the last face. */
+enum { WAYS = 9 };
+
+/* One way to ask: 0 nothing, 1 to 4 some at random, 5 all edges straight, 6 all faces inside, 7 all but the last face, 8 all
+   edges straight but those of a tree of faces. */
 static struct asked asked_in(int way) {
     struct asked asked = FREE;
     for (int dart = 0; dart < plane.darts; dart++)
@@ -114,6 +135,7 @@ static struct asked asked_in(int way) {
     for (int face = 0; face < plane.faces; face++)
         asked.inner[face] = way == 6 || (way == 7 && face < plane.faces - 1) || (way < 5 && random_below(6) < (uint32_t)way);
     if (way >= 6) memset(asked.straight, 0, sizeof asked.straight);
+    if (way == 8) set_all_but_tree(&asked);
     return asked;
 }
 
@@ -155,7 +177,7 @@ static void look_at_way(struct call call, int way, struct sums *sums) {
     LOOK(has_shape || call.conditions == NULL);
     int result = one.result;
     if (greatest_face(&plane, &asked) < 0) LOOK(result == PLANARBEND_NO_OUTER);
-    else if (way == 0 || way == 7) LOOK(result == PLANARBEND_OK);
+    else if (way == 0 || way >= 7) LOOK(result == PLANARBEND_OK);
     else LOOK(result == PLANARBEND_OK || result == PLANARBEND_NO_SHAPE);
     if (call.outer == PLANARBEND_OUTER_BEST && result != PLANARBEND_NO_OUTER) look_at_best(&call, &asked);
 }
@@ -189,6 +211,7 @@ static void look_at_graph(planarbend *object, const uint8_t *record, size_t size
         LOOK(one.result == PLANARBEND_OK);
         sums->bends[call.outer] += one.counts.bends;
     }
+    if (ways > 8 && plane.faces > 64) ways = 8; /* the drawings of the last way would be too large */
     for (int way = 0; way < ways; way++) look_at_way(call, way, sums);
 }
 
