@@ -77,7 +77,7 @@ uint32_t planarbend_c_layout_keeping(const uint8_t *record, size_t size, const s
 /* ---- what is passed */
 
 static const uint8_t BYTES[] = {2, 2, 0, 1, 0};
-static const planarbend_dart DARTS[600];
+static const planarbend_dart DARTS[3000];
 
 /* Lists of which one has this room and the others none, or all have, with pointers that are null where there is no room. */
 static planarbend_lists lists_of(planarbend_buffer *buffer, int kind, size_t room) {
@@ -107,7 +107,7 @@ static void look_at_lists(const planarbend_lists *wanted) {
 }
 
 static void look_at_passed(planarbend *object, int way, const planarbend_lists *lists, planarbend_cut *cut) {
-    const planarbend_conditions asked[] = {{NULL, 0, NULL, 0}, {DARTS, 3, NULL, 0}, {NULL, 0, DARTS, 600}, {DARTS, 600, DARTS + 1, 511}};
+    const planarbend_conditions asked[] = {{NULL, 0, NULL, 0}, {DARTS, 3, NULL, 0}, {NULL, 0, DARTS, 600}, {DARTS, 3000, DARTS + 1, 2999}};
     for (int outer = 0; outer < 4; outer++)
         for (int drawing = 0; drawing < 4; drawing++)
             for (int result = 0; result <= PLANARBEND_WIDE; result++) {

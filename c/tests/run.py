@@ -1,7 +1,7 @@
 #!/usr/bin/env python3
-"""Runs the tests of the library for C in out/, which c/make.py makes. The last line is 'N passed, M failed, K skipped'; the
-exit status is 0 if nothing failed, otherwise 1. A test that needs valgrind, AddressSanitizer, pkg-config or a C++ compiler is
-skipped, by name, if that is missing. With names of tests as arguments, only these run.
+"""Runs the tests of the library for C in out/, which c/make.py makes. The last line is 'N passed, M failed, K skipped';
+the exit status is 0 if nothing failed, otherwise 1. A test that needs valgrind, AddressSanitizer, pkg-config or a C++
+compiler is skipped, by name, if that is missing. With names of tests as arguments, only these run.
 """
 from __future__ import annotations
 
@@ -34,8 +34,8 @@ SECONDS = 300  # the most that a command may take
 
 # The sums of bends for the first and for the best outer face, by LEMON's network simplex (bench/outside/lemon.cc).
 BENDS = {"copies": (0, 0), "cubic60": (176, 169), "grid60": (0, 0), "medial60": (1102, 1082), "planar_d4_n4": (7, None),
-         "planar_d4_n5": (45, None), "planar_d4_n6": (217, 216), "planar_d4_n7": (1105, 1094), "planar_d4_n8": (6760, None),
-         "tree60": (0, 0), "families": None, "prism85": None}
+         "planar_d4_n5": (45, None), "planar_d4_n6": (217, 216), "planar_d4_n7": (1105, 1094),
+         "planar_d4_n8": (6760, None), "tree60": (0, 0), "families": None, "prism85": None}
 
 
 class Failed(Exception):
@@ -90,9 +90,10 @@ def test_names(_: Path) -> None:
 def test_package(folder: Path) -> None:
     """pkg-config finds the library, and a program links with its options."""
     needs("pkg-config")
-    words = run("pkg-config", "--cflags", "--libs", "planarbend", env={**os.environ, "PKG_CONFIG_PATH": str(OUT)}).split()
+    environment = {**os.environ, "PKG_CONFIG_PATH": str(OUT)}
+    words = run("pkg-config", "--cflags", "--libs", "planarbend", env=environment).split()
     run(COMPILER, "-std=c99", TESTS / "answers.c", *words, "-pthread", "-o", folder / "by_package")
-    if run("pkg-config", "--modversion", "planarbend", env={**os.environ, "PKG_CONFIG_PATH": str(OUT)}).strip() != VERSION:
+    if run("pkg-config", "--modversion", "planarbend", env=environment).strip() != VERSION:
         raise Failed("planarbend.pc has another version")
 
 
@@ -157,7 +158,8 @@ def rings(vertices: int) -> list[list[int]]:
 
 def path(vertices: int) -> list[list[int]]:
     """A path."""
-    return [[other for other in (vertex - 1, vertex + 1) if 1 <= other <= vertices] for vertex in range(1, vertices + 1)]
+    return [[other for other in (vertex - 1, vertex + 1) if 1 <= other <= vertices]
+            for vertex in range(1, vertices + 1)]
 
 
 def sized(folder: Path, most: int) -> list[Path]:
@@ -201,12 +203,14 @@ def test_examples(folder: Path) -> None:
             told = run(plantri, stdin=graphs)
         if sum(count * graphs for count, graphs in bends.items()) != BENDS[name][0]:
             raise Failed(f"{name}: examples/c/bends.c counts other bends")
-        if {int(count): int(graphs) for count, graphs in re.findall(r"^(\d+) bends: (\d+) graphs$", told, re.M)} != bends:
+        lines = re.findall(r"^(\d+) bends: (\d+) graphs$", told, re.M)
+        if {int(count): int(graphs) for count, graphs in lines} != bends:
             raise Failed(f"{name}: examples/c/plantri_bends.c counts other bends")
 
 
-CASES: list[Callable[[Path], None]] = [test_names, test_package, test_header_in_cpp, test_crossing, test_crossing_addresses,
-                                       test_edges, test_layouts, test_sizes, test_threads, test_valgrind, test_examples]
+CASES: list[Callable[[Path], None]] = [
+    test_names, test_package, test_header_in_cpp, test_crossing, test_crossing_addresses, test_edges, test_layouts,
+    test_sizes, test_threads, test_valgrind, test_examples]
 
 
 def seconds() -> float:
@@ -232,8 +236,9 @@ def main() -> int:
                 what, told = "failed", f": {why}"
         counts[what] += 1
         print(f"{what}: {case.__name__} ({seconds() - began:.1f} s){told}", flush=True)
-    print(f"{counts['passed']} passed, {counts['failed'] or not counts['passed']:d} failed, {counts['skipped']} skipped")
-    return 1 if counts["failed"] or not counts["passed"] else 0
+    failed = counts["failed"] or int(not counts["passed"])
+    print(f"{counts['passed']} passed, {failed} failed, {counts['skipped']} skipped")
+    return 1 if failed else 0
 
 
 if __name__ == "__main__":
