@@ -173,7 +173,7 @@ static void look_at_way(struct call call, int way, struct sums *sums) {
     call.is_keeping = 1;
     call.conditions = way == 0 && random_below(2) > 0 ? NULL : &conditions;
     call.outer = (int)random_below(2);
-    int has_shape = ask_each(&call, &asked, sums->length_kept);
+    int has_shape = ask_each(&call, &asked, call.conditions == NULL ? sums->length : sums->length_kept);
     LOOK(has_shape || call.conditions == NULL);
     int result = one.result;
     if (greatest_face(&plane, &asked) < 0) LOOK(result == PLANARBEND_NO_OUTER);
