@@ -246,6 +246,11 @@ static void call(planarbend *object) {
     LOOK(planarbend_layout(object, BYTES, sizeof BYTES, 0, 0, NULL, NULL) == PLANARBEND_OK);
 }
 
+/* The other call, with conditions or without. */
+static void call_keeping(planarbend *object, const planarbend_conditions *conditions) {
+    LOOK(planarbend_layout_keeping(object, BYTES, sizeof BYTES, 0, 0, conditions, NULL, NULL, NULL) == PLANARBEND_OK);
+}
+
 static planarbend *new_object(void) {
     planarbend *object;
     LOOK(planarbend_new(&object) == PLANARBEND_OK && object != NULL);
@@ -292,6 +297,7 @@ static void look_at_ends(void) {
     planarbend *object = new_object();
     filled = 100;
     call(object); /* now there is a piece of 16 KB */
+    LOOK(held == 2 && bytes_held < 17000);
     for (filled = 15000; filled < 16700; filled++) {
         long until = asked;
         call(object);
@@ -303,6 +309,74 @@ static void look_at_ends(void) {
         call(object);
         filled = next;
     }
+    planarbend_free(object);
+}
+
+/* Blocks of one piece, one at a time or changed in place, many times over. */
+static void take_one(void) {
+    struct rattle_given one = rattle_alloc(9000, 8);
+    LOOK(one.is_given);
+    rattle_dealloc(one.block);
+}
+
+static void take_again(void) {
+    for (int round = 0; round < 3000; round++) {
+        struct rattle_given one = rattle_alloc(9000, 8), other = rattle_realloc(one.block, 0, 10000, 8);
+        LOOK(one.is_given && other.is_given && one.block == other.block);
+        rattle_dealloc(other.block);
+    }
+}
+
+/* Many blocks at once. */
+static void take_many(void) {
+    struct rattle_given given[60];
+    for (int at = 0; at < 60; at++) given[at] = rattle_alloc(5000, 8), LOOK(given[at].is_given);
+    for (int at = 60; at-- > 0;) rattle_dealloc(given[at].block);
+}
+
+/* Calls in each way find room in the object's piece. */
+static void look_for_room(planarbend *object) {
+    const planarbend_conditions none = {NULL, 0, NULL, 0};
+    long until = asked;
+    call(object);
+    call_keeping(object, NULL);
+    call_keeping(object, &none);
+    LOOK(asked == until);
+}
+
+static void look_at_reuse(void) {
+    planarbend *object = new_object();
+    work = take_one;
+    call(object);
+    work = take_again;
+    look_for_room(object);
+    work = take_many;
+    call(object);
+    look_for_room(object);
+    planarbend_free(object);
+}
+
+/* Bytes that a block left behind are not taken for the head of another: blocks of 32 bytes with heads that say 64. */
+static void take_heads(void) {
+    size_t head = 64;
+    struct rattle_given given = rattle_alloc(2048, 8), blocks[4];
+    LOOK(given.is_given);
+    for (size_t at = 0; at < 2048; at += sizeof head) memcpy((unsigned char *)given.block + at, &head, sizeof head);
+    rattle_dealloc(given.block);
+    for (int at = 0; at < 4; at++) blocks[at] = rattle_alloc(16, 8), LOOK(blocks[at].is_given);
+    memset(blocks[3].block, 9, 16);
+    rattle_dealloc(blocks[2].block);
+    blocks[2] = rattle_alloc(100, 8);
+    LOOK(blocks[2].is_given);
+    memset(blocks[2].block, 8, 100);
+    LOOK(is_filled(blocks[3].block, 16, 9));
+    for (int at = 4; at-- > 0;) rattle_dealloc(blocks[at].block);
+}
+
+static void look_at_heads(void) {
+    planarbend *object = new_object();
+    work = take_heads;
+    for (int round = 0; round < 3; round++) call(object);
     planarbend_free(object);
 }
 
@@ -408,6 +482,8 @@ int main(void) {
     }
     in_order = false;
     look_at_ends();
+    look_at_reuse();
+    look_at_heads();
     look_at_greatest();
     look_at_refusals();
     look_at_threads();

@@ -36,6 +36,17 @@ static void look_at_words(void) {
     LOOK(strcmp(planarbend_version(), VERSION) == 0);
 }
 
+/* The numbers and fields of the header, which programs are compiled with. */
+static void look_at_numbers(void) {
+    LOOK(PLANARBEND_OUTER_FIRST == 0 && PLANARBEND_OUTER_BEST == 1);
+    LOOK(PLANARBEND_DRAWING_NONE == 0 && PLANARBEND_DRAWING_QUICK == 1 && PLANARBEND_DRAWING_SHORT == 2);
+    LOOK(PLANARBEND_MAX_VERTICES == 255 && PLANARBEND_MAX_EDGES == 510 && PLANARBEND_MAX_DARTS == 1020);
+    LOOK(PLANARBEND_MAX_FACES == 257 && PLANARBEND_MAX_BENDS == 1534 && PLANARBEND_MAX_RECORD == 65026);
+    LOOK(offsetof(planarbend_dart, from) == 0 && offsetof(planarbend_dart, to) == 1);
+    LOOK(offsetof(planarbend_turns, left) == 0 && offsetof(planarbend_turns, right) == 4);
+    LOOK(offsetof(planarbend_point, x) == 0 && offsetof(planarbend_point, y) == 2);
+}
+
 static void look_at_buffer(void) {
     static planarbend_buffer buffer;
     LOOK(sizeof buffer == 20428 && PLANARBEND_MAX_RECORD == 1 + 255 * 255);
@@ -269,7 +280,7 @@ static void look_at_no_object(void) {
     refused = -1;
 }
 
-/* A second time the same call asks the system for nothing; without an object, all memory is freed. */
+/* With an object, the same call asks the system for nothing from the second time on; without, all memory is freed. */
 static void look_at_object(struct call call) {
     long before = held;
     size_t bytes = bytes_held;
@@ -280,7 +291,7 @@ static void look_at_object(struct call call) {
     for (int round = 0; round < 4; round++) {
         long until = asked;
         result_of(call);
-        LOOK(round < 2 || asked == until);
+        LOOK(round < 1 || asked == until);
         LOOK(held <= before + 2 && bytes_held <= bytes + (1 << 20));
     }
     planarbend_free(call.object);
@@ -331,6 +342,9 @@ static void look_at_graph(planarbend *object, const uint8_t *record, size_t size
         for (int drawing = 0; drawing <= 2; drawing++) {
             struct call call = call_of(object, record, size, (way + drawing) % 2 != 0, drawing, way < 0 ? NULL : asked + way);
             look_at_object(call);
+            call.is_keeping = 1; /* without conditions too */
+            look_at_object(call);
+            call.is_keeping = way >= 0;
             if (is_small || (way <= 0 && drawing == 2)) look_at_memory(call, is_small ? 1 : 37);
             if (way < 0 && (is_small || drawing == 1)) look_at_rooms(call);
         }
@@ -339,6 +353,7 @@ static void look_at_graph(planarbend *object, const uint8_t *record, size_t size
 
 int main(int count, char **words) {
     look_at_words();
+    look_at_numbers();
     look_at_buffer();
     look_at_no_object();
     for (int way = 0; way < 2; way++) {

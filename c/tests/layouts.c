@@ -1,7 +1,7 @@
 /*
  * Each graph of planar_code files, laid out in every way and under random and extreme conditions: what is written is looked
- * at by the definitions. No graph breaks a rule. It prints a line for each file: its name, the graphs, the sums of bends for the first and
- * for the best outer face, and the lengths of quick and of short drawings, without conditions and with them.
+ * at by the definitions. No graph breaks a rule. It prints a line for each file: its name, the graphs, the sums of bends for
+ * the first and for the best outer face, and the lengths of quick and of short drawings, without conditions and with them.
  *
  *     layouts SHARE FILE...    conditions are tried on one graph in SHARE; with SHARE 0, a few calls are made for each
  */
@@ -76,7 +76,8 @@ static int ask_each(struct call *call, const struct asked *asked, long *lengths)
 static planarbend_dart straight[4 * PLANARBEND_MAX_DARTS], inner[4 * PLANARBEND_MAX_DARTS];
 
 static planarbend_dart ends_of(int dart) {
-    planarbend_dart ends = {(uint8_t)plane.tail[dart], (uint8_t)plane.head[dart]};
+    planarbend_dart ends;
+    ends.from = (uint8_t)plane.tail[dart], ends.to = (uint8_t)plane.head[dart];
     return ends;
 }
 

@@ -1,7 +1,7 @@
 /*
  * Memory for a test, linked with --wrap=malloc,--wrap=calloc,--wrap=realloc,--wrap=free. Allocations are counted and can be
- * refused. Each block has guard bytes behind it, which are looked at when it is freed; realloc always moves a block; the
- * bytes of a new or freed block are garbage. With EXACT, for valgrind and AddressSanitizer, blocks are those of the system.
+ * refused, and those of 0 bytes give none. Each block has guard bytes behind it, which are looked at when it is freed; realloc
+ * always moves a block; the bytes of a new or freed block are garbage. With EXACT, for valgrind and AddressSanitizer, blocks are those of the system.
  */
 #ifndef MEMORY_H
 #define MEMORY_H
@@ -95,15 +95,15 @@ static size_t size_of(const void *block) {
     return size;
 }
 
-void *__wrap_malloc(size_t size) { return is_refused() ? NULL : block_of(size); }
+void *__wrap_malloc(size_t size) { return is_refused() || size == 0 ? NULL : block_of(size); }
 void *__wrap_calloc(size_t count, size_t size) {
     return is_refused() ? NULL : memset(block_of(count * size), 0, count * size);
 }
 void *__wrap_realloc(void *block, size_t size) {
     if (is_refused()) return NULL;
-    void *other = block_of(size);
+    void *other = size == 0 ? NULL : block_of(size);
     if (block == NULL) return other;
-    memcpy(other, block, size < size_of(block) ? size : size_of(block));
+    if (size > 0) memcpy(other, block, size < size_of(block) ? size : size_of(block));
     __wrap_free(block);
     return other;
 }

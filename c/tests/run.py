@@ -1,7 +1,8 @@
 #!/usr/bin/env python3
 """Runs the tests of the library for C in out/, which c/make.py makes. The last line is 'N passed, M failed, K skipped';
 the exit status is 0 if nothing failed, otherwise 1. A test that needs valgrind, AddressSanitizer, pkg-config or a C++
-compiler is skipped, by name, if that is missing. With names of tests as arguments, only these run.
+compiler is skipped, by name, if that is missing. With names of tests as arguments, only these run. CC, CXX and CFLAGS
+are as usual.
 """
 from __future__ import annotations
 
@@ -23,14 +24,15 @@ from planarbend.planar_code import HEADER, record_of
 
 SOURCE, TESTS, OUT, DATA = ROOT / "c", ROOT / "c/tests", ROOT / "out", ROOT / "crates/corpus/data"
 COMPILER = os.environ.get("CC") or "cc"
-STRICT = ["-pedantic", "-Wall", "-Wextra", "-Werror", "-O2", "-g", f"-I{SOURCE}", "-pthread"]
+STRICT = ["-pedantic", "-Wall", "-Wextra", "-Werror", "-O2", "-g", f"-I{SOURCE}", "-pthread",
+          *os.environ.get("CFLAGS", "").split()]
 STATIC, SHARED = [str(OUT / "libplanarbend.a")], [f"-L{OUT}", f"-Wl,-rpath,{OUT}", "-lplanarbend"]
 WRAPPED = ["-Wl,--wrap=malloc,--wrap=calloc,--wrap=realloc,--wrap=free"]
 ADDRESSES = ["-DEXACT", "-fsanitize=address,undefined", "-fno-sanitize-recover=all"]
 VALGRIND = ["valgrind", "--quiet", "--error-exitcode=9", "--leak-check=full", "--show-leak-kinds=all"]
 VERSION = (ROOT / "checks/start/texts/version").read_text(encoding="utf-8").split()[1]
 OWN = [SOURCE / "planarbend.c", f'-DPLANARBEND_VERSION="{VERSION}"']
-SECONDS = 300  # the most that a command may take
+SECONDS, CLOCK_SECONDS = 200, 1800  # the most that a command may take, of the processor and by the clock
 
 # The sums of bends for the first and for the best outer face, by LEMON's network simplex (bench/outside/lemon.cc).
 BENDS = {"copies": (0, 0), "cubic60": (176, 169), "grid60": (0, 0), "medial60": (1102, 1082), "planar_d4_n4": (7, None),
@@ -50,7 +52,7 @@ def run(*words: object, **options: object) -> str:
     """The output of a command; if it fails, the test fails."""
     try:
         ran = subprocess.run([str(word) for word in words], stdout=subprocess.PIPE, stderr=subprocess.STDOUT, text=True,
-                             errors="replace", timeout=SECONDS, **options)
+                             errors="replace", timeout=CLOCK_SECONDS, **options)
     except subprocess.TimeoutExpired as why:
         raise Failed(str(why)) from None
     if ran.returncode:
@@ -220,6 +222,7 @@ def seconds() -> float:
 
 
 def main() -> int:
+    resource.setrlimit(resource.RLIMIT_CPU, (SECONDS, resource.getrlimit(resource.RLIMIT_CPU)[1]))
     counts: collections.Counter[str] = collections.Counter()
     names = {f"test_{name.removeprefix('test_')}" for name in sys.argv[1:]}
     for case in CASES:
