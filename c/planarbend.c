@@ -82,9 +82,9 @@ static struct rattle_given given(void *block) {
     return result;
 }
 
-/* The bytes of a block of this size with its head: a multiple of ALIGNMENT. */
+/* The bytes of a block of this size with its head: a multiple of ALIGNMENT. One of 0 bytes takes a byte, to lie inside. */
 static size_t whole_of(size_t size) {
-    return (size + HEAD + ALIGNMENT - 1) & ~(size_t)(ALIGNMENT - 1);
+    return ((size > 0 ? size : 1) + HEAD + ALIGNMENT - 1) & ~(size_t)(ALIGNMENT - 1);
 }
 
 /* Whether a block of this size may begin there. No size is greater than PTRDIFF_MAX. */

@@ -1,66 +1,84 @@
 /*
- * The edges of the call: null pointers, no room and too little, records that are none, each rule, and each allocation
- * refused. Linked with --wrap of malloc, realloc and calloc. It ends by status 0, or names the line that is wrong.
+ * The edges of the calls: null pointers, lists of every length, bytes that are no record, each rule, the largest records, each
+ * allocation refused, and graphs of growing size on one object. It ends by status 0, or names the line that is wrong.
  *
- *     edges FILE    a planar_code file
+ *     edges FILE...    planar_code files, of which the last graphs are taken
  */
-#include <stdio.h>
-#include <stdlib.h>
-#include <string.h>
+#include <limits.h>
 
-#include "planarbend.h"
+#include "calls.h"
 
-#define LOOK(holds) ((holds) ? (void)0 : wrong(__LINE__, #holds))
-
-static void wrong(int line, const char *what) {
-    fprintf(stderr, "edges.c:%d: %s\n", line, what);
-    exit(1);
-}
-
-/* ---- memory that is refused */
-
-static long refused = -1; /* how many allocations go well before one is refused; none if it is below 0 */
-static long asked = 0;
-
-void *__real_malloc(size_t size);
-void *__real_calloc(size_t count, size_t size);
-void *__real_realloc(void *block, size_t size);
-void *__wrap_malloc(size_t size);
-void *__wrap_calloc(size_t count, size_t size);
-void *__wrap_realloc(void *block, size_t size);
-
-static int is_refused(void) {
-    asked++;
-    return refused >= 0 && refused-- == 0;
-}
-
-void *__wrap_malloc(size_t size) { return is_refused() ? NULL : __real_malloc(size); }
-void *__wrap_calloc(size_t count, size_t size) { return is_refused() ? NULL : __real_calloc(count, size); }
-void *__wrap_realloc(void *block, size_t size) { return is_refused() ? NULL : __real_realloc(block, size); }
-
-/* ---- */
-
-static planarbend_buffer buffer, other;
-
-static int answer(const uint8_t *record, size_t size, int drawing, planarbend_counts *counts) {
-    planarbend_lists lists = planarbend_lists_of(&buffer);
-    memset(&buffer, 0xA5, sizeof buffer);
-    return planarbend_layout(NULL, record, size, PLANARBEND_OUTER_FIRST, drawing, counts, &lists);
-}
+static struct answer good, one;
 
 static const uint8_t EDGE[] = {2, 2, 0, 1, 0};
 static const uint8_t TRIANGLE[] = {3, 2, 3, 0, 3, 1, 0, 1, 2, 0};
+static const planarbend_dart SIDES[] = {{1, 2}, {3, 2}, {1, 3}};
+static const planarbend_dart ACROSS[] = {{1, 2}, {2, 1}}; /* one of them has each face on its left */
+
+static struct call call_of(planarbend *object, const uint8_t *record, size_t size, int outer, int drawing,
+                           const planarbend_conditions *conditions) {
+    struct call call = {object, record, size, outer, drawing, conditions, conditions != NULL, 0, 0, 0};
+    return call;
+}
+
+/* The result of a call, with all lists. */
+static int result_of(struct call call) {
+    set_rooms(&one, 0, 1);
+    return ask(&call, &one);
+}
 
 static void look_at_words(void) {
     const char *words[] = {"ok",     "range", "loop",     "multi",   "asymmetric", "edgeless", "degree", "disconnected", "genus",
                            "record", "memory", "room",    "argument", "noshape",   "noedge",   "noouter", "wide"};
     for (int result = 0; result <= PLANARBEND_WIDE; result++) LOOK(strcmp(planarbend_word(result), words[result]) == 0);
-    LOOK(planarbend_word(-1) == NULL);
-    LOOK(planarbend_word(PLANARBEND_WIDE + 1) == NULL);
-    LOOK(strlen(planarbend_version()) >= 5);
+    LOOK(planarbend_word(-1) == NULL && planarbend_word(INT_MIN) == NULL);
+    LOOK(planarbend_word(PLANARBEND_WIDE + 1) == NULL && planarbend_word(INT_MAX) == NULL);
+    LOOK(strcmp(planarbend_version(), VERSION) == 0);
 }
 
-static void look_at_rules(void) {
+/* The numbers and fields of the header, which programs are compiled with. */
+static void look_at_numbers(void) {
+    LOOK(PLANARBEND_OUTER_FIRST == 0 && PLANARBEND_OUTER_BEST == 1);
+    LOOK(PLANARBEND_DRAWING_NONE == 0 && PLANARBEND_DRAWING_QUICK == 1 && PLANARBEND_DRAWING_SHORT == 2);
+    LOOK(PLANARBEND_MAX_VERTICES == 255 && PLANARBEND_MAX_EDGES == 510 && PLANARBEND_MAX_DARTS == 1020);
+    LOOK(PLANARBEND_MAX_FACES == 257 && PLANARBEND_MAX_BENDS == 1534 && PLANARBEND_MAX_RECORD == 65026);
+    LOOK(offsetof(planarbend_dart, from) == 0 && offsetof(planarbend_dart, to) == 1);
+    LOOK(offsetof(planarbend_turns, left) == 0 && offsetof(planarbend_turns, right) == 4);
+    LOOK(offsetof(planarbend_point, x) == 0 && offsetof(planarbend_point, y) == 2);
+}
+
+static void look_at_buffer(void) {
+    static planarbend_buffer buffer;
+    LOOK(sizeof buffer == 20428 && PLANARBEND_MAX_RECORD == 1 + 255 * 255);
+    memset(&buffer, UNTOUCHED, sizeof buffer);
+    planarbend_lists lists = planarbend_lists_of(&buffer);
+    look_untouched(&buffer, sizeof buffer);
+#define LOOK_AT_LIST(name) LOOK(lists.name == buffer.name && lists.name##_room == sizeof buffer.name / sizeof *buffer.name)
+    LOOK_AT_LIST(angles);
+    LOOK_AT_LIST(turns);
+    LOOK_AT_LIST(vertex_prices);
+    LOOK_AT_LIST(face_prices);
+    LOOK_AT_LIST(points);
+    LOOK_AT_LIST(corner_starts);
+    LOOK_AT_LIST(corners);
+}
+
+/* ---- results */
+
+/* Every way to ask for a record that is not laid out has this result. */
+static void look_at_refused(planarbend *object, const uint8_t *record, size_t size, int result) {
+    const planarbend_dart nowhere = {9, 9};
+    const planarbend_conditions asked[] = {{NULL, 0, NULL, 0}, {SIDES, 1, SIDES, 1}, {&nowhere, 1, &nowhere, 1}};
+    for (int way = -1; way < 3; way++)
+        for (int outer = 0; outer <= 1; outer++)
+            for (int drawing = 0; drawing <= 2; drawing++) {
+                const planarbend_conditions *conditions = way < 0 ? NULL : asked + way;
+                LOOK(result_of(call_of(NULL, record, size, outer, drawing, conditions)) == result);
+                LOOK(result_of(call_of(object, record, size, outer, drawing, conditions)) == result);
+            }
+}
+
+static void look_at_rules(planarbend *object) {
     static const struct {
         int rule;
         size_t size;
@@ -75,236 +93,296 @@ static void look_at_rules(void) {
         {PLANARBEND_DISCONNECTED, 9, {4, 2, 0, 1, 0, 4, 0, 3, 0}},
         /* the complete graph on four vertices, in the torus */
         {PLANARBEND_GENUS, 17, {4, 2, 3, 4, 0, 1, 3, 4, 0, 1, 2, 4, 0, 1, 2, 3, 0}},
+        {PLANARBEND_NOT_A_RECORD, 1, {0}},
+        {PLANARBEND_NOT_A_RECORD, 4, {2, 2, 0, 1}},
+        {PLANARBEND_NOT_A_RECORD, 6, {2, 2, 0, 1, 0, 0}},
     };
     for (size_t at = 0; at < sizeof broken / sizeof *broken; at++)
-        for (int drawing = 0; drawing <= 2; drawing++) {
-            planarbend_counts counts = {7, 7, 7, 7, 7, 7};
-            LOOK(answer(broken[at].record, broken[at].size, drawing, &counts) == broken[at].rule);
-            LOOK(counts.vertices == 7 && counts.corners == 7 && buffer.angles[0] == 0xA5 && buffer.points[0].x == 0xA5A5);
-        }
+        look_at_refused(object, broken[at].record, broken[at].size, broken[at].rule);
 }
 
-static void look_at_arguments(void) {
-    planarbend_counts counts;
-    planarbend_lists lists;
-    for (int outer = -2; outer <= 4; outer++)
-        for (int drawing = -2; drawing <= 5; drawing++) {
-            int asked_for = outer >= 0 && outer <= 1 && drawing >= 0 && drawing <= 2;
-            int result = planarbend_layout(NULL, EDGE, sizeof EDGE, outer, drawing, &counts, NULL);
-            LOOK(result == (asked_for ? PLANARBEND_OK : PLANARBEND_ARGUMENT));
+/* The largest records: all 255 vertices with all others as neighbours. */
+static void look_at_largest(planarbend *object) {
+    static uint8_t record[PLANARBEND_MAX_RECORD + 1];
+    size_t at = 0;
+    memset(record, 0, sizeof record);
+    record[at++] = 255;
+    for (int vertex = 1; vertex <= 255; vertex++, at++)
+        for (int neighbour = 1; neighbour <= 255; neighbour++)
+            if (neighbour != vertex) record[at++] = (uint8_t)neighbour;
+    LOOK(at == PLANARBEND_MAX_RECORD);
+    LOOK(result_of(call_of(object, record, at, 0, 2, NULL)) == PLANARBEND_DEGREE);
+    LOOK(result_of(call_of(object, record, at - 1, 0, 2, NULL)) == PLANARBEND_NOT_A_RECORD);
+    LOOK(result_of(call_of(object, record, at + 1, 0, 2, NULL)) == PLANARBEND_NOT_A_RECORD);
+    record[at - 2] = 1;
+    LOOK(result_of(call_of(object, record, at, 0, 2, NULL)) == PLANARBEND_MULTI);
+    record[at - 2] = 255;
+    LOOK(result_of(call_of(object, record, at, 0, 2, NULL)) == PLANARBEND_LOOP);
+    record[at - 1] = 254, record[at] = 0; /* a list of 255 */
+    LOOK(result_of(call_of(object, record, at + 1, 0, 2, NULL)) == PLANARBEND_NOT_A_RECORD);
+}
+
+static void look_at_arguments(planarbend *object) {
+    const planarbend_conditions none = {NULL, 0, NULL, 0}, both[] = {{NULL, 1, SIDES, 1}, {SIDES, 1, NULL, 1}};
+    const int numbers[] = {INT_MIN, -3, -2, -1, 0, 1, 2, 3, 4, 256, 65536, INT_MAX};
+    for (size_t outer = 0; outer < sizeof numbers / sizeof *numbers; outer++)
+        for (size_t drawing = 0; drawing < sizeof numbers / sizeof *numbers; drawing++) {
+            int is_known = numbers[outer] >= 0 && numbers[outer] <= 1 && numbers[drawing] >= 0 && numbers[drawing] <= 2;
+            int result = is_known ? PLANARBEND_OK : PLANARBEND_ARGUMENT;
+            LOOK(result_of(call_of(object, EDGE, sizeof EDGE, numbers[outer], numbers[drawing], NULL)) == result);
+            LOOK(result_of(call_of(object, EDGE, sizeof EDGE, numbers[outer], numbers[drawing], &none)) == result);
         }
-    LOOK(planarbend_layout(NULL, EDGE, sizeof EDGE, 2147483647, 0, &counts, NULL) == PLANARBEND_ARGUMENT);
-    LOOK(planarbend_layout(NULL, NULL, 5, 0, 0, &counts, NULL) == PLANARBEND_ARGUMENT);
-    LOOK(planarbend_layout(NULL, NULL, 0, 0, 0, &counts, NULL) == PLANARBEND_NOT_A_RECORD);
-    LOOK(planarbend_layout(NULL, EDGE, 0, 0, 0, &counts, NULL) == PLANARBEND_NOT_A_RECORD);
-    LOOK(planarbend_layout(NULL, EDGE, sizeof EDGE, 0, 1, NULL, NULL) == PLANARBEND_OK);
-    memset(&lists, 0, sizeof lists);
-    LOOK(planarbend_layout(NULL, EDGE, sizeof EDGE, 0, 1, NULL, &lists) == PLANARBEND_OK);
-#define NULL_WITH_ROOM(name)                                                                                    \
-    do {                                                                                                        \
-        memset(&lists, 0, sizeof lists);                                                                        \
-        lists.name##_room = 5;                                                                                  \
-        LOOK(planarbend_layout(NULL, EDGE, sizeof EDGE, 0, 1, &counts, &lists) == PLANARBEND_ARGUMENT);          \
-    } while (0)
-    NULL_WITH_ROOM(angles);
-    NULL_WITH_ROOM(turns);
-    NULL_WITH_ROOM(vertex_prices);
-    NULL_WITH_ROOM(face_prices);
-    NULL_WITH_ROOM(points);
-    NULL_WITH_ROOM(corner_starts);
-    NULL_WITH_ROOM(corners);
+    for (int way = 0; way < 2; way++) {
+        const planarbend_conditions *conditions = way == 0 ? NULL : &none;
+        LOOK(result_of(call_of(object, NULL, 5, 0, 0, conditions)) == PLANARBEND_ARGUMENT);
+        LOOK(result_of(call_of(object, NULL, 0, 0, 0, conditions)) == PLANARBEND_NOT_A_RECORD);
+        LOOK(result_of(call_of(object, EDGE, 0, 0, 0, conditions)) == PLANARBEND_NOT_A_RECORD);
+        LOOK(result_of(call_of(object, TRIANGLE, sizeof TRIANGLE, 0, 1, both + way)) == PLANARBEND_ARGUMENT);
+        for (int kind = 0; kind < LISTS; kind++) {
+            planarbend_lists lists;
+            planarbend_counts counts;
+            size_t room = PLANARBEND_MAX_DARTS;
+            memset(&lists, 0, sizeof lists);
+            memset(&counts, UNTOUCHED, sizeof counts);
+            memcpy((char *)&lists + KINDS[kind].room, &room, sizeof room);
+            LOOK(planarbend_layout_keeping(object, EDGE, sizeof EDGE, 0, 1, conditions, &counts, &lists, NULL) == PLANARBEND_ARGUMENT);
+            look_untouched(&counts, sizeof counts);
+        }
+    }
     LOOK(planarbend_new(NULL) == PLANARBEND_ARGUMENT);
     planarbend_free(NULL);
 }
 
-/* The triangle, with edges that stay straight and faces that stay inside. A refusal leaves all but the cut as it was. */
-static int keep(planarbend *object, const planarbend_dart *straight, size_t straight_count, const planarbend_dart *inner,
-                size_t inner_count, planarbend_counts *counts, planarbend_cut *cut) {
-    planarbend_conditions conditions = {straight, straight_count, inner, inner_count};
-    planarbend_counts before = {7, 7, 7, 7, 7, 7};
-    planarbend_lists lists = planarbend_lists_of(&buffer);
-    memset(&buffer, 0xA5, sizeof buffer);
-    if (cut != NULL) memset(cut, 0xA5, sizeof *cut);
-    *counts = before;
-    int result = planarbend_layout_keeping(object, TRIANGLE, sizeof TRIANGLE, 0, 1, &conditions, counts, &lists, cut);
-    if (result != PLANARBEND_OK) LOOK(memcmp(counts, &before, sizeof before) == 0 && buffer.angles[0] == 0xA5);
-    if (result != PLANARBEND_NO_SHAPE && cut != NULL) LOOK(cut->vertices[0] == 0xA5 && cut->faces[0] == 0xA5);
-    return result;
+/* Counts, lists and cut are written with or without the others. */
+static void look_at_parts(planarbend *object) {
+    const planarbend_conditions asked[] = {{SIDES, 2, NULL, 0}, {SIDES, 3, NULL, 0}};
+    for (int drawing = 0; drawing <= 2; drawing++)
+        for (int way = 0; way < 3; way++)
+            for (int left_out = 0; left_out < 8; left_out++) {
+                struct call call = call_of(object, TRIANGLE, sizeof TRIANGLE, 0, drawing, way == 0 ? NULL : asked + way - 1);
+                set_rooms(&good, 0, 1);
+                LOOK(ask(&call, &good) == (way == 2 ? PLANARBEND_NO_SHAPE : PLANARBEND_OK));
+                call.without_counts = left_out & 1, call.without_lists = left_out >> 1 & 1, call.without_cut = left_out >> 2;
+                LOOK(result_of(call) == good.result);
+                if (!call.without_counts) LOOK(memcmp(&one.counts, &good.counts, sizeof one.counts) == 0);
+                if (!call.without_lists) LOOK(memcmp(one.places, good.places, PLACES) == 0);
+                else look_untouched(one.places, PLACES);
+                if (!call.without_cut) LOOK(memcmp(&one.marks, &good.marks, sizeof one.marks) == 0);
+            }
 }
 
-static const planarbend_dart SIDES[] = {{1, 2}, {3, 2}, {1, 3}};
-static const planarbend_dart ACROSS[] = {{1, 2}, {2, 1}}; /* one of them has each face on its left */
-
-static void look_at_cut(const planarbend_cut *cut) {
-    for (int at = 0; at < PLANARBEND_MAX_VERTICES; at++) LOOK(cut->vertices[at] <= (at < 3));
-    for (int at = 0; at < PLANARBEND_MAX_FACES; at++) LOOK(cut->faces[at] <= (at < 2));
-    LOOK(cut->outer_face < 2);
-}
-
+/* Conditions on a triangle. */
 static void look_at_conditions(planarbend *object) {
-    planarbend_counts counts;
-    planarbend_cut cut;
-    LOOK(keep(object, NULL, 0, NULL, 0, &counts, &cut) == PLANARBEND_OK && counts.bends == 1);
-    LOOK(keep(object, SIDES, 2, NULL, 0, &counts, &cut) == PLANARBEND_OK && counts.bends == 1);
-    LOOK(keep(object, SIDES, 3, NULL, 0, &counts, &cut) == PLANARBEND_NO_SHAPE);
-    look_at_cut(&cut);
-    LOOK(keep(object, SIDES, 3, NULL, 0, &counts, NULL) == PLANARBEND_NO_SHAPE);
-    uint32_t outer[2];
-    for (int at = 0; at < 2; at++) {
-        LOOK(keep(object, NULL, 0, ACROSS + at, 1, &counts, &cut) == PLANARBEND_OK);
-        outer[at] = counts.outer_face;
+    struct call call = call_of(object, TRIANGLE, sizeof TRIANGLE, 0, 1, NULL);
+    planarbend_conditions asked = {SIDES, 0, ACROSS, 0};
+    call.conditions = &asked, call.is_keeping = 1;
+    for (asked.straight_count = 0; asked.straight_count <= 3; asked.straight_count++) {
+        LOOK(result_of(call) == (asked.straight_count < 3 ? PLANARBEND_OK : PLANARBEND_NO_SHAPE));
+        if (one.result == PLANARBEND_OK) LOOK(one.counts.bends == 1);
     }
-    LOOK(outer[0] + outer[1] == 1);
-    LOOK(keep(object, NULL, 0, ACROSS, 2, &counts, &cut) == PLANARBEND_NO_OUTER);
-    for (uint8_t to = 0; to < 5; to++) {
-        planarbend_dart dart = {1, to};
-        int result = to == 2 || to == 3 ? PLANARBEND_OK : PLANARBEND_NO_EDGE;
-        LOOK(keep(object, &dart, 1, NULL, 0, &counts, &cut) == result);
-        LOOK(keep(object, NULL, 0, &dart, 1, &counts, &cut) == result);
-    }
-    LOOK(keep(object, NULL, 1, NULL, 0, &counts, &cut) == PLANARBEND_ARGUMENT);
-    LOOK(keep(object, NULL, 0, NULL, 1, &counts, &cut) == PLANARBEND_ARGUMENT);
-    for (size_t straight = 0; straight <= 3; straight++) {
-        int result = keep(object, SIDES, straight, ACROSS, 1, &counts, &cut), met = 1;
-        for (long nth = 0; met; nth++) {
-            refused = nth;
-            int other_result = keep(object, SIDES, straight, ACROSS, 1, &counts, &cut);
-            met = refused < 0;
-            refused = -1;
-            LOOK(other_result == result || (met && other_result == PLANARBEND_MEMORY));
+    asked.straight_count = 0, asked.inner_count = 1;
+    LOOK(result_of(call) == PLANARBEND_OK);
+    uint32_t outer = one.counts.outer_face;
+    asked.inner = ACROSS + 1;
+    LOOK(result_of(call) == PLANARBEND_OK && one.counts.outer_face + outer == 1);
+    asked.inner = ACROSS, asked.inner_count = 2;
+    LOOK(result_of(call) == PLANARBEND_NO_OUTER);
+    for (int from = 0; from <= 255; from += 1 + 250 * (from == 4))
+        for (int to = 0; to <= 255; to += 1 + 250 * (to == 4)) {
+            const planarbend_dart named[] = {{1, 2}, {(uint8_t)from, (uint8_t)to}};
+            int result = from >= 1 && from <= 3 && to >= 1 && to <= 3 && from != to ? PLANARBEND_OK : PLANARBEND_NO_EDGE;
+            const planarbend_conditions straight = {named, 2, NULL, 0}, inner = {NULL, 0, named + 1, 1};
+            call.conditions = &straight;
+            LOOK(result_of(call) == result);
+            call.conditions = &inner;
+            LOOK(result_of(call) == result);
         }
-    }
 }
 
-/* Each list alone with every room from 0 to one more than it needs, in memory of just that size. */
-#define EACH_ROOM(name, type, need, is_drawn)                                                                       \
-    for (size_t room = 0; room <= (size_t)(need) + 1; room++) {                                                     \
-        planarbend_lists lists;                                                                                     \
-        planarbend_counts found = {7, 7, 7, 7, 7, 7};                                                               \
-        type *list = __real_malloc(room * sizeof(type) + (room == 0));                                              \
-        memset(list, 0xA5, room * sizeof(type));                                                                    \
-        memset(&lists, 0, sizeof lists);                                                                            \
-        lists.name = list;                                                                                          \
-        lists.name##_room = room;                                                                                   \
-        int result = planarbend_layout(NULL, record, size, 0, drawing, &found, &lists);                             \
-        int is_short = room > 0 && room < (size_t)(need) && (drawing > 0 || !(is_drawn));                           \
-        LOOK(result == (is_short ? PLANARBEND_ROOM : PLANARBEND_OK));                                               \
-        LOOK(memcmp(&found, &counts, sizeof found) == 0);                                                           \
-        int is_written = room >= (size_t)(need) && room > 0 && (drawing > 0 || !(is_drawn));                        \
-        if (is_written) LOOK(memcmp(list, other.name, (size_t)(need) * sizeof(type)) == 0);                         \
-        for (size_t at = is_written ? (size_t)(need) * sizeof(type) : 0; at < room * sizeof(type); at++)            \
-            LOOK(((uint8_t *)list)[at] == 0xA5);                                                                    \
-        free(list);                                                                                                 \
-    }
+/* ---- the length of lists and of records */
 
-static void look_at_rooms(const uint8_t *record, size_t size) {
-    for (int drawing = 0; drawing <= 2; drawing++) {
-        planarbend_counts counts;
-        LOOK(answer(record, size, drawing, &counts) == PLANARBEND_OK);
-        memcpy(&other, &buffer, sizeof other);
-        EACH_ROOM(angles, uint8_t, 2 * counts.edges, 0)
-        EACH_ROOM(turns, planarbend_turns, 2 * counts.edges, 0)
-        EACH_ROOM(vertex_prices, int32_t, counts.vertices, 0)
-        EACH_ROOM(face_prices, int32_t, counts.faces, 0)
-        EACH_ROOM(points, planarbend_point, counts.vertices, 1)
-        EACH_ROOM(corner_starts, uint32_t, counts.edges + 1, 1)
-        EACH_ROOM(corners, planarbend_point, counts.corners, 1)
+/* Each list alone with every room from 0 to one more than it needs, and all with a room too little in one. */
+static void look_at_rooms(struct call call) {
+    set_rooms(&good, 0, 1);
+    LOOK(ask(&call, &good) == PLANARBEND_OK);
+    for (int kind = 0; kind < LISTS; kind++) {
+        size_t need = need_of(kind, &good.counts, call.drawing);
+        for (size_t room = 0; room <= need + 1; room++)
+            for (int with_others = 0; with_others < 2; with_others++) {
+                set_rooms(&one, 0, with_others);
+                one.rooms[kind] = room;
+                ask(&call, &one);
+                LOOK(one.result == (room > 0 && room < need ? PLANARBEND_ROOM : PLANARBEND_OK));
+                LOOK(memcmp(&one.counts, &good.counts, sizeof one.counts) == 0);
+                if (one.result != PLANARBEND_OK || need == 0 || room == 0) continue;
+                size_t list = KINDS[kind].list;
+                void *found, *wanted;
+                memcpy(&found, (char *)&one.lists + list, sizeof found);
+                memcpy(&wanted, (char *)&good.lists + list, sizeof wanted);
+                LOOK(memcmp(found, wanted, need * KINDS[kind].item) == 0);
+            }
     }
 }
 
 /* Each beginning of a record, and the record with each byte more, in memory of just that size. */
-static void look_at_sizes(const uint8_t *record, size_t size) {
+static void look_at_sizes(planarbend *object, const uint8_t *record, size_t size) {
     for (size_t length = 0; length <= size + 1; length++) {
         uint8_t *bytes = __real_malloc(length + (length == 0));
+        LOOK(bytes != NULL);
         memcpy(bytes, record, length < size ? length : size);
         int more = length == size + 1;
-        for (int byte = 0; byte < (more ? 256 : 1); byte++) {
+        for (int byte = 0; byte < (more ? 256 : 1); byte += 51) {
             if (more) bytes[size] = (uint8_t)byte;
-            int result = planarbend_layout(NULL, bytes, length, 0, 0, NULL, NULL);
+            int result = planarbend_layout(object, bytes, length, 0, 0, NULL, NULL);
             LOOK(length == size ? result <= PLANARBEND_GENUS : result == PLANARBEND_NOT_A_RECORD);
         }
-        free(bytes);
+        __real_free(bytes);
     }
 }
 
-/* One allocation refused after another, until a call meets none: each ends with PLANARBEND_MEMORY or with the same answer. */
-static void look_at_memory(const uint8_t *record, size_t size, int drawing, planarbend *object) {
-    planarbend_counts counts, found;
-    refused = -1;
-    int result = answer(record, size, drawing, &counts);
-    memcpy(&other, &buffer, sizeof other);
-    planarbend_lists lists = planarbend_lists_of(&buffer);
-    for (long nth = 0;; nth++) {
-        memset(&buffer, 0xA5, sizeof buffer);
-        refused = nth;
-        int other_result = planarbend_layout(object, record, size, 0, drawing, &found, &lists);
-        int met = refused < 0;
-        refused = -1;
-        LOOK(other_result == PLANARBEND_MEMORY || other_result == result);
-        if (other_result == PLANARBEND_MEMORY) LOOK(buffer.angles[0] == 0xA5);
-        if (other_result == PLANARBEND_OK) LOOK(memcmp(&counts, &found, sizeof found) == 0 && memcmp(&buffer, &other, sizeof other) == 0);
-        if (!met) {
-            LOOK(other_result == result);
-            break;
+/* ---- memory */
+
+static planarbend *new_object(int is_used) {
+    planarbend *object;
+    LOOK(planarbend_new(&object) == PLANARBEND_OK);
+    if (is_used) LOOK(planarbend_layout(object, TRIANGLE, sizeof TRIANGLE, 0, 2, NULL, NULL) == PLANARBEND_OK);
+    return object;
+}
+
+/* One allocation refused after another, or all from one on, until a call meets none. Each call ends with PLANARBEND_MEMORY or
+   with the same answer, and so does the next one, with no refusal. */
+static void look_at_memory(struct call call, long step) {
+    long before = held;
+    call.object = NULL;
+    set_rooms(&good, 0, 1);
+    ask(&call, &good);
+    for (int way = 0; way < 6; way++) {
+        was_refused = 1;
+        for (long nth = 0; was_refused; nth += step) {
+            call.object = way % 3 == 0 ? NULL : new_object(way % 3 == 2);
+            refused = nth, is_refused_on = way >= 3, was_refused = 0;
+            result_of(call);
+            refused = -1;
+            LOOK(is_same(&one, &good) || (was_refused && one.result == PLANARBEND_MEMORY));
+            result_of(call);
+            LOOK(is_same(&one, &good));
+            if (way % 3 == 0) LOOK(held == before);
+            planarbend_free(call.object);
+            LOOK(held == before);
         }
     }
 }
 
 static void look_at_no_object(void) {
-    planarbend *object = (planarbend *)&buffer;
+    planarbend *object = (planarbend *)&good;
     refused = 0;
     LOOK(planarbend_new(&object) == PLANARBEND_MEMORY && object == NULL);
     refused = -1;
 }
 
-/* A second time the same graph asks the system for nothing. */
-static void look_at_object(const uint8_t *record, size_t size, planarbend *object) {
-    for (int drawing = 0; drawing <= 2; drawing++)
-        for (int outer = 0; outer <= 1; outer++) {
-            planarbend_layout(object, record, size, outer, drawing, NULL, NULL);
-            planarbend_layout(object, record, size, outer, drawing, NULL, NULL);
-            long before = asked;
-            planarbend_layout(object, record, size, outer, drawing, NULL, NULL);
-            LOOK(asked == before);
-        }
+/* With an object, the same call asks the system for nothing from the second time on; without, all memory is freed. */
+static void look_at_object(struct call call) {
+    long before = held;
+    size_t bytes = bytes_held;
+    call.object = NULL;
+    result_of(call);
+    LOOK(held == before);
+    call.object = new_object(0);
+    for (int round = 0; round < 4; round++) {
+        long until = asked;
+        result_of(call);
+        LOOK(round < 1 || asked == until);
+        LOOK(held <= before + 2 && bytes_held <= bytes + (1 << 20));
+    }
+    planarbend_free(call.object);
+    LOOK(held == before);
 }
 
-static size_t record_size(const uint8_t *bytes, size_t size) {
-    size_t lists = bytes[0], at = 1;
-    while (lists > 0 && at < size)
-        if (bytes[at++] == 0) lists--;
+/* A path, or two paths side by side with an edge from each vertex to its neighbour. */
+static size_t strip(uint8_t *record, int length, int width) {
+    size_t at = 0;
+    record[at++] = (uint8_t)(length * width);
+    for (int row = 0; row < width; row++)
+        for (int place = 0; place < length; place++, at++) {
+            int vertex = row * length + place + 1;
+            record[at] = 0;
+            if (row > 0) record[at++] = (uint8_t)(vertex - length);
+            if (place + 1 < length) record[at++] = (uint8_t)(vertex + 1);
+            if (row + 1 < width) record[at++] = (uint8_t)(vertex + length);
+            if (place > 0) record[at++] = (uint8_t)(vertex - 1);
+            record[at] = 0;
+        }
     return at;
 }
 
-int main(int count, char **words) {
-    static uint8_t bytes[1 << 20];
-    FILE *file = count == 2 ? fopen(words[1], "rb") : NULL;
-    if (file == NULL) wrong(__LINE__, "edges FILE");
-    size_t size = fread(bytes, 1, sizeof bytes, file);
-    fclose(file);
-    look_at_words();
-    look_at_rules();
-    look_at_arguments();
-    look_at_no_object();
-    look_at_rooms(EDGE, sizeof EDGE);
-    look_at_rooms(TRIANGLE, sizeof TRIANGLE);
-    planarbend *object;
-    LOOK(planarbend_new(&object) == PLANARBEND_OK);
-    look_at_conditions(NULL);
-    look_at_conditions(object);
-    long graphs = 0;
-    for (size_t at = 15; at < size; graphs++) {
-        size_t length = record_size(bytes + at, size - at);
-        look_at_sizes(bytes + at, length);
-        if (graphs < 20) look_at_rooms(bytes + at, length);
-        for (int drawing = 0; drawing <= 2 && graphs < 8; drawing++) {
-            look_at_memory(bytes + at, length, drawing, NULL);
-            look_at_memory(bytes + at, length, drawing, object);
+/* Graphs of growing size on one object. */
+static void look_at_growth(int runs) {
+    uint32_t seed = 1;
+    const planarbend_conditions none = {NULL, 0, NULL, 0};
+    for (int run = 0; run < runs; run++) {
+        struct call call = call_of(new_object(0), NULL, 0, run % 2, run / 2 % 3, run / 6 % 2 == 0 ? NULL : &none);
+        for (int step = 0; step < 12; step++) {
+            uint8_t record[PLANARBEND_MAX_VERTICES * 5];
+            seed = seed * 1103515245 + 12345;
+            int size = 2 + (int)(21 * (step * 1024 + (seed >> 16) % 1024) / 1024), width = 1 + (int)(seed >> 28) % 2;
+            call.size = strip(record, size / width > 1 ? size / width : 2, width);
+            call.record = record;
+            LOOK(result_of(call) == PLANARBEND_OK && one.counts.bends == 0);
         }
-        look_at_object(bytes + at, length, object);
-        at += length;
+        planarbend_free(call.object);
+    }
+}
+
+/* ---- */
+
+static void look_at_graph(planarbend *object, const uint8_t *record, size_t size, int is_small) {
+    const planarbend_dart first = {1, record[1]}, all[] = {{1, record[1]}, {record[1], 1}, {2, 99}};
+    const planarbend_conditions asked[] = {{&first, 1, NULL, 0}, {NULL, 0, &first, 1}, {all, 3, NULL, 0}};
+    for (int way = -1; way < 3; way++)
+        for (int drawing = 0; drawing <= 2; drawing++) {
+            struct call call = call_of(object, record, size, (way + drawing) % 2 != 0, drawing, way < 0 ? NULL : asked + way);
+            look_at_object(call);
+            call.is_keeping = 1; /* without conditions too */
+            look_at_object(call);
+            call.is_keeping = way >= 0;
+            if (is_small || (way <= 0 && drawing == 2)) look_at_memory(call, is_small ? 1 : 37);
+            if (way < 0 && (is_small || drawing == 1)) look_at_rooms(call);
+        }
+    look_at_sizes(object, record, size);
+}
+
+int main(int count, char **words) {
+    look_at_words();
+    look_at_numbers();
+    look_at_buffer();
+    look_at_no_object();
+    for (int way = 0; way < 2; way++) {
+        planarbend *object = way == 0 ? NULL : new_object(0);
+        look_at_rules(object);
+        look_at_largest(object);
+        look_at_arguments(object);
+        look_at_parts(object);
+        look_at_conditions(object);
+        planarbend_free(object);
+    }
+    planarbend_conditions straight = {SIDES, 3, NULL, 0};
+    look_at_memory(call_of(NULL, TRIANGLE, sizeof TRIANGLE, 0, 1, &straight), 1);
+    look_at_growth(96);
+    look_at_graph(NULL, EDGE, sizeof EDGE, 1);
+    look_at_graph(NULL, TRIANGLE, sizeof TRIANGLE, 1);
+    planarbend *object = new_object(0);
+    long graphs = 0;
+    for (int file = 1; file < count; file++) {
+        size_t size;
+        uint8_t *bytes = read_all(words[file], &size);
+        size_t at = HEADER, length = record_size(bytes + at, size - at);
+        for (; at + length < size; length = record_size(bytes + at, size - at)) at += length;
+        look_at_graph(object, bytes + at, length, bytes[at] < 9);
+        graphs++;
+        __real_free(bytes);
     }
     planarbend_free(object);
+    LOOK(held == 0);
     printf("%ld graphs\n", graphs);
     return 0;
 }

@@ -1,11 +1,9 @@
 // For each graph of a planar_code file and random conditions: whether libplanarbend and LEMON's network simplex find as few
 // bends, or both none. Arguments: the file, how many conditions for each graph, and a seed. It looks at each drawing too:
-// edges that are to stay straight have no corners, and the outer face is none that is to stay inside. If there is no
-// shape, it prints a line: the word "cut", the record in hexadecimal, the numbers of the straight darts and of the faces to
-// stay inside, the outer face, and the vertices and faces of the library's cut, each list with commas ("-": empty). At last
-// counts; the first disagreement ends it by status 1.
+// edges that are to stay straight have no corners, and the outer face is none that is to stay inside; and at each cut, by the
+// definition. At last it prints counts; the first disagreement ends it by status 1.
+#include "laws.h"
 #include "planar.hpp"
-#include "planarbend.h"
 #include <cstdlib>
 #include <random>
 
@@ -43,21 +41,14 @@ static Case random_case(Graph graph, std::mt19937 &random) {
   return made;
 }
 
-// The places that hold something, from a number on, with commas.
-template <typename List> static std::string places_of(const List &list, int first) {
-  std::string text;
-  for (size_t k = 0; k < list.size(); ++k)
-    if (list[k]) text += (text.empty() ? "" : ",") + std::to_string(first + static_cast<int>(k));
-  return text.empty() ? "-" : text;
-}
-
-static void print_cut(const std::string &record, const Case &asked, const planarbend_cut &cut) {
-  std::printf("cut ");
-  for (const unsigned char byte : record) std::printf("%02x", byte);
-  const std::vector<uint8_t> vertices(cut.vertices, cut.vertices + PLANARBEND_MAX_VERTICES);
-  const std::vector<uint8_t> faces(cut.faces, cut.faces + PLANARBEND_MAX_FACES);
-  std::printf(" %s %s %u %s %s\n", places_of(asked.straight, 0).c_str(), places_of(asked.barred, 0).c_str(), cut.outer_face,
-              places_of(vertices, 1).c_str(), places_of(faces, 0).c_str());
+// Whether a cut shows that there is no shape.
+static bool is_cut(const std::string &record, const Graph &graph, const Case &asked, const planarbend_cut &cut) {
+  static struct plane plane;
+  struct asked marks = {};
+  trace(&plane, reinterpret_cast<const uint8_t *>(record.data()));
+  for (int d = 0; d < graph.darts(); ++d) marks.straight[d] = asked.straight[d] || asked.straight[graph.reverse[d]];
+  for (size_t f = 0; f < asked.barred.size(); ++f) marks.inner[f] = asked.barred[f];
+  return fault_of_cut(&plane, &marks, &cut) == nullptr;
 }
 
 // Whether the library answers so, and its drawing keeps the conditions.
@@ -79,7 +70,7 @@ static bool is_answered(planarbend *object, const Graph &graph, const std::strin
                                 asked.best ? PLANARBEND_OUTER_BEST : PLANARBEND_OUTER_FIRST, drawing, &conditions, &counts, &lists,
                                 &cut);
   if (result != asked.result) return false;
-  if (result == PLANARBEND_NO_SHAPE) print_cut(record, asked, cut);
+  if (result == PLANARBEND_NO_SHAPE) return is_cut(record, graph, asked, cut);
   if (result != PLANARBEND_OK) return true;
   if (counts.bends != asked.bends || static_cast<int>(counts.outer_face) != asked.outer) return false;
   int edge = 0;
