@@ -44,7 +44,7 @@ EXCUSED = TESTS / "mutants.txt"
 LEFT_OUT = ("test_install",)
 PRELOADED = ("networkx", "unittest.mock", "xml.etree.ElementTree", "subprocess", "ctypes", "decimal", "html")
 LEAST = 4  # mutants of a module
-MOST_SECONDS = 240  # of one mutant, of the clock
+MOST_SECONDS = 1200  # of one mutant, of the clock: only those that wait for ever need it
 MOST_OF_TEST = 3  # seconds of processor time of one test
 NOTING = '''
 import atexit, os, sys, threading
@@ -164,13 +164,13 @@ def chosen(package: Path, count: int, seed: int, only: str) -> list[Mutant]:
     """The mutants that are tried: of each module as large a share, but not fewer than `LEAST`."""
     every = {path: list({one.key: one for one in mutants_of(path, package)}.values())
              for path in sorted(package.rglob("*.py"))
-             if path.name not in ("__init__.py", "__main__.py") and only in str(path)}
+             if path.name not in ("__init__.py", "__main__.py")}
     total = sum(map(len, every.values()))
     found = []
     for path, mutants in every.items():
         mutants.sort(key=lambda one: hashlib.sha256(f"{seed} {one.key}".encode()).digest())
         found += mutants[:max(LEAST, round(count * len(mutants) / total))]
-    return found
+    return [one for one in found if re.search(only, one.path)]
 
 
 def tree_in(folder: Path) -> Path:
@@ -195,7 +195,7 @@ def run_tests(tree: Path, names: list[str], said: Path, calls: Path | None = Non
             traceback.print_exc()
         finally:
             os._exit(1)
-    ends = time.monotonic() + (MOST_SECONDS if calls is None else 10 * MOST_SECONDS)
+    ends = time.monotonic() + (MOST_SECONDS if calls is None else 3 * MOST_SECONDS)
     while True:
         ended, status, used = os.wait4(child, os.WNOHANG)
         if ended:
@@ -250,8 +250,10 @@ def classes_of(tests: Path) -> list[str]:
 
 def calls_of(folder: Path, jobs: int, keep: Path | None, names: list[str]) -> dict[str, tuple[float, list[str]]]:
     """For each test class its processor time, and the functions that it calls, as `PATH:LINE`."""
-    tree = tree_in(folder / "calls")
     known = json.loads(keep.read_text()) if keep and keep.exists() else {}
+    if known.keys() >= set(names):
+        return {name: known[name] for name in names}
+    tree = tree_in(folder / "calls")
     package = str(tree / "python/planarbend") + "/"
 
     def of(name: str) -> tuple[str, tuple[float, list[str]]]:
@@ -277,7 +279,7 @@ def main() -> int:
     parser.add_argument("--count", type=int, default=330, help="the number of mutants (default 330)")
     parser.add_argument("--seed", type=int, default=1, help="another seed chooses other mutants")
     parser.add_argument("--jobs", type=int, default=2, help="processes at a time (default 2)")
-    parser.add_argument("--only", default="", help="only of modules with this text in their path")
+    parser.add_argument("--only", default="", help="only of modules in whose path this pattern is found")
     parser.add_argument("--calls", type=Path, help="read from this file which test calls what, or write it there")
     parser.add_argument("--classes", default="", help="only with test classes of which this pattern finds a part")
     parser.add_argument("--again", action="store_true", help="also try those that mutants.txt excuses")

@@ -1,0 +1,156 @@
+"""Shapes on the grid by hand: which one costs least, what is broken, and which plans are tried."""
+from __future__ import annotations
+
+import itertools
+import unittest
+from types import SimpleNamespace
+from typing import Any
+from unittest import mock
+
+import support  # noqa: F401  finds the package
+from planarbend.choose import (Found, Plan, Search, Shape, is_clockwise_rectangle, picked, shape_of, smallest,
+                               without_straight)
+from planarbend.engine import GridPoint, default_engine
+from planarbend.planarize import planarize
+
+NOTHING: Any = None
+# Two vertices of degree 6 with all of their neighbours in common, of which two pairs are joined: degrees 2, 3 and 6.
+EDGES = [(hub, leaf) for leaf in range(2, 8) for hub in (0, 1)] + [(2, 3), (4, 5)]
+
+
+def found(plan: int = 0, broken: int = 0, bends: int = 0, size: tuple[int, int] = (1, 1)) -> Found:
+    """A shape with nothing but a price."""
+    return Found(Shape(NOTHING, [], [], [], list(range(broken)), bends, size), Plan(frozenset([plan])))
+
+
+def shapes(*pool: Found) -> list[Shape]:
+    return [one.shape for one in pool]
+
+
+class Prices(unittest.TestCase):
+    def test_a_price(self) -> None:
+        self.assertEqual(found(broken=2, bends=3, size=(4, 5)).price(), (2, 3, 20))
+
+    def test_the_best_shape_of_each_plan(self) -> None:
+        """Of six plans four are taken, those with the fewest bends; a smaller shape goes first among equals."""
+        one, two, three, four = found(1, bends=1), found(2, bends=2, size=(3, 3)), found(3, bends=2, size=(2, 5)), found(4, bends=4)
+        more = [found(5, bends=5), found(2, bends=3), found(6, broken=1), found(1, bends=1, size=(9, 9))]
+        self.assertEqual(picked([*more, four, three, two, one]), shapes(one, two, three, four))
+
+    def test_broken_shapes_if_there_are_no_others(self) -> None:
+        worse, better = found(1, broken=2), found(2, broken=1, bends=9)
+        self.assertEqual(picked([worse, better]), shapes(better))
+        self.assertEqual(smallest([found(1, broken=2), found(2, broken=1, bends=9, size=(8, 8))]),
+                         shapes(found(2, broken=1, bends=9, size=(8, 8))))
+
+    def test_the_smallest(self) -> None:
+        wide, high, bent = found(bends=6, size=(5, 2)), found(size=(3, 4)), found(bends=7, size=(2, 5))
+        broken = found(broken=1)
+        self.assertEqual(smallest([high, broken, bent, wide]), shapes(wide, bent, high))
+        self.assertEqual(smallest([broken, high]), shapes(high))
+        self.assertEqual(smallest([high]), shapes(high))
+        many = [found(size=(1, side)) for side in range(1, 11)]
+        self.assertEqual(smallest(many[::-1]), shapes(*many[:8]))
+
+
+class Plans(unittest.TestCase):
+    def test_cages_and_spines(self) -> None:
+        plan = Plan(frozenset([1, 2]), ((3, 0),))
+        self.assertEqual(plan.spined(2, 5), Plan(frozenset([1]), ((2, 5), (3, 0))))
+        self.assertEqual(plan.spined(4, 1), Plan(frozenset([1, 2]), ((3, 0), (4, 1))))
+        self.assertEqual(plan.spined(3, 4), Plan(frozenset([1, 2]), ((3, 4),)))
+        self.assertEqual(plan.caged([2, 5]), Plan(frozenset([1, 2, 5]), ((3, 0),)))
+        self.assertEqual(plan.uncaged([2, 5]), Plan(frozenset([1]), ((3, 0),)))
+
+
+class Mending(unittest.TestCase):
+    def test_no_plan_is_tried_twice(self) -> None:
+        """Each of three plans leads to all three, and none makes the box a rectangle."""
+        plans, looked = [Plan(frozenset([number])) for number in range(3)], list[Plan]()
+
+        def look(_: Search, *plans: Plan) -> list[Found]:
+            looked.extend(plans)
+            return [found(broken=1) for _ in plans]
+
+        with mock.patch.multiple(Search, mended=lambda *_: plans, look=look):
+            Search.__new__(Search).mend([found(broken=1)])
+        self.assertEqual(looked, plans)
+
+    def test_only_what_bends_stays_loose(self) -> None:
+        """Edge 0 is piece 0 and is straight; edge 1 is pieces 1 and 2, and bends."""
+        plan, looked = Plan(frozenset([7]), (), ((0, 1), (1, 1), (2, 3))), list[Plan]()
+        lines = [[(0, 0), (1, 0)], [(0, 0), (0, 1), (1, 1)]]
+
+        def look(_: Search, *plans: Plan) -> list[Found]:
+            looked.extend(plans)
+            return [Found(Shape(NOTHING, [], lines, [], [], 1), one) for one in plans]
+
+        search: Any = Search.__new__(Search)
+        search.planar = SimpleNamespace(chains=[[0], [2, 5]])
+        with mock.patch.multiple(Search, mended=lambda *_: [plan], look=look):
+            search.mend([found(broken=1)])
+        self.assertEqual(looked, [plan, Plan(frozenset([7]), (), ((1, 1), (2, 3)))])
+
+
+class Moved:
+    """A form with all places moved by (3, 5)."""
+
+    def __init__(self, form: Any) -> None:
+        self.form = form
+
+    def places(self, answer: Any) -> tuple[list[GridPoint], dict[Any, list[GridPoint]]]:
+        points, paths = self.form.places(answer)
+        return moved(points), {key: moved(path) for key, path in paths.items()}
+
+
+def moved(points: list[GridPoint]) -> list[GridPoint]:
+    return [(x + 3, y + 5) for x, y in points]
+
+
+class OnTheGrid(unittest.TestCase):
+    def test_a_line_without_its_straight_points(self) -> None:
+        line = [(0, 0), (1, 0), (3, 0), (3, 2), (3, 5), (4, 5)]
+        self.assertEqual(without_straight(line), [(0, 0), (3, 0), (3, 5), (4, 5)])
+
+    def test_a_rectangle(self) -> None:
+        """Walked clockwise, y downwards; not with a step, nor with a line that goes inside and comes back."""
+        ring = [(1, 1), (3, 1), (5, 1), (5, 4), (1, 4), (1, 1)]
+        self.assertTrue(is_clockwise_rectangle(ring))
+        self.assertFalse(is_clockwise_rectangle(ring[::-1]))
+        self.assertFalse(is_clockwise_rectangle([(1, 1), (5, 1), (5, 4), (3, 4), (3, 3), (1, 3), (1, 1)]))
+        self.assertFalse(is_clockwise_rectangle([*ring[:-1], (1, 2), (3, 2), (1, 2), (1, 1)]))
+
+    def test_a_shape(self) -> None:
+        """Boxes, bends and the size are those of the points, wherever on the grid these lie."""
+        search = Search(planarize(8, EDGES), default_engine(), 0, 0)
+        plans = [search.first_plan(False), search.first_plan(True), search.first_plan(False).caged([2, 3, 4, 5])]
+        for plan in plans:
+            expansion = search.expanded(plan)
+            assert expansion is not None
+            form: Any = next(search.numberings(expansion))
+            answer = search.engine.lay([form.lists], "best")[0]
+            for given in (form, Moved(form)):
+                shape = shape_of(expansion, given, answer)
+                xs, ys = zip(*shape.points, *itertools.chain(*shape.lines))
+                self.assertEqual(shape.size, (max(xs) - min(xs) + 1, max(ys) - min(ys) + 1))
+                self.assertEqual(shape.bends, sum(len(line) - 2 for line in shape.lines))
+                self.sides(Found(shape, plan))
+                for vertex, nodes in enumerate(expansion.homes):
+                    left, top, right, bottom = shape.boxes[vertex]
+                    if vertex not in shape.broken:
+                        for x, y in (shape.points[node] for node in nodes):
+                            self.assertTrue(x in (left, right) or y in (top, bottom))
+                    self.assertEqual(left == right and top == bottom, len(nodes) == 1)
+
+    def sides(self, found: Found) -> None:
+        """A vertex is a point if no two of its edges leave in the same direction."""
+        lines = found.shape.lines
+        for vertex in range(8):
+            ways = [(line[0], line[1]) for (tail, _), line in zip(EDGES, lines) if tail == vertex]
+            ways += [(line[-1], line[-2]) for (_, head), line in zip(EDGES, lines) if head == vertex]
+            is_east = [(end[0] > start[0], end[0] < start[0], end[1] > start[1]) for start, end in ways]
+            self.assertEqual(found.is_point(vertex), len(set(is_east)) == len(ways))
+
+
+if __name__ == "__main__":
+    unittest.main()
