@@ -170,7 +170,7 @@ def chosen(package: Path, count: int, seed: int, only: str) -> list[Mutant]:
     for path, mutants in every.items():
         mutants.sort(key=lambda one: hashlib.sha256(f"{seed} {one.key}".encode()).digest())
         found += mutants[:max(LEAST, round(count * len(mutants) / total))]
-    return [one for one in found if re.search(only, one.path)]
+    return [one for one in found if re.search(only, f"{one.path} {one.key}")]
 
 
 def tree_in(folder: Path) -> Path:
@@ -279,7 +279,7 @@ def main() -> int:
     parser.add_argument("--count", type=int, default=330, help="the number of mutants (default 330)")
     parser.add_argument("--seed", type=int, default=1, help="another seed chooses other mutants")
     parser.add_argument("--jobs", type=int, default=2, help="processes at a time (default 2)")
-    parser.add_argument("--only", default="", help="only of modules in whose path this pattern is found")
+    parser.add_argument("--only", default="", help="only those in whose path or line this pattern is found")
     parser.add_argument("--calls", type=Path, help="read from this file which test calls what, or write it there")
     parser.add_argument("--classes", default="", help="only with test classes of which this pattern finds a part")
     parser.add_argument("--again", action="store_true", help="also try those that mutants.txt excuses")
@@ -299,8 +299,8 @@ def main() -> int:
 def judge(words: argparse.Namespace, calls: dict[str, tuple[float, list[str]]], folder: Path, began: float) -> int:
     """Tries the mutants, and prints what came of it."""
     package = ROOT / "python/planarbend"
-    reasons = dict(line.split(" | ") for line in EXCUSED.read_text(encoding="utf-8").splitlines()
-                   if " | " in line) if EXCUSED.exists() else {}
+    lines = EXCUSED.read_text(encoding="utf-8").splitlines() if EXCUSED.exists() else []
+    reasons = {key: reason for key, _, reason in (line.rpartition(" | ") for line in lines) if key}
     mutants = chosen(package, words.count, words.seed, words.only)
     trees, numbers = [], itertools.count(10 ** 9)
     for number in range(words.jobs):

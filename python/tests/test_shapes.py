@@ -1,16 +1,19 @@
-"""Shapes on the grid by hand: which one costs least, what is broken, and which plans are tried."""
+"""Shapes by hand: which one costs least, what is broken, which plans are tried, and how components share a page."""
 from __future__ import annotations
 
 import itertools
+import json
 import unittest
 from types import SimpleNamespace
 from typing import Any
 from unittest import mock
 
 import support  # noqa: F401  finds the package
-from planarbend.choose import (Found, Plan, Search, Shape, is_clockwise_rectangle, picked, shape_of, smallest,
-                               without_straight)
+from planarbend.choose import (Found, Plan, Search, Shape, choose, is_clockwise_rectangle, picked, shape_of,
+                               smallest, without_straight)
+from planarbend.draw import Options, draw, meeting, price_of, stretch_of
 from planarbend.engine import GridPoint, default_engine
+from planarbend.graph import Edge, Graph, Vertex
 from planarbend.planarize import planarize
 
 NOTHING: Any = None
@@ -150,6 +153,60 @@ class OnTheGrid(unittest.TestCase):
             ways += [(line[-1], line[-2]) for (_, head), line in zip(EDGES, lines) if head == vertex]
             is_east = [(end[0] > start[0], end[0] < start[0], end[1] > start[1]) for start, end in ways]
             self.assertEqual(found.is_point(vertex), len(set(is_east)) == len(ways))
+
+
+def graph_of(count: int, edges: list[tuple[int, int]]) -> Graph:
+    return Graph([Vertex(str(number), str(number)) for number in range(count)], [Edge(*edge) for edge in edges])
+
+
+class Pixels(unittest.TestCase):
+    def test_a_price_in_pixels(self) -> None:
+        """The area, half as much again for three bends of six edges at weight 1."""
+        sheet: Any = SimpleNamespace(bounds=lambda: (1.0, 2.0, 11.0, 22.0), shape=SimpleNamespace(bends=3))
+        self.assertEqual(price_of(sheet, 6, 1.0), 300)
+        self.assertEqual(price_of(sheet, 6, 0.0), 200)
+
+    def test_stretched(self) -> None:
+        """A page may be three times as wide as high, and twice as high as wide."""
+        for size, stretch in (((10, 10), 1), ((3, 1), 1), ((6, 1), 2), ((1, 2), 1), ((1, 6), 3), ((.5, .5), 1)):
+            self.assertEqual(stretch_of(*size), stretch, size)
+
+    def test_where_lines_cross(self) -> None:
+        level, upright = [(0.0, 5.0), (10.0, 5.0)], [(4.0, 9.0), (4.0, 1.0)]
+        for one in (level, level[::-1], [(0.0, 0.0), (0.0, 5.0), (10.0, 5.0), (10.0, 8.0)]):
+            for other in (upright, upright[::-1], [(2.0, 9.0), (4.0, 9.0), (4.0, 1.0), (3.0, 1.0)]):
+                self.assertEqual(meeting(one, other), (4, 5))
+                self.assertEqual(meeting(other, one), (4, 5))
+
+    def test_five_lines_between_two_boxes(self) -> None:
+        """They are 10 pixels apart, and 6 from the corners of boxes that are 22 pixels wide otherwise."""
+        drawing = json.loads(draw(graph_of(2, [(0, 1)] * 5)).json())
+        self.assertEqual([len(edge["points"]) for edge in drawing["edges"]], [2] * 5)
+        self.assertEqual(sorted(drawing["size"]), [10 + 6 + 40 + 6 + 10, 10 + 22 + 20 + 22 + 10])
+
+    def test_four_loops_on_four_sides(self) -> None:
+        drawing = json.loads(draw(graph_of(1, [(0, 0)] * 4)).json())
+        left, top, right, bottom = drawing["vertices"][0]["box"]
+        sides = [{(x == left, y == top, x == right, y == bottom) for x, y in (edge["points"][0], edge["points"][-1])}
+                 for edge in drawing["edges"]]
+        self.assertEqual([len(side) for side in sides], [1] * 4)
+        self.assertEqual(len(set().union(*sides)), 4)
+
+    def test_another_embedding_if_a_box_is_broken(self) -> None:
+        """The first shapes are said to be broken: then one more embedding is drawn, and no other."""
+        for broken, times in ((0, 1), (1, 2), (2, 3)):
+            planars = []
+
+            def chosen(planar: Any, *words: Any, **options: Any) -> list[Shape]:
+                planars.append(planar)
+                found = choose(planar, *words, **options)
+                for shape in found:
+                    shape.broken = [0] if len(planars) <= broken else []
+                return found
+
+            with mock.patch("planarbend.draw.choose", chosen):
+                draw(graph_of(8, EDGES), Options(effort=0))
+            self.assertEqual(len(planars), times)
 
 
 if __name__ == "__main__":
