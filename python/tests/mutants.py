@@ -43,6 +43,7 @@ ROOT = TESTS.parents[1]
 EXCUSED = TESTS / "mutants.txt"
 LEFT_OUT = ("test_install",)
 PRELOADED = ("networkx", "unittest.mock", "xml.etree.ElementTree", "subprocess", "ctypes", "decimal", "html")
+COPIED = {"test_programs.Found": ("programs.py", "library.py")}  # it tries these in a copy, where no calls are noted
 LEAST = 4  # mutants of a module
 MOST_SECONDS = 1200  # of one mutant, of the clock: only those that wait for ever need it
 MOST_OF_TEST = 3  # seconds of processor time of one test
@@ -296,6 +297,13 @@ def main() -> int:
         return judge(words, calls_of(folder, words.jobs, words.calls, names), folder, began)
 
 
+def is_called(mutant: Mutant, called: list[str]) -> bool:
+    """Whether a class calls a mutant's function; if it is in none, any function of its module."""
+    if mutant.line:
+        return f"{mutant.path}:{mutant.line}" in called
+    return any(one.startswith(f"{mutant.path}:") for one in called)
+
+
 def judge(words: argparse.Namespace, calls: dict[str, tuple[float, list[str]]], folder: Path, began: float) -> int:
     """Tries the mutants, and prints what came of it."""
     package = ROOT / "python/planarbend"
@@ -314,9 +322,7 @@ def judge(words: argparse.Namespace, calls: dict[str, tuple[float, list[str]]], 
         path = tree / "python/planarbend" / mutant.path
         held, date = path.read_text(encoding="utf-8"), path.stat().st_mtime
         names = [name for _, name in sorted((used, name) for name, (used, called) in calls.items()
-                                            if mutant.path + ":" + str(mutant.line) in called or not mutant.line
-                                            and any(
-                                                one.startswith(mutant.path + ":") for one in called))]
+                                            if path.name in COPIED.get(name, ()) or is_called(mutant, called))]
         path.write_text(text_of(path, mutant.number), encoding="utf-8")
         os.utime(path, (number := next(numbers), number))  # no two of its texts have the same date
         said = folder / f"{path.name}-{id(mutant)}"
