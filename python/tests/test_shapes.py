@@ -11,10 +11,12 @@ from unittest import mock
 import support  # noqa: F401  finds the package
 from planarbend.choose import (Found, Plan, Search, Shape, choose, is_clockwise_rectangle, picked, shape_of,
                                smallest, without_straight)
-from planarbend.draw import Options, draw, meeting, price_of, stretch_of
+from planarbend.draw import Options, draw, meeting, packed, price_of, stretch_of
 from planarbend.drawn import Box, Drawing, Point
 from planarbend.engine import GridPoint, default_engine
+from planarbend.expand import size_of
 from planarbend.graph import Edge, Graph, Kind, Vertex
+from planarbend.keeping import conditions_of
 from planarbend.mend import loosened, ways_round_spine
 from planarbend.planarize import planarize
 
@@ -67,6 +69,30 @@ class Plans(unittest.TestCase):
         self.assertEqual(plan.spined(3, 4), Plan(frozenset([1, 2]), ((3, 4),)))
         self.assertEqual(plan.caged([2, 5]), Plan(frozenset([1, 2, 5]), ((3, 0),)))
         self.assertEqual(plan.uncaged([2, 5]), Plan(frozenset([1]), ((3, 0),)))
+
+    def test_which_points_can_be_boxes(self) -> None:
+        """Those with three or four connections that are none yet."""
+        search = Search.__new__(Search)
+        search.degree = [1, 2, 3, 4, 5, 3]
+        found = [search.can_be_cage(vertex, Plan(frozenset([5]))) for vertex in range(6)]
+        self.assertEqual(found, [False, False, True, True, False, False])
+
+    def test_nodes_of_stars(self) -> None:
+        """A cage has a node for each connection, and its sides must be kept straight from five on. A spine has two at
+        each node, one more at its ends, and a leaf if they are odd."""
+        for count in range(3, 10):
+            search = Search(planarize(count + 1, [(0, end) for end in range(1, count + 1)]), NOTHING, 0, 0)
+            plans = [Plan(frozenset([0]))] + [Plan(frozenset(), ((0, 0),))] * (count > 4)
+            for plan in plans:
+                expansion = search.expanded(plan)
+                assert expansion is not None
+                size = size_of(search.planar, search.degree, plan.cages, dict(plan.spines))
+                self.assertEqual(size, sum(map(len, expansion.homes)) + (count % 2 if plan.spines else 0))
+                form = next(search.numberings(expansion))
+                kept = conditions_of(expansion, form, (), boxes=True, has_outer=False)
+                nodes = len(expansion.homes[0])
+                self.assertEqual(len(kept.straight), nodes - 1 if plan.spines else count if count > 4 else 0)
+                self.assertEqual(nodes, (count - 1) // 2 if plan.spines else count)
 
 
 class Mending(unittest.TestCase):
@@ -185,6 +211,11 @@ class Pixels(unittest.TestCase):
         """A page may be three times as wide as high, and twice as high as wide."""
         for size, stretch in (((10, 10), 1), ((3, 1), 1), ((6, 1), 2), ((1, 2), 1), ((1, 6), 3), ((.5, .5), 1)):
             self.assertEqual(stretch_of(*size), stretch, size)
+
+    def test_nine_squares(self) -> None:
+        places, width, height = packed([(10.0, 10.0)] * 9)
+        self.assertEqual((width, height), (30, 30))
+        self.assertEqual(sorted(places), [(x, y) for x in (0, 10, 20) for y in (0, 10, 20)])
 
     def test_where_lines_cross(self) -> None:
         level, upright = [(0.0, 5.0), (10.0, 5.0)], [(4.0, 9.0), (4.0, 1.0)]
