@@ -238,6 +238,26 @@ class Pixels(unittest.TestCase):
         self.assertEqual([len(side) for side in sides], [1] * 4)
         self.assertEqual(len(set().union(*sides)), 4)
 
+    def test_six_loops(self) -> None:
+        """Their ends at a side are 10 pixels apart."""
+        drawing = json.loads(draw(graph_of(1, [(0, 0)] * 6)).json())
+        ends = [tuple(end) for edge in drawing["edges"] for end in (edge["points"][0], edge["points"][-1])]
+        for (x, y), (u, v) in itertools.combinations(ends, 2):
+            self.assertGreaterEqual(max(abs(x - u), abs(y - v)), 10 - .01)
+
+    def test_loops_along_a_chain(self) -> None:
+        """Each leaves one side of its box, 6 pixels or more from the corners, and is 10 pixels wide or more."""
+        edges = [(number, number + 1) for number in range(5)] + [(number, number) for number in range(6)]
+        drawing = json.loads(draw(graph_of(6, edges)).json())
+        for vertex, edge in zip(drawing["vertices"], drawing["edges"][5:]):
+            left, top, right, bottom = vertex["box"]
+            (x, y), (u, v) = edge["points"][0], edge["points"][-1]
+            self.assertTrue(x == u in (left, right) or y == v in (top, bottom))
+            ends, low, high = (sorted([x, u]), left, right) if y == v else (sorted([y, v]), top, bottom)
+            self.assertGreaterEqual(ends[0], low + 6 - .01)
+            self.assertLessEqual(ends[1], high - 6 + .01)
+            self.assertGreaterEqual(ends[1] - ends[0], 10 - .01)
+
     def test_another_embedding_if_a_box_is_broken(self) -> None:
         """The first shapes are said to be broken: then one more embedding is drawn, and no other."""
         for broken, times in ((0, 1), (1, 2), (2, 3)):
