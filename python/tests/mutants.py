@@ -43,6 +43,7 @@ ROOT = TESTS.parents[1]
 EXCUSED = TESTS / "mutants.txt"
 LEFT_OUT = ("test_install",)
 PRELOADED = ("networkx", "unittest.mock", "xml.etree.ElementTree", "subprocess", "ctypes", "decimal", "html")
+COPIED = {"test_programs.Found": ("programs.py", "library.py")}  # it tries these in a copy, where no calls are noted
 LEAST = 4  # mutants of a module
 MOST_SECONDS = 1200  # of one mutant, of the clock: only those that wait for ever need it
 MOST_OF_TEST = 3  # seconds of processor time of one test
@@ -170,7 +171,7 @@ def chosen(package: Path, count: int, seed: int, only: str) -> list[Mutant]:
     for path, mutants in every.items():
         mutants.sort(key=lambda one: hashlib.sha256(f"{seed} {one.key}".encode()).digest())
         found += mutants[:max(LEAST, round(count * len(mutants) / total))]
-    return [one for one in found if re.search(only, one.path)]
+    return [one for one in found if re.search(only, f"{one.path} {one.key}")]
 
 
 def tree_in(folder: Path) -> Path:
@@ -279,7 +280,7 @@ def main() -> int:
     parser.add_argument("--count", type=int, default=330, help="the number of mutants (default 330)")
     parser.add_argument("--seed", type=int, default=1, help="another seed chooses other mutants")
     parser.add_argument("--jobs", type=int, default=2, help="processes at a time (default 2)")
-    parser.add_argument("--only", default="", help="only of modules in whose path this pattern is found")
+    parser.add_argument("--only", default="", help="only those in whose path or line this pattern is found")
     parser.add_argument("--calls", type=Path, help="read from this file which test calls what, or write it there")
     parser.add_argument("--classes", default="", help="only with test classes of which this pattern finds a part")
     parser.add_argument("--again", action="store_true", help="also try those that mutants.txt excuses")
@@ -296,11 +297,18 @@ def main() -> int:
         return judge(words, calls_of(folder, words.jobs, words.calls, names), folder, began)
 
 
+def is_called(mutant: Mutant, called: list[str]) -> bool:
+    """Whether a class calls a mutant's function; if it is in none, any function of its module."""
+    if mutant.line:
+        return f"{mutant.path}:{mutant.line}" in called
+    return any(one.startswith(f"{mutant.path}:") for one in called)
+
+
 def judge(words: argparse.Namespace, calls: dict[str, tuple[float, list[str]]], folder: Path, began: float) -> int:
     """Tries the mutants, and prints what came of it."""
     package = ROOT / "python/planarbend"
-    reasons = dict(line.split(" | ") for line in EXCUSED.read_text(encoding="utf-8").splitlines()
-                   if " | " in line) if EXCUSED.exists() else {}
+    lines = EXCUSED.read_text(encoding="utf-8").splitlines() if EXCUSED.exists() else []
+    reasons = {key: reason for key, _, reason in (line.rpartition(" | ") for line in lines) if key}
     mutants = chosen(package, words.count, words.seed, words.only)
     trees, numbers = [], itertools.count(10 ** 9)
     for number in range(words.jobs):
@@ -314,9 +322,7 @@ def judge(words: argparse.Namespace, calls: dict[str, tuple[float, list[str]]], 
         path = tree / "python/planarbend" / mutant.path
         held, date = path.read_text(encoding="utf-8"), path.stat().st_mtime
         names = [name for _, name in sorted((used, name) for name, (used, called) in calls.items()
-                                            if mutant.path + ":" + str(mutant.line) in called or not mutant.line
-                                            and any(
-                                                one.startswith(mutant.path + ":") for one in called))]
+                                            if path.name in COPIED.get(name, ()) or is_called(mutant, called))]
         path.write_text(text_of(path, mutant.number), encoding="utf-8")
         os.utime(path, (number := next(numbers), number))  # no two of its texts have the same date
         said = folder / f"{path.name}-{id(mutant)}"

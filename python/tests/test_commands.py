@@ -296,7 +296,10 @@ class Collect(Case):
         self.assertEqual(set(counts), {"**4**", "**5**"})
         jsonl.unlink()
         self.written(".hidden.report", "no report")
-        self.assertEqual(self.said("collect", self.folder), self.said("collect", *self.reports.values()))
+        apart = self.said("collect", *self.reports.values())
+        self.assertEqual(self.said("collect", self.folder), apart)
+        both = self.written("both.report", support.program_run("layout", N4, N5).stdout)
+        self.assertEqual(self.said("collect", both), apart)
 
     def test_refused_and_undrawn_graphs(self) -> None:
         answers = ["refused degree", "refused loop", "refused degree", "ok n=3 m=2 f=1 bends=0 drawn=no cause=wide"]
@@ -339,6 +342,7 @@ class Collect(Case):
         for (x, y), (u, v) in zip(dots, wanted):
             self.assertAlmostEqual(x, u, delta=.15)
             self.assertAlmostEqual(y, v, delta=.15)
+            self.assertEqual((x, y), (round(x, 1), round(y, 1)))
 
     def test_refusals(self) -> None:
         four, five = self.reports.values()

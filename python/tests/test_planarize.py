@@ -66,6 +66,15 @@ class WithoutTest(unittest.TestCase):
         self.assertEqual(needed_by_cycles(9, [(number, (number + 1) % 9) for number in range(9)]), 0)
         self.assertEqual(needed_by_cycles(9, [(number // 2, number) for number in range(1, 9)]), 0)
 
+    def test_needed(self) -> None:
+        """Complete graphs by Euler's formula; from 15 vertices on by 29 n^2 c >= m^3."""
+        complete = {count: [(one, other) for one in range(count) for other in range(one)] for count in (2, 4, 5, 6, 15)}
+        for count, needed in ((2, 0), (4, 0), (5, 1), (6, 3), (15, 105 ** 3 // (29 * 225))):
+            self.assertEqual(needed_crossings(count, complete[count]), needed)
+            again = [*complete[count], *((head, tail) for tail, head in complete[count]), (1, 1)]
+            self.assertEqual(needed_crossings(count, again), needed)
+        self.assertEqual(needed_crossings(6, UTILITIES), 0)
+
     def test_without_networkx(self) -> None:
         """These are planarized with as few crossings where networkx cannot be loaded."""
         program = ("import sys; sys.modules['networkx'] = None\n"

@@ -1,16 +1,21 @@
-"""Shapes on the grid by hand: which one costs least, what is broken, and which plans are tried."""
+"""Shapes by hand: which one costs least, what is broken, which plans are tried, and how components share a page."""
 from __future__ import annotations
 
 import itertools
+import json
 import unittest
 from types import SimpleNamespace
 from typing import Any
 from unittest import mock
 
 import support  # noqa: F401  finds the package
-from planarbend.choose import (Found, Plan, Search, Shape, is_clockwise_rectangle, picked, shape_of, smallest,
-                               without_straight)
+from planarbend.choose import (Found, Plan, Search, Shape, choose, is_clockwise_rectangle, picked, shape_of,
+                               smallest, without_straight)
+from planarbend.draw import Options, draw, meeting, price_of, stretch_of
+from planarbend.drawn import Box, Drawing, Point
 from planarbend.engine import GridPoint, default_engine
+from planarbend.graph import Edge, Graph, Kind, Vertex
+from planarbend.mend import loosened, ways_round_spine
 from planarbend.planarize import planarize
 
 NOTHING: Any = None
@@ -33,7 +38,8 @@ class Prices(unittest.TestCase):
 
     def test_the_best_shape_of_each_plan(self) -> None:
         """Of six plans four are taken, those with the fewest bends; a smaller shape goes first among equals."""
-        one, two, three, four = found(1, bends=1), found(2, bends=2, size=(3, 3)), found(3, bends=2, size=(2, 5)), found(4, bends=4)
+        one, two = found(1, bends=1), found(2, bends=2, size=(3, 3))
+        three, four = found(3, bends=2, size=(2, 5)), found(4, bends=4)
         more = [found(5, bends=5), found(2, bends=3), found(6, broken=1), found(1, bends=1, size=(9, 9))]
         self.assertEqual(picked([*more, four, three, two, one]), shapes(one, two, three, four))
 
@@ -90,6 +96,18 @@ class Mending(unittest.TestCase):
         with mock.patch.multiple(Search, mended=lambda *_: [plan], look=look):
             search.mend([found(broken=1)])
         self.assertEqual(looked, [plan, Plan(frozenset([7]), (), ((1, 1), (2, 3)))])
+
+    def test_one_more_bend_each(self) -> None:
+        self.assertEqual(loosened(((3, 1), (9, 2)), [5, 3, 5]), ((3, 2), (5, 2), (9, 2)))
+
+    def test_ways_round_a_spine(self) -> None:
+        """Three nodes with eight connections, clockwise: two at one end and on top of each, three at the other end. The
+        spine turns at its middle node: the connections at either end can bend in its place, or all can."""
+        one, other, every = ways_round_spine([[(0, 0), (2, 0)], [(2, 0), (2, 2)]], 8)
+        self.assertEqual(every, list(range(8)))
+        for way, near, far in ((one, {3, 4, 5}, {7, 0, 1}), (other, {7, 0, 1}, {3, 4, 5})):
+            self.assertLessEqual(near, set(way))
+            self.assertFalse(far & set(way))
 
 
 class Moved:
@@ -150,6 +168,105 @@ class OnTheGrid(unittest.TestCase):
             ways += [(line[-1], line[-2]) for (_, head), line in zip(EDGES, lines) if head == vertex]
             is_east = [(end[0] > start[0], end[0] < start[0], end[1] > start[1]) for start, end in ways]
             self.assertEqual(found.is_point(vertex), len(set(is_east)) == len(ways))
+
+
+def graph_of(count: int, edges: list[tuple[int, int]]) -> Graph:
+    return Graph([Vertex(str(number), str(number)) for number in range(count)], [Edge(*edge) for edge in edges])
+
+
+class Pixels(unittest.TestCase):
+    def test_a_price_in_pixels(self) -> None:
+        """The area, half as much again for three bends of six edges at weight 1."""
+        sheet: Any = SimpleNamespace(bounds=lambda: (1.0, 2.0, 11.0, 22.0), shape=SimpleNamespace(bends=3))
+        self.assertEqual(price_of(sheet, 6, 1.0), 300)
+        self.assertEqual(price_of(sheet, 6, 0.0), 200)
+
+    def test_stretched(self) -> None:
+        """A page may be three times as wide as high, and twice as high as wide."""
+        for size, stretch in (((10, 10), 1), ((3, 1), 1), ((6, 1), 2), ((1, 2), 1), ((1, 6), 3), ((.5, .5), 1)):
+            self.assertEqual(stretch_of(*size), stretch, size)
+
+    def test_where_lines_cross(self) -> None:
+        level, upright = [(0.0, 5.0), (10.0, 5.0)], [(4.0, 9.0), (4.0, 1.0)]
+        for one in (level, level[::-1], [(0.0, 0.0), (0.0, 5.0), (10.0, 5.0), (10.0, 8.0)]):
+            for other in (upright, upright[::-1], [(2.0, 9.0), (4.0, 9.0), (4.0, 1.0), (3.0, 1.0)]):
+                self.assertEqual(meeting(one, other), (4, 5))
+                self.assertEqual(meeting(other, one), (4, 5))
+
+    def test_five_lines_between_two_boxes(self) -> None:
+        """They are 10 pixels apart, and 6 from the corners of boxes that are 22 pixels wide otherwise."""
+        drawing = json.loads(draw(graph_of(2, [(0, 1)] * 5)).json())
+        self.assertEqual([len(edge["points"]) for edge in drawing["edges"]], [2] * 5)
+        self.assertEqual(sorted(drawing["size"]), [10 + 6 + 40 + 6 + 10, 10 + 22 + 20 + 22 + 10])
+
+    def test_four_loops_on_four_sides(self) -> None:
+        drawing = json.loads(draw(graph_of(1, [(0, 0)] * 4)).json())
+        left, top, right, bottom = drawing["vertices"][0]["box"]
+        sides = [{(x == left, y == top, x == right, y == bottom) for x, y in (edge["points"][0], edge["points"][-1])}
+                 for edge in drawing["edges"]]
+        self.assertEqual([len(side) for side in sides], [1] * 4)
+        self.assertEqual(len(set().union(*sides)), 4)
+
+    def test_another_embedding_if_a_box_is_broken(self) -> None:
+        """The first shapes are said to be broken: then one more embedding is drawn, and no other."""
+        for broken, times in ((0, 1), (1, 2), (2, 3)):
+            planars = []
+
+            def chosen(planar: Any, *words: Any, **options: Any) -> list[Shape]:
+                planars.append(planar)
+                found = choose(planar, *words, **options)
+                for shape in found:
+                    shape.broken = [0] if len(planars) <= broken else []
+                return found
+
+            with mock.patch("planarbend.draw.choose", chosen):
+                draw(graph_of(8, EDGES), Options(effort=0))
+            self.assertEqual(len(planars), times)
+
+
+class NamesOfNets(unittest.TestCase):
+    def label(self, name: str, net: tuple[Box, list[Point]], parts: list[Box], size: Point,
+              other: tuple[Box, list[Point]] | None = None) -> Any:
+        """The place of a net's name: the net joins as many parts as it has ends, and so does the other net."""
+        nets = [net, other] if other else [net]
+        ends = [(number, end) for number, (_, ends) in enumerate(nets) for end in ends]
+        graph = Graph([Vertex("net", name, Kind.NET)] + [Vertex("other", "", Kind.NET)] * (len(nets) - 1)
+                      + [Vertex("part", "part", Kind.PART) for _ in parts],
+                      [Edge(number, len(nets) + place) for place, (number, _) in enumerate(ends)])
+        lines = []
+        for (_, (x, y)), (left, top, right, bottom) in zip(ends, parts):
+            lines.append([(x, y), (left if x < left else right, y) if top <= y <= bottom else (x, top)])
+        drawing = Drawing(graph, [*(box for box, _ in nets), *parts], lines, [], size, {}, [])
+        return json.loads(drawing.json())["vertices"][0].get("label_box")
+
+    def test_above(self) -> None:
+        """A name of 12.8 by 12 pixels, 3 pixels above a line, may touch the border of the picture; it needs no more."""
+        line = (0.0, 30.0, 12.8, 30.0), [(0.0, 30.0), (12.8, 30.0)]
+        parts = [(0.0, 60.0, 5.0, 70.0), (8.0, 60.0, 12.8, 70.0)]
+        self.assertEqual(self.label("aa", line, parts, (12.8, 80.0)), [0, 15, 12.8, 27])
+        self.assertIsNone(self.label("aa", line, parts, (12.0, 80.0)))
+
+    def test_on_the_left(self) -> None:
+        """A box is in the way on the right of an upright line."""
+        net = (50.0, 0.0, 50.0, 60.0), [(50.0, 0.0), (50.0, 60.0)]
+        parts = [(90.0, 0.0, 100.0, 10.0), (90.0, 50.0, 100.0, 60.0)]
+        self.assertEqual(self.label("aaaaa", net, parts, (100.0, 60.0)), [53, 24, 85, 36])
+        self.assertEqual(self.label("aaaaa", net, [*parts, (55.0, 20.0, 85.0, 40.0)], (100.0, 60.0)), [15, 24, 47, 36])
+
+    def test_not_in_the_box_of_another_net(self) -> None:
+        net = (20.0, 45.0, 52.0, 45.0), [(20.0, 45.0), (52.0, 45.0)]
+        parts = [(0.0, 40.0, 5.0, 50.0), (70.0, 40.0, 80.0, 50.0)]
+        self.assertEqual(self.label("aaaaa", net, parts, (150.0, 80.0)), [20, 30, 52, 42])
+        other = (20.0, 0.0, 120.0, 40.0), [(20.0, 20.0), (120.0, 20.0)]
+        parts += [(0.0, 10.0, 5.0, 30.0), (135.0, 10.0, 145.0, 30.0)]
+        self.assertEqual(self.label("aaaaa", net, parts, (150.0, 80.0), other), [20, 48, 52, 60])
+
+    def test_every_place_along_a_line(self) -> None:
+        """The middle first, then 12 pixels to either side, and so on: only the place left of the middle is free."""
+        net = (0.0, 40.0, 80.0, 40.0), [(0.0, 40.0), (80.0, 40.0)]
+        parts = [(0.0, 70.0, 5.0, 80.0), (75.0, 70.0, 80.0, 80.0)]
+        parts += [(0.0, 24.0, 18.0, 30.0), (37.0, 24.0, 80.0, 30.0), (3.0, 46.0, 77.0, 60.0)]
+        self.assertEqual(self.label("aa", net, parts, (80.0, 90.0)), [21.6, 25, 34.4, 37])
 
 
 if __name__ == "__main__":
