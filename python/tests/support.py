@@ -23,14 +23,17 @@ TESTS = Path(__file__).resolve().parent
 PACKAGE = TESTS.parent
 ROOT = PACKAGE.parent
 EXAMPLES = ROOT / "examples"
-GRAPHS = {path.name: path for path in [*sorted((TESTS / "graphs").iterdir()), EXAMPLES / "amplifier.net", EXAMPLES / "flat.dot"]}
+GRAPHS = {path.name: path for path in [*sorted((TESTS / "graphs").iterdir()), EXAMPLES / "amplifier.net",
+                                       EXAMPLES / "flat.dot"]}
 BUILT = ROOT / "crates/planarbend/out/planarbend"  # where `rt ci` and `./planarbend --build` leave the program
 CORPUS = ROOT / "crates/corpus/data"  # planar_code files
 sys.path.insert(0, str(PACKAGE))
 os.environ.setdefault("PLANARBEND", str(BUILT))
 
-needs_networkx = unittest.skipUnless(importlib.util.find_spec("networkx"), "networkx is missing (Debian: python3-networkx)")
-needs_graphviz = unittest.skipUnless(shutil.which("dot") and shutil.which("gvpr"), "Graphviz is missing (Debian: graphviz)")
+has_networkx = importlib.util.find_spec("networkx") is not None
+has_graphviz = bool(shutil.which("dot") and shutil.which("gvpr"))
+needs_networkx = unittest.skipUnless(has_networkx, "networkx is missing (Debian: python3-networkx)")
+needs_graphviz = unittest.skipUnless(has_graphviz, "Graphviz is missing (Debian: graphviz)")
 has_rsvg = shutil.which("rsvg-convert") is not None
 needs_rsvg = unittest.skipUnless(has_rsvg, "rsvg-convert is missing (Debian: librsvg2-bin)")
 
@@ -57,7 +60,7 @@ def ran(words: Sequence[str], data: str | bytes = b"", **changes: str) -> subpro
 
 
 def said(words: Sequence[object], data: str | bytes = b"") -> tuple[int, str, str]:
-    """The status, output and errors of `python3 -m planarbend` with these words and this standard input, run in this process."""
+    """The status, output and errors of `python3 -m planarbend` with these words and this input, run in this process."""
     from planarbend import __main__ as package
 
     given = io.TextIOWrapper(io.BytesIO(data.encode() if isinstance(data, str) else data), encoding="utf-8")

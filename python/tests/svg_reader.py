@@ -1,4 +1,4 @@
-"""Reads the graph back from an SVG picture of `planarbend draw`: by where texts, boxes and lines lie, and by nothing else."""
+"""Reads the graph back from an SVG picture of `planarbend draw`, only by where texts, boxes and lines lie."""
 from __future__ import annotations
 
 import itertools
@@ -71,7 +71,8 @@ class Picture:
     def graph(self) -> Counter[tuple[str | None, str | None, str, str]]:
         """The edges by the labels of the boxes at their ends, with their arrows and labels."""
         label = [vertex.label for vertex in self.vertices]
-        return Counter((None if edge.tail is None else label[edge.tail], None if edge.head is None else label[edge.head],
+        return Counter((None if edge.tail is None else label[edge.tail],
+                        None if edge.head is None else label[edge.head],
                         edge.arrow, edge.label) for edge in self.edges)
 
 
@@ -103,12 +104,15 @@ def only(numbers: Iterable[int], what: str) -> int:
 def label_in(box: Box, texts: Sequence[Text]) -> str:
     """The lines of text in a box, from top to bottom: in its middle, at equal distances, and within it."""
     if texts:
-        assert all(abs(one.at[0] - (box[0] + box[2]) / 2) <= 2 * NEAR for one in texts), "a text that is not in the middle"
+        assert all(abs(one.at[0] - (box[0] + box[2]) / 2) <= 2 * NEAR
+                   for one in texts), "a text that is not in the middle"
         downs = [one.at[1] for one in texts]
         steps = [after - before for before, after in itertools.pairwise(downs)]
-        assert all(abs(step - steps[0]) <= NEAR and step >= texts[0].size for step in steps), "lines of text that overlap"
+        assert all(abs(step - steps[0]) <= NEAR and step >= texts[0].size
+                   for step in steps), "lines of text that overlap"
         assert abs(sum(downs) / len(downs) - (box[1] + box[3]) / 2) <= 2 * NEAR, "a text above or below the middle"
-        assert (len(texts) - 1) * max(steps, default=0) + texts[0].size <= box[3] - box[1] + 1, "a text that leaves its box"
+        high = (len(texts) - 1) * max(steps, default=0) + texts[0].size
+        assert high <= box[3] - box[1] + 1, "a text that leaves its box"
         narrowest = .3 * texts[0].size  # the least width of a letter, in any font
         assert all(len(one.text) * narrowest <= box[2] - box[0] for one in texts), "a text that is wider than its box"
     return "\n".join(one.text for one in texts)
@@ -145,7 +149,7 @@ def read_svg(text: str | bytes) -> Picture:
     in_covers: list[list[Text]] = [[] for _ in covers]
     for group in root.iter(SVG + "g"):
         for element in group.findall(SVG + "text"):
-            assert group.get("text-anchor") == "middle" and element.get("dy") == ".35em", "a text that is not in the middle"
+            assert (group.get("text-anchor"), element.get("dy")) == ("middle", ".35em"), "a text aside of its place"
             one = Text((float(element.get("x", "nan")), float(element.get("y", "nan"))), element.text or "",
                        float(group.get("font-size", "nan")))
             boxes = [number for number, vertex in enumerate(vertices) if inside(one.at, vertex.box)]

@@ -18,7 +18,8 @@ import support
 from planarbend.planar_code import HEADER, lists_of, split
 
 SVG = "{http://www.w3.org/2000/svg}"
-N4, N5, N7, CUBIC = (support.CORPUS / name for name in ("planar_d4_n4.pc", "planar_d4_n5.pc", "planar_d4_n7.pc", "cubic60.pc"))
+N4, N5, N7, CUBIC = (support.CORPUS / name for name in ("planar_d4_n4.pc", "planar_d4_n5.pc", "planar_d4_n7.pc",
+                                                        "cubic60.pc"))
 STEP = 40  # pixels of svg between neighbouring whole numbers
 TRIANGLE, EDGE, LONE = bytes([3, 2, 3, 0, 3, 1, 0, 1, 2, 0]), bytes([2, 2, 0, 1, 0]), bytes([1, 0])
 # All graphs of 4 and of 5 vertices by edges and fewest bends: counts by nauty and LEMON.
@@ -26,7 +27,8 @@ TABLE = {4: {3: {0: 2}, 4: {0: 1, 1: 1}, 5: {2: 1}, 6: {4: 1}},
          5: {4: {0: 3}, 5: {0: 2, 1: 3}, 6: {1: 1, 2: 4}, 7: {3: 2, 4: 1, 5: 1}, 8: {4: 1, 6: 1}, 9: {8: 1}}}
 # A rectangle by hand: four vertices, two cells wide and one high.
 RECTANGLE = bytes([4, 2, 4, 0, 3, 1, 0, 4, 2, 0, 1, 3, 0])
-RECTANGLE_LINE = {"angles": [3, 1, 3, 1, 3, 1, 3, 1], "bends": 0, "drawn": "yes", "f": 2, "file": 1, "graph": 1, "m": 4, "n": 4,
+RECTANGLE_LINE = {"angles": [3, 1, 3, 1, 3, 1, 3, 1], "bends": 0, "drawn": "yes", "f": 2, "file": 1, "graph": 1, "m": 4,
+                  "n": 4,
                   "points": {"corners": [[], [], [], []], "vertices": [[0, 0], [0, 1], [2, 1], [2, 0]]},
                   "prices": {"faces": [0, 0], "vertices": [0, 0, 0, 0]}, "status": "ok", "turns": [""] * 8}
 END = '{"end":"complete","file":1,"graphs":1}\n'
@@ -78,15 +80,16 @@ class Svg(Case):
         return support.program_run("layout", "--json", *words, path).stdout.decode()
 
     def test_one_graph(self) -> None:
-        """Circles at the points, each with its number; lines through the corners; all faces but the outer one without shade,
-        also where a longer face is inside."""
+        """Circles at the points, each with its number; lines through the corners; all faces but the outer one without
+        shade, also where a longer face is inside."""
         text = self.lines(N7, "--outer", "best")
         records = split(N7.read_bytes())[0]
         for number in (34, 81, 200, 302):
             line, lists = json.loads(text.splitlines()[number - 1]), lists_of(records[number - 1])
             with self.subTest(number):
                 self.looks_like(xml.fromstring(self.said("svg", N7, number, data=text)), line, lists, shaded=False)
-                self.looks_like(xml.fromstring(self.said("svg", N7, number, "--outer", data=text)), line, lists, shaded=True)
+                self.looks_like(xml.fromstring(self.said("svg", N7, number, "--outer", data=text)), line, lists,
+                                shaded=True)
 
     def looks_like(self, picture: xml.Element, line: dict[str, Any], lists: list[list[int]], shaded: bool) -> None:
         """Looks that a picture is that of a line."""
@@ -120,10 +123,12 @@ class Svg(Case):
         text = self.lines(N5)
         picture = xml.fromstring(self.said("svg", N5, "--graphs", "2,4-6,9", "--columns", "2", data=text))
         bends = [json.loads(line).get("bends") for line in text.splitlines()]
-        words = [f"graph {number}: {bends[number - 1]} bend{'s' * (bends[number - 1] != 1)}" for number in (2, 4, 5, 6, 9)]
+        words = [f"graph {number}: {bends[number - 1]} bend{'s' * (bends[number - 1] != 1)}"
+                 for number in (2, 4, 5, 6, 9)]
         captions = [one for one in picture.iter(SVG + "text") if str(one.text).startswith("graph")]
         self.assertEqual([one.text for one in captions], words)
-        groups = [tuple(map(float, re.findall(r"[\d.]+", one.get("transform", "")))) for one in picture if "transform" in one.attrib]
+        groups = [tuple(map(float, re.findall(r"[\d.]+", one.get("transform", "")))) for one in picture
+                  if "transform" in one.attrib]
         self.assertEqual(len(groups), 5)
         sizes = []
         for number in (2, 4, 5, 6, 9):
@@ -155,7 +160,8 @@ class Svg(Case):
         self.assertEqual((some.count("<figure>"), some.count("graph 3: ")), (2, 1))
         cut = HEADER + TRIANGLE + LONE + EDGE + b"\3"
         path = self.written("cut.pc", cut)
-        page = self.refused("cut.pc ends truncated, so graphs may be missing", "svg", path, "--html", data=self.lines(path), status=3)
+        page = self.refused("cut.pc ends truncated, so graphs may be missing", "svg", path, "--html",
+                            data=self.lines(path), status=3)
         self.assertEqual((page.count("<figure>"), page.count("breaks the rule edgeless")), (3, 1))
 
     def test_refusals(self) -> None:
@@ -164,13 +170,16 @@ class Svg(Case):
         self.refused("graph 2: breaks the rule edgeless", "svg", path, "2", data=text)
         self.refused("have no graph 4", "svg", path, "4", data=text)
         self.refused("have no graph 4, 5, 6, 7, 8, \\.\\.", "svg", path, "--graphs", "1-9", data=text)
-        self.refused("graph 3 of .* is not graph 3 of the lines", "svg", self.written("x.pc", HEADER + EDGE + EDGE + TRIANGLE), "3", data=text)
-        self.refused("graph 3 of .* is not graph 3 of the lines", "svg", self.written("x.pc", HEADER + TRIANGLE + EDGE), "3", data=text)
+        self.refused("graph 3 of .* is not graph 3 of the lines", "svg",
+                     self.written("x.pc", HEADER + EDGE + EDGE + TRIANGLE), "3", data=text)
+        self.refused("graph 3 of .* is not graph 3 of the lines", "svg", self.written("x.pc", HEADER + TRIANGLE + EDGE),
+                     "3", data=text)
         self.refused("standard input, line 2: not a line", "svg", path, "1", data=text.replace('"rule"', '"role"'))
         self.refused("no line gives the ending", "svg", path, "1", data=text.partition('{"end"')[0])
         self.refused("some-not.pc: No such file", "svg", self.folder / "some-not.pc", "1", data=text)
         self.refused("header: it does not begin", "svg", self.written("no.pc", b"none"), "1", data=text)
-        for words, said in ((["0"], "1 to 1,000,000"), (["2-1"], "in increasing order"), (["a"], "is not a list"), (["1-"], "is not a list"),
+        for words, said in ((["0"], "1 to 1,000,000"), (["2-1"], "in increasing order"), (["a"], "is not a list"),
+                            (["1-"], "is not a list"),
                             (["1000001"], "1 to 1,000,000"), (["1", "--graphs", "2"], "not both"), ([], "give GRAPH"),
                             (["1", "--columns", "0"], "at least 1")):
             self.refused(said, "svg", path, *words, status=2)
@@ -191,7 +200,8 @@ class Cover(Case):
         picture = xml.fromstring(self.said("cover", path, "1", "--row", "0", "--point", "0,0", data=data))
         self.assertEqual(numbers(picture, "width", "height"), (2 * 30 + 4 * 60, 2 * 30 + 3 * 60))
         rects = [one for one in picture.iter(SVG + "rect") if "x" in one.attrib]
-        cells = {((x - 30) / 60 - 1, 1 - (y - 30) / 60): one.get("fill") for one in rects[:12] for x, y in [numbers(one, "x", "y")]}
+        cells = {((x - 30) / 60 - 1, 1 - (y - 30) / 60): one.get("fill") for one in rects[:12] for x,
+                 y in [numbers(one, "x", "y")]}
         self.assertEqual(set(cells), {(x, y) for x in range(-1, 3) for y in range(-1, 2)})
         boxes = [{(x, -1) for x in range(-1, 3)}, {(x, 1) for x in range(-1, 3)}, {(-1, 0)}, {(0, 0), (1, 0)}, {(2, 0)}]
         colours = [{cells[cell] for cell in box} for box in boxes]
@@ -200,19 +210,24 @@ class Cover(Case):
         self.assertFalse((colours[0] | colours[1]) & set.union(*colours[2:]))
         marked = [((x - 30) / 60 - 1, 1 - (y - 30) / 60) for one in rects[12:] for x, y in [numbers(one, "x", "y")]]
         self.assertEqual(Counter(marked), Counter([(-1, 0), (0, 0), (1, 0), (2, 0), (0, 0)]))
-        texts = {(str(one.text), (x - 30) / 60 - 1, 2 - (y - 30) / 60) for one in picture.iter(SVG + "text") for x, y in [numbers(one, "x", "y")]}
-        self.assertEqual(texts, {("1", -.5, .5), ("2", 1, .5), ("3", 2.5, .5), ("1", 0, 0), ("2", 0, 1), ("3", 2, 1), ("4", 2, 0)})
+        texts = {(str(one.text), (x - 30) / 60 - 1, 2 - (y - 30) / 60) for one in picture.iter(SVG + "text") for x,
+                 y in [numbers(one, "x", "y")]}
+        self.assertEqual(texts, {("1", -.5, .5), ("2", 1, .5), ("3", 2.5, .5), ("1", 0, 0), ("2", 0, 1), ("3", 2, 1),
+                                 ("4", 2, 0)})
         lines = {"dash": set(), "drawn": set(), "row": set(), "seen": set()}
         for one in picture.iter(SVG + "path"):
-            ends = [(float(x) / 60 - 1.5, 2.5 - float(y) / 60) for x, y in (end.split() for end in str(one.get("d"))[1:].split("L"))
+            ends = [(float(x) / 60 - 1.5, 2.5 - float(y) / 60) for x,
+                    y in (end.split() for end in str(one.get("d"))[1:].split("L"))
                     if "z" not in str(one.get("d"))]
             if ends:
                 kind = ("seen" if "seen" in str(one.get("marker-end")) else "row" if one.get("marker-end") else
                         "dash" if one.get("stroke-dasharray") else "drawn")
                 lines[kind].add(tuple((round(x, 2), round(y, 2)) for x, y in ends))
         self.assertEqual(lines["dash"], {((-1, 0), (0, 0)), ((2, 0), (3, 0)), ((-1, 1), (0, 1)), ((2, 1), (3, 1))})
-        frame = {((x, y), (x + 1, y)) for x in range(-1, 3) for y in (-1, 2)} | {((x, y), (x, y + 1)) for x in (-1, 3) for y in range(-1, 2)}
-        self.assertEqual(lines["drawn"], frame | {((0, 0), (0, 1)), ((2, 0), (2, 1)), ((0, 0), (1, 0)), ((1, 0), (2, 0)), ((0, 1), (1, 1)),
+        frame = {((x, y), (x + 1, y)) for x in range(-1, 3) for y in (-1, 2)} | {((x, y), (x, y + 1)) for x in (-1, 3)
+                                                                                 for y in range(-1, 2)}
+        self.assertEqual(lines["drawn"], frame | {((0, 0), (0, 1)), ((2, 0), (2, 1)), ((0, 0), (1, 0)),
+                                                  ((1, 0), (2, 0)), ((0, 1), (1, 1)),
                                                   ((1, 1), (2, 1))})
         self.assertEqual(lines["row"], {((x, .15), (x, .74)) for x in (-1, 0, 2, 3)})
         self.assertEqual(lines["seen"], {((0, 1), (0, .08))})
@@ -227,7 +242,8 @@ class Cover(Case):
             line = json.loads(text.splitlines()[number - 1])
             (x, y), *_ = line["points"]["vertices"]
             picture = xml.fromstring(self.said("cover", N7, number, "--row", y, "--point", f"{x},{y}", data=text))
-            points = line["points"]["vertices"] + [corner for corners in line["points"]["corners"] for corner in corners]
+            points = line["points"]["vertices"] + [corner for corners in line["points"]["corners"]
+                                                   for corner in corners]
             wide, high = (max(along) - min(along) + 2 for along in zip(*points))
             self.assertEqual(numbers(picture, "width", "height"), (60 + 60 * wide, 60 + 60 * high))
             fills = [one.get("fill") for one in picture.iter(SVG + "rect") if "x" in one.attrib]
@@ -253,12 +269,14 @@ class Collect(Case):
 
     def table(self, text: str) -> tuple[dict[str, dict[str, dict[int, int]]], dict[tuple[str, str], int], str]:
         """The counts of a table, its totals, and its last line."""
-        rows = [[cell.strip() for cell in line.strip("|").split("|")] for line in text.splitlines() if line.startswith("|")]
+        rows = [[cell.strip() for cell in line.strip("|").split("|")] for line in text.splitlines()
+                if line.startswith("|")]
         self.assertEqual(set(rows[1]), {"---:"})
         self.assertEqual((rows[0][:2], rows[0][-1], len(rows[1])), (["Vertices", "Edges"], "Graphs", len(rows[0])))
         counts: dict[str, dict[str, dict[int, int]]] = {}
         for vertices, edges, *cells, _ in rows[2:]:
-            counts.setdefault(vertices, {})[edges] = {int(bends): int(cell) for bends, cell in zip(rows[0][2:], cells) if cell}
+            counts.setdefault(vertices, {})[edges] = {int(bends): int(cell) for bends,
+                                                      cell in zip(rows[0][2:], cells) if cell}
         return counts, {(row[0], row[1]): int(row[-1]) for row in rows[2:]}, text.splitlines()[-1]
 
     def test_a_table(self) -> None:
@@ -280,10 +298,12 @@ class Collect(Case):
         self.assertEqual(self.said("collect", self.folder), self.said("collect", *self.reports.values()))
 
     def test_refused_and_undrawn_graphs(self) -> None:
-        text = "file 1\ngraph 1 refused degree\ngraph 2 refused loop\ngraph 3 refused degree\ngraph 4 ok n=3 m=2 f=1 bends=0 drawn=no" \
-               " cause=wide\nend complete graphs=4\n"
+        answers = ["refused degree", "refused loop", "refused degree", "ok n=3 m=2 f=1 bends=0 drawn=no cause=wide"]
+        lines = [f"graph {number} {answer}" for number, answer in enumerate(answers, 1)]
+        text = "\n".join(["file 1", *lines, "end complete graphs=4", ""])
         last = self.said("collect", self.written("a.report", text)).splitlines()[-1]
-        self.assertEqual(last, "1 graphs by vertices, edges and fewest bends, 1 not drawn (wide); 3 refused, 2 by degree, 1 by loop.")
+        self.assertEqual(last, "1 graphs by vertices, edges and fewest bends, 1 not drawn (wide); 3 refused,"
+                         " 2 by degree, 1 by loop.")
 
     def test_a_plot(self) -> None:
         plot = self.folder / "plot.svg"
@@ -299,12 +319,14 @@ class Collect(Case):
         wanted = []
         for rank, (vertices, rows) in enumerate(sorted(TABLE.items())):
             together: Counter[int] = sum((Counter(row) for row in rows.values()), Counter())
-            places = {bends: (across[bends], up[1] + (up[10] - up[1]) * math.log10(count)) for bends, count in together.items()}
+            places = {bends: (across[bends], up[1] + (up[10] - up[1]) * math.log10(count)) for bends,
+                      count in together.items()}
             wanted += [places[bends] for bends in sorted(places)]
             wanted += [(x - 18, y) for text, x, y in texts if text == f"{vertices} vertices"]
             colour = [one.get("stroke") for one in picture.iter(SVG + "path")]
             steps = ["M" if bends - 1 not in together else "L" for bends in sorted(together)]
-            paths = [re.findall("[ML]", str(one.get("d"))) for one in picture.iter(SVG + "path") if one.get("stroke-width") == "2"]
+            paths = [re.findall("[ML]", str(one.get("d"))) for one in picture.iter(SVG + "path")
+                     if one.get("stroke-width") == "2"]
             self.assertEqual(paths[2 * rank], steps)
             self.assertGreater(len(set(colour)), 3)
         self.assertEqual(len(dots), len(wanted))
@@ -318,17 +340,22 @@ class Collect(Case):
                              (self.text.replace("complete", "memory"), "line 8: the file ends memory, not complete"),
                              (self.text.replace("graphs=6", "graphs=5"), "line 8: 6 graphs precede it, not 5"),
                              (self.text.replace("graph 3", "graph 4", 1), "line 4: graph 4 where graph 3 is expected"),
-                             (self.text.replace("graph 3 ok n=4 m=4 f=2 bends=1 drawn=yes", "graph 3 memory"), "line 4: memory ran out for graph 3"),
+                             (self.text.replace("graph 3 ok n=4 m=4 f=2 bends=1 drawn=yes", "graph 3 memory"),
+                              "line 4: memory ran out for graph 3"),
                              (self.text.partition("end ")[0], "no 'end complete' after line 7"),
-                             (self.text.partition("end ")[0] + "file 2\n", "line 8: the previous file has no 'end complete'"),
-                             ("file 1\nrecord 1 n=3 bytes=10\nend complete records=1\n", "line 2: not a line of a report"),
-                             ("file 1\nend complete records=0\n", "line 2: not a line of a report"), ("", "no 'end complete'"),
+                             (self.text.partition("end ")[0] + "file 2\n",
+                              "line 8: the previous file has no 'end complete'"),
+                             ("file 1\nrecord 1 n=3 bytes=10\nend complete records=1\n",
+                              "line 2: not a line of a report"),
+                             ("file 1\nend complete records=0\n", "line 2: not a line of a report"),
+                             ("", "no 'end complete'"),
                              (self.text.replace(" drawn=yes", ""), "line 2: not a line of a report")):
             self.assertEqual(self.refused(re.escape(said), "collect", self.written("x.report", change)), "")
         self.refused("planar_d4_n4 is given 2 times", "collect", four, five, four)
         self.refused("No such file", "collect", self.folder / "none.report")
         self.refused("the folder has no parts", "collect", support.CORPUS)
-        self.refused("these files have no report: .*cubic60.*planar_d4_n6", "collect", four, five, "--of", support.CORPUS)
+        self.refused("these files have no report: .*cubic60.*planar_d4_n6", "collect", four, five, "--of",
+                     support.CORPUS)
         parts = [self.written(f"a-part-{number}-of-3.report", self.text) for number in (0, 1, 2)]
         self.assertIn("18 graphs", self.said("collect", *parts))
         self.refused("a: of 3 parts, these are missing: 0, 2", "collect", parts[1])
@@ -356,9 +383,12 @@ class Split(Case):
         self.assertEqual([path.name for path in (self.folder / "in").iterdir()], ["stdin-0001.pc"])
 
     def test_what_is_not_planar_code_to_its_end(self) -> None:
-        for data, said, count in ((HEADER + EDGE + TRIANGLE[:4], "truncated: record 2, which begins at byte 20, is truncated", 1),
-                                  (HEADER + EDGE + EDGE + b"\0", "large: byte 0 where .*, in record 3, which begins at byte 25", 2),
-                                  (HEADER + EDGE + b"\5" + b"\1" * 300, "oversize: a list of more than 254 neighbours, in record 2", 1),
+        for data, said, count in ((HEADER + EDGE + TRIANGLE[:4],
+                                   "truncated: record 2, which begins at byte 20, is truncated", 1),
+                                  (HEADER + EDGE + EDGE + b"\0",
+                                   "large: byte 0 where .*, in record 3, which begins at byte 25", 2),
+                                  (HEADER + EDGE + b"\5" + b"\1" * 300,
+                                   "oversize: a list of more than 254 neighbours, in record 2", 1),
                                   (b">>planar_cod", "header: it does not begin", 0)):
             path, folder = self.written("x.pc", data), self.folder / "parts"
             self.refused(said, "split", path, folder, status=3)
@@ -386,7 +416,8 @@ class Stream(Case):
 
     def test_the_outer_face_that_is_asked_for(self) -> None:
         """The fewest bends of twenty graphs by LEMON, with either choice."""
-        for words, wanted in ((["--outer", "best"], 169), (["--outer", "first", "-k", "7"], 176), (["-k", "19", "--json"], 176),
+        for words, wanted in ((["--outer", "best"], 169), (["--outer", "first", "-k", "7"], 176),
+                              (["-k", "19", "--json"], 176),
                               (["-k", "5", "--json", "--outer", "best"], 169)):
             status, lines = self.ran(CUBIC.read_bytes(), *words)
             bends = [int(found[1]) for found in (re.search(r'bends"?[=:](\d+)', line) for line in lines) if found]
@@ -395,8 +426,9 @@ class Stream(Case):
     def test_the_status_is_the_greatest_of_all_parts(self) -> None:
         """A program that runs out of memory at its first run alone."""
         program = self.folder / "program"
-        lost = f"printf 'file 1\\ngraph 1 memory\\nend complete graphs=1\\n'; : > {self.folder}/ran; cat > /dev/null; exit 3"
-        program.write_text(f"#!/bin/sh\nif [ ! -e {self.folder}/ran ]; then {lost}; fi\nexec {os.environ['PLANARBEND']} \"$@\"\n")
+        ran, report = self.folder / "ran", self.written("report", "file 1\ngraph 1 memory\nend complete graphs=1\n")
+        lost = f"cat {report}; : > {ran}; cat > /dev/null; exit 3"
+        program.write_text(f"#!/bin/sh\nif [ ! -e {ran} ]; then {lost}; fi\nexec {os.environ['PLANARBEND']} \"$@\"\n")
         program.chmod(program.stat().st_mode | stat.S_IXUSR)
         with mock.patch.dict(os.environ, PLANARBEND=str(program)):
             status, lines = self.ran(HEADER + EDGE + TRIANGLE + EDGE, "-k", "1")
@@ -421,7 +453,8 @@ class Help(Case):
         for command in ("draw", "svg", "cover", "split", "stream", "collect"):
             self.assertRegex(text, rf"(?m)^  {command} +\w+")
             status, out, _ = support.said([command, "--help"])
-            self.assertEqual((status, f"usage: planarbend {command}" in out or "usage: planarbend-draw" in out), (0, True))
+            self.assertEqual((status, f"usage: planarbend {command}" in out or "usage: planarbend-draw" in out),
+                             (0, True))
         for words in ([], ["no-command"]):
             status, out, errors = support.said(words)
             self.assertEqual((status, out, errors), (2, "", text))

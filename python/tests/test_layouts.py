@@ -1,5 +1,5 @@
-"""Layouts of the corpus as `planarbend.layouts` gives them: faces and outer face by the points, bends beside LEMON's; the
-library and the program give the same, field by field."""
+"""Layouts of the corpus as `planarbend.layouts` gives them: faces and outer face by the points, bends beside LEMON's.
+The library and the program give the same, field by field."""
 from __future__ import annotations
 
 import functools
@@ -21,61 +21,13 @@ from planarbend import library
 from planarbend.engine import Conditions, Cut, NotKept
 from planarbend.planar_code import Plane, split
 
-# The fewest bends of all graphs of a file, with the longest outer face and with the best one, by LEMON's network simplex.
-BENDS = {"cubic60.pc": (176, 169), "medial60.pc": (1102, 1082), "planar_d4_n6.pc": (217, 216), "planar_d4_n7.pc": (1105, 1094),
+# The fewest bends of all graphs of a file, with the longest outer face and with the best one, by LEMON.
+BENDS = {"cubic60.pc": (176, 169), "medial60.pc": (1102, 1082), "planar_d4_n6.pc": (217, 216),
+         "planar_d4_n7.pc": (1105, 1094),
          "tree60.pc": (0, 0), "grid60.pc": (0, 0)}
 CHOICES = ("first", "best")
 COMPILER = next(filter(shutil.which, (os.environ.get("CC") or "cc", "clang", "gcc")), None)
 needs_library = unittest.skipUnless(library.path(), "the library is missing (planarbend --build makes it)")
-
-# The library as planarbend.h has it, but with the answer that the record asks for: [1, RESULT, 0], or 0 for an edge that turns
-# twice to the left. A cut marks the vertices 1 and 5 and the face 3.
-STAND_IN = r"""
-#include "planarbend.h"
-static const char *const words[] = {"ok", "range", "loop", "multi", "asymmetric", "edgeless", "degree", "disconnected", "genus",
-    "notarecord", "memory", "room", "argument", "noshape", "noedge", "noouter", "wide"};
-static int held;
-const char *planarbend_version(void) { return "7.8.9"; }
-const char *planarbend_word(int result) { return words[result]; }
-int planarbend_new(planarbend **made) { *made = (planarbend *)&held; return FULL; }
-void planarbend_free(planarbend *freed) { held += freed == (planarbend *)&held; }
-planarbend_lists planarbend_lists_of(planarbend_buffer *buffer) {
-    planarbend_lists lists = {buffer->angles, PLANARBEND_MAX_DARTS, buffer->turns, PLANARBEND_MAX_DARTS, buffer->vertex_prices,
-        PLANARBEND_MAX_VERTICES, buffer->face_prices, PLANARBEND_MAX_FACES, buffer->points, PLANARBEND_MAX_VERTICES,
-        buffer->corner_starts, PLANARBEND_MAX_EDGES + 1, buffer->corners, PLANARBEND_MAX_BENDS};
-    return lists;
-}
-int planarbend_layout(planarbend *object, const uint8_t *record, size_t size, int outer, int drawing, planarbend_counts *counts,
-                      const planarbend_lists *lists) {
-    planarbend_counts found = {2, 1, 1, 2, 0, drawing ? 2 : 0};
-    if (object != (planarbend *)&held || size != (record[0] == 1 ? 3u : 5u) || record[size - 1]) return PLANARBEND_ARGUMENT;
-    if (record[0] == 1) return record[1];
-    if (outer != PLANARBEND_OUTER_BEST) return PLANARBEND_ARGUMENT;
-    *counts = found;
-    if (!lists) return PLANARBEND_OK;
-    lists->angles[0] = 3; lists->angles[1] = 1;
-    lists->turns[0].left = 2; lists->turns[0].right = 0; lists->turns[1].left = 0; lists->turns[1].right = 2;
-    lists->vertex_prices[0] = -7; lists->vertex_prices[1] = 8; lists->face_prices[0] = -9;
-    if (drawing) {
-        lists->points[0].x = 1; lists->points[0].y = 20; lists->points[1].x = 300; lists->points[1].y = 65535;
-        lists->corner_starts[0] = 0; lists->corner_starts[1] = 2;
-        lists->corners[0].x = 5; lists->corners[0].y = 6; lists->corners[1].x = 7; lists->corners[1].y = (uint16_t)(8 + drawing);
-    }
-    return PLANARBEND_OK;
-}
-#if !OLD
-int planarbend_layout_keeping(planarbend *object, const uint8_t *record, size_t size, int outer, int drawing,
-                              const planarbend_conditions *given, planarbend_counts *counts, const planarbend_lists *lists,
-                              planarbend_cut *cut) {
-    int result = planarbend_layout(object, record, size, outer, drawing, counts, lists);
-    if (given->straight_count != 2 || given->straight[1].from != 2 || given->straight[1].to != 3 || given->inner_count != 1
-        || given->inner[0].from != 4 || given->inner[0].to != 1) return PLANARBEND_ARGUMENT;
-    if (result == PLANARBEND_NO_SHAPE) { cut->vertices[0] = cut->vertices[4] = 1; cut->faces[3] = 1; cut->outer_face = 6; }
-    return result;
-}
-#endif
-"""
-
 
 @contextmanager
 def calling(path: str | None) -> Iterator[None]:
@@ -101,7 +53,7 @@ def by_program(name: str, outer: str, *words: str) -> list[planarbend.Layout]:
 
 
 def areas_of(layout: planarbend.Layout) -> list[int]:
-    """Twice the area of each face, which is positive where it is walked counter-clockwise: with the inside on the left."""
+    """Twice the area of each face, which is positive where the walk has the inside on its left."""
     found = []
     for face in layout.faces:
         ring = [point for tail, head in zip(face, face[1:] + face[:1]) for point in layout.path(tail, head)[:-1]]
@@ -137,14 +89,15 @@ class Program(unittest.TestCase):
                 self.assertEqual(layout.outer_face, layout.faces[layout.outer])
 
     def test_faces_are_those_of_the_embedding(self) -> None:
-        """Each dart is on one face, after the dart before it comes the next neighbour clockwise, and faces come in order."""
+        """Each dart is on one face, the next dart of a face is the next clockwise, and faces come in order."""
         for name in BENDS:
             for layout in by_program(name, "first"):
                 lists = layout.record.lists
                 darts = [list(zip(face, face[1:] + face[:1])) for face in layout.faces]
                 self.assertEqual(Counter(itertools.chain(*darts)), Counter(
                     (tail, head) for tail, heads in enumerate(lists, 1) for head in heads))
-                place = {(tail, head): (tail, at) for tail, heads in enumerate(lists, 1) for at, head in enumerate(heads)}
+                place = {(tail, head): (tail, at) for tail, heads in enumerate(lists, 1) for at,
+                         head in enumerate(heads)}
                 self.assertEqual(sorted(darts, key=lambda walk: place[walk[0]]), darts)
                 for walk in darts:
                     self.assertEqual(min(walk, key=place.__getitem__), walk[0])
@@ -167,7 +120,8 @@ class Program(unittest.TestCase):
         for name in ("tree60.pc", "cubic60.pc"):
             short, quick = by_program(name, "first"), by_program(name, "first", "--drawing", "quick")
             self.assertLess(length_of(short), .98 * length_of(quick))
-            self.assertTrue(all(length_of([one]) <= length_of([other]) for one, other in zip(short, quick, strict=True)))
+            self.assertTrue(all(length_of([one]) <= length_of([other]) for one,
+                                other in zip(short, quick, strict=True)))
             self.assertEqual(by_program(name, "first", "--drawing", "short"), short)
 
 
@@ -175,13 +129,15 @@ class Program(unittest.TestCase):
 class Library(unittest.TestCase):
     def test_it_gives_the_layouts_of_the_program(self) -> None:
         for name, outer in itertools.product((*BENDS, "families.pc", "prism85.pc"), CHOICES):
-            wanted = list(planarbend.Layouts(records_of(name), outer)) if name == "families.pc" else by_program(name, outer)
+            wanted = list(planarbend.Layouts(records_of(name), outer)) if name == "families.pc" else by_program(name,
+                                                                                                                outer)
             with calling(library.path()):
                 found = list(planarbend.layouts(records_of(name), outer))
             self.assertEqual(found, wanted, (name, outer))
 
     def test_it_draws_what_is_asked_for(self) -> None:
-        for name, words in itertools.product(("tree60.pc", "cubic60.pc"), (("--drawing", "quick"), ("--drawing", "short"))):
+        for name, words in itertools.product(("tree60.pc", "cubic60.pc"),
+                                             (("--drawing", "quick"), ("--drawing", "short"))):
             wanted = by_program(name, "first", *words)
             with calling(library.path()):
                 layouts = planarbend.layouts(records_of(name), "first", words)
@@ -225,7 +181,7 @@ class Library(unittest.TestCase):
         self.assertEqual(none, short | {"points": None, "drawn": "no"})
 
     def test_cuts_show_why(self) -> None:
-        """By the definition in planarbend.h: the marked vertices and faces turn more than their angles and edges let leave."""
+        """By the definition in planarbend.h: the marked vertices and faces turn more than can leave them."""
         seen = 0
         for record in records_of("planar_d4_n6.pc") + records_of("medial60.pc")[:5]:
             edges = [(tail, head) for tail, heads in enumerate(record.lists, 1) for head in heads if tail < head]
@@ -247,7 +203,8 @@ def surplus(record: planarbend.Record, straight: list[tuple[int, int]], cut: Cut
         face = plane.face[dart]
         assert tail not in cut.vertices or face in cut.faces, "a face at a vertex of the set"
         is_straight = (tail, head) in straight or (head, tail) in straight
-        assert is_straight or face not in cut.faces or plane.face[plane.back[dart]] in cut.faces, "a face across an edge"
+        beyond = plane.face[plane.back[dart]]
+        assert is_straight or face not in cut.faces or beyond in cut.faces, "a face across an edge"
     assert cut.outer == plane.outer
     turns = [4 - len(record.lists[vertex - 1]) for vertex in cut.vertices]
     turns += [(-4 if face == cut.outer else 4) - len(plane.walks[face]) for face in cut.faces]
@@ -256,17 +213,18 @@ def surplus(record: planarbend.Record, straight: list[tuple[int, int]], cut: Cut
 
 @unittest.skipUnless(COMPILER, "a C compiler is missing (Debian: gcc)")
 class StandIn(unittest.TestCase):
-    """The package reads what planarbend.h says where it says it: a library in C gives answers that can be told apart."""
+    """The package reads what planarbend.h says: stand_in.c gives answers that can be told apart."""
 
     @classmethod
     def setUpClass(cls) -> None:
         folder = tempfile.TemporaryDirectory()
         cls.addClassCleanup(folder.cleanup)
-        source = Path(folder.name) / "stand_in.c"
-        source.write_text(STAND_IN)
+        source = support.TESTS / "stand_in.c"
         cls.path, cls.old, cls.full = (str(Path(folder.name) / f"lib{name}.so") for name in ("now", "old", "full"))
-        for path, words in ((cls.path, ["-DOLD=0", "-DFULL=0"]), (cls.old, ["-DOLD=1", "-DFULL=0"]), (cls.full, ["-DOLD=1", "-DFULL=10"])):
-            subprocess.run([COMPILER, "-shared", "-fPIC", "-Wall", "-Werror", *words, f"-I{support.ROOT / 'c'}", source, "-o", path], check=True)
+        for path, words in ((cls.path, ["-DOLD=0", "-DFULL=0"]), (cls.old, ["-DOLD=1", "-DFULL=0"]),
+                            (cls.full, ["-DOLD=1", "-DFULL=10"])):
+            subprocess.run([COMPILER, "-shared", "-fPIC", "-Wall", "-Werror", *words, f"-I{support.ROOT / 'c'}", source,
+                            "-o", path], check=True)
 
     def test_each_field(self) -> None:
         line = {"angles": [3, 1], "bends": 2, "drawn": "yes", "f": 1, "m": 1, "n": 2,
@@ -276,11 +234,13 @@ class StandIn(unittest.TestCase):
             self.assertEqual(called.line(bytes([2, 2, 0, 1, 0]), "best"), line)
             line["points"]["corners"][0][1][1] = 9
             self.assertEqual(called.line(bytes([2, 2, 0, 1, 0]), "best", "quick"), line)
-            self.assertEqual(called.line(bytes([2, 2, 0, 1, 0]), "best", "none"), line | {"points": None, "drawn": "no"})
+            self.assertEqual(called.line(bytes([2, 2, 0, 1, 0]), "best", "none"),
+                             line | {"points": None, "drawn": "no"})
             self.assertEqual(list(called.bends([bytes([2, 2, 0, 1, 0])], "best")), [2])
             self.assertEqual(called.version(), "7.8.9")
             answer = called.answer(bytes([2, 2, 0, 1, 0]), "best")
-            self.assertEqual((answer.bends, answer.points, answer.corners), (2, [(1, 20), (300, 65535)], [[(5, 6), (7, 10)]]))
+            self.assertEqual((answer.bends, answer.points, answer.corners),
+                             (2, [(1, 20), (300, 65535)], [[(5, 6), (7, 10)]]))
 
     def test_memory(self) -> None:
         with calling(self.path):

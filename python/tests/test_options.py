@@ -1,4 +1,4 @@
-"""Each option of `planarbend draw` by what it changes in the drawing, and a program that tells too little is noticed."""
+"""Each option of `planarbend draw` by what it changes in the drawing, and programs that tell too little."""
 from __future__ import annotations
 
 import collections
@@ -18,11 +18,12 @@ from planarbend import library
 # Three squares, one in another, each joined to the next: any face can be outside. The second is a component of its own.
 RINGS = ["{0}{1} {0}{2}".format(name, 4 * ring + place, 4 * ring + (place + 1) % 4)
          for name in "pq" for ring in range(3) for place in range(4)]
-RINGS += [f"{name}{4 * ring + place} {name}{4 * ring + 4 + place}" for name in "pq" for ring in range(2) for place in range(4)]
+RINGS += [f"{name}{4 * ring + place} {name}{4 * ring + 4 + place}" for name in "pq" for ring in range(2)
+          for place in range(4)]
 CUBE = "\n".join(f"c{one} c{one ^ bit}" for one in range(8) for bit in (1, 2, 4) if one < one ^ bit)
 WHEEL = "\n".join(f"hub rim{one}\nrim{one} rim{(one + 1) % 8}" for one in range(8))
 HUBS = "\n".join([f"four leaf{one}" for one in range(4)] + [f"five leaf{one}" for one in range(5)])
-PARALLEL = "v0 v1\nv0 v1\nv1 v2\nv1 v0\nv1 v2\nv3 v1\nv1 v0\nv1 v3\n"  # of which v0--v1 has four, and one bends by default
+PARALLEL = "v0 v1\nv0 v1\nv1 v2\nv1 v0\nv1 v2\nv3 v1\nv1 v0\nv1 v3\n"  # of the four v0--v1 one bends by default
 
 
 class Case(unittest.TestCase):
@@ -72,7 +73,8 @@ class Outer(Case):
 
     def test_labels_serve_as_names(self) -> None:
         nodes = [{"id": name, "label": name.upper()} for name in ("a", "b", "c", "d", "e", "f")]
-        links = [{"source": one, "target": other} for one, other in ("ab", "bc", "ca", "de", "ef", "fd", "ad", "be", "cf")]
+        links = [{"source": one, "target": other} for one, other in ("ab", "bc", "ca", "de", "ef", "fd", "ad", "be",
+                                                                     "cf")]
         text = json.dumps({"nodes": nodes, "links": links})
         for names, wanted in (("A,b,C", set("abc")), ("D,E,F", set("def")), ("a,E", set("ae"))):
             self.assertLessEqual(wanted, outside(self.drawing(text, "--outer", names)))
@@ -107,7 +109,8 @@ class Split(Case):
         text = json.dumps({"nodes": nodes, "links": [{"source": one, "target": other} for one, other in ends]})
         found = self.drawing(text, "--split", "b,D")
         self.assertEqual(self.flags(found), {"b": 3, "d": 3})
-        self.assertEqual({(one["name"], one["label"]) for one in found["vertices"]}, {(name, name.upper()) for name in "abcd"})
+        self.assertEqual({(one["name"], one["label"]) for one in found["vertices"]},
+                         {(name, name.upper()) for name in "abcd"})
         name = [one["name"] for one in found["vertices"]]
         self.assertEqual([name[edge["tail"]] + name[edge["head"]] for edge in found["edges"]], ends)
 
@@ -123,7 +126,7 @@ class Split(Case):
 
 class Search(Case):
     def test_seed(self) -> None:
-        """A seed gives the same drawing again, and others give other drawings, also where no crossing is searched for."""
+        """A seed gives the same drawing again, and others give other drawings, also of planar graphs."""
         for text in (CUBE, WHEEL):
             found = [json.dumps(self.drawing(text, "--seed", seed)) for seed in (0, 0, 1, 2, 3)]
             self.assertEqual(found[0], found[1])
@@ -143,7 +146,8 @@ class Search(Case):
         """More effort leaves fewer crossings and bends."""
         found = []
         for effort in (0, 1, 2):
-            drawings = [self.drawing(support.GRAPHS[name].read_bytes(), "--effort", effort, name=name) for name in ("k7.json", "k6.g6")]
+            drawings = [self.drawing(support.GRAPHS[name].read_bytes(), "--effort", effort, name=name)
+                        for name in ("k7.json", "k6.g6")]
             found.append((sum(len(one["crossings"]) for one in drawings), sum(one["bends"] for one in drawings)))
         self.assertGreaterEqual(found[1], found[2])
         self.assertGreater(found[0], found[1])
@@ -158,8 +162,10 @@ class Search(Case):
 
     def test_words_that_are_refused(self) -> None:
         for words, said in ((["-o", "x.gif"], "OUT must end with"), (["-o", "x.svg", "--scale", "0"], "0.1 to 20"),
-                            (["-o", "x.svg", "--scale", "20.5"], "0.1 to 20"), (["-o", "x.svg", "--effort", "101"], "0 to 100"),
-                            (["-o", "x.svg", "--effort", "-1"], "0 to 100"), (["-o", "x.svg", "--format", "gif"], "invalid choice")):
+                            (["-o", "x.svg", "--scale", "20.5"], "0.1 to 20"),
+                            (["-o", "x.svg", "--effort", "101"], "0 to 100"),
+                            (["-o", "x.svg", "--effort", "-1"], "0 to 100"),
+                            (["-o", "x.svg", "--format", "gif"], "invalid choice")):
             status, _, errors = support.said(["draw", "-", *words], CUBE)
             self.assertEqual(status, 2)
             self.assertIn(said, errors)
@@ -200,7 +206,8 @@ class Straight(Case):
 
     def test_what_is_asked_for_is_told_where_it_cannot_be(self) -> None:
         self.refused("a b\na b\n", "these edges are straight: a--b, a--b$", "--straight", "a--b")
-        self.refused("a b\nb c\nc a\n", "these edges are straight: a--b, b--c, c--a$", "--straight", "a--b", "--straight", "b--c",
+        self.refused("a b\nb c\nc a\n", "these edges are straight: a--b, b--c, c--a$", "--straight", "a--b",
+                     "--straight", "b--c",
                      "--straight", "c--a")
 
 

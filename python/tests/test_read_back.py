@@ -1,4 +1,4 @@
-"""What `planarbend draw` writes is read back: the graph from the SVG, from the JSON and from the planar_code, PNG and PDF by size."""
+"""What `planarbend draw` writes is read back: the graph from SVG, JSON and planar_code, the size from PNG and PDF."""
 from __future__ import annotations
 
 import itertools
@@ -17,24 +17,28 @@ from drawing_checker import check
 from planarbend.planar_code import lists_of, split
 from svg_reader import Picture, Point, meets, on_border, read_svg
 
-# Two components with labels on everything, each label another than the name; loops, parallel edges, all arrows, and a box alone.
+# Two components with labels on everything, none like the name; a loop, parallel edges, all arrows, and a box alone.
 LABELLED = """digraph {
-a [label="Alpha"]; b [label="Beta"]; c [label="Gam\\nma"]; d [label="Delta"]; e [label="Eps"]; p [label="Pi"]; q [label="Qu"];
-r [label="Rho <&>"]; z [label="Alone"];
+a [label="Alpha"]; b [label="Beta"]; c [label="Gam\\nma"]; d [label="Delta"]; e [label="Eps"]; p [label="Pi"];
+q [label="Qu"]; r [label="Rho <&>"]; z [label="Alone"];
 a -> b [label="ab"]; b -> c [label="bc" dir=back]; c -> a [label="ca" dir=both]; b -> d [label="bd" dir=none];
-d -> a [label="two\\nlines"]; c -> d; e -> b [label="eb"]; p -> q [label="pq"]; q -> p [label="qp"]; q -> r [label="qr" dir=back];
+d -> a [label="two\\nlines"]; c -> d; e -> b [label="eb"]; p -> q [label="pq"]; q -> p [label="qp"];
+q -> r [label="qr" dir=back];
 r -> r [label="rr"];
 }"""
-VERTICES = [("a", "Alpha"), ("b", "Beta"), ("c", "Gam\nma"), ("d", "Delta"), ("e", "Eps"), ("p", "Pi"), ("q", "Qu"), ("r", "Rho <&>"),
+VERTICES = [("a", "Alpha"), ("b", "Beta"), ("c", "Gam\nma"), ("d", "Delta"), ("e", "Eps"), ("p", "Pi"), ("q", "Qu"),
+            ("r", "Rho <&>"),
             ("z", "Alone")]
 EDGES = [("a", "b", "forward", "ab"), ("b", "c", "back", "bc"), ("c", "a", "both", "ca"), ("b", "d", "none", "bd"),
-         ("d", "a", "forward", "two\nlines"), ("c", "d", "forward", ""), ("e", "b", "forward", "eb"), ("p", "q", "forward", "pq"),
+         ("d", "a", "forward", "two\nlines"), ("c", "d", "forward", ""), ("e", "b", "forward", "eb"),
+         ("p", "q", "forward", "pq"),
          ("q", "p", "forward", "qp"), ("q", "r", "back", "qr"), ("r", "r", "forward", "rr")]
 K5 = "\n".join(f"v{one} v{other}" for other in range(5) for one in range(other)) + "\n"
 FRAMES = "\n".join(["a b", "b c", "c a", "d e", "e f", "f d", "a d", "b e", "c f", "x y", "y z", "alone"]) + "\n"
 NET = (support.EXAMPLES / "amplifier.net").read_text(encoding="utf-8")
 FILES = {"labelled.dot": LABELLED, "k5.txt": K5, "frames.txt": FRAMES, "amplifier.net": NET}
-ENDINGS = {"labelled.dot": ("svg", "json", "pc", "png", "pdf"), "k5.txt": ("json", "pc", "svg"), "frames.txt": ("json", "pc"),
+ENDINGS = {"labelled.dot": ("svg", "json", "pc", "png", "pdf"), "k5.txt": ("json", "pc", "svg"),
+           "frames.txt": ("json", "pc"),
            "amplifier.net": ("svg", "json")}
 WRITTEN: dict[tuple[str, str], bytes] = {}  # what was written of each file, by its ending
 
@@ -69,14 +73,16 @@ class Svg(unittest.TestCase):
     def test_the_graph_is_read_back(self) -> None:
         found, label = picture("labelled.dot"), dict(VERTICES)
         self.assertEqual(sorted(vertex.label for vertex in found.vertices), sorted(label.values()))
-        self.assertEqual(found.graph(), Counter((label[tail], label[head], arrow, text) for tail, head, arrow, text in EDGES))
+        self.assertEqual(found.graph(), Counter((label[tail], label[head], arrow, text) for tail, head, arrow,
+                                                text in EDGES))
         self.assertEqual(found.names, [])
 
     def test_all_lies_where_the_json_says(self) -> None:
         for name in ("labelled.dot", "k5.txt", "amplifier.net"):
             found, told = picture(name), drawing(name)
             self.assertEqual(found.size, tuple(told["size"]))
-            boxes = {vertex["label"]: [round(side, 1) for side in vertex["box"]] for vertex in told["vertices"] if vertex["kind"] != "net"}
+            boxes = {vertex["label"]: [round(side, 1) for side in vertex["box"]] for vertex in told["vertices"]
+                     if vertex["kind"] != "net"}
             for vertex in found.vertices:
                 for side, wanted in zip(vertex.box, boxes.pop(vertex.label), strict=True):
                     self.assertAlmostEqual(side, wanted, delta=.11)
@@ -101,7 +107,8 @@ class Svg(unittest.TestCase):
         meeting: Counter[Point] = Counter()
         for piece in found.pieces:
             meeting.update(piece)
-        at_nets = [end for edge in found.edges for end, box in ((edge.points[0], edge.tail), (edge.points[-1], edge.head)) if box is None]
+        at_nets = [end for edge in found.edges for end, box in ((edge.points[0], edge.tail),
+                                                                (edge.points[-1], edge.head)) if box is None]
         meeting.update(at_nets)
         self.assertEqual(sorted(found.dots), sorted(point for point, count in meeting.items() if count > 2))
         self.assertGreater(len(found.dots), 2)
@@ -155,22 +162,24 @@ class Json(unittest.TestCase):
 
 class PlanarCode(unittest.TestCase):
     def test_records_are_the_drawing(self) -> None:
-        """A record for each component with an edge: around each vertex and each crossing its neighbours as they are drawn."""
+        """A record for each component with an edge: round each vertex and crossing its neighbours as they are drawn."""
         for name, count in (("labelled.dot", 2), ("k5.txt", 1), ("frames.txt", 2)):
             records, ending = split(WRITTEN[name, "pc"])
             self.assertEqual((ending, len(records)), ("complete", count))
             with self.subTest(name):
-                self.assertEqual([lists_of(record) for record in records], embedding_of(drawing(name), map(lists_of, records)))
+                self.assertEqual([lists_of(record) for record in records],
+                                 embedding_of(drawing(name), map(lists_of, records)))
 
 
 def embedding_of(told: dict[str, Any], wanted: Any) -> list[list[list[int]]]:
-    """The neighbour lists of each component of a drawing, counted from 1: each list begins where the wanted one does."""
+    """The neighbour lists of each component of a drawing; each list begins where the wanted one does."""
     count = len(told["vertices"])
     lines = {number: edge["points"] for number, edge in enumerate(told["edges"]) if edge["tail"] != edge["head"]}
     near: dict[int, list[tuple[float, int]]] = {node: [] for node in range(count + len(told["crossings"]))}
     for number, line in lines.items():
         ends = told["edges"][number]["tail"], told["edges"][number]["head"]
-        stops = sorted((along(line, one["at"]), count + place) for place, one in enumerate(told["crossings"]) if number in one["edges"])
+        stops = sorted((along(line, one["at"]), count + place) for place,
+                       one in enumerate(told["crossings"]) if number in one["edges"])
         nodes = [ends[0], *(node for _, node in stops), ends[1]]
         for one, other in itertools.pairwise(nodes):
             near[one].append((clockwise(told, one, line, False), other))
@@ -211,7 +220,8 @@ def clockwise(told: dict[str, Any], node: int, line: list[Point], backward: bool
     if node < count:
         (x, y), (left, top, right, bottom) = line[-1] if backward else line[0], told["vertices"][node]["box"]
         wide, high = right - left, bottom - top
-        return min((abs(y - top), x - left), (abs(x - right), wide + y - top), (abs(y - bottom), wide + high + right - x),
+        return min((abs(y - top), x - left), (abs(x - right), wide + y - top),
+                   (abs(y - bottom), wide + high + right - x),
                    (abs(x - left), 2 * wide + high + bottom - y))[1]
     x, y = told["crossings"][node - count]["at"]
     for (a, b), (c, d) in itertools.pairwise(line):
