@@ -16,25 +16,33 @@ from __future__ import annotations
 
 import argparse
 import ast
+import compileall
+import contextlib
 import hashlib
+import importlib
 import itertools
 import json
 import os
+import re
 import resource
 import shutil
 import signal
 import sys
 import tempfile
 import time
+import traceback
+import unittest
 from collections.abc import Iterator
 from concurrent.futures import ThreadPoolExecutor
 from dataclasses import dataclass
 from pathlib import Path
+from typing import Any
 
 TESTS = Path(__file__).resolve().parent
 ROOT = TESTS.parents[1]
 EXCUSED = TESTS / "mutants.txt"
 LEFT_OUT = ("test_install",)
+PRELOADED = ("networkx", "unittest.mock", "xml.etree.ElementTree", "subprocess", "ctypes", "decimal", "html")
 LEAST = 4  # mutants of a module
 MOST_SECONDS = 240  # of one mutant, of the clock
 NOTING = '''
@@ -171,6 +179,7 @@ def tree_in(folder: Path) -> Path:
         elif not path.name.startswith("."):
             (folder / path.name).symlink_to(path)
     (folder / "python/sitecustomize.py").write_text(NOTING)
+    compileall.compile_dir(folder / "python", quiet=2)
     return folder
 
 
@@ -178,27 +187,46 @@ def run_tests(tree: Path, names: list[str], said: Path, calls: Path | None = Non
     """The status of some test classes up to the first failure, in a process of its own, and its processor time."""
     child = os.fork()
     if not child:
-        os.setsid()
-        os.dup2(os.open(said, os.O_WRONLY | os.O_CREAT | os.O_TRUNC), 1)
-        os.dup2(1, 2)
-        resource.setrlimit(resource.RLIMIT_AS, (4 << 30, 4 << 30))
-        os.environ |= {"PYTHONPATH": str(tree / "python"), "PYTHONHASHSEED": "0"} | ({"PLANARBEND_CALLS": str(calls)}
-                                                                                     if calls else {})
-        os.chdir(tree / "python/tests")
-        os.execv(sys.executable, [sys.executable, "-B", "-m", "unittest", "-f", *names])
-    ends = time.monotonic() + MOST_SECONDS
+        try:
+            in_child(tree, names, said, calls)
+        except BaseException:
+            traceback.print_exc()
+        finally:
+            os._exit(1)
+    ends = time.monotonic() + (MOST_SECONDS if calls is None else 10 * MOST_SECONDS)
     while True:
         ended, status, used = os.wait4(child, os.WNOHANG)
         if ended:
             return status, used.ru_utime + used.ru_stime
         if time.monotonic() > ends:
             os.killpg(child, signal.SIGKILL)
+            ends += 1
         time.sleep(.05)
+
+
+def in_child(tree: Path, names: list[str], said: Path, calls: Path | None) -> None:
+    """Runs test classes and ends the process, which has loaded all but the package and the tests before."""
+    os.setsid()
+    os.dup2(os.open(said, os.O_WRONLY | os.O_CREAT | os.O_TRUNC), 1)
+    os.dup2(1, 2)
+    resource.setrlimit(resource.RLIMIT_AS, (4 << 30, 4 << 30))
+    os.environ |= {"PYTHONPATH": str(tree / "python"), "PYTHONPYCACHEPREFIX": str(sys.pycache_prefix)}
+    noting: dict[str, Any] = {}
+    if calls:
+        os.environ["PLANARBEND_CALLS"] = str(calls)
+        exec(NOTING, noting)
+    os.chdir(tree / "python/tests")
+    sys.path[0] = os.getcwd()
+    result = unittest.TextTestRunner(sys.__stdout__, failfast=True).run(unittest.TestLoader().loadTestsFromNames(names))
+    sys.stdout.flush()
+    if calls:
+        noting["tell"]()
+    os._exit(0 if result.wasSuccessful() else 1)
 
 
 def classes_of(tests: Path) -> list[str]:
     """The names of all test classes."""
-    found = []
+    found: list[str] = []
     for path in sorted(tests.glob("test_*.py")):
         if path.stem not in LEFT_OUT:
             found += [f"{path.stem}.{node.name}" for node in ast.parse(path.read_text(encoding="utf-8")).body
@@ -207,15 +235,16 @@ def classes_of(tests: Path) -> list[str]:
     return found
 
 
-def calls_of(folder: Path, jobs: int, known: dict[str, tuple[float, list[str]]]) -> dict[str, tuple[float, list[str]]]:
+def calls_of(folder: Path, jobs: int, keep: Path | None, names: list[str]) -> dict[str, tuple[float, list[str]]]:
     """For each test class its processor time, and the functions that it calls, as `PATH:LINE`."""
     tree = tree_in(folder / "calls")
+    known = json.loads(keep.read_text()) if keep and keep.exists() else {}
     package = str(tree / "python/planarbend") + "/"
 
     def of(name: str) -> tuple[str, tuple[float, list[str]]]:
         noted = folder / name
         noted.mkdir()
-        status, seconds = run_tests(tree, [name], folder / f"{name}.txt", noted)
+        status, seconds = run_tests(tree, [name], folder / f"{name}.txt", calls=noted)
         if status:
             sys.exit(f"{name} fails without a change:\n" + (folder / f"{name}.txt").read_text()[-3000:])
         lines = {line.strip() for path in noted.iterdir() for line in path.read_text().splitlines()}
@@ -223,7 +252,11 @@ def calls_of(folder: Path, jobs: int, known: dict[str, tuple[float, list[str]]])
         return name, (seconds, sorted(found))
 
     with ThreadPoolExecutor(jobs) as pool:
-        return known | dict(pool.map(of, (name for name in classes_of(TESTS) if name not in known)))
+        for name, found in pool.map(of, [name for name in names if name not in known]):
+            known[name] = found
+            if keep:
+                keep.write_text(json.dumps(known))
+    return {name: known[name] for name in names}
 
 
 def main() -> int:
@@ -233,17 +266,19 @@ def main() -> int:
     parser.add_argument("--jobs", type=int, default=2, help="processes at a time (default 2)")
     parser.add_argument("--only", default="", help="only of modules with this text in their path")
     parser.add_argument("--calls", type=Path, help="read from this file which test calls what, or write it there")
+    parser.add_argument("--classes", default="", help="only with test classes of which this pattern finds a part")
     parser.add_argument("--again", action="store_true", help="also try those that mutants.txt excuses")
     words = parser.parse_args()
     began = time.monotonic()
     with tempfile.TemporaryDirectory() as name:
         folder = Path(name)
         (folder / "calls").mkdir()
-        known = json.loads(words.calls.read_text()) if words.calls and words.calls.exists() else {}
-        calls = calls_of(folder, words.jobs, known)
-        if words.calls:
-            words.calls.write_text(json.dumps(calls))
-        return judge(words, calls, folder, began)
+        sys.pycache_prefix = str(folder / "compiled")
+        for module in PRELOADED:
+            with contextlib.suppress(ImportError):
+                importlib.import_module(module)
+        names = [name for name in classes_of(TESTS) if re.search(words.classes, name)]
+        return judge(words, calls_of(folder, words.jobs, words.calls, names), folder, began)
 
 
 def judge(words: argparse.Namespace, calls: dict[str, tuple[float, list[str]]], folder: Path, began: float) -> int:
@@ -252,7 +287,7 @@ def judge(words: argparse.Namespace, calls: dict[str, tuple[float, list[str]]], 
     reasons = dict(line.split(" | ") for line in EXCUSED.read_text(encoding="utf-8").splitlines()
                    if " | " in line) if EXCUSED.exists() else {}
     mutants = chosen(package, words.count, words.seed, words.only)
-    trees = []
+    trees, numbers = [], itertools.count(10 ** 9)
     for number in range(words.jobs):
         (folder / str(number)).mkdir()
         trees.append(tree_in(folder / str(number)))
@@ -262,15 +297,17 @@ def judge(words: argparse.Namespace, calls: dict[str, tuple[float, list[str]]], 
             return mutant, "excused"
         tree = trees.pop()
         path = tree / "python/planarbend" / mutant.path
-        held = path.read_text(encoding="utf-8")
+        held, date = path.read_text(encoding="utf-8"), path.stat().st_mtime
         names = [name for _, name in sorted((used, name) for name, (used, called) in calls.items()
                                             if mutant.path + ":" + str(mutant.line) in called or not mutant.line
                                             and any(
                                                 one.startswith(mutant.path + ":") for one in called))]
         path.write_text(text_of(path, mutant.number), encoding="utf-8")
+        os.utime(path, (number := next(numbers), number))  # no two of its texts have the same date
         said = folder / f"{path.name}-{id(mutant)}"
         status, seconds = run_tests(tree, names, said) if names else (0, 0.0)
         path.write_text(held, encoding="utf-8")
+        os.utime(path, (date, date))
         trees.append(tree)
         by = next((line.split()[-1].strip("()") for line in said.read_text(errors="replace").splitlines()
                    if line.startswith(("FAIL:", "ERROR:"))), "")\

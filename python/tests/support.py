@@ -41,6 +41,8 @@ needs_rsvg = unittest.skipUnless(has_rsvg, "rsvg-convert is missing (Debian: lib
 @functools.cache
 def compiled() -> str:
     """A folder for what Python compiles, which all processes of the tests share; it is removed at the end."""
+    if sys.pycache_prefix:
+        return sys.pycache_prefix
     folder = tempfile.mkdtemp()
     atexit.register(shutil.rmtree, folder, ignore_errors=True)
     return folder
