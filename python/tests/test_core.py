@@ -34,18 +34,21 @@ def least_cut(ends: list[Pair], weights: list[int], source: int, sink: int, inne
     """The least weight of edges that part two vertices, among those within a set and the two, by all subsets."""
     free = sorted(inner)
     here = [(edge, weight) for edge, weight in zip(ends, weights) if set(edge) <= inner | {source, sink}]
+    sides = [{source, *some} for count in range(len(free) + 1) for some in itertools.combinations(free, count)]
     return min(sum(weight for edge, weight in here if len(side & set(edge)) == 1 and edge[0] != edge[1])
-               for count in range(len(free) + 1) for some in itertools.combinations(free, count) for side in [{source, *some}])
+               for side in sides)
 
 
 class ByHand(unittest.TestCase):
     def test_what_has_no_core(self) -> None:
-        for ends in ([(0, 1)], [(0, 1), (1, 2), (2, 0)], [(0, 1), (0, 1), (1, 1)], [(0, 1), (1, 2), (2, 3), (3, 0), (0, 2)]):
+        for ends in ([(0, 1)], [(0, 1), (1, 2), (2, 0)], [(0, 1), (0, 1), (1, 1)],
+                     [(0, 1), (1, 2), (2, 3), (3, 0), (0, 2)]):
             self.assertEqual(folded(ends), Core([], [], [], []))
 
     def test_a_subdivided_k4(self) -> None:
         """A K4 of which one edge is a chain, one is double, one has a chain beside it, with a loop and a tree."""
-        ends = [(0, 4), (5, 4), (5, 1), (2, 3), (3, 2), (0, 2), (6, 0), (6, 2), (0, 3), (1, 2), (1, 3), (3, 3), (3, 7), (7, 8)]
+        ends = [(0, 4), (5, 4), (5, 1), (2, 3), (3, 2), (0, 2), (6, 0), (6, 2), (0, 3), (1, 2), (1, 3), (3, 3), (3, 7),
+                (7, 8)]
         self.assertEqual(pairs_of(folded(ends, [3, 2, 4] + [1] * 11)), {
             (0, 1): (2, [Strand(1, True)]), (2, 3): (2, [Strand(3, False), Strand(4, True)]),
             (0, 2): (2, [Strand(5, False), Strand(6, True)]), (0, 3): (1, [Strand(8, False)]),
@@ -60,7 +63,7 @@ class ByHand(unittest.TestCase):
 
 class Random(unittest.TestCase):
     def test_cores_are_simple_and_cost_what_a_cut_costs(self) -> None:
-        """K4, K5 and others whose edges were divided and doubled at random fold back, at the cost of their least cuts."""
+        """K4, K5 and K6 whose edges were divided and doubled fold back, at the cost of their least cuts."""
         for seed in range(40):
             dice = random.Random(seed)
             count = dice.choice((4, 5, 6))
@@ -83,8 +86,9 @@ class Random(unittest.TestCase):
             with self.subTest(seed=seed):
                 self.assertEqual(set(found), set(kept))
                 for pair, (weight, strands) in found.items():
-                    self.assertEqual(weight, least_cut([one for edge, one in enumerate(ends) if owner[edge] == pair],
-                                                       [one for edge, one in enumerate(weights) if owner[edge] == pair], *pair, inner[pair]))
+                    own = [edge for edge in range(len(ends)) if owner[edge] == pair]
+                    cut = least_cut([ends[edge] for edge in own], [weights[edge] for edge in own], *pair, inner[pair])
+                    self.assertEqual(weight, cut)
                     self.assertEqual(weight, sum(weights[strand.edge] for strand in strands))
                     self.assertEqual({owner[strand.edge] for strand in strands}, {pair})
                     self.assertEqual(max(Counter(strand.edge for strand in strands).values()), 1)
