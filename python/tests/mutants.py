@@ -45,6 +45,7 @@ LEFT_OUT = ("test_install",)
 PRELOADED = ("networkx", "unittest.mock", "xml.etree.ElementTree", "subprocess", "ctypes", "decimal", "html")
 LEAST = 4  # mutants of a module
 MOST_SECONDS = 240  # of one mutant, of the clock
+MOST_OF_TEST = 3  # seconds of processor time of one test
 NOTING = '''
 import atexit, os, sys, threading
 if "PLANARBEND_CALLS" in os.environ:
@@ -99,7 +100,8 @@ def changes_of(node: ast.AST) -> Iterator[tuple[ast.AST, str, object]]:
         yield node, "value", not node.value if isinstance(node.value, bool) else node.value + 1
     if isinstance(node, ast.Call):
         plain = [place for place, one in enumerate(node.args) if not isinstance(one, ast.Starred)]
-        if len(node.args) > 1 and plain == list(range(len(node.args))):
+        is_symmetric = isinstance(node.func, ast.Name) and node.func.id in NAMES
+        if len(node.args) > 1 and plain == list(range(len(node.args))) and not is_symmetric:
             yield node, "args", [node.args[1], node.args[0], *node.args[2:]]
         if node.keywords:
             yield node, "keywords", node.keywords[1:]
@@ -204,6 +206,14 @@ def run_tests(tree: Path, names: list[str], said: Path, calls: Path | None = Non
         time.sleep(.05)
 
 
+class Timed(unittest.TextTestResult):
+    """A result that ends the process if a test takes too much processor time."""
+
+    def startTest(self, test: unittest.TestCase) -> None:
+        signal.setitimer(signal.ITIMER_PROF, MOST_OF_TEST)
+        super().startTest(test)
+
+
 def in_child(tree: Path, names: list[str], said: Path, calls: Path | None) -> None:
     """Runs test classes and ends the process, which has loaded all but the package and the tests before."""
     os.setsid()
@@ -215,9 +225,12 @@ def in_child(tree: Path, names: list[str], said: Path, calls: Path | None) -> No
     if calls:
         os.environ["PLANARBEND_CALLS"] = str(calls)
         exec(NOTING, noting)
+        Timed.startTest = unittest.TextTestResult.startTest  # without a limit
     os.chdir(tree / "python/tests")
     sys.path[0] = os.getcwd()
-    result = unittest.TextTestRunner(sys.__stdout__, failfast=True).run(unittest.TestLoader().loadTestsFromNames(names))
+    signal.setitimer(signal.ITIMER_PROF, 0 if calls else MOST_OF_TEST)
+    suite = unittest.TestLoader().loadTestsFromNames(names)
+    result = unittest.TextTestRunner(sys.__stdout__, failfast=True, resultclass=Timed).run(suite)
     sys.stdout.flush()
     if calls:
         noting["tell"]()
