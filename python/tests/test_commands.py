@@ -295,6 +295,7 @@ class Collect(Case):
         counts, _, _ = self.table(self.said("collect", "--short", *self.reports.values()))
         self.assertEqual(set(counts), {"**4**", "**5**"})
         jsonl.unlink()
+        self.written(".hidden.report", "no report")
         self.assertEqual(self.said("collect", self.folder), self.said("collect", *self.reports.values()))
 
     def test_refused_and_undrawn_graphs(self) -> None:
@@ -315,6 +316,11 @@ class Collect(Case):
         up = {int(text): y for text, x, y in texts if text.isdecimal() and x < 80}
         self.assertEqual(sorted(across), list(range(9)))
         self.assertEqual(sorted(up), [1, 10])
+        axes = next(str(one.get("d")) for one in picture.iter(SVG + "path") if one.get("fill") == "none"
+                    and "H" in str(one.get("d")))
+        left, top, bottom, right = map(float, re.findall(r"[\d.]+", axes))
+        self.assertEqual((across[0], across[8], up[1], up[10]), (left, right, bottom, top))
+        self.assertIn(("fewest bends", (left + right) // 2, bottom + 45), texts)
         dots = [numbers(one, "cx", "cy") for one in picture.iter(SVG + "circle")]
         wanted = []
         for rank, (vertices, rows) in enumerate(sorted(TABLE.items())):
