@@ -120,9 +120,9 @@ def draw(graph: Graph, options: Options = Options(), engine: Engine | None = Non
     Raises
     ------
     DrawError
-        A component would need more than 255 vertices; the vertices of `outer` lie in several components or on no common
-        face; or the edges of `straight` cannot be kept straight (there is no library, an edge is a loop, or no such
-        drawing was found).
+        A component would need more than 255 vertices; vertices of `outer` in one component lie on no common face; or
+        the edges of `straight` cannot be kept straight (there is no library, an edge is a loop, or no such drawing was
+        found).
     PlanarbendError
         The program is missing or fails.
     """

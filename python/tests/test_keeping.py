@@ -49,6 +49,21 @@ class Refuser:
         raise NotKept("noshape")
 
 
+class Careless:
+    """An engine that says that it keeps conditions, and does not look at them."""
+
+    keeps = True
+
+    def __init__(self) -> None:
+        self.engine = ProcessEngine()
+
+    def lay(self, graphs: list[Lists], outer: str) -> list[Answer]:
+        return self.engine.lay(graphs, outer)
+
+    def lay_keeping(self, lists: Lists, outer: str, conditions: Conditions) -> Answer:
+        return self.engine.lay([lists], outer)[0]
+
+
 class Named(unittest.TestCase):
     """Conditions name edges and faces of the lists."""
 
@@ -95,13 +110,20 @@ class Refused(unittest.TestCase):
         with self.assertRaisesRegex(DrawError, "need the library libplanarbend .*planarbend --build"):
             draw(triangle, Options(straight=(0,)), ProcessEngine())
 
+    def test_what_bends_all_the_same_is_not_taken(self) -> None:
+        triangle = graph_of(3, [(0, 1), (1, 2), (2, 0)])
+        with self.assertRaisesRegex(DrawError, "these edges are straight: 0--1, 1--2, 2--0"):
+            draw(triangle, Options(straight=(0, 1, 2)), Careless())
+        drawing = json.loads(draw(graph_of(4, [(0, 1), (1, 2), (2, 3), (3, 0)]), Options(straight=(0, 2)), Careless()).json())
+        self.assertEqual([len(drawing["edges"][number]["points"]) for number in (0, 2)], [2, 2])
+
     def test_names(self) -> None:
         for words, said in (("a--c", "no edge joins a and c"), ("a--d", "no two vertices are named a--d"),
                             ("a", "no two vertices are named a"), ("a--b", "need the library")):
-            ran = support.ran(["draw", "--straight", words, "-", "-o", "-"], "a -- b -- c\n")
+            status, _, errors = support.said(["draw", "--straight", words, "-", "-o", "-"], "a -- b -- c\n")
             with self.subTest(words):
-                self.assertEqual(ran.returncode, 1)
-                self.assertIn(said, ran.stderr.decode())
+                self.assertEqual(status, 1)
+                self.assertIn(said, errors)
 
 
 class Kept(unittest.TestCase):

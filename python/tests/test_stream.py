@@ -22,8 +22,8 @@ from planarbend.reports import End, Graph, line_of
 
 SCRIPT = support.EXAMPLES / "stream.py"
 TRIANGLE, EDGE = bytes([3, 2, 3, 0, 3, 1, 0, 1, 2, 0]), bytes([2, 2, 0, 1, 0])
-GRAPHS, SEED = 1000, 2026
-MANY, GROWTH = 50_000, 16_000  # graphs, and kB
+GRAPHS, SEED = 150, 2026
+MANY, GROWTH = 15_000, 16_000  # graphs, and kB
 LONG = 1_000_010  # more than one run takes
 STEPS = [(1, 0), (0, 1), (-1, 0), (0, -1)]
 Path = list[tuple[int, int]]
@@ -188,7 +188,7 @@ class Script(unittest.TestCase):
             with sink:
                 sink.write(HEADER)
                 for _ in range(LONG // 10):
-                    sink.write((TRIANGLE + EDGE) * 5)
+                    sink.write(EDGE * 10)
 
         with subprocess.Popen([sys.executable, SCRIPT], stdin=subprocess.PIPE, stdout=subprocess.PIPE, bufsize=1 << 20) as child:
             assert child.stdin and child.stdout
