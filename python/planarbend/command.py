@@ -7,11 +7,11 @@ import re
 import sys
 
 from planarbend.draw import DrawError, Options, draw
-from planarbend.drawn import Drawing
-from planarbend.engine import Engine, ProcessEngine, default_engine
+from planarbend.drawing.drawn import Drawing
+from planarbend.layout.engine import Engine, ProcessEngine, default_engine
 from planarbend.graph import Graph, Kind, split
 from planarbend.programs import SCRIPT, PlanarbendError
-from planarbend.picture import CONVERTED, NoConverter, look_at_output, svg, write_picture
+from planarbend.drawing.picture import CONVERTED, NoConverter, check_output, svg, write_picture
 from planarbend.readers import FORMS, ReadError, read
 
 ABOUT = "Draws a graph along horizontal and vertical lines with few bends and few crossings, which are right angles."
@@ -24,9 +24,8 @@ examples:
 GRAPH is a list of connections, one or more per line (`antenna -- tuner -> mixer`, or two words); DOT, GraphML, GML,
 node-link JSON or graph6; or a KiCad netlist or board. The content determines the format, unless --format is given.
 
-DOT is read by Graphviz (Debian: graphviz). networkx (python3-networkx) reads GraphML, GML and graph6, and tests which
-graphs are planar: without it, most planar graphs can be drawn, but few others. rsvg-convert (librsvg2-bin) makes PNG
-and PDF. Layouts are computed by libplanarbend of this checkout or the system; or by the program planarbend: the one
+networkx (Debian: python3-networkx) tests which graphs are planar, and reads GraphML, GML and graph6. DOT is read by
+Graphviz (graphviz). rsvg-convert (librsvg2-bin) makes PNG and PDF. Layouts are computed by libplanarbend of this checkout or the system; or by the program planarbend: the one
 that PLANARBEND names, that of this checkout, or the one on the path.
 
 exit status: 0; 1 if the graph cannot be read or drawn (standard error says why, and nothing is written); 2 if the
@@ -161,7 +160,7 @@ def run() -> int:
     words = command_line()
     try:
         if words.output != "-":
-            look_at_output(words.output)
+            check_output(words.output)
         graph = read_file(words.graph, words.format)
         if words.split:
             graph = split(graph, to_split(graph, words.split))

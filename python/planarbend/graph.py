@@ -76,6 +76,7 @@ def split(graph: Graph, vertices: Collection[int]) -> Graph:
     used: set[int] = set()
 
     def end(vertex: int) -> int:
+        """Return the number of an end: the vertex itself at first, then a further flag."""
         if vertex not in vertices or vertex not in used:
             used.add(vertex)
             return vertex

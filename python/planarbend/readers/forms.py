@@ -75,7 +75,7 @@ def form_of(data: bytes, name: str) -> str:
         The file is of a known kind that is not a graph, is empty, or is not text.
     """
     data = data.removeprefix(b"\xef\xbb\xbf")
-    look_for_foreign(data)
+    check_foreign(data)
     head = data[:HEAD]
     by_name = ENDINGS.get(os.path.splitext(name)[1].lower())
     found = of_expression(data) or of_xml(head) or of_json(data)
@@ -90,7 +90,7 @@ def form_of(data: bytes, name: str) -> str:
     return by_name or "list"
 
 
-def look_for_foreign(data: bytes) -> None:
+def check_foreign(data: bytes) -> None:
     """Check that a file may be a graph.
 
     Raises

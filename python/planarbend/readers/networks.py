@@ -79,6 +79,7 @@ def scanned(data: bytes) -> list[tuple[str, str, bool | None]]:
     graphs = 0
 
     def begun(element: str, values: dict[str, str]) -> None:
+        """Note the beginning of an element."""
         nonlocal graphs
         kind, line = element.rpartition("}")[2], parser.CurrentLineNumber
         open_elements.append(kind)
