@@ -41,7 +41,7 @@ class Found(unittest.TestCase):
         return (found.stdout or found.stderr.splitlines()[-1]).splitlines()
 
     def test_the_first_of_those_that_exist(self) -> None:
-        places = ["lib/planarbend/crates/planarbend/out/planarbend", "lib/planarbend/planarbend", "bin/planarbend",
+        places = ["lib/planarbend/out/planarbend", "lib/planarbend/planarbend", "bin/planarbend",
                   "path/planarbend"]
         path = f"{self.root / 'path'}:{os.environ['PATH']}"
         paths = self.made(*places)
