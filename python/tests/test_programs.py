@@ -37,7 +37,7 @@ class Found(unittest.TestCase):
         """The program and the library, or the last line of the error."""
         kept = {name: value for name, value in os.environ.items() if not name.startswith("PLANARBEND")}
         found = subprocess.run([sys.executable, "-B", "-c", ASKED], capture_output=True, text=True, check=False,
-                               env=kept | {"PYTHONPATH": str(self.package.parent)} | changes)
+                               cwd=self.root, env=kept | {"PYTHONPATH": str(self.package.parent)} | changes)
         return (found.stdout or found.stderr.splitlines()[-1]).splitlines()
 
     def test_the_first_of_those_that_exist(self) -> None:
@@ -57,7 +57,7 @@ class Found(unittest.TestCase):
     def test_the_program_that_is_named(self) -> None:
         program, other = self.made("lib/planarbend/planarbend", "some/program")
         self.assertEqual(self.asked(PLANARBEND=str(other))[0], str(other))
-        self.assertEqual(self.asked(PLANARBEND=os.path.relpath(other))[0], str(other))
+        self.assertEqual(self.asked(PLANARBEND=os.path.relpath(other, self.root))[0], str(other))
         self.assertIn(f"PLANARBEND={other}x is not a program", self.asked(PLANARBEND=f"{other}x")[0])
         self.assertEqual(self.asked(PLANARBEND="")[0], str(program))
 
