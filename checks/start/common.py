@@ -12,7 +12,7 @@ ROOT = os.path.dirname(os.path.dirname(START))
 CRATE = os.path.join(ROOT, "crates", "planarbend")
 PROGRAM = os.path.join(ROOT, "out", "planarbend")  # of --build or --test; `rt ci` leaves the folder out/ alone
 
-BUILD_MINUTES = 21  # from nothing, on 4 free cores
+BUILD_MINUTES = 37  # from nothing, on 4 free cores
 
 
 def write_error(text):
