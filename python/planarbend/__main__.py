@@ -6,11 +6,11 @@ import sys
 
 COMMANDS = {  # name: module, function, description
     "draw": ("command", "run", "draw a graph from a file"),
-    "svg": ("svg", "run", "draw graphs of a planar_code file from the program's JSON Lines"),
-    "cover": ("box_cover", "main", "draw how boxes cover a drawing"),
-    "split": ("split", "main", "cut a planar_code file into parts"),
-    "stream": ("stream", "run", "lay out planar_code of any length"),
-    "collect": ("collect", "main", "make one table of many reports"),
+    "svg": ("tools.svg", "run", "draw graphs of a planar_code file from the program's JSON Lines"),
+    "cover": ("tools.box_cover", "main", "draw how boxes cover a drawing"),
+    "split": ("tools.split", "main", "cut a planar_code file into parts"),
+    "stream": ("tools.stream", "run", "lay out planar_code of any length"),
+    "collect": ("tools.collect", "main", "make one table of many reports"),
 }
 
 

@@ -7,11 +7,11 @@ import re
 import sys
 
 from planarbend.draw import DrawError, Options, draw
-from planarbend.drawn import Drawing
-from planarbend.engine import Engine, ProcessEngine, default_engine
+from planarbend.drawing.drawn import Drawing
+from planarbend.layout.engine import Engine, ProcessEngine, default_engine
 from planarbend.graph import Graph, Kind, split
 from planarbend.programs import SCRIPT, PlanarbendError
-from planarbend.picture import CONVERTED, NoConverter, look_at_output, svg, write_picture
+from planarbend.drawing.picture import CONVERTED, NoConverter, check_output, svg, write_picture
 from planarbend.readers import FORMS, ReadError, read
 
 ABOUT = "Draws a graph along horizontal and vertical lines with few bends and few crossings, which are right angles."
@@ -24,9 +24,8 @@ examples:
 GRAPH is a list of connections, one or more per line (`antenna -- tuner -> mixer`, or two words); DOT, GraphML, GML,
 node-link JSON or graph6; or a KiCad netlist or board. The content determines the format, unless --format is given.
 
-DOT is read by Graphviz (Debian: graphviz). networkx (python3-networkx) reads GraphML, GML and graph6, and tests which
-graphs are planar: without it, most planar graphs can be drawn, but few others. rsvg-convert (librsvg2-bin) makes PNG
-and PDF. Layouts are computed by libplanarbend of this checkout or the system; or by the program planarbend: the one
+networkx (Debian: python3-networkx) tests which graphs are planar, and reads GraphML, GML and graph6. DOT is read by
+Graphviz (graphviz). rsvg-convert (librsvg2-bin) makes PNG and PDF. Layouts are computed by libplanarbend of this checkout or the system; or by the program planarbend: the one
 that PLANARBEND names, that of this checkout, or the one on the path.
 
 exit status: 0; 1 if the graph cannot be read or drawn (standard error says why, and nothing is written); 2 if the
@@ -79,10 +78,7 @@ def command_line() -> argparse.Namespace:
 def named(graph: Graph, names: str) -> list[int]:
     """Return the vertices with these names.
 
-    Raises
-    ------
-    DrawError
-        Several vertices, or none, have a name.
+    Raises `DrawError`: several vertices, or none, have a name.
     """
     found = []
     for name in filter(None, map(str.strip, names.split(","))):
@@ -97,10 +93,7 @@ def named(graph: Graph, names: str) -> list[int]:
 def between(graph: Graph, names: str) -> list[int]:
     """Return the edges between two vertices, given as `NAME--NAME`.
 
-    Raises
-    ------
-    DrawError
-        There is no such vertex or no such edge.
+    Raises `DrawError`: there is no such vertex or no such edge.
     """
     known = {name for vertex in graph.vertices for name in (vertex.name, vertex.label)}
     cuts = [(names[:match.start()].strip(), names[match.end():].strip()) for match in re.finditer("--", names)]
@@ -115,8 +108,8 @@ def between(graph: Graph, names: str) -> list[int]:
 
 
 def to_split(graph: Graph, which: str) -> list[int]:
-    """Return the vertices to split: those with these names, or those with more connections than a number; in a circuit,
-    only nets."""
+    """Return the vertices to split: those with these names, or those with more connections than a number; in a circuit, only
+    nets."""
     if not which.isdecimal():
         return named(graph, which)
     degree = [0] * len(graph.vertices)
@@ -161,7 +154,7 @@ def run() -> int:
     words = command_line()
     try:
         if words.output != "-":
-            look_at_output(words.output)
+            check_output(words.output)
         graph = read_file(words.graph, words.format)
         if words.split:
             graph = split(graph, to_split(graph, words.split))

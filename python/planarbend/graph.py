@@ -68,14 +68,15 @@ def split(graph: Graph, vertices: Collection[int]) -> Graph:
     Returns
     -------
     Graph
-        Its edges are those of `graph`, in the same order. The first flag of a vertex has the vertex's number; further
-        flags come after all vertices.
+        Its edges are those of `graph`, in the same order. The first flag of a vertex has the vertex's number; further flags
+        come after all vertices.
     """
     found = Graph([Vertex(one.name, one.label, Kind.FLAG if number in vertices else one.kind)
                    for number, one in enumerate(graph.vertices)], [], graph.directed)
     used: set[int] = set()
 
     def end(vertex: int) -> int:
+        """Return the number of an end: the vertex itself at first, then a further flag."""
         if vertex not in vertices or vertex not in used:
             used.add(vertex)
             return vertex

@@ -10,17 +10,16 @@ from collections.abc import Sequence
 
 import support
 from drawing_checker import check
-from planarbend import library
-from planarbend.choose import Found, Search
+from planarbend.layout import library
+from planarbend.drawing.choose import Found, Search
 from planarbend.draw import Options, draw
-from planarbend.engine import ProcessEngine, default_engine
-from planarbend.expand import Expansion, expand
+from planarbend.layout.engine import ProcessEngine, default_engine
+from planarbend.drawing.expand import Expansion
 from planarbend.graph import Edge, Graph, Kind, Vertex
-from planarbend.mend import corners_of, ways_round_cage
-from planarbend.nets import dots_of, pieces_of
-from planarbend.numbering import contracted, numbered
-from planarbend.easy import easily_embedded
-from planarbend.planarize import planarize
+from planarbend.drawing.mend import corners_of, ways_round_cage
+from planarbend.drawing.nets import dots_of, pieces_of
+from planarbend.drawing.numbering import Contraction, form_of
+from planarbend.drawing.planarize import planarize
 
 # From (0, 0) to the right and round, y downwards: a square of side 4 from which the quarter at the lower left is cut away.
 STEP = [[(0, 0), (4, 0)], [(4, 0), (4, 4)], [(4, 4), (2, 4)], [(2, 4), (2, 2), (0, 2)], [(0, 2), (0, 0)]]
@@ -67,7 +66,7 @@ class Mended(unittest.TestCase):
             pool = search.shapes_of([search.first_plan(False)])
             best = min(pool, key=Found.price)
             if best.shape.broken and search.mended(best):
-                search.mend(pool)
+                pool += search.mend(pool)
                 found = min(pool, key=Found.price).shape
                 with self.subTest(seed=seed):
                     self.assertEqual(found.broken, [])
@@ -95,8 +94,9 @@ class Room(unittest.TestCase):
         """Two hubs with 100 vertices between them: 300 nodes with two cages, of which 45 are left out and put back."""
         edges = [(hub, 2 + leaf) for leaf in range(100) for hub in (0, 1)]
         graph = Graph([Vertex(str(number), str(number)) for number in range(102)], [Edge(*edge) for edge in edges])
-        around, runs = contracted(expand(planarize(102, edges), (0, 1), {}))
-        self.assertEqual((len(around), len(runs)), (255, 2 * 45))
+        contracted = Contraction(Expansion(planarize(102, edges), (0, 1), {}))
+        around = {node: [contracted.tail[dart ^ 1] for dart in contracted.rotation[node]] for node in contracted.nodes}
+        self.assertEqual((len(around), len(contracted.runs)), (255, 2 * 45))
         for node, others in around.items():
             self.assertEqual(len(set(others)), len(others))
             self.assertTrue(all(node in around[other] for other in others))
@@ -117,7 +117,7 @@ class Room(unittest.TestCase):
 @unittest.skipUnless(library.path(), "the library is missing (planarbend --build makes it)")
 class Engines(unittest.TestCase):
     def test_library_and_program_answer_alike(self) -> None:
-        graphs = [numbered(around, list(around), runs).lists for around, runs in map(contracted, expansions())]
+        graphs = [form_of(graph, graph.nodes).lists for graph in map(Contraction, expansions())]
         for outer in ("first", "best"):
             self.assertEqual(library.LibraryEngine().lay(graphs, outer), ProcessEngine().lay(graphs, outer))
 
@@ -133,97 +133,13 @@ def expansions() -> list[Expansion]:
     return found
 
 
-class Easy(unittest.TestCase):
-    def test_planar_graphs_without_a_test(self) -> None:
-        """Whatever is found is an embedding of the graph: each edge at both ends, and Euler's formula holds."""
-        for seed in range(60):
-            dice = random.Random(seed)
-            count = dice.randrange(1, 14)
-            edges = [(dice.randrange(count), dice.randrange(count)) for _ in range(dice.randrange(2 * count))]
-            around = easily_embedded(count, edges)
-            if around is None:
-                continue
-            pairs = {frozenset(edge) for edge in edges if edge[0] != edge[1]}
-            self.assertEqual({frozenset((tail, head)) for tail, heads in enumerate(around) for head in heads}, pairs)
-            self.assertEqual(sum(map(len, around)), 2 * len(pairs))
-            self.assertEqual(count - len(pairs) + faces(around), 1 + parts(around))
-
-    def test_what_is_not_planar(self) -> None:
-        for edges in ([(one, other) for one in range(5) for other in range(one)],
-                      [(one, other) for one in range(3) for other in range(3, 6)]):
-            self.assertIsNone(easily_embedded(6, edges))
-
-    def test_grids(self) -> None:
-        """Most grids are found planar, with as many faces as they have squares, and one more."""
-        missed = 0
-        for width in range(2, 12):
-            for height in range(2, width + 1):
-                edges = [(place, place + 1) for place in range(width * height) if (place + 1) % width]
-                edges += [(place, place + width) for place in range(width * (height - 1))]
-                around = easily_embedded(width * height, edges)
-                missed += around is None
-                if around is not None:
-                    self.assertEqual(faces(around), (width - 1) * (height - 1) + 1)
-        self.assertLess(missed, 6)
-
-    def test_nothing_but_folded(self) -> None:
-        """Chains between two vertices, with an edge there or without, and trees at them, are folded away and come back."""
-        for has_edge in (False, True):
-            edges = [(0, 1)] * has_edge
-            for middle in range(2, 20, 2):
-                edges += [(0, middle), (middle, middle + 1), (middle + 1, 1), (middle, middle + 20)]
-            around = easily_embedded(40, edges)
-            assert around is not None
-            self.assertEqual(sorted((tail, head) for tail, heads in enumerate(around) for head in heads),
-                             sorted([*edges, *((head, tail) for tail, head in edges)]))
-            self.assertEqual(40 - len(edges) + faces(around), 1 + parts(around))
-
-    def test_drawing_without_networkx(self) -> None:
-        """A tree, a ring and an octahedron are drawn where networkx cannot be loaded, and quickly loaded modules suffice."""
-        program = ("import sys; sys.modules['networkx'] = None\n"
-                   "from planarbend.draw import draw\nfrom planarbend.graph import Edge, Graph, Vertex\n"
-                   "import planarbend.command\n"
-                   "for edges in ({edges!r}):\n"
-                   "    count = 1 + max(map(max, edges))\n"
-                   "    graph = Graph([Vertex(str(n), str(n)) for n in range(count)], [Edge(*edge) for edge in edges])\n"
-                   "    assert not draw(graph).crossings\n"
-                   "assert 'xml' not in sys.modules and 'planarbend.laid_out' not in sys.modules\n")
-        octahedron = [(one, other) for one in range(6) for other in range(one) if one + other != 5]
-        edges = [[(number // 2, number + 1) for number in range(20)], [(number, (number + 1) % 9) for number in range(9)],
-                 octahedron]
-        ran = subprocess.run([sys.executable, "-c", program.format(edges=edges)], cwd=support.PACKAGE, capture_output=True,
-                             text=True, check=False)
+class Loaded(unittest.TestCase):
+    def test_quickly_loaded_modules_suffice(self) -> None:
+        """The command loads networkx only where it tests whether a graph is planar, and nothing of streams."""
+        program = ("import sys, planarbend.command\n"
+                   "assert not {'networkx', 'xml', 'subprocess', 'planarbend.layout.laid_out'} & set(sys.modules)\n")
+        ran = subprocess.run([sys.executable, "-c", program], cwd=support.PACKAGE, capture_output=True, text=True, check=False)
         self.assertEqual(ran.returncode, 0, ran.stderr)
-
-
-def faces(around: list[list[int]]) -> int:
-    """The number of faces of an embedding, with one for each vertex that stands alone."""
-    after = {}
-    for vertex, others in enumerate(around):
-        for one, other in zip(others, others[1:] + others[:1]):
-            after[one, vertex] = vertex, other
-    count, left = sum(not others for others in around), set(after)
-    while left:
-        count += 1
-        dart = first = left.pop()
-        while after[dart] != first:
-            dart = after[dart]
-            left.discard(dart)
-    return count - (parts(around) - 1)
-
-
-def parts(around: list[list[int]]) -> int:
-    """The number of connected parts."""
-    left, count = set(range(len(around))), 0
-    while left:
-        count += 1
-        waiting = [left.pop()]
-        while waiting:
-            for other in around[waiting.pop()]:
-                if other in left:
-                    left.discard(other)
-                    waiting.append(other)
-    return count
 
 
 class Nets(unittest.TestCase):

@@ -36,8 +36,8 @@ def read(data: bytes, name: str, form: str | None = None) -> Graph:
     Raises
     ------
     ReadError
-        The file is not of this format or of any known one, it contains no vertices, or the library or program that
-        reads its format is missing.
+        The file is not of this format or of any known one, it contains no vertices, or the library or program that reads its
+        format is missing.
     ValueError
         `form` is not one of `FORMS`.
     """

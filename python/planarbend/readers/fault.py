@@ -43,10 +43,7 @@ def shown(text: str) -> str:
 def library(name: str, package: str) -> ModuleType:
     """Import a Python library, and return it.
 
-    Raises
-    ------
-    Fault
-        It is missing; the message names Debian's package.
+    Raises `Fault`: it is missing; the message names Debian's package.
     """
     try:
         return importlib.import_module(name)
@@ -57,10 +54,7 @@ def library(name: str, package: str) -> ModuleType:
 def program(name: str, package: str) -> str:
     """Return the path of a program.
 
-    Raises
-    ------
-    Fault
-        It is missing; the message names Debian's package.
+    Raises `Fault`: it is missing; the message names Debian's package.
     """
     import shutil  # slow to load
 
@@ -73,10 +67,7 @@ def program(name: str, package: str) -> str:
 def decoded(data: bytes) -> str:
     """Return the text of UTF-8 bytes, without a byte order mark.
 
-    Raises
-    ------
-    Fault
-        The bytes are not UTF-8; the message has the line of the first wrong byte.
+    Raises `Fault`: the bytes are not UTF-8; the message has the line of the first wrong byte.
     """
     try:
         return data.decode("utf-8-sig")

@@ -57,25 +57,13 @@ BINARY = re.compile(rb"[\x00-\x08\x0e-\x1f]")
 def form_of(data: bytes, name: str) -> str:
     """The format of a file, by its content or, if that does not identify a format, by the extension of its name.
 
-    Parameters
-    ----------
-    data : bytes
-        The whole file.
-    name : str
-        Its name.
-
-    Returns
-    -------
-    str
-        One of the formats of `read`.
-
-    Raises
-    ------
-    Fault
-        The file is of a known kind that is not a graph, is empty, or is not text.
+    `data`: the whole file.
+    `name`: its name.
+    Returns One of the formats of `read`.
+    Raises `Fault`: the file is of a known kind that is not a graph, is empty, or is not text.
     """
     data = data.removeprefix(b"\xef\xbb\xbf")
-    look_for_foreign(data)
+    check_foreign(data)
     head = data[:HEAD]
     by_name = ENDINGS.get(os.path.splitext(name)[1].lower())
     found = of_expression(data) or of_xml(head) or of_json(data)
@@ -90,13 +78,10 @@ def form_of(data: bytes, name: str) -> str:
     return by_name or "list"
 
 
-def look_for_foreign(data: bytes) -> None:
+def check_foreign(data: bytes) -> None:
     """Check that a file may be a graph.
 
-    Raises
-    ------
-    Fault
-        The file is empty, is not text, or is of a known kind that is not a graph.
+    Raises `Fault`: the file is empty, is not text, or is of a known kind that is not a graph.
     """
     for mark, what, *pattern in FOREIGN:
         if data.startswith(mark) and (not pattern or re.match(pattern[0], data, re.S)):

@@ -39,8 +39,8 @@ class Circuit:
     def graph(self) -> Graph:
         """The graph of the circuit, in which a net joins each of its parts once, with however many pins.
 
-        Parts, and nets that join three or more, are vertices; a net of two parts is an edge, and a net that joins pins
-        of only one part is a loop. A single pin is not a connection.
+        Parts, and nets that join three or more, are vertices; a net of two parts is an edge, and a net that joins pins of only
+        one part is a loop. A single pin is not a connection.
         """
         built = Builder()
         for number, part in enumerate(self.parts):
@@ -61,10 +61,7 @@ class Circuit:
 def read_netlist(data: bytes) -> Graph:
     """The circuit of a netlist as KiCad's schematic editor exports it.
 
-    Raises
-    ------
-    Fault
-        The text is not such a netlist, or a net names a part that it does not have.
+    Raises `Fault`: the text is not such a netlist, or a net names a part that it does not have.
     """
     whole = parsed(decoded(data))
     if whole.head != "export":
@@ -89,10 +86,7 @@ def read_netlist(data: bytes) -> Graph:
 def read_board(data: bytes) -> Graph:
     """The circuit of a board as KiCad's board editor saves it, of its releases from 4 on.
 
-    Raises
-    ------
-    Fault
-        The text is not such a board.
+    Raises `Fault`: the text is not such a board.
     """
     whole = parsed(decoded(data))
     if whole.head != "kicad_pcb":

@@ -17,21 +17,10 @@ COMMENT = re.compile(rf"({QUOTED})|(?:^|(?<=\s))#.*")
 def read_list(data: bytes) -> Graph:
     """The graph of a list of connections.
 
-    Parameters
-    ----------
-    data : bytes
-        UTF-8 text. A line has one name, two words, or names with ` -- ` or ` -> ` between them. A name in quotes may
-        hold any letters, with a backslash before a quote or a backslash.
-
-    Returns
-    -------
-    Graph
-        Vertices in the order of their first mention. It is directed if any connection is an arrow.
-
-    Raises
-    ------
-    Fault
-        A line is none of these; the fault has its number.
+    `data`: uTF-8 text. A line has one name, two words, or names with ` -- ` or ` -> ` between them. A name in quotes may hold
+    any letters, with a backslash before a quote or a backslash.
+    Returns Vertices in the order of their first mention. It is directed if any connection is an arrow.
+    Raises `Fault`: a line is none of these; the fault has its number.
     """
     found = Builder()
     for number, line in enumerate(decoded(data).split("\n"), 1):

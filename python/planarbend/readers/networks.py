@@ -29,13 +29,9 @@ def label_of(data: dict[str, Any]) -> str | None:
 def read_graphml(data: bytes) -> Graph:
     """The graph of a GraphML text: its first `graph`, with the nodes and edges of graphs inside its nodes.
 
-    Edges keep their order and each its own direction. Labels are the data named `label` or `name`, or the first label
-    of yEd.
+    Edges keep their order and each its own direction. Labels are the data named `label` or `name`, or the first label of yEd.
 
-    Raises
-    ------
-    Fault
-        The text is not XML or not GraphML, has a hyperedge, or an edge to a node that it does not have.
+    Raises `Fault`: the text is not XML or not GraphML, has a hyperedge, or an edge to a node that it does not have.
     """
     from xml.etree import ElementTree
 
@@ -79,6 +75,7 @@ def scanned(data: bytes) -> list[tuple[str, str, bool | None]]:
     graphs = 0
 
     def begun(element: str, values: dict[str, str]) -> None:
+        """Note the beginning of an element."""
         nonlocal graphs
         kind, line = element.rpartition("}")[2], parser.CurrentLineNumber
         open_elements.append(kind)
@@ -115,10 +112,7 @@ def scanned(data: bytes) -> list[tuple[str, str, bool | None]]:
 def read_gml(data: bytes) -> Graph:
     """The graph of a GML text, with parallel edges even if it does not declare them.
 
-    Raises
-    ------
-    Fault
-        networkx refuses the text; the fault has the line given by networkx.
+    Raises `Fault`: networkx refuses the text; the fault has the line given by networkx.
     """
     networkx = library("networkx", PACKAGE)
     text = re.sub(*PARALLEL, decoded(data), flags=re.M)
@@ -141,10 +135,7 @@ def read_gml(data: bytes) -> Graph:
 def read_graph6(data: bytes) -> Graph:
     """The graph of one line of graph6, with or without the header; its vertices are named 0, 1, and so on.
 
-    Raises
-    ------
-    Fault
-        The line is not graph6, or there are several or none.
+    Raises `Fault`: the line is not graph6, or there are several or none.
     """
     networkx = library("networkx", PACKAGE)
     lines = [(number, line.strip()) for number, line in enumerate(data.removeprefix(GRAPH6).split(b"\n"), 1) if line.strip()]
@@ -169,10 +160,7 @@ def read_json(data: bytes) -> Graph:
 
     A node without `id` is identified by its position from 0, as in D3. Labels are `label` or `name`.
 
-    Raises
-    ------
-    Fault
-        The text is not JSON (with its line), or not node-link JSON.
+    Raises `Fault`: the text is not JSON (with its line), or not node-link JSON.
     """
     try:
         found = json.loads(decoded(data))

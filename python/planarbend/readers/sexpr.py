@@ -36,10 +36,7 @@ class Expression:
 def parsed(text: str) -> Expression:
     """The one list that a text holds.
 
-    Raises
-    ------
-    Fault
-        Parentheses or quotes do not match, or something is outside the list.
+    Raises `Fault`: parentheses or quotes do not match, or something is outside the list.
     """
     open_lists: list[Expression] = []
     place, line = 0, 1

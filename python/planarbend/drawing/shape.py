@@ -1,0 +1,90 @@
+"""The shape of a component on the grid: the points of an answer, as boxes of vertices and lines of edges."""
+from __future__ import annotations
+
+import itertools
+from collections.abc import Iterable, Sequence
+from dataclasses import dataclass, field
+
+from planarbend.drawing.expand import Expansion
+from planarbend.drawing.numbering import Form, path_of
+from planarbend.drawing.planarization import Planarization
+from planarbend.layout.engine import Answer, GridPoint
+
+Rect = tuple[int, int, int, int]
+
+
+@dataclass(slots=True)
+class Shape:
+    """A component on the grid, y downwards.
+
+    `points`: of each node.
+    `lines`: the corners of each edge, ends included.
+    `boxes`: of each vertex.
+    `broken`: the vertices whose cage is not a rectangle, or is turned inside out, and those whose spine is bent.
+    `bends`: of all edges.
+    `size`: grid lines that it takes.
+    `sections`: for each broken vertex the points from each of its nodes to the next.
+    """
+
+    expansion: Expansion
+    points: list[GridPoint]
+    lines: list[list[GridPoint]]
+    boxes: list[Rect]
+    broken: list[int]
+    bends: int
+    size: tuple[int, int] = (0, 0)
+    sections: dict[int, list[list[GridPoint]]] = field(default_factory=dict)
+
+
+def without_straight(points: Sequence[GridPoint]) -> list[GridPoint]:
+    """Return a line without the points at which it does not turn."""
+    kept = list(points[:1])
+    for point, after in zip(points[1:], points[2:]):
+        if not (kept[-1][0] == point[0] == after[0] or kept[-1][1] == point[1] == after[1]):
+            kept.append(point)
+    return kept + list(points[-1:])
+
+
+def shape_of(expansion: Expansion, form: Form, answer: Answer) -> Shape:
+    """Return the nodes and edges of an expansion as an answer draws them."""
+    points, paths = form.places(answer)
+    lines = []
+    for chain in expansion.chains:
+        line = [points[expansion.tail[chain[0]]]] if chain else []
+        for dart in chain:
+            line += path_of(paths, dart)[1:]
+        lines.append(without_straight(line) if len(line) > 2 else line)
+    boxes, broken = [], {}
+    for vertex, nodes in enumerate(expansion.homes):
+        if len(nodes) == 1:
+            boxes.append(points[nodes[0]] * 2)
+            continue
+        is_cage = vertex in expansion.cages
+        sections = [path_of(paths, dart) for dart in expansion.sides[vertex]]
+        ring = [points[nodes[0]], *(point for section in sections for point in section[1:])]
+        boxes.append(rect_of(ring))
+        if not is_clockwise_rectangle(ring) if is_cage else len(without_straight(ring)) > 2:
+            broken[vertex] = sections
+    left, top, right, bottom = rect_of([*points, *(point for line in lines if len(line) > 2 for point in line)])
+    bends = sum(len(line) - 2 for line in lines if line)
+    return Shape(expansion, points, lines, boxes, list(broken), bends, (right - left + 1, bottom - top + 1), broken)
+
+
+def rect_of(points: Iterable[GridPoint]) -> Rect:
+    """Return the least rectangle round points."""
+    xs, ys = zip(*points)
+    return min(xs), min(ys), max(xs), max(ys)
+
+
+def is_clockwise_rectangle(ring: list[GridPoint]) -> bool:
+    """Return whether a closed line, y downwards, is a rectangle walked clockwise."""
+    left, top, right, bottom = rect_of(ring)
+    area = sum(x * b - a * y for (x, y), (a, b) in itertools.pairwise(ring))
+    return area == 2 * (right - left) * (bottom - top) and all(
+        (x in (left, right) or y in (top, bottom)) for x, y in ring)
+
+
+def lone(loops: int) -> Shape:
+    """Return the shape of a single vertex with loops."""
+    expansion = Expansion(Planarization([], [[]], 1, [[] for _ in range(loops)]), (), {})
+    return Shape(expansion, [(0, 0)], [[] for _ in range(loops)], [(0, 0, 0, 0)], [], 0)

@@ -1,0 +1,215 @@
+"""The interface between drawing and planarbend: neighbour lists in, bends and points out."""
+from __future__ import annotations
+
+import json
+import os
+from collections.abc import Sequence
+from dataclasses import dataclass
+from typing import Any, Protocol
+
+from planarbend.layout.planar_code import HEADER, Lists, record_of
+from planarbend.programs import PlanarbendError, RunFailed, program
+
+GridPoint = tuple[int, int]
+
+
+@dataclass(frozen=True, slots=True)
+class Answer:
+    """The layout of one embedded graph on the grid; y grows to the north. Numbers are those of docs/JSON.md.
+
+    Attributes
+    ----------
+    bends : int
+        The fewest bends for its outer face.
+    points : list of (x, y), or None
+        The point of each vertex; None if the graph is not drawn.
+    corners : list of list of (x, y)
+        The corners of each edge, along its lesser dart. Edges are numbered as they first occur in the neighbour lists.
+    shape : Shape or None
+        The orthogonal representation; None from an engine, which leaves it out.
+    """
+
+    bends: int
+    points: list[GridPoint] | None
+    corners: list[list[GridPoint]]
+    shape: Shape | None = None
+
+
+@dataclass(frozen=True, slots=True)
+class Shape:
+    """An orthogonal representation, and the dual prices that prove that it has the fewest bends.
+
+    `outer`: the outer face.
+    `angles`: for each dart the angle at its head, in right angles.
+    `turns`: for each dart its turns, an L or R for each.
+    `vertex_prices`, `face_prices`: the price of each vertex and of each face.
+    """
+
+    outer: int
+    angles: list[int]
+    turns: list[str]
+    vertex_prices: list[int]
+    face_prices: list[int]
+
+
+@dataclass(frozen=True, slots=True)
+class Refusal:
+    """Why a graph has no layout.
+
+    `status`: "refused", "memory" or "undrawn".
+    `word`: the rule that a refused graph breaks, or the cause for which a graph is not drawn.
+    """
+
+    status: str
+    word: str = ""
+
+
+@dataclass(frozen=True, slots=True)
+class Conditions:
+    """Conditions on a layout. Vertices are numbered from 1.
+
+    Attributes
+    ----------
+    straight : sequence of (u, v)
+        Edges that must be straight, each given by its ends.
+    inner : sequence of (u, v)
+        Faces that must not be the outer one, each given by a dart from u to v with the face on its left.
+    """
+
+    straight: Sequence[tuple[int, int]] = ()
+    inner: Sequence[tuple[int, int]] = ()
+
+
+@dataclass(frozen=True, slots=True)
+class Cut:
+    """Why no shape keeps the edges straight: a set of vertices and faces that turn more than can leave it.
+
+    Attributes
+    ----------
+    vertices : tuple of int
+        Numbered from 1.
+    faces : tuple of int
+        Numbered from 0, in the order of their lowest darts.
+    outer : int
+        The outer face for which the cut shows this.
+    """
+
+    vertices: tuple[int, ...]
+    faces: tuple[int, ...]
+    outer: int
+
+    def __str__(self) -> str:
+        """Return the cut in words."""
+        named = [f"{what} {', '.join(map(str, numbers))}"
+                 for what, numbers in (("vertices", self.vertices), ("faces", self.faces)) if numbers]
+        return f"{' and '.join(named)} turn more than can leave them"
+
+
+class NotKept(PlanarbendError):
+    """No layout keeps the conditions.
+
+    Attributes
+    ----------
+    word : str
+        "noshape" (no shape keeps them), "noedge" (two vertices are not neighbours), "noouter" (all faces must be inner) or
+        "wide" (the drawing does not fit the grid).
+    cut : Cut or None
+        With "noshape", the reason.
+    """
+
+    def __init__(self, word: str, cut: Cut | None = None) -> None:
+        why = f" ({cut})" if cut else ""
+        super().__init__(f"planarbend has no layout that keeps the conditions: {word}{why}")
+        self.word = word
+        self.cut = cut
+
+
+class Engine(Protocol):
+    """What lays out embedded graphs with the fewest bends: the library, the program, or a stand-in.
+
+    Neighbour lists have vertices numbered from 1 and neighbours in clockwise order. A graph has at most 255 vertices of degree
+    at most 4; it is connected and has an edge, but no loops or parallel edges. `outer` is "first", for the outer face with the
+    longest boundary (among several, the one with the lowest number), or "best", for the one that minimises bends.
+
+    Attributes
+    ----------
+    keeps : bool
+        Whether `lay_keeping` works.
+    """
+
+    keeps: bool
+
+    def lay(self, graphs: Sequence[Lists], outer: str) -> list[Answer]:
+        """Return the layout of each graph.
+
+        Raises
+        ------
+        PlanarbendError
+            A graph has no layout, or the engine fails.
+        """
+        ...
+
+    def lay_keeping(self, lists: Lists, outer: str, conditions: Conditions) -> Answer:
+        """Return a layout of one graph that keeps conditions, with the fewest bends of all that do.
+
+        Raises
+        ------
+        NotKept
+            No layout keeps the conditions.
+        PlanarbendError
+            As for `lay`, or the engine keeps no conditions.
+        """
+        ...
+
+
+class ProcessEngine:
+    """The program, which runs once for each call of `lay`. It keeps no conditions."""
+
+    keeps = False
+
+    def __init__(self) -> None:
+        self.program = program()
+
+    def lay(self, graphs: Sequence[Lists], outer: str) -> list[Answer]:
+        """Return the layout of each graph, as `Engine.lay`."""
+        if not graphs:
+            return []
+        import subprocess  # slow to load, and not needed by the library
+
+        given = HEADER + b"".join(map(record_of, graphs))
+        ran = subprocess.run([self.program, "layout", "--json", "--outer", outer, "-"], input=given, capture_output=True)
+        lines = [json.loads(line) for line in ran.stdout.splitlines()] if ran.returncode in (0, 3) else []
+        if len(lines) != len(graphs) + 1 or lines[-1].get("end") != "complete":
+            raise RunFailed(ran.returncode, ran.stderr.decode(errors="replace").strip())
+        return [answer_of(line) for line in lines[:-1]]
+
+    def lay_keeping(self, lists: Lists, outer: str, conditions: Conditions) -> Answer:
+        """Return no layout: raise a `PlanarbendError`, since the program takes no conditions."""
+        raise PlanarbendError("the program planarbend keeps no conditions: they need the library")
+
+
+def answer_of(line: dict[str, Any]) -> Answer:
+    """Return the answer in a JSON line, without its shape.
+
+    Raises `PlanarbendError`: the graph is not drawn.
+    """
+    if line["status"] != "ok" or line["points"] is None:
+        raise PlanarbendError(f"planarbend does not draw a graph: {line}")
+    return Answer(line["bends"], *points_of(line["points"]))
+
+
+def points_of(points: dict[str, Any]) -> tuple[list[GridPoint], list[list[GridPoint]]]:
+    """Return the points of the vertices, and the corners of the edges, in the `points` of a JSON line."""
+    return ([(x, y) for x, y in points["vertices"]], [[(x, y) for x, y in corners] for corners in points["corners"]])
+
+
+def default_engine() -> Engine:
+    """Return the engine to use: the library if there is one, otherwise the program. Both answer the same.
+
+    If PLANARBEND is set, the program that it names is used.
+    """
+    if "PLANARBEND" in os.environ:
+        return ProcessEngine()
+    from planarbend.layout import library  # imported here: it uses this module, and is slow to load
+
+    return library.LibraryEngine() if library.is_wanted() else ProcessEngine()
