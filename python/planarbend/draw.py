@@ -10,11 +10,10 @@ from dataclasses import dataclass
 from planarbend.drawing.choose import NoStraightEdges, NoSuchFace, TooLarge, choose
 from planarbend.drawing.drawn import Box, Crossing, Drawing, Point
 from planarbend.drawing.items import Sheet
-from planarbend.drawing.options import Options
 from planarbend.drawing.pack import packed
 from planarbend.drawing.partition import Partition
-from planarbend.drawing.planarization import Planarization
 from planarbend.drawing.planarize import TooManyCrossings, planarize
+from planarbend.drawing.plans import Options
 from planarbend.drawing.shape import Shape, lone
 from planarbend.drawing.spread import spread
 from planarbend.graph import Edge, Graph
@@ -40,19 +39,13 @@ class NotStraight(DrawError):
     """No drawing was found in which all required edges are straight; another embedding may have one."""
 
 
-@dataclass(slots=True)
+@dataclass(frozen=True, slots=True)
 class Part:
-    """A component of a graph in pixels, its left upper corner at 0, 0, with the graph's numbers of its vertices and edges."""
+    """A component of a graph in pixels, with the graph's numbers of its vertices and edges."""
 
     vertices: list[int]
     edges: list[int]
-    boxes: list[Box]
-    lines: list[list[Point]]
-    crossings: list[Crossing]
-    labels: dict[int, Box]
-    width: float
-    height: float
-    planar: Planarization
+    sheet: Sheet
 
 
 def draw(graph: Graph, options: Options = Options(), engine: Engine | None = None) -> Drawing:
@@ -111,17 +104,17 @@ def part_of(graph: Graph, vertices: list[int], edges: list[int], options: Option
     options = dataclasses.replace(options, outer=[number[vertex] for vertex in options.outer if vertex in number],
                                   straight=[place for place, edge in enumerate(edges) if edge in options.straight])
     if all(edge.tail == edge.head for edge in chosen):
-        return in_pixels(settled(lone(len(edges)), inner), vertices, edges)
-    broken, sheet = best_sheet(inner, options, engine)
-    if broken:
+        return Part(vertices, edges, settled(lone(len(edges)), inner))
+    sheet = best_sheet(inner, options, engine)
+    if sheet.shape.broken:
         names = ", ".join(inner.vertices[vertex].name for vertex in sheet.shape.broken)
         raise DrawError(f"no drawing was found in which these boxes are rectangles: {names} (try another --seed, or --split"
                         " with the nets that join most)")
-    return in_pixels(sheet, vertices, edges)
+    return Part(vertices, edges, sheet)
 
 
-def best_sheet(graph: Graph, options: Options, engine: Engine) -> tuple[int, Sheet]:
-    """Return the best drawing of a component, and the number of its boxes that are no rectangles."""
+def best_sheet(graph: Graph, options: Options, engine: Engine) -> Sheet:
+    """Return the best drawing of a component."""
     weight = COMPACT_WEIGHT if options.compact else BEND_WEIGHT
     best = None
     for attempt in range(MOST_EMBEDDINGS):
@@ -139,7 +132,7 @@ def best_sheet(graph: Graph, options: Options, engine: Engine) -> tuple[int, She
         if best is not None and not 0 < best[0][0] <= MOST_BROKEN:
             break
     assert best is not None, "a component has a shape"
-    return best[0][0], best[1]
+    return best[1]
 
 
 def embedded(graph: Graph, options: Options, attempt: int) -> Planarization:
@@ -194,22 +187,6 @@ def price_of(sheet: Sheet, edges: int, weight: float) -> float:
     return (right - left) * (bottom - top) * (1 + weight * sheet.shape.bends / edges)
 
 
-def in_pixels(sheet: Sheet, vertices: list[int], edges: list[int]) -> Part:
-    """Return a settled component, moved to 0, 0."""
-    left, top, right, bottom = sheet.bounds()
-
-    def moved(box: Box) -> Box:
-        """Return a box relative to the left upper corner."""
-        return box[0] - left, box[1] - top, box[2] - left, box[3] - top
-
-    lines = [[(x - left, y - top) for x, y in sheet.line(number)] for number in range(len(edges))]
-    crossings = [Crossing(meeting(lines[one], lines[other]), (edges[one], edges[other]))
-                 for one, other in crossings_of(sheet.shape)]
-    return Part(vertices, edges, [moved(sheet.extent(box)) for box in sheet.boxes], lines, crossings,
-                {edges[number]: moved(sheet.extent(item)) for number, item in sheet.labels.items()}, right - left, bottom - top,
-                sheet.shape.expansion.planar)
-
-
 def crossings_of(shape: Shape) -> list[tuple[int, int]]:
     """Return for each crossing the two edges that cross there, the lesser first."""
     planar = shape.expansion.planar
@@ -237,19 +214,25 @@ def side_by_side(graph: Graph, parts: Sequence[Part]) -> Drawing:
     lines: list[list[Point]] = [[]] * len(graph.edges)
     crossings: list[Crossing] = []
     labels: dict[int, Box] = {}
-    places, width, height = packed([(part.width + BETWEEN, part.height + BETWEEN) for part in parts])
-    for part, (left, top) in zip(parts, places):
-        x, y = left + MARGIN, top + MARGIN
+    bounds = [part.sheet.bounds() for part in parts]
+    places, width, height = packed([(right - left + BETWEEN, bottom - top + BETWEEN) for left, top, right, bottom in bounds])
+    for part, (left, top, _, _), (x, y) in zip(parts, bounds, places):
+        sheet, edges = part.sheet, part.edges
 
-        def place(box: Box, x: float = x, y: float = y) -> Box:
-            """Return a box in the picture."""
-            return round(box[0] + x, 3), round(box[1] + y, 3), round(box[2] + x, 3), round(box[3] + y, 3)
+        def point(a: float, b: float, x: float = x + MARGIN, y: float = y + MARGIN, left: float = left, top: float = top) -> Point:
+            """Return a point of the component in the picture."""
+            return round(a - left + x, 3), round(b - top + y, 3)
 
-        for vertex, box in zip(part.vertices, part.boxes):
-            boxes[vertex] = place(box)
-        for edge, line in zip(part.edges, part.lines):
-            lines[edge] = [(round(a + x, 3), round(b + y, 3)) for a, b in line]
-        crossings += [Crossing((round(one.at[0] + x, 3), round(one.at[1] + y, 3)), one.edges) for one in part.crossings]
-        labels |= {edge: place(box) for edge, box in part.labels.items()}
+        for vertex, item in zip(part.vertices, sheet.boxes):
+            box = sheet.extent(item)
+            boxes[vertex] = *point(*box[:2]), *point(*box[2:])
+        for number, edge in enumerate(edges):
+            lines[edge] = [point(*corner) for corner in sheet.line(number)]
+        for number, item in sheet.labels.items():
+            box = sheet.extent(item)
+            labels[edges[number]] = *point(*box[:2]), *point(*box[2:])
+        crossings += [Crossing(meeting(lines[edges[one]], lines[edges[other]]), (edges[one], edges[other]))
+                      for one, other in crossings_of(sheet.shape)]
     size = (math.ceil(width - BETWEEN + 2 * MARGIN), math.ceil(height - BETWEEN + 2 * MARGIN))
-    return Drawing(graph, boxes, lines, crossings, size, labels, [part.planar.lists for part in parts if part.planar.tail])
+    planars = (part.sheet.shape.expansion.planar for part in parts)
+    return Drawing(graph, boxes, lines, crossings, size, labels, [planar.lists for planar in planars if planar.tail])

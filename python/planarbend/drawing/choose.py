@@ -9,16 +9,14 @@ import itertools
 import random
 import sys
 from collections.abc import Callable, Iterable, Iterator, Sequence
-from dataclasses import dataclass, replace
+from dataclasses import replace
 from typing import TYPE_CHECKING
 
 from planarbend.drawing.expand import LEAST_CAGE, MOST_CONNECTIONS, Expansion, size_of
-from planarbend.drawing.keeping import conditions_of
 from planarbend.drawing.mend import loosened, ways_round_cage, ways_round_spine
-from planarbend.drawing.numbering import Contraction, Form, form_of, outer_forms
-from planarbend.drawing.options import Options
+from planarbend.drawing.numbering import Contraction, Form, conditions_of, form_of, outer_forms
 from planarbend.drawing.planarization import Planarization
-from planarbend.drawing.plans import Found, Plan
+from planarbend.drawing.plans import Options, Plan
 from planarbend.drawing.shape import Shape, shape_of
 from planarbend.layout.engine import Engine, NotKept
 from planarbend.layout.planar_code import MOST_VERTICES
@@ -53,72 +51,58 @@ class NoStraightEdges(Exception):
 
 
 class Search:
-    """Looks for a good shape of one embedded component.
+    """Looks for a good shape of one embedded component: for each plan, it tries `NUMBERINGS` times the effort."""
 
-    `effort`: how many shapes to try: `NUMBERINGS` times this for each plan.
-    `seed`: of the random numberings.
-    `outer`: vertices that must lie on the outer face.
-    `straight`: edges that must be straight, which only an engine that keeps conditions can ensure.
-    """
-
-    def __init__(self, planar: Planarization, engine: Engine, effort: int, seed: int, outer: Sequence[int] = (),
-                 straight: Sequence[int] = ()) -> None:
-        self.planar, self.engine, self.effort, self.outer, self.straight = planar, engine, effort, outer, straight
-        self.seed, self.random = seed, random.Random(seed)
+    def __init__(self, planar: Planarization, engine: Engine, options: Options) -> None:
+        """Return a search before its first shape."""
+        self.planar, self.engine, self.options, self.random = planar, engine, options, random.Random(options.seed)
         self.degree = [len(darts) for darts in planar.rotation[:planar.vertex_count]]
         self.large = [vertex for vertex, count in enumerate(self.degree) if count > MOST_CONNECTIONS]
         self.first = self.first_plan(False)
 
     def fits(self, plan: Plan) -> bool:
         """Return whether a plan takes few enough vertices, before parallel edges."""
-        size = size_of(self.planar, self.degree, plan.cages, dict(plan.spines)) + sum(count for _, count in plan.loose)
-        return size - self.degree.count(2) <= MOST_VERTICES
+        return size_of(self.planar, plan) - self.degree.count(2) <= MOST_VERTICES
 
     def expanded(self, plan: Plan) -> Expansion | None:
         """Return the expansion of a plan, or None if it takes too many vertices."""
         if not self.fits(plan):
             return None
-        expansion = Expansion(self.planar, plan.cages, dict(plan.spines), dict(plan.loose))
+        expansion = Expansion(self.planar, plan)
         return expansion if len(Contraction(expansion).nodes) <= MOST_VERTICES else None
 
     def first_plan(self, compact: bool) -> Plan:
         """Return the plan with cages for all vertices above degree 4; spines if compact, or for the largest until all fits."""
-        plan = Plan(frozenset(() if compact else self.large), tuple((vertex, 0) for vertex in self.large) if compact else ())
+        plan = Plan(spines=tuple((vertex, 0) for vertex in self.large)) if compact else Plan(frozenset(self.large))
         for vertex in sorted(plan.cages, key=lambda vertex: (-self.degree[vertex], vertex)):
             if self.fits(plan):
                 break
             plan = plan.spined(vertex, 0)
         return plan
 
-    def shapes_of(self, plans: Iterable[Plan]) -> list[Found]:
+    def shapes_of(self, plans: Iterable[Plan]) -> list[Shape]:
         """Return the shapes of plans with their best outer faces, each under several numberings, which can lead to different
         shapes with the fewest bends."""
-        tried: list[tuple[Expansion, Plan, Form]] = []
-        for plan in plans:
-            expansion = self.expanded(plan)
-            if expansion is not None:
-                tried += [(expansion, plan, form) for form in self.numberings(expansion)]
-        return there(self.laid(tried, "best"))
+        expansions = [expansion for expansion in map(self.expanded, plans) if expansion is not None]
+        return there(self.laid([form for expansion in expansions for form in self.numberings(expansion)], "best"))
 
-    def laid(self, tried: Sequence[tuple[Expansion, Plan, Form]], outer: str) -> list[Found | None]:
-        """Return the shape of each form of a plan; None if some edges must be straight, and cannot be."""
-        if self.straight:
-            return self.kept(tried, outer)
-        answers = self.engine.lay([form.lists for _, _, form in tried], outer)
-        return [Found(shape_of(expansion, form, answer), plan)
-                for (expansion, plan, form), answer in zip(tried, answers)]
+    def laid(self, forms: Sequence[Form], outer: str) -> list[Shape | None]:
+        """Return the shape of each form; None if some edges must be straight, and cannot be."""
+        if self.options.straight:
+            return self.kept(forms, outer)
+        return list(map(shape_of, forms, self.engine.lay([form.lists for form in forms], outer)))
 
-    def kept(self, tried: Sequence[tuple[Expansion, Plan, Form]], outer: str) -> list[Found | None]:
-        """Return the shape of each form of a plan in which boxes are rectangles and the required edges are straight, or None."""
-        found: list[Found | None] = []
-        for expansion, plan, form in tried:
-            kept = conditions_of(expansion, form, self.straight, boxes=True, has_outer=outer == "first")
+    def kept(self, forms: Iterable[Form], outer: str) -> list[Shape | None]:
+        """Return the shape of each form in which boxes are rectangles and the required edges are straight, or None."""
+        found: list[Shape | None] = []
+        for form in forms:
+            conditions = conditions_of(form, self.options.straight, outer == "first")
             try:
-                shape = shape_of(expansion, form, self.engine.lay_keeping(form.lists, outer, kept))
+                shape = shape_of(form, self.engine.lay_keeping(form.lists, outer, conditions))
             except NotKept:
                 found.append(None)
                 continue
-            found.append(Found(shape, plan) if all(len(shape.lines[edge]) == 2 for edge in self.straight) else None)
+            found.append(shape if all(len(shape.lines[edge]) == 2 for edge in self.options.straight) else None)
         return found
 
     def numberings(self, expansion: Expansion, dice: random.Random | None = None) -> Iterator[Form]:
@@ -126,24 +110,25 @@ class Search:
         graph = Contraction(expansion)
         order = graph.nodes
         yield form_of(graph, order)
-        for _ in range(NUMBERINGS * self.effort):
+        for _ in range(NUMBERINGS * self.options.effort):
             (dice or self.random).shuffle(order)
             yield form_of(graph, order)
 
-    def turned_out(self, plan: Plan) -> list[Found]:
+    def turned_out(self, plan: Plan) -> list[Shape]:
         """Return the shapes of a plan with other outer faces: with all of `outer` on them, if there are such vertices."""
         expansion = self.expanded(plan)
         if expansion is None:
             return []
-        forms = list(itertools.islice(outer_forms(expansion, self.outer), MOST_FACES))
-        return there(self.laid([(expansion, plan, form) for form in forms], "first"))
+        return there(self.laid(list(itertools.islice(outer_forms(expansion, self.options.outer), MOST_FACES)), "first"))
 
-    def look(self, *plans: Plan) -> list[Found]:
+    def look(self, *plans: Plan) -> list[Shape]:
         """Return the shapes of plans, with `outer` on the outer face if there are such vertices. One call for several plans
         starts the program once."""
-        return [found for plan in plans for found in self.turned_out(plan)] if self.outer else self.shapes_of(plans)
+        if self.options.outer:
+            return [found for plan in plans for found in self.turned_out(plan)]
+        return self.shapes_of(plans)
 
-    def run(self) -> list[Found]:
+    def run(self) -> list[Shape]:
         """Return shapes of this embedding: those of the first plan, and what `MOVES` and `REPAIRS` add.
 
         Raises `TooLarge`, `NoSuchFace`, `NoStraightEdges`: no plan has a shape.
@@ -153,26 +138,26 @@ class Search:
             pool += move(self, pool)
         return self.repaired(pool)
 
-    def begin(self) -> list[Found]:
+    def begin(self) -> list[Shape]:
         """Return shapes of the first plan that has any, which becomes `first`."""
         pool = self.look(self.first)
-        if not pool and self.straight:
+        if not pool and self.options.straight:
             pool = self.look(self.first.caged(self.small(self.first)))
         if not pool:
             self.first = self.first_plan(True)
             pool = self.look(self.first)
         if not pool:
-            if self.outer and self.shapes_of([self.first]):
+            if self.options.outer and self.shapes_of([self.first]):
                 raise NoSuchFace
-            if self.straight and self.expanded(self.first) is not None:
+            if self.options.straight and self.expanded(self.first) is not None:
                 raise NoStraightEdges
-            raise TooLarge(len(Expansion(self.planar, (), {vertex: 0 for vertex in self.large}).rotation))
+            raise TooLarge(len(Expansion(self.planar, Plan(spines=tuple((vertex, 0) for vertex in self.large))).rotation))
         return pool
 
-    def repaired(self, pool: list[Found]) -> list[Found]:
+    def repaired(self, pool: list[Shape]) -> list[Shape]:
         """Return a pool with what `REPAIRS` add while its best shape has a box that is not a rectangle."""
         for moves in REPAIRS:
-            if not best_of(pool).shape.broken:
+            if not best_of(pool).broken:
                 break
             pool = [*pool, *(found for move in moves for found in move(self, pool))]
         return pool
@@ -181,54 +166,54 @@ class Search:
         """Return the vertices of degree 3 and 4 that are points so far."""
         return [vertex for vertex in range(self.planar.vertex_count) if self.can_be_cage(vertex, plan)]
 
-    def boxed(self, pool: list[Found]) -> list[Found]:
+    def boxed(self, pool: list[Shape]) -> list[Shape]:
         """Return shapes with boxes for vertices of degree 3 and 4: for all, and for those at the ends of edges that bend."""
         return self.look(self.first.caged(self.small(self.first)), self.first.caged(self.small_at_bends(best_of(pool))))
 
-    def unboxed(self, pool: list[Found]) -> list[Found]:
+    def unboxed(self, pool: list[Shape]) -> list[Shape]:
         """Return shapes without those added boxes of the best shape that could as well be points."""
         best = best_of(pool)
         return self.look(best.plan.uncaged(vertex for vertex in best.plan.cages - self.first.cages if best.is_point(vertex)))
 
-    def elsewhere(self, best: Found) -> list[Found]:
+    def elsewhere(self, best: Shape) -> list[Shape]:
         """Return shapes of another embedding, by the plan of the best one so far; none if a few moves find nothing better."""
-        if not any(best.price()[:2]) and len(best.shape.expansion.rotation) < LARGE:
+        if not any(best.price()[:2]) and len(best.expansion.rotation) < LARGE:
             return []
         from planarbend.drawing.moves import climbed  # slow to load
 
         other, _ = climbed(self.planar, lambda planars: self.prices(planars, best.plan), self.random,
-                           rounds=ROUNDS * self.effort, width=WIDTH)
+                           rounds=ROUNDS * self.options.effort, width=WIDTH)
         if other is self.planar:
             return []
-        search = Search(other, self.engine, self.effort, 0, (), self.straight)
+        search = Search(other, self.engine, replace(self.options, seed=0, outer=()))
         pool = search.shapes_of([replace(best.plan, loose=())])
         return search.repaired(pool) if pool else []
 
     def prices(self, planars: Sequence[Planarization], plan: Plan) -> list[Price]:
-        """Return the price of a plan in each of several embeddings."""
-        expansions = [Expansion(planar, plan.cages, dict(plan.spines)) for planar in planars]  # with other pieces
-        tried = [(expansion, plan, next(self.numberings(expansion))) for expansion in expansions]
-        laid = iter(self.laid([one for one in tried if len(one[2].lists) <= MOST_VERTICES], "best"))
-        found = [next(laid) if len(form.lists) <= MOST_VERTICES else None for _, _, form in tried]
+        """Return the price of a plan in each of several embeddings, which have other pieces."""
+        plan = replace(plan, loose=())
+        forms = [next(self.numberings(Expansion(planar, plan))) for planar in planars]
+        laid = iter(self.laid([form for form in forms if len(form.lists) <= MOST_VERTICES], "best"))
+        found = [next(laid) if len(form.lists) <= MOST_VERTICES else None for form in forms]
         return [(sys.maxsize,) if one is None else one.price() for one in found]
 
     def can_be_cage(self, vertex: int, plan: Plan) -> bool:
         """Return whether a vertex of degree 3 or 4 is a point so far."""
         return LEAST_CAGE <= self.degree[vertex] <= MOST_CONNECTIONS and vertex not in plan.cages
 
-    def outward(self, pool: list[Found]) -> list[Found]:
+    def outward(self, pool: list[Shape]) -> list[Shape]:
         """Return shapes of the best plans with other outer faces; none if some vertices must be on that face."""
-        plans = dict.fromkeys(found.plan for found in sorted(pool, key=Found.price))
-        return [found for plan in itertools.islice(plans, 0 if self.outer else MOST_TURNED) for found in self.turned_out(plan)]
+        plans = dict.fromkeys(found.plan for found in sorted(pool, key=Shape.price))
+        return [found for plan in itertools.islice(plans, 0 if self.options.outer else MOST_TURNED) for found in self.turned_out(plan)]
 
-    def spined(self, pool: list[Found]) -> list[Found]:
+    def spined(self, pool: list[Shape]) -> list[Shape]:
         """Return shapes with broken boxes, one after another, as points or as spines; if some stay broken, also shapes with
         spines for all vertices above degree 4."""
-        current, added = best_of(pool), list[Found]()
+        current, added = best_of(pool), list[Shape]()
         for _ in range(MOST_REPAIRS):
-            if not current.shape.broken:
+            if not current.broken:
                 return added
-            vertex, degree = current.shape.broken[0], self.degree[current.shape.broken[0]]
+            vertex, degree = current.broken[0], self.degree[current.broken[0]]
             if degree <= MOST_CONNECTIONS:
                 plans = [current.plan.uncaged([vertex])]
             else:
@@ -238,42 +223,41 @@ class Search:
                 break
             added += tried
             current = best_of(tried)
-        return added if self.outer else added + self.shapes_of([self.first_plan(True)])
+        return added if self.options.outer else added + self.shapes_of([self.first_plan(True)])
 
-    def kept_boxes(self, pool: list[Found]) -> list[Found]:
+    def kept_boxes(self, pool: list[Shape]) -> list[Shape]:
         """Return shapes with the fewest bends in which all boxes are rectangles, by the best plans so far."""
         if not self.engine.keeps:
             return []
-        plans = dict.fromkeys(replace(found.plan, loose=()) for found in sorted(pool, key=Found.price))
-        found: list[Found] = []
-        dice = random.Random(self.seed)  # a separate source, so that these shapes do not change later choices
-        for plan in itertools.islice(plans, MOST_KEPT):
-            expansion = self.expanded(plan)
+        plans = dict.fromkeys(replace(found.plan, loose=()) for found in sorted(pool, key=Shape.price))
+        found: list[Shape] = []
+        dice = random.Random(self.options.seed)  # a separate source, so that these shapes do not change later choices
+        outer = self.options.outer
+        for expansion in map(self.expanded, itertools.islice(plans, MOST_KEPT)):
             if expansion is not None:
-                forms = outer_forms(expansion, self.outer) if self.outer else self.numberings(expansion, dice)
-                tried = [(expansion, plan, form) for form in itertools.islice(forms, MOST_FACES)]
-                found += there(self.kept(tried, "first" if self.outer else "best"))
+                forms = outer_forms(expansion, outer) if outer else self.numberings(expansion, dice)
+                found += there(self.kept(itertools.islice(forms, MOST_FACES), "first" if outer else "best"))
         return found
 
-    def mend(self, pool: list[Found]) -> list[Found]:
+    def mend(self, pool: list[Shape]) -> list[Shape]:
         """Return shapes with edges that may bend instead of boxes, starting from a few of the best shapes."""
-        beam, tried, added = sorted(pool, key=Found.price)[:MOST_MENDED], set[Plan](), list[Found]()
+        beam, tried, added = sorted(pool, key=Shape.price)[:MOST_MENDED], set[Plan](), list[Shape]()
         for _ in range(MOST_MENDS):
             plans = dict.fromkeys(plan for found in beam for plan in self.mended(found) if plan not in tried)
             tried |= set(plans)
             found = self.look(*plans)
             added += found
-            beam = sorted([*beam, *found], key=Found.price)[:MOST_MENDED]
-            if not beam[0].shape.broken:
+            beam = sorted([*beam, *found], key=Shape.price)[:MOST_MENDED]
+            if not beam[0].broken:
                 needed = tuple(pair for pair in beam[0].plan.loose if self.is_bent(beam[0], pair[0]))
                 return added + self.look(replace(beam[0].plan, loose=needed))
         return added
 
-    def mended(self, found: Found) -> list[Plan]:
+    def mended(self, found: Shape) -> list[Plan]:
         """Return plans that may make broken boxes rectangles; the first is for all of them at once."""
         first: list[int] = []
         ways: list[list[int]] = []
-        for vertex, sections in found.shape.sections.items():
+        for vertex, sections in found.sections.items():
             out = self.planar.rotation[vertex]
             if vertex in found.plan.cages:
                 sets = list(ways_round_cage(sections))
@@ -285,7 +269,7 @@ class Search:
             first += pieces[0] if pieces else []
             ways += pieces
         plans = [replace(found.plan, loose=loosened(found.plan.loose, way)) for way in [first, *ways] if way]
-        roomier = [self.roomier(plan, found.shape.broken) for plan in dict.fromkeys(plans)]
+        roomier = [self.roomier(plan, found.broken) for plan in dict.fromkeys(plans)]
         return [plan for plan in dict.fromkeys(roomier) if self.fits(plan)]
 
     def roomier(self, plan: Plan, but: Sequence[int]) -> Plan:
@@ -297,21 +281,21 @@ class Search:
                 plan = plan.spined(vertex, 0)
         return plan
 
-    def is_bent(self, found: Found, piece: int) -> bool:
+    def is_bent(self, found: Shape, piece: int) -> bool:
         """Return whether the edge with a piece bends."""
         return any(len(line) > 2 and any(dart >> 1 == piece for dart in chain)
-                   for line, chain in zip(found.shape.lines, self.planar.chains))
+                   for line, chain in zip(found.lines, self.planar.chains))
 
-    def small_at_bends(self, found: Found) -> list[int]:
+    def small_at_bends(self, found: Shape) -> list[int]:
         """Return the vertices of degree 3 and 4 at the ends of edges that bend."""
         ends = set()
-        for line, chain in zip(found.shape.lines, self.planar.chains):
+        for line, chain in zip(found.lines, self.planar.chains):
             if len(line) > 2:
                 ends |= {self.planar.tail[chain[0]], self.planar.tail[chain[-1] ^ 1]}
         return sorted(vertex for vertex in ends if self.can_be_cage(vertex, found.plan))
 
 
-Move = Callable[[Search, list[Found]], list[Found]]
+Move = Callable[[Search, list[Shape]], list[Shape]]
 """A way from the shapes found so far to others."""
 MOVES: tuple[Move, ...] = (
     Search.boxed,     # vertices of degree 3 and 4 get boxes
@@ -324,14 +308,14 @@ REPAIRS: tuple[tuple[Move, ...], ...] = (  # tried in turn while a box is not a 
 )
 
 
-def there(found: Iterable[Found | None]) -> list[Found]:
+def there(found: Iterable[Shape | None]) -> list[Shape]:
     """Return what there is."""
     return [one for one in found if one is not None]
 
 
-def best_of(pool: Iterable[Found]) -> Found:
+def best_of(pool: Iterable[Shape]) -> Shape:
     """Return the shape with the lowest price; the first of several."""
-    return min(pool, key=Found.price)
+    return min(pool, key=Shape.price)
 
 
 def choose(planar: Planarization, engine: Engine, options: Options) -> list[Shape]:
@@ -341,7 +325,7 @@ def choose(planar: Planarization, engine: Engine, options: Options) -> list[Shap
     Raises `NoSuchFace`: if no face has all of `outer` on it.
     Raises `NoStraightEdges`: if no shape was found in which all of `straight` are straight.
     """
-    search = Search(planar, engine, options.effort, options.seed, options.outer, options.straight)
+    search = Search(planar, engine, options)
     pool = search.run()
     if not options.outer:
         pool += search.elsewhere(best_of(pool))
@@ -351,16 +335,16 @@ def choose(planar: Planarization, engine: Engine, options: Options) -> list[Shap
     return shapes
 
 
-def picked(pool: list[Found]) -> list[Shape]:
+def picked(pool: list[Shape]) -> list[Shape]:
     """Return for each plan the shape with the lowest price, best first; only shapes without broken boxes, if there are any."""
-    best: dict[Plan, Found] = {}
-    for found in sorted(pool, key=Found.price):
+    best: dict[Plan, Shape] = {}
+    for found in sorted(pool, key=Shape.price):
         best.setdefault(found.plan, found)
-    fewest = min(len(found.shape.broken) for found in best.values())
-    return [found.shape for found in best.values() if len(found.shape.broken) == fewest][:MOST_PICKED]
+    fewest = min(len(found.broken) for found in best.values())
+    return [found for found in best.values() if len(found.broken) == fewest][:MOST_PICKED]
 
 
-def smallest(pool: list[Found]) -> list[Shape]:
+def smallest(pool: list[Shape]) -> list[Shape]:
     """Return the shapes that take the least room on the grid; only shapes without broken boxes, if there are any."""
     found = sorted(pool, key=lambda found: (found.price()[0], found.price()[2], found.price()[1]))
-    return [one.shape for one in found[:MOST_COMPACT] if len(one.shape.broken) == len(found[0].shape.broken)]
+    return [one for one in found[:MOST_COMPACT] if len(one.broken) == len(found[0].broken)]

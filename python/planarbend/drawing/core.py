@@ -50,13 +50,13 @@ class _Fold:
     strands: list[Strand]
 
     def turned(self) -> _Fold:
-        """The same from head to tail."""
+        """Return the same from head to tail."""
         return _Fold(self.head, self.tail, self.weight,
                      [Strand(strand.edge, not strand.reversed) for strand in reversed(self.strands)])
 
 
 def core_of(edges: Sequence[int], ends: Sequence[tuple[int, int]], weights: Sequence[int], most: int) -> Core:
-    """Folds a graph into its core.
+    """Fold a graph into its core.
 
     `edges`: the graph's edges, as numbers into ``ends`` and ``weights``.
     `ends`, `weights`: tail and head, and weight, of each edge.
@@ -74,7 +74,7 @@ def core_of(edges: Sequence[int], ends: Sequence[tuple[int, int]], weights: Sequ
     made = 0
 
     def place(fold: _Fold) -> None:
-        """Adds a folded edge, merged with one that is parallel."""
+        """Add a folded edge, merged with one that is parallel."""
         nonlocal made
         if fold.tail == fold.head:
             return
@@ -91,7 +91,7 @@ def core_of(edges: Sequence[int], ends: Sequence[tuple[int, int]], weights: Sequ
         made += 1
 
     def drop(name: int) -> _Fold:
-        """Removes a folded edge."""
+        """Remove a folded edge."""
         fold = folds.pop(name)
         at[fold.tail].remove(name)
         at[fold.head].remove(name)

@@ -56,11 +56,11 @@ class Drawing:
         return sum(len(line) - 2 for line in self.lines)
 
     def planar_code(self) -> bytes:
-        """The embedding as planar_code, a record for each component."""
+        """Return the embedding as planar_code, a record for each component."""
         return HEADER + b"".join(map(record_of, self.embedding))
 
     def json(self) -> str:
-        """The drawing as JSON: vertices, edges, crossings, bends and size."""
+        """Return the drawing as JSON: vertices, edges, crossings, bends and size."""
         vertices = [{"name": vertex.name, "label": vertex.label, "kind": vertex.kind.value, "box": list(box)}
                     for vertex, box in zip(self.graph.vertices, self.boxes, strict=True)]
         for number, box in net_labels(self).items():

@@ -6,10 +6,10 @@ with a connection above and one below each, which takes fewer vertices. Parallel
 """
 from __future__ import annotations
 
-from collections.abc import Collection, Mapping
-from types import MappingProxyType
+from collections.abc import Mapping
 
 from planarbend.drawing.planarization import Planarization
+from planarbend.drawing.plans import Plan
 from planarbend.layout.embedding import Embedding
 
 MOST_CONNECTIONS = 4  # of a vertex, as planarbend takes it
@@ -20,30 +20,26 @@ class Expansion(Embedding):
     """A simple embedded graph of degree at most 4 that stands for a planarization.
 
     Its vertices are called nodes. Vertices, crossings and darts of the planarization keep their numbers: the first node of a
-    box is its vertex, and a piece that is divided begins with its dart.
+    box is its vertex, and a piece that is divided begins with its dart. Vertices that become cages have at least `LEAST_CAGE` connections, those that become spines at least 5. A loose piece gets a
+    node of degree 2 for each of its bends.
 
-    `planar`: the embedded graph, connected.
-    `cages`: vertices that become cages; they have at least `LEAST_CAGE` connections.
-    `spines`: vertices that become spines, each with the place in its rotation at which its first end lies; they have at least
-    5 connections.
-    `loose`: pieces that may bend at no cost, each with its number of bends: it gets this many nodes of degree 2.
     `homes`: for each vertex of the graph its nodes: one; or those of its cage, clockwise; or those of its spine, in order.
     `sides`: for each cage the darts from node to node, clockwise; for each spine the darts along it.
     `chains`: for each edge of the graph the darts along it, from its tail to its head.
     """
 
-    def __init__(self, planar: Planarization, cages: Collection[int], spines: Mapping[int, int],
-                 loose: Mapping[int, int] = MappingProxyType({})) -> None:
+    def __init__(self, planar: Planarization, plan: Plan) -> None:
+        """Return the expansion of a connected graph by a plan."""
         super().__init__(list(planar.tail), list(planar.rotation))
-        self.planar, self.cages, self.spines = planar, set(cages), set(spines)
+        self.planar, self.plan, self.spines = planar, plan, dict(plan.spines)
         self.homes = [[vertex] for vertex in range(planar.vertex_count)]
         self.sides: dict[int, list[int]] = {}
         for vertex in range(planar.vertex_count):
-            if vertex in cages:
+            if vertex in plan.cages:
                 self._make_cage(vertex)
-            elif vertex in spines:
-                self._make_spine(vertex, spines[vertex])
-        self.chains = self._divided(loose)
+            elif vertex in self.spines:
+                self._make_spine(vertex, self.spines[vertex])
+        self.chains = self._divided(dict(plan.loose))
 
     def _node(self) -> int:
         """Return a new node."""
@@ -109,8 +105,9 @@ class Expansion(Embedding):
         return found
 
 
-def size_of(planar: Planarization, degree: list[int], cages: Collection[int], spines: Collection[int]) -> int:
+def size_of(planar: Planarization, plan: Plan) -> int:
     """Return the least number of nodes of an expansion, before parallel edges."""
-    cage = sum(degree[vertex] - 1 for vertex in cages)
-    spine = sum((degree[vertex] - 1) // 2 - 1 + degree[vertex] % 2 for vertex in spines)
-    return len(planar.rotation) + cage + spine
+    degree = list(map(len, planar.rotation))
+    cage = sum(degree[vertex] - 1 for vertex in plan.cages)
+    spine = sum((degree[vertex] - 1) // 2 - 1 + degree[vertex] % 2 for vertex, _ in plan.spines)
+    return len(planar.rotation) + cage + spine + sum(count for _, count in plan.loose)

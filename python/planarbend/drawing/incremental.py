@@ -13,7 +13,7 @@ from __future__ import annotations
 import random
 from collections.abc import Iterable, Sequence
 
-from planarbend.drawing.linked import NONE, LinkedEmbedding
+from planarbend.drawing.planarization import NONE, LinkedEmbedding
 from planarbend.drawing.reinsert import growth, one_of
 
 ATTEMPTS = 24  # orders that are tried

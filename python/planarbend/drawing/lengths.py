@@ -69,7 +69,7 @@ class Lengths:
                 return
 
     def _subtree(self, node: int) -> set[int]:
-        """The coordinates at and below a node of the tree."""
+        """Return the coordinates at and below a node of the tree."""
         found, stack = {node}, [node]
         while stack:
             for child in self.below[stack.pop()]:

@@ -16,7 +16,7 @@ Loose = tuple[tuple[int, int], ...]
 
 
 def turns_of(points: Sequence[GridPoint]) -> list[int]:
-    """The turn at each inner point of a line, y downwards: 1 to the right, -1 to the left, 0 for none."""
+    """Return the turn at each inner point of a line, y downwards: 1 to the right, -1 to the left, 0 for none."""
     found = []
     for (a, b), (c, d), (e, f) in zip(points, points[1:], points[2:]):
         area = (c - a) * (f - d) - (d - b) * (e - c)
@@ -25,7 +25,7 @@ def turns_of(points: Sequence[GridPoint]) -> list[int]:
 
 
 def ways_round_cage(sections: Sections) -> Iterator[list[int]]:
-    """Lists of connections whose bends could make a cage a rectangle, each as often as it has to bend.
+    """Yield lists of connections whose bends could make a cage a rectangle, each as often as it has to bend.
 
     `sections`: the points between its nodes, from each node to the next, clockwise. Connection k is that of node k.
     """
@@ -46,7 +46,7 @@ def ways_round_cage(sections: Sections) -> Iterator[list[int]]:
 
 
 def corners_of(sections: Sections) -> list[tuple[int, int]]:
-    """The corners of a closed line: twice the number of the node at which one lies, or after which, plus one; and its turn.
+    """Return the corners of a closed line: twice the number of the node at which one lies, or after which, plus one; and its turn.
     They begin with the first turn to the right."""
     found = []
     for place, section in enumerate(sections):
@@ -58,7 +58,7 @@ def corners_of(sections: Sections) -> list[tuple[int, int]]:
 
 
 def between(first: int, last: int, count: int) -> Iterator[int]:
-    """The connections from one corner to another, clockwise."""
+    """Yield the connections from one corner to another, clockwise."""
     start, end = (first + 1) // 2, last // 2
     if last < first:
         end += count
@@ -79,7 +79,7 @@ def ways_round_spine(sections: Sections, count: int) -> Iterator[list[int]]:
 
 
 def loosened(loose: Loose, pieces: Iterable[int]) -> Loose:
-    """Pieces that may bend at no cost, with one more bend for each of these."""
+    """Return pieces that may bend at no cost, with one more bend for each of these."""
     found = dict(loose)
     for piece in pieces:
         found[piece] = found.get(piece, 0) + 1

@@ -11,9 +11,9 @@ from __future__ import annotations
 import itertools
 import random
 from collections.abc import Callable, Iterator, Sequence
+from dataclasses import replace
 
-from planarbend.drawing.linked import LinkedEmbedding
-from planarbend.drawing.planarization import Planarization
+from planarbend.drawing.planarization import LinkedEmbedding, Planarization
 from planarbend.drawing.reinsert import Reinsertion
 
 Price = tuple[int, ...]
@@ -121,7 +121,7 @@ def flipped(faces: Faces, flip: Flip) -> Planarization | None:
     for vertex, darts in ((first, left), (second, right)):
         members = set(darts)
         rotation[vertex] = darts[::-1] + [dart for dart in from_dart(rotation[vertex], darts[0]) if dart not in members]
-    return planar.turned(rotation)
+    return replace(planar, rotation=rotation)
 
 
 def darts_after(planar: Planarization, first: int, last: int) -> list[int]:
@@ -174,7 +174,7 @@ def turned(planar: Planarization, vertex: int, dice: random.Random) -> Planariza
     if len(around) < 3 or from_dart(order, around[0]) == around:
         return None
     rotation[vertex] = order
-    return planar.turned(rotation)
+    return replace(planar, rotation=rotation)
 
 
 def parts_at(planar: Planarization, vertex: int) -> list[list[int]]:

@@ -18,7 +18,7 @@ STEP = 12.0  # pixels, between the places that are tried along a line
 
 
 def net_labels(drawing: Drawing) -> dict[int, Box]:
-    """The places of the names of nets.
+    """Return the places of the names of nets.
 
     Returns A box for each net with a label, if there is room for it beside the lines of the net.
     """
@@ -49,12 +49,12 @@ def net_labels(drawing: Drawing) -> dict[int, Box]:
 
 
 def longest_first(piece: Box) -> float:
-    """A sort key for straight pieces."""
+    """Return a sort key for straight pieces."""
     return piece[0] + piece[1] - piece[2] - piece[3]
 
 
 def places(lines: list[Box], width: float) -> Iterator[Box]:
-    """The places beside lines, the nearest to each line's middle first: above and below, or right and left of it."""
+    """Yield the places beside lines, the nearest to each line's middle first: above and below, or right and left of it."""
     for left, top, right, bottom in lines:
         if right - left >= bottom - top:
             for x in steps(left, right - width):
@@ -67,13 +67,13 @@ def places(lines: list[Box], width: float) -> Iterator[Box]:
 
 
 def steps(first: float, last: float) -> list[float]:
-    """Places from the first to the last, those in the middle first."""
+    """Return places from the first to the last, those in the middle first."""
     middle = (first + last) / 2
     count = max(0, int((last - first) / 2 / STEP))
     return [middle, *(middle + sign * step * STEP for step in range(1, count + 1) for sign in (1, -1))]
 
 
 def near(place: Box) -> Callable[[Box], bool]:
-    """A test whether a box is near this place."""
+    """Return a test whether a box is near this place."""
     left, top, right, bottom = place[0] - ROOM, place[1] - ROOM, place[2] + ROOM, place[3] + ROOM
     return lambda box: box[0] < right and box[2] > left and box[1] < bottom and box[3] > top

@@ -17,7 +17,7 @@ if TYPE_CHECKING:
 
 
 def ends_of(drawing: Drawing) -> dict[int, list[End]]:
-    """Where edges arrive at each net."""
+    """Return where edges arrive at each net."""
     found: dict[int, list[End]] = {number: [] for number, vertex in enumerate(drawing.graph.vertices)
                                    if vertex.kind is Kind.NET}
     for edge, line in zip(drawing.graph.edges, drawing.lines, strict=True):
@@ -29,7 +29,7 @@ def ends_of(drawing: Drawing) -> dict[int, list[End]]:
 
 
 def pieces_of(box: Box, ends: list[End]) -> list[Piece]:
-    """The straight pieces that join the ends of a net's lines within its box, in order."""
+    """Return the straight pieces that join the ends of a net's lines within its box, in order."""
     left, top, right, bottom = box
     if bottom - top > right - left:
         turned = pieces_of((top, left, bottom, right), [((y, x), not is_upright) for (x, y), is_upright in ends])
@@ -48,7 +48,7 @@ def pieces_of(box: Box, ends: list[End]) -> list[Piece]:
 
 
 def dots_of(pieces: list[Piece], ends: list[End]) -> list[Point]:
-    """The points at which three or more lines of a net meet."""
+    """Return the points at which three or more lines of a net meet."""
     meet: Counter[Point] = Counter(point for piece in pieces for point in piece)
     meet.update(point for point, _ in ends)
     return sorted(point for point, count in meet.items() if count > 2)

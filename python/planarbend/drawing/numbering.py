@@ -5,14 +5,15 @@ in the middle of the line that replaces it.
 """
 from __future__ import annotations
 
-from collections.abc import Iterator, Mapping, Sequence
+from collections.abc import Iterable, Iterator, Sequence
 from dataclasses import dataclass
 
 from planarbend.drawing.expand import Expansion
 from planarbend.layout.embedding import Embedding
-from planarbend.layout.engine import Answer, GridPoint
+from planarbend.layout.engine import Answer, Conditions, GridPoint
 from planarbend.layout.planar_code import MOST_VERTICES, Lists
 
+LEAST_CORNERS = 4  # nodes of a cage, of which a smaller one, or one that is no larger, has its corners between nodes
 Paths = dict[int, list[GridPoint]]  # of darts: the points along each, in one of its two directions
 
 
@@ -23,6 +24,7 @@ class Contraction(Embedding):
     """
 
     def __init__(self, expansion: Expansion, room: int = 0, kept: Sequence[int] = ()) -> None:
+        """Return an expansion with room for as many further nodes; these nodes are not left out."""
         super().__init__(expansion.tail, expansion.rotation)
         self.expansion = expansion
         self.runs: dict[int, list[int]] = {}
@@ -144,6 +146,33 @@ def form_of(graph: Contraction, order: Sequence[int], count: int | None = None, 
     return Form(lists, list(order), len(graph.rotation) if count is None else count, graph, divided)
 
 
+def conditions_of(form: Form, edges: Iterable[int], has_outer: bool) -> Conditions:
+    """Return what a layout of a form has to keep: boxes are rectangles with their insides inside, and some edges are straight.
+
+    A cage whose pieces are straight is a rectangle with its corners at nodes, since each node has three connections; a spine
+    whose pieces are straight is a line. If the form already has its outer face, no face needs to be kept inside.
+    """
+    graph, expansion = form.graph, form.graph.expansion
+    straight, inner = [dart for edge in edges for dart in expansion.chains[edge]], []
+    for vertex in sorted(expansion.plan.cages):
+        if len(expansion.homes[vertex]) > LEAST_CORNERS:
+            straight += expansion.sides[vertex]
+        inner.append(expansion.sides[vertex][0] ^ 1)
+    for vertex in sorted(expansion.spines):
+        straight += expansion.sides[vertex]
+    number = {node: place for place, node in enumerate(form.order, 1)}
+    stand_in = {one: dart for dart, run in graph.runs.items() for one in run}
+    halves = dict.fromkeys((form.divided[0], form.divided[0] ^ 1), form.divided) if form.divided else {}
+    kept: dict[tuple[int, int], None] = {}
+    for one in straight:
+        dart = stand_in.get(one, one)
+        for half in halves.get(dart, (dart,)):
+            ends = number[graph.tail[half]], number[graph.tail[half ^ 1]]
+            kept[min(ends), max(ends)] = None
+    sides = () if has_outer else tuple((number[expansion.tail[dart]], number[expansion.tail[dart ^ 1]]) for dart in inner)
+    return Conditions(tuple(kept), sides)
+
+
 def outer_forms(expansion: Expansion, outer: Sequence[int] = ()) -> Iterator[Form]:
     """Yield forms with one face after another as the outer face, longest first; never the inner face of a cage. Only faces
     with the vertices of `outer` on them."""
@@ -151,7 +180,7 @@ def outer_forms(expansion: Expansion, outer: Sequence[int] = ()) -> Iterator[For
     if len(graph.nodes) > MOST_VERTICES:
         return
     home = {node: vertex for vertex, nodes in enumerate(expansion.homes) for node in nodes}
-    cage_of = {node: vertex for vertex in expansion.cages for node in expansion.homes[vertex]}
+    cage_of = {node: vertex for vertex in expansion.plan.cages for node in expansion.homes[vertex]}
     walks = []
     for walk in graph.walks:
         owners = {cage_of.get(graph.tail[dart]) for dart in walk}

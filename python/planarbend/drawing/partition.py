@@ -6,6 +6,7 @@ class Partition:
     """A partition of the numbers from 0 up: at first, each number is a set of its own."""
 
     def __init__(self, count: int = 0) -> None:
+        """Return the partition of this many numbers."""
         self.parent = list(range(count))
 
     def add(self) -> int:
@@ -21,7 +22,7 @@ class Partition:
         return number
 
     def unite(self, one: int, other: int) -> bool:
-        """Make two sets one, represented as that of `one`. Return whether they were different."""
+        """Return whether two sets were different, after making them one that is represented as that of `one`."""
         one, other = self.find(one), self.find(other)
         self.parent[other] = one
         return one != other

@@ -25,7 +25,7 @@ class NoConverter(Exception):
 
 
 def svg(drawing: Drawing) -> str:
-    """The SVG text of a drawing."""
+    """Return the SVG text of a drawing."""
     width, height = math.ceil(drawing.size[0]), math.ceil(drawing.size[1])
     head = [f'<svg xmlns="http://www.w3.org/2000/svg" width="{width}" height="{height}"'
             f' viewBox="0 0 {width} {height}">', '<rect width="100%" height="100%" fill="white"/>']
@@ -38,7 +38,7 @@ def svg(drawing: Drawing) -> str:
 
 
 def line_elements(drawing: Drawing) -> list[str]:
-    """The lines of the edges."""
+    """Return the lines of the edges."""
     found = [f'<g fill="none" stroke="{LINE}" stroke-width="{STROKE}" stroke-linejoin="round">']
     for edge, line in zip(drawing.graph.edges, drawing.lines, strict=True):
         points = " ".join(f"{x:.1f},{y:.1f}" for x, y in line)
@@ -49,7 +49,7 @@ def line_elements(drawing: Drawing) -> list[str]:
 
 
 def box_elements(drawing: Drawing) -> list[str]:
-    """The boxes with their names."""
+    """Return the boxes with their names."""
     found = [f'<g stroke="{LINE}" stroke-width="{STROKE}">']
     texts = [f'<g fill="{INK}" font-family="{FAMILY}" font-size="{FONT}" text-anchor="middle">']
     for vertex, (left, top, right, bottom) in zip(drawing.graph.vertices, drawing.boxes, strict=True):
@@ -63,14 +63,14 @@ def box_elements(drawing: Drawing) -> list[str]:
 
 
 def text_lines(lines: list[str], x: float, y: float, height: float) -> list[str]:
-    """The lines of a text around a point."""
+    """Return the lines of a text around a point."""
     first = y - (len(lines) - 1) * height / 2
     return [f'<text x="{x:.1f}" y="{first + place * height:.1f}" dy=".35em">{xml_text(line)}</text>'
             for place, line in enumerate(lines) if line]
 
 
 def net_elements(drawing: Drawing) -> list[str]:
-    """The nets: lines that join their connections, with a dot where three meet."""
+    """Return the nets: lines that join their connections, with a dot where three meet."""
     found = [f'<g fill="{LINE}" stroke="{LINE}" stroke-width="{STROKE}" stroke-linecap="square">']
     for number, ends in ends_of(drawing).items():
         pieces = pieces_of(drawing.boxes[number], ends)
@@ -80,7 +80,7 @@ def net_elements(drawing: Drawing) -> list[str]:
 
 
 def label_elements(drawing: Drawing) -> list[str]:
-    """The labels of the edges, each on its line."""
+    """Return the labels of the edges, each on its line."""
     if not drawing.label_boxes:
         return []
     found = [f'<g fill="{INK}" font-family="{FAMILY}" font-size="{LABEL_FONT}" text-anchor="middle">']
@@ -93,7 +93,7 @@ def label_elements(drawing: Drawing) -> list[str]:
 
 
 def net_label_elements(drawing: Drawing) -> list[str]:
-    """The names of nets beside their lines."""
+    """Return the names of nets beside their lines."""
     found = [f'<g fill="{LINE}" font-family="{FAMILY}" font-size="{LABEL_FONT}" text-anchor="middle">']
     for number, (left, top, right, bottom) in net_labels(drawing).items():
         found += text_lines([drawing.graph.vertices[number].label], (left + right) / 2, (top + bottom) / 2, LABEL_HEIGHT)

@@ -13,9 +13,8 @@ from collections.abc import Iterable, Sequence
 from typing import TYPE_CHECKING, Any
 
 from planarbend.drawing.incremental import incremental_embedding
-from planarbend.drawing.linked import LinkedEmbedding
 from planarbend.drawing.partition import Partition
-from planarbend.drawing.planarization import Planarization
+from planarbend.drawing.planarization import LinkedEmbedding, Planarization
 from planarbend.drawing.reinsert import FIXED, Reinsertion
 
 if TYPE_CHECKING:

@@ -1,18 +1,42 @@
-"""Plans of a component: which vertices become boxes and how, and the shapes found by them."""
+"""How to draw a graph, and plans of a component: which vertices become boxes, and how."""
 from __future__ import annotations
 
-from collections.abc import Iterable
+from collections.abc import Iterable, Sequence
 from dataclasses import dataclass, replace
 
 from planarbend.drawing.mend import Loose
-from planarbend.drawing.shape import Shape
+
+
+@dataclass(frozen=True, slots=True)
+class Options:
+    """How to draw.
+
+    Attributes
+    ----------
+    outer : sequence of int
+        Vertices that must lie on the outer face.
+    compact : bool
+        Whether to fix the sides of vertices of degree over 4 in advance, which takes less room but more bends.
+    effort : int
+        How long to search for fewer crossings and bends (0 is fastest).
+    seed : int
+        The seed of the random choices.
+    straight : sequence of int
+        Edges that must not bend. They need the library; the program cannot keep them straight.
+    """
+
+    outer: Sequence[int] = ()
+    compact: bool = False
+    effort: int = 1
+    seed: int = 0
+    straight: Sequence[int] = ()
 
 
 @dataclass(frozen=True, slots=True)
 class Plan:
     """Which vertices are cages, which are spines, each with the place at which it begins, and which pieces are loose."""
 
-    cages: frozenset[int]
+    cages: frozenset[int] = frozenset()
     spines: tuple[tuple[int, int], ...] = ()
     loose: Loose = ()
 
@@ -28,27 +52,3 @@ class Plan:
         """Return the plan with this vertex as a spine."""
         others = tuple(pair for pair in self.spines if pair[0] != vertex)
         return replace(self, cages=self.cages - {vertex}, spines=tuple(sorted((*others, (vertex, turn)))))
-
-
-@dataclass(frozen=True, slots=True)
-class Found:
-    """A shape and the plan that it was found by."""
-
-    shape: Shape
-    plan: Plan
-
-    def price(self) -> tuple[int, int, int]:
-        """Return the price to minimise: broken boxes, bends, and the approximate size of the drawing."""
-        return len(self.shape.broken), self.shape.bends, self.shape.size[0] * self.shape.size[1]
-
-    def is_point(self, vertex: int) -> bool:
-        """Return whether a vertex has at most one connection at each of its sides, all on different ones."""
-        sides, expansion = [], self.shape.expansion
-        tail, home = expansion.tail, expansion.homes[vertex]
-        for line, chain in zip(self.shape.lines, expansion.chains):
-            if not line:
-                continue
-            for node, (x, y), (after, below) in ((tail[chain[0]], line[0], line[1]), (tail[chain[-1] ^ 1], line[-1], line[-2])):
-                if node in home:
-                    sides.append(((after > x) - (after < x), (below > y) - (below < y)))
-        return len(sides) == len(set(sides))

@@ -13,7 +13,7 @@ from __future__ import annotations
 import random
 from collections.abc import Iterator, Sequence
 
-from planarbend.drawing.linked import NONE, LinkedEmbedding
+from planarbend.drawing.planarization import NONE, LinkedEmbedding
 
 FIXED = 1 << 20  # the weight of an edge that nothing may cross
 FAR = 1 << 60  # the distance of a face that no path reaches

@@ -8,6 +8,7 @@ from dataclasses import dataclass, field
 from planarbend.drawing.expand import Expansion
 from planarbend.drawing.numbering import Form, path_of
 from planarbend.drawing.planarization import Planarization
+from planarbend.drawing.plans import Plan
 from planarbend.layout.engine import Answer, GridPoint
 
 Rect = tuple[int, int, int, int]
@@ -35,6 +36,25 @@ class Shape:
     size: tuple[int, int] = (0, 0)
     sections: dict[int, list[list[GridPoint]]] = field(default_factory=dict)
 
+    @property
+    def plan(self) -> Plan:
+        """The plan that it was found by."""
+        return self.expansion.plan
+
+    def price(self) -> tuple[int, int, int]:
+        """Return the price to minimise: broken boxes, bends, and the approximate size of the drawing."""
+        return len(self.broken), self.bends, self.size[0] * self.size[1]
+
+    def is_point(self, vertex: int) -> bool:
+        """Return whether a vertex has at most one connection at each of its sides, all on different ones."""
+        sides, tail, home = [], self.expansion.tail, self.expansion.homes[vertex]
+        for line, chain in zip(self.lines, self.expansion.chains):
+            for node, (x, y), (after, below) in ((tail[chain[0]], line[0], line[1]), (tail[chain[-1] ^ 1], line[-1], line[-2])
+                                                 ) if line else ():
+                if node in home:
+                    sides.append(((after > x) - (after < x), (below > y) - (below < y)))
+        return len(sides) == len(set(sides))
+
 
 def without_straight(points: Sequence[GridPoint]) -> list[GridPoint]:
     """Return a line without the points at which it does not turn."""
@@ -45,8 +65,9 @@ def without_straight(points: Sequence[GridPoint]) -> list[GridPoint]:
     return kept + list(points[-1:])
 
 
-def shape_of(expansion: Expansion, form: Form, answer: Answer) -> Shape:
-    """Return the nodes and edges of an expansion as an answer draws them."""
+def shape_of(form: Form, answer: Answer) -> Shape:
+    """Return the nodes and edges of an expansion as the answer to one of its forms draws them."""
+    expansion = form.graph.expansion
     points, paths = form.places(answer)
     lines = []
     for chain in expansion.chains:
@@ -59,7 +80,7 @@ def shape_of(expansion: Expansion, form: Form, answer: Answer) -> Shape:
         if len(nodes) == 1:
             boxes.append(points[nodes[0]] * 2)
             continue
-        is_cage = vertex in expansion.cages
+        is_cage = vertex in expansion.plan.cages
         sections = [path_of(paths, dart) for dart in expansion.sides[vertex]]
         ring = [points[nodes[0]], *(point for section in sections for point in section[1:])]
         boxes.append(rect_of(ring))
@@ -86,5 +107,5 @@ def is_clockwise_rectangle(ring: list[GridPoint]) -> bool:
 
 def lone(loops: int) -> Shape:
     """Return the shape of a single vertex with loops."""
-    expansion = Expansion(Planarization([], [[]], 1, [[] for _ in range(loops)]), (), {})
+    expansion = Expansion(Planarization([], [[]], 1, [[] for _ in range(loops)]), Plan())
     return Shape(expansion, [(0, 0)], [[] for _ in range(loops)], [(0, 0, 0, 0)], [], 0)

@@ -64,11 +64,11 @@ class Solver:
             self.value[number] = min(max(wanted, low), high)
 
     def range(self, number: int) -> tuple[float, float]:
-        """The least and the greatest place that others leave a coordinate."""
+        """Return the least and the greatest place that others leave a coordinate."""
         return self.least(number), self.greatest(number)
 
     def least(self, number: int, but: int = -1) -> float:
-        """The least place that others leave a coordinate."""
+        """Return the least place that others leave a coordinate."""
         value, low = self.value, -math.inf
         for other, distance in self.before[number]:
             if value[other] + distance > low and other != but:
@@ -76,7 +76,7 @@ class Solver:
         return low
 
     def greatest(self, number: int, but: int = -1) -> float:
-        """The greatest place that others leave a coordinate."""
+        """Return the greatest place that others leave a coordinate."""
         value, high = self.value, math.inf
         for other, distance in self.after[number]:
             if value[other] - distance < high and other != but:

@@ -14,12 +14,12 @@ LOWER, UPPER, OTHER, WIDE = 0.64, 0.80, 0.85, 1.05
 
 
 def width_of(text: str, font: float = FONT) -> float:
-    """The greatest width of a text, in pixels."""
+    """Return the greatest width of a text, in pixels."""
     return font * sum(map(letter_width, text))
 
 
 def letter_width(letter: str) -> float:
-    """The width of a character, relative to the font size."""
+    """Return the width of a character, relative to the font size."""
     if unicodedata.combining(letter):
         return 0.0
     if unicodedata.east_asian_width(letter) in "WF":
@@ -33,7 +33,7 @@ def letter_width(letter: str) -> float:
 
 
 def lines_of(name: str, longest: float = LONGEST_LINE) -> list[str]:
-    """A name in lines, none wider than `longest` if it has spaces at which to break."""
+    """Return a name in lines, none wider than `longest` if it has spaces at which to break."""
     lines = []
     for whole in name.split("\n"):
         line = ""
@@ -48,6 +48,6 @@ def lines_of(name: str, longest: float = LONGEST_LINE) -> list[str]:
 
 
 def xml_text(text: str) -> str:
-    """A text with XML escapes; characters that XML does not allow become U+FFFD."""
+    """Return a text with XML escapes; characters that XML does not allow become U+FFFD."""
     known = "".join(letter if letter >= " " and letter not in "\ufffe\uffff" else "\ufffd" for letter in text)
     return known.replace("&", "&amp;").replace("<", "&lt;").replace(">", "&gt;")

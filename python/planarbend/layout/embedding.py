@@ -3,10 +3,12 @@ from __future__ import annotations
 
 import functools
 from collections.abc import Iterable
+from dataclasses import dataclass
 
 from planarbend.layout.planar_code import Lists
 
 
+@dataclass(eq=False)
 class Embedding:
     """A plane multigraph.
 
@@ -21,8 +23,8 @@ class Embedding:
         For each vertex the darts that leave it, in clockwise order.
     """
 
-    def __init__(self, tail: list[int], rotation: list[list[int]]) -> None:
-        self.tail, self.rotation = tail, rotation
+    tail: list[int]
+    rotation: list[list[int]]
 
     @classmethod
     def of(cls, lists: Lists) -> Embedding:
@@ -61,16 +63,15 @@ class Embedding:
 
     def walks_from(self, darts: Iterable[int]) -> list[list[int]]:
         """Return the darts of each face along it. Faces, and the beginning of each, follow the order of these darts."""
-        found, met, onward = [], [False] * len(self.tail), self.onward
-        for first in darts:
-            if not met[first]:
-                walk, dart = [first], onward[first]
-                while dart != first:
-                    walk.append(dart)
-                    dart = onward[dart]
-                for dart in walk:
-                    met[dart] = True
-                found.append(walk)
+        found: list[list[int]] = []
+        met, onward = [False] * len(self.tail), self.onward
+        for dart in darts:
+            if not met[dart]:
+                found.append([])
+            while not met[dart]:
+                met[dart] = True
+                found[-1].append(dart)
+                dart = onward[dart]
         return found
 
     @functools.cached_property
@@ -81,8 +82,5 @@ class Embedding:
     @functools.cached_property
     def face(self) -> list[int]:
         """For each dart the number of the face on its left: its place in `walks`."""
-        found = [-1] * len(self.tail)
-        for face, walk in enumerate(self.walks):
-            for dart in walk:
-                found[dart] = face
-        return found
+        number = {dart: face for face, walk in enumerate(self.walks) for dart in walk}
+        return [number[dart] for dart in range(len(self.tail))]

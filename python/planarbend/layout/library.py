@@ -66,7 +66,7 @@ class Marks(ctypes.Structure):
                 ("outer_face", ctypes.c_uint32)]
 
     def cut(self) -> Cut:
-        """The cut: the marked vertices and faces, and the outer face."""
+        """Return the cut: the marked vertices and faces, and the outer face."""
         vertices = tuple(vertex for vertex, mark in enumerate(self.vertices, 1) if mark)
         return Cut(vertices, tuple(face for face, mark in enumerate(self.faces) if mark), self.outer_face)
 

@@ -53,7 +53,7 @@ def read(data: bytes, name: str, form: str | None = None) -> Graph:
 
 
 def reader_of(form: str) -> Callable[[bytes], Graph]:
-    """The function that reads a format."""
+    """Return the function that reads a format."""
     module = import_module(f"planarbend.readers.{READERS[form]}")
     reader: Callable[[bytes], Graph] = getattr(module, f"read_{form}")
     return reader

@@ -16,7 +16,7 @@ class Builder:
         self._places: dict[Hashable, int] = {}
 
     def vertex(self, key: Hashable, label: str | None = None, kind: Kind = Kind.VERTEX, name: str | None = None) -> int:
-        """The index of the vertex with this key, which is added if it is new; its name is the key unless one is given."""
+        """Return the index of the vertex with this key, which is added if it is new; its name is the key unless one is given."""
         place = self._places.get(key)
         if place is None:
             place = self._places[key] = len(self.vertices)
@@ -25,13 +25,13 @@ class Builder:
         return place
 
     def has(self, key: Hashable) -> bool:
-        """Whether there is a vertex with this key."""
+        """Return whether there is a vertex with this key."""
         return key in self._places
 
     def edge(self, tail: Hashable, head: Hashable, label: str = "", arrow: Arrow = Arrow.NONE) -> None:
-        """Adds an edge; ends that are new become vertices."""
+        """Add an edge; ends that are new become vertices."""
         self.edges.append(Edge(self.vertex(tail), self.vertex(head), label, arrow))
 
     def graph(self) -> Graph:
-        """The graph that was collected."""
+        """Return the graph that was collected."""
         return Graph(self.vertices, self.edges, self.directed)

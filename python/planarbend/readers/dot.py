@@ -39,7 +39,7 @@ RECORDS = ("record", "Mrecord")
 
 
 def read_dot(data: bytes) -> Graph:
-    """The graph of a DOT text, as Graphviz reads it.
+    """Return the graph of a DOT text, as Graphviz reads it.
 
     `data`: the text. Nodes of clusters and other subgraphs are nodes of the graph; invisible nodes and edges too.
     Returns Labels are plain text: the fields of a record with bars between them, an HTML label without its markup. An edge's
@@ -62,7 +62,7 @@ def read_dot(data: bytes) -> Graph:
 
 
 def run(words: list[str], data: bytes) -> bytes:
-    """The output of a program of Graphviz for these bytes."""
+    """Return the output of a program of Graphviz for these bytes."""
     ran = subprocess.run(words, input=data, capture_output=True, check=False)
     for error in map(SYNTAX.match, ran.stderr.decode(errors="replace").splitlines()):
         if error and error[1]:
@@ -75,7 +75,7 @@ def run(words: list[str], data: bytes) -> bytes:
 
 
 def listed(listing: bytes) -> Iterator[tuple[str, str, list[tuple[bool, str]]]]:
-    """The entries of a listing: the letter, the flag of a graph, and the values, each with whether it is HTML."""
+    """Yield the entries of a listing: the letter, the flag of a graph, and the values, each with whether it is HTML."""
     is_latin = re.match(rb'g [01] "[^"]*" "(?i:' + "|".join(LATIN).encode() + rb')"', listing)
     text = listing.decode("latin-1" if is_latin else "utf-8", errors="replace")
     for kind, flag, values in COUNTED.findall(text):
@@ -84,7 +84,7 @@ def listed(listing: bytes) -> Iterator[tuple[str, str, list[tuple[bool, str]]]]:
 
 
 def add_node(found: Builder, values: list[tuple[bool, str]], graph: str) -> None:
-    """Adds the node of an entry: its name, its shape and its label."""
+    """Add the node of an entry: its name, its shape and its label."""
     (_, name), (_, shape), (is_html, label) = values
     names = {"N": name, "G": graph}
     if is_html:
@@ -96,7 +96,7 @@ def add_node(found: Builder, values: list[tuple[bool, str]], graph: str) -> None
 
 
 def add_edge(found: Builder, values: list[tuple[bool, str]], graph: str) -> None:
-    """Adds the edge of an entry: its ends, `dir`, `arrowhead`, `arrowtail`, `label` and `xlabel`."""
+    """Add the edge of an entry: its ends, `dir`, `arrowhead`, `arrowtail`, `label` and `xlabel`."""
     tail, head, way, at_head, at_tail = (value for _, value in values[:5])
     is_html, label = values[5] if values[5][1] else values[6]
     joint = "->" if found.directed else "--"
@@ -107,7 +107,7 @@ def add_edge(found: Builder, values: list[tuple[bool, str]], graph: str) -> None
 
 
 def arrow_of(back: bool, forward: bool) -> Arrow:
-    """The arrow with a head at its tail's end, its head's end, both or neither."""
+    """Return the arrow with a head at its tail's end, its head's end, both or neither."""
     if back:
         return Arrow.BOTH if forward else Arrow.BACK
     return Arrow.FORWARD if forward else Arrow.NONE

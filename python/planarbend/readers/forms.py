@@ -55,7 +55,7 @@ BINARY = re.compile(rb"[\x00-\x08\x0e-\x1f]")
 
 
 def form_of(data: bytes, name: str) -> str:
-    """The format of a file, by its content or, if that does not identify a format, by the extension of its name.
+    """Return the format of a file, by its content or, if that does not identify a format, by the extension of its name.
 
     `data`: the whole file.
     `name`: its name.
@@ -97,7 +97,7 @@ def check_foreign(data: bytes) -> None:
 
 
 def of_expression(data: bytes) -> str | None:
-    """The format of an S-expression, or None if it is not one."""
+    """Return the format of an S-expression, or None if it is not one."""
     match = EXPRESSION.match(data)
     if match is None:
         return None
@@ -110,7 +110,7 @@ def of_expression(data: bytes) -> str | None:
 
 
 def of_xml(head: bytes) -> str | None:
-    """The format of an XML text, or None if it is not one."""
+    """Return the format of an XML text, or None if it is not one."""
     match = XML.match(head)
     if match is None:
         return None
@@ -122,7 +122,7 @@ def of_xml(head: bytes) -> str | None:
 
 
 def of_json(data: bytes) -> str | None:
-    """`json` if the text begins like JSON, or None."""
+    """Return `json` if the text begins like JSON, or None."""
     match = re.match(rb'\s*(?:\{\s*(?:"|\}|$)|\[)', data)
     if match is None:
         return None

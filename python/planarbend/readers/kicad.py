@@ -37,7 +37,7 @@ class Circuit:
         self.nets: dict[str, dict[tuple[int, str], None]] = collections.defaultdict(dict)
 
     def graph(self) -> Graph:
-        """The graph of the circuit, in which a net joins each of its parts once, with however many pins.
+        """Return the graph of the circuit, in which a net joins each of its parts once, with however many pins.
 
         Parts, and nets that join three or more, are vertices; a net of two parts is an edge, and a net that joins pins of only
         one part is a loop. A single pin is not a connection.
@@ -59,7 +59,7 @@ class Circuit:
 
 
 def read_netlist(data: bytes) -> Graph:
-    """The circuit of a netlist as KiCad's schematic editor exports it.
+    """Return the circuit of a netlist as KiCad's schematic editor exports it.
 
     Raises `Fault`: the text is not such a netlist, or a net names a part that it does not have.
     """
@@ -84,7 +84,7 @@ def read_netlist(data: bytes) -> Graph:
 
 
 def read_board(data: bytes) -> Graph:
-    """The circuit of a board as KiCad's board editor saves it, of its releases from 4 on.
+    """Return the circuit of a board as KiCad's board editor saves it, of its releases from 4 on.
 
     Raises `Fault`: the text is not such a board.
     """
@@ -104,13 +104,13 @@ def read_board(data: bytes) -> Graph:
 
 
 def net_of(pad: Expression, names: dict[str, str]) -> str:
-    """The name of a pad's net: its second word after the number, or, in newer boards, its only word."""
+    """Return the name of a pad's net: its second word after the number, or, in newer boards, its only word."""
     words: list[str] = next((net.words[1:] for net in pad.all("net")), [])
     return words[1] if len(words) > 1 else names.get(words[0], words[0]) if words else ""
 
 
 def field_of(footprint: Expression, name: str) -> str:
-    """The text of a footprint's field: `property` of newer boards, `fp_text` of older ones."""
+    """Return the text of a footprint's field: `property` of newer boards, `fp_text` of older ones."""
     for one in footprint.all("property", "fp_text"):
         if len(one.words) > 2 and one.words[1].lower() == name.lower():
             return one.words[2]
@@ -118,7 +118,7 @@ def field_of(footprint: Expression, name: str) -> str:
 
 
 def wanted(expression: Expression, head: str) -> str:
-    """The value of a required inner list."""
+    """Return the value of a required inner list."""
     value = expression.value(head)
     if value is None:
         raise Fault(f"a {expression.head} without {head}", expression.line)

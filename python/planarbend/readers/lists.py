@@ -15,7 +15,7 @@ COMMENT = re.compile(rf"({QUOTED})|(?:^|(?<=\s))#.*")
 
 
 def read_list(data: bytes) -> Graph:
-    """The graph of a list of connections.
+    """Return the graph of a list of connections.
 
     `data`: uTF-8 text. A line has one name, two words, or names with ` -- ` or ` -> ` between them. A name in quotes may hold
     any letters, with a backslash before a quote or a backslash.
@@ -36,7 +36,7 @@ def read_list(data: bytes) -> Graph:
 
 
 def names_of(line: str, number: int) -> tuple[list[str], list[str]]:
-    """The names of a line that is not empty, and the separators between them."""
+    """Return the names of a line that is not empty, and the separators between them."""
     names, between = [""], []
     for piece in PIECE.findall(line):
         if piece in ("--", "->"):
@@ -58,7 +58,7 @@ def names_of(line: str, number: int) -> tuple[list[str], list[str]]:
 
 
 def unquoted(name: str, number: int) -> str:
-    """A name without its quotes, if it has any."""
+    """Return a name without its quotes, if it has any."""
     if re.fullmatch(QUOTED, name):
         return re.sub(r"\\(.)", r"\1", name[1:-1])
     if name[0] == '"':

@@ -22,12 +22,12 @@ LABELS = ("label", "name")
 
 
 def label_of(data: dict[str, Any]) -> str | None:
-    """The label that a vertex's or an edge's data give it, or None."""
+    """Return the label that a vertex's or an edge's data give it, or None."""
     return next((str(data[key]) for key in LABELS if data.get(key) not in (None, "")), None)
 
 
 def read_graphml(data: bytes) -> Graph:
-    """The graph of a GraphML text: its first `graph`, with the nodes and edges of graphs inside its nodes.
+    """Return the graph of a GraphML text: its first `graph`, with the nodes and edges of graphs inside its nodes.
 
     Edges keep their order and each its own direction. Labels are the data named `label` or `name`, or the first label of yEd.
 
@@ -65,7 +65,7 @@ def read_graphml(data: bytes) -> Graph:
 
 
 def scanned(data: bytes) -> list[tuple[str, str, bool | None]]:
-    """The edges of a GraphML text in order: source, target, and `directed` if it is given."""
+    """Return the edges of a GraphML text in order: source, target, and `directed` if it is given."""
     from xml.parsers import expat
 
     parser = expat.ParserCreate(namespace_separator="}")
@@ -110,7 +110,7 @@ def scanned(data: bytes) -> list[tuple[str, str, bool | None]]:
 
 
 def read_gml(data: bytes) -> Graph:
-    """The graph of a GML text, with parallel edges even if it does not declare them.
+    """Return the graph of a GML text, with parallel edges even if it does not declare them.
 
     Raises `Fault`: networkx refuses the text; the fault has the line given by networkx.
     """
@@ -133,7 +133,7 @@ def read_gml(data: bytes) -> Graph:
 
 
 def read_graph6(data: bytes) -> Graph:
-    """The graph of one line of graph6, with or without the header; its vertices are named 0, 1, and so on.
+    """Return the graph of one line of graph6, with or without the header; its vertices are named 0, 1, and so on.
 
     Raises `Fault`: the line is not graph6, or there are several or none.
     """
@@ -156,7 +156,7 @@ def read_graph6(data: bytes) -> Graph:
 
 
 def read_json(data: bytes) -> Graph:
-    """The graph of node-link JSON: `nodes` with `id`, and `links` or `edges` with `source` and `target`.
+    """Return the graph of node-link JSON: `nodes` with `id`, and `links` or `edges` with `source` and `target`.
 
     A node without `id` is identified by its position from 0, as in D3. Labels are `label` or `name`.
 
@@ -189,7 +189,7 @@ def read_json(data: bytes) -> Graph:
 
 
 def objects(found: Iterable[Any], what: str) -> Iterable[dict[str, Any]]:
-    """The entries of a JSON list, each of which must be an object."""
+    """Return the entries of a JSON list, each of which must be an object."""
     for number, one in enumerate(found, 1):
         if not isinstance(one, dict):
             raise Fault(f"not node-link JSON: {what} {number} is not an object")
@@ -197,7 +197,7 @@ def objects(found: Iterable[Any], what: str) -> Iterable[dict[str, Any]]:
 
 
 def hashable(key: Any) -> Hashable:
-    """A node's id as in networkx: a list becomes a tuple."""
+    """Return a node's id as in networkx: a list becomes a tuple."""
     if isinstance(key, dict):
         raise Fault("not node-link JSON: an id is an object")
     found: Hashable = tuple(map(hashable, key)) if isinstance(key, list) else key

@@ -30,7 +30,7 @@ Dart = tuple[Point, Point]
 
 
 def side(point: Point, way: int) -> frozenset[Point]:
-    """The grid segment of length 1 from a point in a direction."""
+    """Return the grid segment of length 1 from a point in a direction."""
     return frozenset([point, (point[0] + STEPS[way][0], point[1] + STEPS[way][1])])
 
 
@@ -62,7 +62,7 @@ class Cover:
                 point = point[0] + STEPS[way][0], point[1] + STEPS[way][1]
 
     def _cuts(self) -> Iterator[frozenset[Point]]:
-        """The segments from each corner with three or four right angles along x, up to the next edge."""
+        """Yield the segments from each corner with three or four right angles along x, up to the next edge."""
         for point in {tail for tail, _ in self.darts}:
             ways = [way for way in range(4) if side(point, way) in self.drawn]
             for first, last in zip(ways, ways[1:] + [ways[0] + 4]):
@@ -75,7 +75,7 @@ class Cover:
                         at = at[0] + STEPS[way][0], at[1]
 
     def _boxes(self) -> dict[Point, int]:
-        """The number of the box of each cell; a cell is identified by its lower left corner."""
+        """Return the number of the box of each cell; a cell is identified by its lower left corner."""
         found: dict[Point, int] = {}
         for cell in itertools.product(range(self.left, self.right), range(self.below, self.above)):
             if cell in found:
@@ -93,7 +93,7 @@ class Cover:
         return found
 
     def colours(self) -> dict[int, str]:
-        """A colour for each box that differs from those of its neighbours."""
+        """Return a colour for each box that differs from those of its neighbours."""
         near: dict[int, set[int]] = {box: set() for box in self.boxes.values()}
         for (x, y), box in self.boxes.items():
             for other in ((x + 1, y), (x, y + 1), (x + 1, y + 1), (x - 1, y + 1)):
@@ -107,7 +107,7 @@ class Cover:
         return found
 
     def sees(self, dart: Dart, point: Point) -> bool:
-        """Whether a dart has the cell to the upper right of a point on its left."""
+        """Return whether a dart has the cell to the upper right of a point on its left."""
         (x, y), (u, v), (px, py), way = *dart, point, way_of(dart)
         if (way == 3 and px == u and v <= py < y) or (way == 0 and py == v and x < px < u):
             return True
@@ -119,7 +119,7 @@ class Cover:
 
 
 def picture(cover: Cover, vertices: list[Point], row: int, point: Point) -> str:
-    """The picture: y grows to the north, and in SVG downwards."""
+    """Return the picture: y grows to the north, and in SVG downwards."""
     def place(x: float, y: float) -> tuple[float, float]:
         """Return the place of a point in pixels."""
         return MARGIN + (x - cover.left) * STEP, MARGIN + (cover.above - y) * STEP
@@ -177,7 +177,7 @@ def picture(cover: Cover, vertices: list[Point], row: int, point: Point) -> str:
 
 
 def cover_of(path: str, lines: Lines, number: int) -> tuple[Cover, list[Point]]:
-    """The cells and boxes of a graph's drawing, and the points of its vertices."""
+    """Return the cells and boxes of a graph's drawing, and the points of its vertices."""
     if number not in lines.graphs:
         raise Refused(f"the JSON Lines have no graph {number}")
     answer = lines.graphs[number]

@@ -54,7 +54,7 @@ class Table:
 
 
 def entry_of(text: str) -> File | Graph | End:
-    """The entry in a line of a report of `layout` or of JSON Lines, given with its line end."""
+    """Return the entry in a line of a report of `layout` or of JSON Lines, given with its line end."""
     if not text.endswith("\n"):
         raise NoLine("a truncated line")
     if text[0] == "{":
@@ -162,7 +162,7 @@ ALL = "**all**"  # instead of a number of edges
 
 
 def rows_of(table: Table) -> Iterator[tuple[str, str, dict[int, int]]]:
-    """For each number of vertices, a row for each number of edges, and one for all edges."""
+    """Yield for each number of vertices, a row for each number of edges, and one for all edges."""
     rows: dict[int, dict[int, dict[int, int]]] = collections.defaultdict(lambda: collections.defaultdict(dict))
     for (vertices, edges, bends), count in table.laid.items():
         rows[vertices][edges][bends] = count
@@ -175,7 +175,7 @@ def rows_of(table: Table) -> Iterator[tuple[str, str, dict[int, int]]]:
 
 
 def text_of(table: Table, short: bool = False) -> str:
-    """The table in Markdown; a short one has only the rows for all edges."""
+    """Return the table in Markdown; a short one has only the rows for all edges."""
     bends = range(max((bends for _, _, bends in table.laid), default=0) + 1)
     lines = ["| Vertices | Edges | " + " | ".join(map(str, bends)) + " | Graphs |",
              "|" + "---:|" * (len(bends) + 3)]
@@ -214,7 +214,7 @@ class Frame:
         return round(HEIGHT - BOTTOM - (HEIGHT - TOP - BOTTOM) * math.log10(graphs) / self.decades, 1)
 
     def axes(self) -> Iterator[str]:
-        """The grid, its numbers, and the axis titles."""
+        """Yield the grid, its numbers, and the axis titles."""
         right, bottom = WIDTH - RIGHT, HEIGHT - BOTTOM
         for power in range(self.decades + 1):
             y = self.up(10 ** power)
@@ -229,7 +229,7 @@ class Frame:
         yield f'<text x="{LEFT - 10}" y="{TOP - 18}" text-anchor="middle">graphs</text>'
 
     def curve(self, vertices: int, row: dict[int, int], rank: int) -> Iterator[str]:
-        """The curve for one number of vertices, and its legend entry: a point for each number of bends that some graph has,
+        """Yield the curve for one number of vertices, and its legend entry: a point for each number of bends that some graph has,
         joined to the point for one bend less if there is one."""
         colour, y = COLOURS[rank % len(COLOURS)], TOP + ROW * rank
         points = [(self.across(bends), self.up(count)) for bends, count in sorted(row.items())]
@@ -244,7 +244,7 @@ class Frame:
 
 
 def plot_of(table: Table) -> str:
-    """A plot as SVG: for each number of vertices, the number of graphs by number of bends."""
+    """Return a plot as SVG: for each number of vertices, the number of graphs by number of bends."""
     rows: dict[int, collections.Counter[int]] = collections.defaultdict(collections.Counter)
     for (vertices, _, bends), count in table.laid.items():
         rows[vertices][bends] += count

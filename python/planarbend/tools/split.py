@@ -36,7 +36,7 @@ class Parts:
         self.part: BinaryIO | None = None
 
     def add(self, record: bytes) -> None:
-        """Writes one record to the open part, or to a new one if that is full."""
+        """Write one record to the open part, or to a new one if that is full."""
         if self.part is None or self.held == self.most:
             self.close()
             self.count, self.held = self.count + 1, 0
@@ -46,7 +46,7 @@ class Parts:
         self.held += 1
 
     def close(self) -> None:
-        """Closes the open part and gives it its name."""
+        """Close the open part and gives it its name."""
         if self.part is not None:
             self.part.close()
             os.replace(self.path() + ".part", self.path())
@@ -58,7 +58,7 @@ class Parts:
 
 
 def positive(word: str) -> int:
-    """A whole number of at least 1."""
+    """Return a whole number of at least 1."""
     number = int(word)
     if number < 1:
         raise argparse.ArgumentTypeError("K must be at least 1")
@@ -77,7 +77,7 @@ def command_line() -> argparse.Namespace:
 
 
 def split(source: BinaryIO, parts: Parts) -> tuple[int, Unreadable | None]:
-    """Cuts a stream into parts. Returns how many records they have, and the error that ended the stream, if any."""
+    """Cut a stream into parts. Returns how many records they have, and the error that ended the stream, if any."""
     total, fault = 0, None
     try:
         for record in records(source):

@@ -47,7 +47,7 @@ class Fault(Exception):
 
 @functools.cache
 def record_of_order(vertices: int) -> re.Pattern[bytes]:
-    """The pattern of a complete record with this many vertices."""
+    """Return the pattern of a complete record with this many vertices."""
     return re.compile(b"%s(?:[^\\0]{0,%d}\\0){%d}" % (re.escape(bytes([vertices])), MOST_NEIGHBOURS, vertices))
 
 
@@ -73,7 +73,7 @@ class Stream:
         return bool(self.held)
 
     def whole(self, most: int) -> tuple[bytes, int]:
-        """The complete records that are held, at most `most` of them, and their number."""
+        """Return the complete records that are held, at most `most` of them, and their number."""
         start = count = 0
         while count < most and start < len(self.held):
             vertices = self.held[start]
@@ -86,7 +86,7 @@ class Stream:
         return records, count
 
     def feed(self, sink: IO[bytes], most: int) -> None:
-        """Writes the next part, of at most `most` records."""
+        """Write the next part, of at most `most` records."""
         while most > 0 and self.has_more():
             records, count = self.whole(most)
             most -= count
@@ -117,7 +117,7 @@ class Report:
         self.sink.write(FIRST_LINE[self.is_json])
 
     def add(self, lines: IO[bytes]) -> None:
-        """Adds the lines of a part, except its first and its last."""
+        """Add the lines of a part, except its first and its last."""
         number, base = NUMBER[self.is_json], self.graphs
         for line in lines:
             if line == FIRST_LINE[self.is_json]:
@@ -137,7 +137,7 @@ class Report:
 
 
 def run_part(words: list[str], stream: Stream, report: Report, most: int) -> int:
-    """Runs the program on the next part. Returns its exit status."""
+    """Run the program on the next part. Returns its exit status."""
     report.ending = ""
     with subprocess.Popen(words, stdin=subprocess.PIPE, stdout=subprocess.PIPE) as child:
         adder = threading.Thread(target=lines_of, args=(report, child))
@@ -166,7 +166,7 @@ def lines_of(report: Report, child: subprocess.Popen[bytes]) -> None:
 
 
 def run_all(words: list[str], report: Report, most: int) -> int:
-    """Runs the program on each part. Returns the greatest exit status."""
+    """Run the program on each part. Returns the greatest exit status."""
     source = sys.stdin.buffer
     assert isinstance(source, io.BufferedReader)
     beginning = source.read(len(HEADER))
@@ -183,7 +183,7 @@ def run_all(words: list[str], report: Report, most: int) -> int:
 
 
 def run_whole(words: list[str], beginning: bytes, source: IO[bytes]) -> int:
-    """Runs the program on a stream that is not planar_code, so that it reports this."""
+    """Run the program on a stream that is not planar_code, so that it reports this."""
     with subprocess.Popen(words, stdin=subprocess.PIPE) as child:
         assert child.stdin is not None
         try:
@@ -195,7 +195,7 @@ def run_whole(words: list[str], beginning: bytes, source: IO[bytes]) -> int:
 
 
 def positive(word: str) -> int:
-    """A whole number from 1 to the most graphs that planarbend reads of a file."""
+    """Return a whole number from 1 to the most graphs that planarbend reads of a file."""
     if not word.isdecimal() or not 1 <= int(word) <= MOST_RECORDS:
         raise argparse.ArgumentTypeError(f"K must be 1 to {MOST_RECORDS:,}")
     return int(word)
@@ -227,7 +227,7 @@ def main() -> int:
 
 
 def run() -> int:
-    """Runs the command. Returns its exit status, also if the output is closed or the user interrupts it."""
+    """Run the command. Returns its exit status, also if the output is closed or the user interrupts it."""
     try:
         status = main()
     except BrokenPipeError:

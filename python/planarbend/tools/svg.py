@@ -66,7 +66,7 @@ class Lines:
 
 
 def read_lines(lines: Iterable[str], numbers: list[int] | None) -> Lines:
-    """The lines of these graphs of the first file; if `numbers` is None, of all graphs, up to one more than a page shows."""
+    """Return the lines of these graphs of the first file; if `numbers` is None, of all graphs, up to one more than a page shows."""
     found, wanted = Lines({}, ""), None if numbers is None else set(numbers)
     for place, text in enumerate(lines, 1):  # reads all lines, so that their writer does not get SIGPIPE
         try:
@@ -83,7 +83,7 @@ def read_lines(lines: Iterable[str], numbers: list[int] | None) -> Lines:
 
 
 def read_lists(path: str, numbers: set[int]) -> dict[int, Lists]:
-    """The neighbour lists of these records of a file, which is read up to the last of them."""
+    """Return the neighbour lists of these records of a file, which is read up to the last of them."""
     found: dict[int, Lists] = {}
     try:
         with open(path, "rb") as source:
@@ -100,7 +100,7 @@ def read_lists(path: str, numbers: set[int]) -> dict[int, Lists]:
 
 
 def reason_of(line: dict[str, Any]) -> str | None:
-    """Why a graph has no drawing, or None if it has one."""
+    """Return why a graph has no drawing, or None if it has one."""
     if line["status"] == "refused":
         return f"breaks the rule {line['rule']}"
     if line["status"] != "ok":
@@ -118,7 +118,7 @@ def paths_of(embedding: Embedding, points: dict[str, Any]) -> list[list[Point]]:
 
 
 def draw(embedding: Embedding, line: dict[str, Any], shaded: bool) -> Picture:
-    """The picture of one graph: y grows to the north, and in SVG downwards."""
+    """Return the picture of one graph: y grows to the north, and in SVG downwards."""
     vertices, paths = line["points"]["vertices"], paths_of(embedding, line["points"])
     drawn = vertices + [point for path in paths for point in path]
     left, top = min(x for x, _ in drawn), max(y for _, y in drawn)
@@ -152,7 +152,7 @@ def draw(embedding: Embedding, line: dict[str, Any], shaded: bool) -> Picture:
 
 
 def reason_picture(number: int, reason: str) -> Picture:
-    """A box that says why there is no picture."""
+    """Return a box that says why there is no picture."""
     width, height = REASON
     text = (f'<text x="{width // 2}" y="{height // 2}" font-family="sans-serif" font-size="{LABEL}"'
             f' text-anchor="middle">{reason}</text>')
@@ -160,7 +160,7 @@ def reason_picture(number: int, reason: str) -> Picture:
 
 
 def pictures(path: str, lines: Lines, shaded: bool, alone: bool) -> Iterator[Picture]:
-    """The pictures of all graphs of these lines, in order."""
+    """Yield the pictures of all graphs of these lines, in order."""
     drawn = {number for number, line in lines.graphs.items() if reason_of(line) is None}
     lists = read_lists(path, drawn)
     for number, line in sorted(lines.graphs.items()):
@@ -181,14 +181,14 @@ def pictures(path: str, lines: Lines, shaded: bool, alone: bool) -> Iterator[Pic
 
 
 def svg(width: int, height: int, elements: list[str]) -> str:
-    """An SVG picture on a white background."""
+    """Return an SVG picture on a white background."""
     ground = '<rect width="100%" height="100%" fill="white"/>'
     head = f'<svg xmlns="http://www.w3.org/2000/svg" width="{width}" height="{height}" viewBox="0 0 {width} {height}">'
     return "\n".join([head, ground, *elements, "</svg>"])
 
 
 def grid(shown: list[Picture], columns: int) -> str:
-    """The pictures in rows of `columns` columns, each above its caption."""
+    """Return the pictures in rows of `columns` columns, each above its caption."""
     columns = min(columns, len(shown))
     wide = [max(one.width for one in shown[column::columns]) for column in range(columns)]
     elements, top = [], 0
@@ -206,7 +206,7 @@ def grid(shown: list[Picture], columns: int) -> str:
 
 
 def page(name: str, shown: list[Picture], ending: str) -> str:
-    """An HTML page with all pictures, which loads nothing."""
+    """Return an HTML page with all pictures, which loads nothing."""
     title = html.escape(f"{os.path.basename(name)}: {len(shown)} graphs, file ends {ending}")
     style = ("body{font:14px sans-serif;margin:2em}main{display:flex;flex-wrap:wrap;gap:1em;align-items:flex-end}"
              "figure{margin:0;text-align:center}")
@@ -217,7 +217,7 @@ def page(name: str, shown: list[Picture], ending: str) -> str:
 
 
 def numbers_of(word: str) -> list[int]:
-    """The numbers of a list such as 1-12 or 1,3,7-9."""
+    """Return the numbers of a list such as 1-12 or 1,3,7-9."""
     numbers: set[int] = set()
     for part in word.split(","):
         first, dash, last = part.partition("-")
@@ -252,7 +252,7 @@ def command_line() -> argparse.Namespace:
 
 
 def check_numbers(lines: Lines, numbers: list[int] | None) -> None:
-    """Checks that the lines have the requested graphs."""
+    """Check that the lines have the requested graphs."""
     if not lines.ending:
         raise Refused("standard input: incomplete, since no line gives the ending of the first file")
     missing = [str(number) for number in numbers or [] if number not in lines.graphs]
@@ -285,7 +285,7 @@ def main() -> int:
 
 
 def run() -> int:
-    """Runs the command. Returns its exit status, which is 1 if the reader of the output has gone."""
+    """Run the command. Returns its exit status, which is 1 if the reader of the output has gone."""
     try:
         status = main()
         sys.stdout.flush()
