@@ -19,22 +19,8 @@ def apart(sheet: Sheet, axis: int, step: int) -> list[tuple[int, int, float]]:
     other = 1 - axis
     by_grid = step == 0
     across_grid = by_grid and axis == 0
-    value, cross = sheet.axes[axis].value, sheet.axes[other].value
-    rows = []
-    for item in sheet.items:
-        if not item.owns[axis]:
-            continue
-        if across_grid:
-            low, high = item.grid[other]
-        else:
-            low = cross[item.low[other]] + item.before[other]
-            high = cross[item.high[other]] + item.after[other]
-        if by_grid:
-            begin, end = item.grid[axis]
-        else:
-            begin = value[item.low[axis]] + item.before[axis]
-            end = value[item.high[axis]] + item.after[axis]
-        rows.append((begin, end, low, high, item))
+    rows = [(*sheet.along(item, axis, by_grid), *sheet.along(item, other, across_grid), item)
+            for item in sheet.items if item.owns[axis]]
     rows.sort(key=lambda row: (row[0], row[1]))
     begins = [row[0] for row in rows]
     first_after = bisect.bisect_right if by_grid else bisect.bisect_left  # lines that cross the axis at one place: none

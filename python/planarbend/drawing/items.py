@@ -7,6 +7,7 @@ from __future__ import annotations
 
 import itertools
 import math
+from collections import Counter
 from collections.abc import Sequence
 from dataclasses import dataclass, field
 
@@ -28,18 +29,13 @@ LOOP = 32  # units of the fine grid, from the border of a box to the far side of
 BOX, LABEL, PIECE = range(3)  # the kinds of items
 
 
+@dataclass(slots=True)
 class Axis:
-    """The coordinates along one axis.
+    """The coordinates along one axis."""
 
-    `value`: of each coordinate; on the fine grid at first, in pixels later.
-    `rank`: the order of coordinates with the same value on the grid.
-    `same`: numbers of the same coordinate.
-    """
-
-    def __init__(self) -> None:
-        self.value: list[float] = []
-        self.rank: list[float] = []
-        self.same = Partition()
+    value: list[float] = field(default_factory=list)  # on the fine grid at first, in pixels later
+    rank: list[float] = field(default_factory=list)  # the order of coordinates with the same value on the grid
+    same: Partition = field(default_factory=Partition)  # numbers of the same coordinate
 
     def add(self, value: float, rank: float = 0.0) -> int:
         """Return the number of a new coordinate."""
@@ -50,24 +46,16 @@ class Axis:
 
 @dataclass(slots=True)
 class Item:
-    """A thing with an extent: along axis a from coordinate `low[a]` plus `before[a]` to `high[a]` plus `after[a]`.
+    """A thing with an extent: along axis a from coordinate `low[a]` plus `before[a]` to `high[a]` plus `after[a]`."""
 
-    `kind`: `BOX`, `LABEL` or `PIECE`.
-    `low`, `high`: for each axis the numbers of its coordinates.
-    `grid`: for each axis its extent on the fine grid.
-    `owns`: along which axes it is kept apart from others.
-    `before`, `after`: for each axis, how far it reaches beyond its coordinates, in pixels.
-    `host`: the box itself; the boxes at the ends of a piece; for a label its edge as -1 - number.
-    """
-
-    kind: int
+    kind: int  # `BOX`, `LABEL` or `PIECE`
     low: list[int]
     high: list[int]
-    grid: list[tuple[float, float]]
-    owns: tuple[bool, bool] = (True, True)
-    before: list[float] = field(default_factory=lambda: [0.0, 0.0])
+    grid: list[tuple[float, float]]  # its extents on the fine grid
+    owns: tuple[bool, bool] = (True, True)  # along which axes it is kept apart from others
+    before: list[float] = field(default_factory=lambda: [0.0, 0.0])  # pixels
     after: list[float] = field(default_factory=lambda: [0.0, 0.0])
-    host: tuple[int, ...] = ()
+    host: tuple[int, ...] = ()  # the box itself; the boxes at the ends of a piece; for a label its edge as -1 - number
 
     @property
     def across(self) -> int:
@@ -84,27 +72,22 @@ def item_at(kind: int, axis: int, at: tuple[int, float], low: tuple[int, float],
 
 
 class Sheet:
-    """A shape of a component and its items.
-
-    `items`: all items: `boxes` of the vertices, `pieces` of each edge, `labels` by edge.
-    `sizes`: the least width and height of each box.
-    `within`: for each axis, the distances within boxes: from, to, at least.
-    `at_box`: for each axis and box, the coordinates of the pieces at its sides.
-    """
+    """A shape of a component and its items: `boxes` of the vertices, `pieces` of each edge, `labels` by edge."""
 
     def __init__(self, shape: Shape, graph: Graph) -> None:
+        """Return the sheet of a shape, whose coordinates are still those of its grid."""
         self.shape, self.graph = shape, graph
         self.axes = (Axis(), Axis())
         self.items: list[Item] = []
         self.boxes: list[Item] = []
         self.pieces: list[list[Item]] = []
         self.labels: dict[int, Item] = {}
-        self.sides: dict[tuple[int, int, bool], int] = {}  # the number of lines at a box's sides: above, below, left, right
-        self.loops: dict[tuple[int, int, bool], int] = {}
+        self.sides: Counter[tuple[int, int, bool]] = Counter()  # the lines at a box's sides: above, below, left, right
+        self.loops: Counter[tuple[int, int, bool]] = Counter()
         self.corners: dict[int, list[tuple[int, int]]] = {}  # of loops
-        self.within: tuple[list[tuple[int, int, float]], ...] = ([], [])
-        self.at_box: tuple[dict[int, list[int]], ...] = ({}, {})
-        self.sizes = [size_of(vertex.label, vertex.kind) for vertex in graph.vertices]
+        self.within: tuple[list[tuple[int, int, float]], ...] = ([], [])  # distances within boxes: from, to, at least
+        self.at_box: tuple[dict[int, list[int]], ...] = ({}, {})  # for each box the coordinates of the pieces at its sides
+        self.sizes = [size_of(vertex.label, vertex.kind) for vertex in graph.vertices]  # the least ones
         for number, flat in enumerate(self._flat()):
             self._add_box(number, flat)
         for number, line in enumerate(shape.lines):
@@ -172,7 +155,7 @@ class Sheet:
                     ends.append((coordinates[neighbour], on_grid))
                 else:
                     hosts.append(host)
-                    self._count_line(host, axis, not is_low)
+                    self.sides[host, axis, not is_low] += 1
                     box = self.boxes[host]
                     ends.append((box.high[other], on_grid + 1) if is_low else (box.low[other], on_grid - 1))
             low, high = ends if forward else ends[::-1]
@@ -180,20 +163,15 @@ class Sheet:
                 item_at(PIECE, axis, (coordinates[place], UNIT * line[place][axis]), low, high, hosts))
         self.items += self.pieces[number]
 
-    def _count_line(self, host: int, axis: int, is_low: bool, count: int = 1) -> None:
-        """Count lines at a side of a box."""
-        self.sides[host, axis, is_low] = self.sides.get((host, axis, is_low), 0) + count
-
     def _add_loop(self, number: int) -> None:
         """Put a loop on the side of its box that has the fewest lines, after all other lines there."""
         host = self.graph.edges[number].tail
         box = self.boxes[host]
         along, is_low = min(((along, is_low) for along in (0, 1) for is_low in (True, False)),
-                            key=lambda side: (self.sides.get((host, *side), 0), side))
-        across = 1 - along
-        count = self.loops.get((host, along, is_low), 0)
-        self.loops[host, along, is_low] = count + 1
-        self._count_line(host, along, is_low, 2)
+                            key=lambda side: (self.sides[host, *side], side))
+        across, count = 1 - along, self.loops[host, along, is_low]
+        self.loops[host, along, is_low] += 1
+        self.sides[host, along, is_low] += 2
         end = UNIT * self.shape.boxes[host][2 + along]
         sign, border = (-1, box.grid[across][0]) if is_low else (1, box.grid[across][1])
         places = [end + 4 + 8 * count, end + 8 + 8 * count]
@@ -267,17 +245,20 @@ class Sheet:
             for lines in at_box.values():
                 lines[:] = map(find, lines)
 
+    def along(self, item: Item, axis: int, on_grid: bool = False) -> tuple[float, float]:
+        """Return where an item begins and ends along an axis."""
+        value = self.axes[axis].value
+        return item.grid[axis] if on_grid else (value[item.low[axis]] + item.before[axis], value[item.high[axis]] + item.after[axis])
+
     def extent(self, item: Item) -> Box:
         """Return the rectangle of an item."""
-        x, y = self.axes[0].value, self.axes[1].value
-        return (x[item.low[0]] + item.before[0], y[item.low[1]] + item.before[1],
-                x[item.high[0]] + item.after[0], y[item.high[1]] + item.after[1])
+        (left, right), (top, bottom) = self.along(item, 0), self.along(item, 1)
+        return left, top, right, bottom
 
     def bounds(self) -> Box:
         """Return the rectangle around all items."""
-        found = [self.extent(item) for item in self.items]
-        return (min(box[0] for box in found), min(box[1] for box in found), max(box[2] for box in found),
-                max(box[3] for box in found))
+        left, top, right, bottom = zip(*map(self.extent, self.items))
+        return min(left), min(top), max(right), max(bottom)
 
     def line(self, number: int) -> list[Point]:
         """Return the corners of an edge."""

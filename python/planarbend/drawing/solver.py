@@ -3,15 +3,129 @@ from __future__ import annotations
 
 import math
 
-from planarbend.drawing.lengths import Lengths
+from collections.abc import Sequence
 
+BLOCK = 24  # tree edges that are compared before the best of them leaves
+EPSILON = 1e-7
 WIDTH_WEIGHT = 1000.0  # of the whole width or height, to that of a line's length
+
+
+class Lengths:
+    """A spanning tree of tight pairs, which moves subtrees until no move shortens the sum.
+
+    The linear program is: minimise the sum of `weight * (value[high] - value[low])` over pairs, where
+    `value[high] - value[low] >= distance` for each pair. Method: E. Gansner, E. Koutsofios, S. North, K. Vo, A technique for
+    drawing directed graphs, IEEE Transactions on Software Engineering 19 (1993).
+    """
+
+    def __init__(self, count: int, order: Sequence[int], pairs: Sequence[tuple[int, int, float, float]]) -> None:
+        """Return the least values of coordinates 0 to `count` - 1, of which 0 is the least, for pairs `low, high, distance,
+        weight`. In the order, each pair's `low` comes before its `high`; each coordinate but 0 is the `high` of some pair."""
+        self.pairs = pairs
+        self.out: list[list[int]] = [[] for _ in range(count)]  # the pairs of which a coordinate is `low`
+        self.into: list[list[int]] = [[] for _ in range(count)]
+        self.gain = [0.0] * count  # of a subtree, by what the sum grows for each unit that the subtree moves up
+        for number, (low, high, _, weight) in enumerate(pairs):
+            self.out[low].append(number)
+            self.into[high].append(number)
+            self.gain[low] -= weight
+            self.gain[high] += weight
+        self.value = [0.0] * count
+        self.parent = [-1] * count
+        self.link = [-1] * count  # the pair that joins a coordinate to its parent
+        self.below: list[set[int]] = [set() for _ in range(count)]
+        for node in order:  # least values by longest paths; the tree is made of the pairs that settle them
+            for number in self.out[node]:
+                _, high, distance, _ = self.pairs[number]
+                if self.link[high] < 0 or self.value[node] + distance > self.value[high]:
+                    self.value[high], self.link[high], self.parent[high] = self.value[node] + distance, number, node
+        for node in reversed(order):
+            if self.parent[node] >= 0:
+                self.below[self.parent[node]].add(node)
+                self.gain[self.parent[node]] += self.gain[node]
+
+    def shorten(self, most: int) -> None:
+        """Exchange pairs of the tree, at most `most` times, while this shortens the sum."""
+        count, place = len(self.value), 0
+        for _ in range(most):
+            best, amount, met = -1, EPSILON, 0
+            for _ in range(count):
+                place = place + 1 if place + 1 < count else 0
+                if self.link[place] < 0:
+                    continue
+                is_up = self.pairs[self.link[place]][1] == place
+                loss = -self.gain[place] if is_up else self.gain[place]
+                if loss > EPSILON:
+                    met += 1
+                    if loss > amount:
+                        best, amount = place, loss
+                    if met >= BLOCK:
+                        break
+            if best < 0 or not self._exchange(best):
+                return
+
+    def _subtree(self, node: int) -> set[int]:
+        """Return the coordinates at and below a node of the tree."""
+        found, stack = {node}, [node]
+        while stack:
+            for child in self.below[stack.pop()]:
+                found.add(child)
+                stack.append(child)
+        return found
+
+    def _exchange(self, node: int) -> bool:
+        """Move a subtree away from its parent until another pair becomes tight, which then joins it."""
+        moved = self._subtree(node)
+        is_up = self.pairs[self.link[node]][1] == node
+        best, room = -1, float("inf")
+        value, pairs = self.value, self.pairs
+        for inner in sorted(moved):
+            for number in self.out[inner] if is_up else self.into[inner]:
+                low, high, distance, _ = pairs[number]
+                if (high if is_up else low) not in moved:
+                    slack = value[high] - value[low] - distance
+                    if slack < room - EPSILON:
+                        best, room = number, slack
+        if best < 0:
+            return False
+        step = room if is_up else -room
+        if step:
+            for inner in moved:
+                value[inner] += step
+        self._join(node, best, is_up)
+        return True
+
+    def _join(self, node: int, number: int, is_up: bool) -> None:
+        """Hang the subtree of a node on another pair."""
+        low, high = self.pairs[number][:2]
+        inner, outer = (low, high) if is_up else (high, low)
+        total = self.gain[node]
+        self._add(self.parent[node], -total)
+        self.below[self.parent[node]].remove(node)
+        above, link, lower = outer, number, 0.0  # reverse the parents between the node and the pair
+        current = inner
+        while True:
+            parent, old_link, old_gain = self.parent[current], self.link[current], self.gain[current]
+            self.parent[current], self.link[current], self.gain[current] = above, link, total - lower
+            self.below[above].add(current)
+            if current == node:
+                break
+            self.below[parent].remove(current)
+            above, link, lower, current = current, old_link, old_gain, parent
+        self._add(outer, total)
+
+    def _add(self, node: int, amount: float) -> None:
+        """Change the sums from a node to the root."""
+        while node >= 0:
+            self.gain[node] += amount
+            node = self.parent[node]
 
 
 class Solver:
     """Coordinates under constraints `value[to] - value[from] >= distance`, by longest paths."""
 
     def __init__(self, count: int, order: list[int], constraints: list[tuple[int, int, float]]) -> None:
+        """Return a solver for coordinates in this order."""
         self.order = order
         self.after: list[list[tuple[int, float]]] = [[] for _ in range(count)]
         self.before: list[list[tuple[int, float]]] = [[] for _ in range(count)]
@@ -28,7 +142,7 @@ class Solver:
         self.value = [0.0] * count
 
     def settle(self) -> None:
-        """The middle between the least and the greatest coordinates in the least width."""
+        """Take the middle between the least and the greatest coordinates in the least width."""
         least = [0.0] * len(self.value)
         for number in self.order:
             for other, distance in self.after[number]:
@@ -43,7 +157,7 @@ class Solver:
         self.value = [(low + high) / 2 for low, high in zip(least, greatest)]
 
     def shorten(self, lengths: list[tuple[int, int, float, float]], reach: list[tuple[int, float, int, float]]) -> None:
-        """The least sum of lengths, each times its weight, within the least width."""
+        """Take the least sum of lengths, each times its weight, within the least width."""
         count = len(self.value)
         pairs = [(0, number + 1, 0.0, 0.0) for number in self.order]
         pairs += [(0, low + 1, before, 0.0) for low, before, _, _ in reach if before > 0]
@@ -59,38 +173,24 @@ class Solver:
 
     def move_to(self, number: int, wanted: float) -> None:
         """Move one coordinate towards a place, as far as the constraints allow."""
-        low, high = self.range(number)
+        low, high = self.least(number), self.greatest(number)
         if low <= high:
             self.value[number] = min(max(wanted, low), high)
 
-    def range(self, number: int) -> tuple[float, float]:
-        """Return the least and the greatest place that others leave a coordinate."""
-        return self.least(number), self.greatest(number)
-
     def least(self, number: int, but: int = -1) -> float:
         """Return the least place that others leave a coordinate."""
-        value, low = self.value, -math.inf
-        for other, distance in self.before[number]:
-            if value[other] + distance > low and other != but:
-                low = value[other] + distance
-        return low
+        return max((self.value[other] + distance for other, distance in self.before[number] if other != but), default=-math.inf)
 
     def greatest(self, number: int, but: int = -1) -> float:
         """Return the greatest place that others leave a coordinate."""
-        value, high = self.value, math.inf
-        for other, distance in self.after[number]:
-            if value[other] - distance < high and other != but:
-                high = value[other] - distance
-        return high
+        return min((self.value[other] - distance for other, distance in self.after[number] if other != but), default=math.inf)
 
     def move(self, number: int, ends: list[int]) -> None:
         """Move one coordinate to the middle of those at the other ends of its lines, as far as the constraints allow."""
         wanted = sorted(self.value[other] for other in ends)
         middle = wanted[len(wanted) // 2] if len(wanted) % 2 else (
             min(max(self.value[number], wanted[len(wanted) // 2 - 1]), wanted[len(wanted) // 2]))
-        low, high = self.range(number)
-        if low <= high:
-            self.value[number] = min(max(middle, low), high)
+        self.move_to(number, middle)
 
     def fit(self, low: int, high: int, lines: list[int], least: float, inset: float) -> None:
         """Make a box as large as its lines and its name need, about the middle of its lines."""

@@ -14,51 +14,29 @@ GridPoint = tuple[int, int]
 
 
 @dataclass(frozen=True, slots=True)
-class Answer:
-    """The layout of one embedded graph on the grid; y grows to the north. Numbers are those of docs/JSON.md.
+class Representation:
+    """An orthogonal representation, and the dual prices that prove that it has the fewest bends."""
 
-    Attributes
-    ----------
-    bends : int
-        The fewest bends for its outer face.
-    points : list of (x, y), or None
-        The point of each vertex; None if the graph is not drawn.
-    corners : list of list of (x, y)
-        The corners of each edge, along its lesser dart. Edges are numbered as they first occur in the neighbour lists.
-    shape : Shape or None
-        The orthogonal representation; None from an engine, which leaves it out.
-    """
-
-    bends: int
-    points: list[GridPoint] | None
-    corners: list[list[GridPoint]]
-    shape: Shape | None = None
-
-
-@dataclass(frozen=True, slots=True)
-class Shape:
-    """An orthogonal representation, and the dual prices that prove that it has the fewest bends.
-
-    `outer`: the outer face.
-    `angles`: for each dart the angle at its head, in right angles.
-    `turns`: for each dart its turns, an L or R for each.
-    `vertex_prices`, `face_prices`: the price of each vertex and of each face.
-    """
-
-    outer: int
-    angles: list[int]
-    turns: list[str]
+    outer: int  # the outer face
+    angles: list[int]  # for each dart, at its head, in right angles
+    turns: list[str]  # for each dart, an L or R for each
     vertex_prices: list[int]
     face_prices: list[int]
 
 
 @dataclass(frozen=True, slots=True)
-class Refusal:
-    """Why a graph has no layout.
+class Answer:
+    """The layout of one embedded graph on the grid; y grows to the north. Numbers are those of docs/JSON.md."""
 
-    `status`: "refused", "memory" or "undrawn".
-    `word`: the rule that a refused graph breaks, or the cause for which a graph is not drawn.
-    """
+    bends: int  # the fewest for its outer face
+    points: list[GridPoint] | None  # of each vertex, if it is drawn
+    corners: list[list[GridPoint]]  # of each edge, along its lesser dart
+    representation: Representation | None = None  # an engine leaves it out
+
+
+@dataclass(frozen=True, slots=True)
+class Refusal:
+    """Why a graph has no layout: its status is "refused" (the word is the rule), "undrawn" (the cause) or "memory"."""
 
     status: str
     word: str = ""
@@ -66,37 +44,19 @@ class Refusal:
 
 @dataclass(frozen=True, slots=True)
 class Conditions:
-    """Conditions on a layout. Vertices are numbered from 1.
+    """Conditions on a layout. Vertices are numbered from 1."""
 
-    Attributes
-    ----------
-    straight : sequence of (u, v)
-        Edges that must be straight, each given by its ends.
-    inner : sequence of (u, v)
-        Faces that must not be the outer one, each given by a dart from u to v with the face on its left.
-    """
-
-    straight: Sequence[tuple[int, int]] = ()
-    inner: Sequence[tuple[int, int]] = ()
+    straight: Sequence[tuple[int, int]] = ()  # edges that must be straight, each given by its ends
+    inner: Sequence[tuple[int, int]] = ()  # faces that must not be the outer one, each given by a dart with it on its left
 
 
 @dataclass(frozen=True, slots=True)
 class Cut:
-    """Why no shape keeps the edges straight: a set of vertices and faces that turn more than can leave it.
+    """Why no shape keeps the edges straight: a set of vertices and faces that turn more than can leave it."""
 
-    Attributes
-    ----------
-    vertices : tuple of int
-        Numbered from 1.
-    faces : tuple of int
-        Numbered from 0, in the order of their lowest darts.
-    outer : int
-        The outer face for which the cut shows this.
-    """
-
-    vertices: tuple[int, ...]
-    faces: tuple[int, ...]
-    outer: int
+    vertices: tuple[int, ...]  # numbered from 1
+    faces: tuple[int, ...]  # numbered from 0, in the order of their lowest darts
+    outer: int  # the outer face for which the cut shows this
 
     def __str__(self) -> str:
         """Return the cut in words."""
@@ -118,10 +78,9 @@ class NotKept(PlanarbendError):
     """
 
     def __init__(self, word: str, cut: Cut | None = None) -> None:
-        why = f" ({cut})" if cut else ""
-        super().__init__(f"planarbend has no layout that keeps the conditions: {word}{why}")
-        self.word = word
-        self.cut = cut
+        """Return the error of a word."""
+        super().__init__(f"planarbend has no layout that keeps the conditions: {word}{f' ({cut})' if cut else ''}")
+        self.word, self.cut = word, cut
 
 
 class Engine(Protocol):
@@ -129,12 +88,8 @@ class Engine(Protocol):
 
     Neighbour lists have vertices numbered from 1 and neighbours in clockwise order. A graph has at most 255 vertices of degree
     at most 4; it is connected and has an edge, but no loops or parallel edges. `outer` is "first", for the outer face with the
-    longest boundary (among several, the one with the lowest number), or "best", for the one that minimises bends.
-
-    Attributes
-    ----------
-    keeps : bool
-        Whether `lay_keeping` works.
+    longest boundary (among several, the one with the lowest number), or "best", for the one that minimises bends. `keeps` says
+    whether conditions can be kept.
     """
 
     keeps: bool
@@ -168,6 +123,7 @@ class ProcessEngine:
     keeps = False
 
     def __init__(self) -> None:
+        """Return the program's engine, or raise `NoProgram`."""
         self.program = program()
 
     def lay(self, graphs: Sequence[Lists], outer: str) -> list[Answer]:
@@ -189,10 +145,7 @@ class ProcessEngine:
 
 
 def answer_of(line: dict[str, Any]) -> Answer:
-    """Return the answer in a JSON line, without its shape.
-
-    Raises `PlanarbendError`: the graph is not drawn.
-    """
+    """Return the answer in a JSON line, without its representation, or raise `PlanarbendError` if the graph is not drawn."""
     if line["status"] != "ok" or line["points"] is None:
         raise PlanarbendError(f"planarbend does not draw a graph: {line}")
     return Answer(line["bends"], *points_of(line["points"]))

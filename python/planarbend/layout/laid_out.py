@@ -23,8 +23,7 @@ from typing import Any
 
 from planarbend.layout import library
 from planarbend.layout.embedding import Embedding
-from planarbend.layout.engine import Answer, Refusal, Shape, points_of
-from planarbend.layout.library import json_of
+from planarbend.layout.engine import Answer, Refusal, Representation, points_of
 from planarbend.layout.planar_code import HEADER, MOST_NEIGHBOURS, MOST_RECORDS, MOST_VERTICES, Lists, lists_of, record_of
 from planarbend.programs import NoProgram, PlanarbendError, RunFailed, program
 from planarbend.layout.reports import NoLine, json_line
@@ -34,43 +33,28 @@ Point = tuple[int, int]
 
 
 class GraphError(PlanarbendError):
-    """One graph has no layout.
-
-    Attributes
-    ----------
-    number : int
-        The number of the graph in the stream, counted from 1.
-    """
+    """One graph has no layout: the one with this `number` in the stream, counted from 1."""
 
     def __init__(self, number: int, said: str) -> None:
+        """Return the error of a graph."""
         super().__init__(f"graph {number}: {said}")
         self.number = number
 
 
 class GraphRefused(GraphError):
-    """The graph breaks a rule.
-
-    Attributes
-    ----------
-    rule : str
-        The rule's word in docs/FORMAT.md.
-    """
+    """The graph breaks a rule: `rule` is its word in docs/FORMAT.md."""
 
     def __init__(self, number: int, rule: str) -> None:
+        """Return the error of a graph."""
         super().__init__(number, f"refused {rule}")
         self.rule = rule
 
 
 class GraphUndrawn(GraphError):
-    """The graph has no drawing, which is proved never to occur.
-
-    Attributes
-    ----------
-    cause : str
-        The word for the cause.
-    """
+    """The graph has no drawing, which is proved never to occur: `cause` is the word for the cause."""
 
     def __init__(self, number: int, cause: str) -> None:
+        """Return the error of a graph."""
         super().__init__(number, f"drawn=no cause={cause}")
         self.cause = cause
 
@@ -79,23 +63,16 @@ class GraphLost(GraphError):
     """Memory ran out for the graph."""
 
     def __init__(self, number: int) -> None:
+        """Return the error of a graph."""
         super().__init__(number, "memory")
 
 
 @dataclasses.dataclass(frozen=True)
 class Record:
-    """A graph as in planar_code.
+    """A graph as in planar_code."""
 
-    Attributes
-    ----------
-    names : tuple
-        The vertices of the given graph, vertex 1 first.
-    lists : list of list of int
-        The neighbours of each vertex by number, clockwise.
-    """
-
-    names: tuple[Vertex, ...]
-    lists: Lists
+    names: tuple[Vertex, ...]  # the vertices of the given graph, vertex 1 first
+    lists: Lists  # the neighbours of each vertex by number, clockwise
 
     @staticmethod
     def of(graph: Record | Mapping[Vertex, Iterable[Vertex]] | Any) -> Record:
@@ -143,36 +120,16 @@ class Record:
 
 @dataclasses.dataclass(frozen=True)
 class Layout:
-    """The layout of one graph. Vertices are those of the given graph.
+    """The layout of one graph. Vertices are those of the given graph."""
 
-    Attributes
-    ----------
-    number : int
-        The number of the graph in the stream, counted from 1.
-    record : Record
-        The graph.
-    bends : int
-        The fewest bends.
-    outer : int
-        The number of the outer face.
-    faces : list of list of vertices
-        The vertices of each face, in walking order with the face on the left.
-    points : dict of vertex to (x, y)
-        The point of each vertex; x grows to the east, y to the north.
-    corners : dict of (tail, head) to list of (x, y)
-        The corners of each edge in both directions, from tail to head.
-    answer : Answer
-        The layout by numbers (docs/JSON.md), with its shape.
-    """
-
-    number: int
-    record: Record
-    bends: int
-    outer: int
-    faces: list[list[Vertex]]
-    points: dict[Vertex, Point]
-    corners: dict[tuple[Vertex, Vertex], list[Point]]
-    answer: Answer
+    number: int  # of the graph in the stream, counted from 1
+    record: Record  # the graph
+    bends: int  # the fewest
+    outer: int  # the number of the outer face
+    faces: list[list[Vertex]]  # the vertices of each, in walking order with the face on the left
+    points: dict[Vertex, Point]  # of each vertex; x grows to the east, y to the north
+    corners: dict[tuple[Vertex, Vertex], list[Point]]  # of each edge in both directions, from tail to head
+    answer: Answer  # the layout by numbers (docs/JSON.md)
 
     @property
     def outer_face(self) -> list[Vertex]:
@@ -183,7 +140,7 @@ class Layout:
     def line(self) -> dict[str, Any]:
         """The JSON line of the layout (docs/JSON.md)."""
         sizes = len(self.record.names), len(self.corners) // 2, len(self.faces)
-        return dict(sorted((json_of(self.answer, *sizes) | {"file": 1, "graph": self.number}).items()))
+        return dict(sorted((library.json_of(self.answer, sizes) | {"file": 1, "graph": self.number}).items()))
 
     def path(self, tail: Vertex, head: Vertex) -> list[Point]:
         """Return the points along the edge from `tail` to `head`, both ends included."""
@@ -191,36 +148,33 @@ class Layout:
 
     @staticmethod
     def of(number: int, record: Record, answer: Answer | Refusal) -> Layout:
-        """Return the layout of a record.
-
-        Raises `GraphError`: the answer is a refusal.
-        """
+        """Return the layout of a record, or raise a `GraphError` if the answer is a refusal."""
         if isinstance(answer, Refusal):
             if answer.status == "refused":
                 raise GraphRefused(number, answer.word)
             raise GraphUndrawn(number, answer.word) if answer.status == "undrawn" else GraphLost(number)
-        assert answer.points is not None and answer.shape is not None, "an answer has its points and its shape"
+        assert answer.points is not None and answer.representation is not None, "it was asked for both"
         embedding, names = Embedding.of(record.lists), record.names
         corners = {}
         for edge, between in enumerate(answer.corners):
             tail, head = names[embedding.tail[2 * edge]], names[embedding.tail[2 * edge + 1]]
             corners[tail, head], corners[head, tail] = between, between[::-1]
-        return Layout(number, record, answer.bends, answer.shape.outer,
+        return Layout(number, record, answer.bends, answer.representation.outer,
                       [[names[embedding.tail[dart]] for dart in walk] for walk in embedding.walks],
                       dict(zip(names, answer.points, strict=True)), corners, answer)
 
 
 def laid_in(line: dict[str, Any], lists: Lists) -> Answer | Refusal:
-    """Return the layout of a graph with its shape, as its JSON line has it, or why there is none."""
+    """Return the layout of a graph with its representation, as its JSON line has it, or why there is none."""
     if line["status"] == "refused":
         return Refusal("refused", line["rule"])
     if line["status"] != "ok":
         return Refusal("memory")
     if line["points"] is None:
         return Refusal("undrawn", line["drawn"])
-    shape = Shape(outer_of(Embedding.of(lists), line), line["angles"], line["turns"], line["prices"]["vertices"],
-                  line["prices"]["faces"])
-    return Answer(line["bends"], *points_of(line["points"]), shape)
+    prices = line["prices"]
+    return Answer(line["bends"], *points_of(line["points"]), Representation(
+        outer_of(Embedding.of(lists), line), line["angles"], line["turns"], prices["vertices"], prices["faces"]))
 
 
 def outer_of(embedding: Embedding, line: dict[str, Any]) -> int:
@@ -238,6 +192,7 @@ class Run:
     """One run of `layout --json -`. A thread writes the records; `lines` yields the lines."""
 
     def __init__(self, words: list[str], records: Iterator[Record], most: int) -> None:
+        """Return a run with these words for at most this many records."""
         self.given: collections.deque[Record] = collections.deque()  # records without a line so far
         self.failed: BaseException | None = None  # what the caller's graphs raised
         self.is_last = False  # whether the graphs ended in this run
@@ -284,11 +239,7 @@ class Run:
         self.end(ended)
 
     def end(self, is_whole: bool) -> None:
-        """Wait for the end of the run.
-
-        Raises `RunFailed`: the run failed or ended early.
-        Raises `BaseException`: what the caller's graphs raised.
-        """
+        """Wait for the end of the run; raise what the caller's graphs raised, or `RunFailed` if the run failed or ended early."""
         self.output.close()
         status = self.child.wait()
         self.feeder.join()
@@ -309,10 +260,7 @@ class Run:
 
 
 def refuse_single(graphs: Any) -> None:
-    """Check that this is an iterable of graphs.
-
-    Raises `TypeError`: it is a single graph.
-    """
+    """Check that this is an iterable of graphs, or raise `TypeError` if it is a single graph."""
     if isinstance(graphs, (Record, Mapping, str, bytes)) or hasattr(graphs, "adjacency"):
         raise TypeError("layouts takes an iterable of graphs, not a single graph: pass [graph], or call layout_of")
 
@@ -320,17 +268,10 @@ def refuse_single(graphs: Any) -> None:
 class Layouts:
     """An iterator over the layouts of a stream of graphs, by runs of the program. After a `GraphError`, it continues with the
     next graph.
-
-    Parameters
-    ----------
-    graphs, outer, words
-        As for `layouts`.
-    most : int
-        Number of graphs of one run.
     """
 
-    def __init__(self, graphs: Iterable[Any], outer: str = "first", words: Iterable[str] = (),
-                 most: int = MOST_RECORDS) -> None:
+    def __init__(self, graphs: Iterable[Any], outer: str = "first", words: Iterable[str] = (), most: int = MOST_RECORDS) -> None:
+        """Return an iterator, as `layouts`, with at most this many graphs in one run."""
         refuse_single(graphs)
         self.records: Iterator[Record] = map(Record.of, graphs)
         self.number = 0
@@ -339,8 +280,7 @@ class Layouts:
 
     def _answers(self, outer: str, words: Iterable[str], most: int) -> Iterator[tuple[Record, Answer | Refusal]]:
         """Return the answers for all records, each with its record."""
-        words = [program(), "layout", "--json", "--outer", outer, *words, "-"]
-        return self._runs(words, most)
+        return self._runs([program(), "layout", "--json", "--outer", outer, *words, "-"], most)
 
     def _runs(self, words: list[str], most: int) -> Iterator[tuple[Record, Answer | Refusal]]:
         """Yield the answers of one run after another."""
@@ -388,13 +328,10 @@ class Layouts:
 
 
 class LibraryLayouts(Layouts):
-    """The same by calls of the library.
-
-    `graphs`, `outer`: as for `layouts`.
-    `drawing`: the drawing.
-    """
+    """The same by calls of the library, with a drawing that is "short" or "quick"."""
 
     def __init__(self, graphs: Iterable[Any], outer: str = "first", drawing: str = "short") -> None:
+        """Return an iterator, as `layouts`."""
         refuse_single(graphs)
         self.library = library.Library()
         super().__init__(graphs, outer, [drawing])

@@ -13,7 +13,7 @@ import os
 from collections.abc import Iterable, Iterator, Sequence
 from typing import Any
 
-from planarbend.layout.engine import Answer, Conditions, Cut, GridPoint, NotKept, Refusal, Shape
+from planarbend.layout.engine import Answer, Conditions, Cut, GridPoint, NotKept, Refusal, Representation
 from planarbend.layout.planar_code import Lists, record_of
 from planarbend.programs import ROOT, NoProgram, PlanarbendError
 
@@ -99,22 +99,18 @@ def is_wanted() -> bool:
 
 
 class Library:
-    """The library, and memory for its calls.
-
-    Parameters
-    ----------
-    name : str, optional
-        The path of the library; by default that of `path`.
-
-    Raises
-    ------
-    NoProgram
-        There is no library, or it cannot be loaded.
-    MemoryError
-        Memory ran out.
-    """
+    """The library, and memory for its calls."""
 
     def __init__(self, name: str | None = None) -> None:
+        """Return the library with this path, by default that of `path`.
+
+        Raises
+        ------
+        NoProgram
+            There is no library, or it cannot be loaded.
+        MemoryError
+            Memory ran out.
+        """
         self._object = ctypes.c_void_p()
         name = name or path()
         if name is None:
@@ -229,17 +225,15 @@ class Library:
         result = self._called(record, outer, drawing, straight, inner)
         if NO_SHAPE <= result <= WIDE:
             return ({"cut": self._marks.cut()} if result == NO_SHAPE else {}) | {"status": self.word(result)}
-        found = self._found(result, drawing != "none", has_shape=True)
+        found, counts = self._found(result, drawing != "none"), self._counts
         if isinstance(found, Refusal):
             return ({"rule": found.word} if found.word else {}) | {"status": found.status}
-        return json_of(found, self._counts.vertices, self._counts.edges, self._counts.faces)
+        return json_of(found, (counts.vertices, counts.edges, counts.faces))
 
     def laid(self, record: bytes, outer: str, drawing: str) -> Answer | Refusal:
-        """Return the layout of a record with its shape, or why there is none.
-
-        Raises `ValueError`: the bytes are not exactly one record.
-        """
-        return self._found(self._called(record, outer, drawing, (), ()), is_drawn=True, has_shape=True)
+        """Return the layout of a record with its representation, or why there is none, or raise `ValueError` if the bytes are
+        not exactly one record."""
+        return self._found(self._called(record, outer, drawing, (), ()))
 
     def answer(self, record: bytes, outer: str, straight: Darts = (), inner: Darts = ()) -> Answer:
         """Return the bends, points and corners of a record, for `planarbend.draw`.
@@ -250,12 +244,11 @@ class Library:
         result = self._called(record, outer, "short", straight, inner)
         if NO_SHAPE <= result <= WIDE:
             raise NotKept(self.word(result), self._marks.cut() if result == NO_SHAPE else None)
-        found = self._found(result, is_drawn=True, has_shape=False) if result != NOT_A_RECORD else None
-        if not isinstance(found, Answer):
+        if result != OK:
             raise PlanarbendError(f"planarbend does not draw a graph: {self.word(result)}")
-        return found
+        return Answer(self._counts.bends, *self._points())
 
-    def _found(self, result: int, is_drawn: bool, has_shape: bool) -> Answer | Refusal:
+    def _found(self, result: int, is_drawn: bool = True) -> Answer | Refusal:
         """Return what the last call found."""
         if result == MEMORY:
             return Refusal(self.word(result))
@@ -263,21 +256,22 @@ class Library:
             self._check(result)
             return Refusal("refused", self.word(result))
         counts, buffer = self._counts, self._buffer
-        points, corners = None, []
-        if is_drawn:
-            points, corners = pairs(buffer.points[:2 * counts.vertices]), [[] for _ in range(counts.edges)]
-            if counts.corners:
-                inner, starts = pairs(buffer.corners[:2 * counts.corners]), buffer.corner_starts[:counts.edges + 1]
-                corners = [inner[start:end] for start, end in itertools.pairwise(starts)]
-        return Answer(counts.bends, points, corners, self._shape() if has_shape else None)
-
-    def _shape(self) -> Shape:
-        """Return the shape that the last call found."""
-        counts, buffer = self._counts, self._buffer
         turns = buffer.turns[:4 * counts.edges]
-        return Shape(counts.outer_face, buffer.angles[:2 * counts.edges],
-                     ["L" * left + "R" * right for left, right in zip(turns[::2], turns[1::2])],
-                     buffer.vertex_prices[:counts.vertices], buffer.face_prices[:counts.faces])
+        representation = Representation(
+            counts.outer_face, buffer.angles[:2 * counts.edges],
+            ["L" * left + "R" * right for left, right in zip(turns[::2], turns[1::2])],
+            buffer.vertex_prices[:counts.vertices], buffer.face_prices[:counts.faces])
+        points, corners = self._points() if is_drawn else (None, [])
+        return Answer(counts.bends, points, corners, representation)
+
+    def _points(self) -> tuple[list[GridPoint], list[list[GridPoint]]]:
+        """Return the points of the vertices, and the corners of the edges, that the last call found."""
+        counts, buffer = self._counts, self._buffer
+        points = pairs(buffer.points[:2 * counts.vertices])
+        if not counts.corners:
+            return points, [[] for _ in range(counts.edges)]
+        corners, starts = pairs(buffer.corners[:2 * counts.corners]), buffer.corner_starts[:counts.edges + 1]
+        return points, [corners[start:end] for start, end in itertools.pairwise(starts)]
 
 
 def pairs(numbers: list[int]) -> list[GridPoint]:
@@ -285,21 +279,22 @@ def pairs(numbers: list[int]) -> list[GridPoint]:
     return list(zip(numbers[::2], numbers[1::2]))
 
 
-def json_of(answer: Answer, vertices: int, edges: int, faces: int) -> dict[str, Any]:
-    """Return the JSON line of a layout with its shape, without "file" and "graph"."""
-    assert answer.shape is not None, "the shape was asked for"
+def json_of(answer: Answer, sizes: tuple[int, int, int]) -> dict[str, Any]:
+    """Return the JSON line of a layout with its representation, without "file" and "graph"; sizes are n, m and f."""
+    found = answer.representation
+    assert found is not None, "it was asked for"
     points = None if answer.points is None else {
         "corners": [list(map(list, corners)) for corners in answer.corners], "vertices": list(map(list, answer.points))}
-    return {"angles": answer.shape.angles, "bends": answer.bends, "drawn": "no" if points is None else "yes", "f": faces,
-            "m": edges, "n": vertices, "points": points,
-            "prices": {"faces": answer.shape.face_prices, "vertices": answer.shape.vertex_prices}, "status": "ok",
-            "turns": answer.shape.turns}
+    return {"angles": found.angles, "bends": answer.bends, "drawn": "no" if points is None else "yes", "f": sizes[2],
+            "m": sizes[1], "n": sizes[0], "points": points,
+            "prices": {"faces": found.face_prices, "vertices": found.vertex_prices}, "status": "ok", "turns": found.turns}
 
 
 class LibraryEngine:
     """The library, which is called once for each graph."""
 
     def __init__(self, library: Library | None = None) -> None:
+        """Return the engine of a library, by default that of `path`."""
         self.library = library or Library()
         self.keeps = self.library.keeps
 

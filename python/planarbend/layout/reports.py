@@ -2,10 +2,9 @@
 collect.py, svg.py and the scripts of bench/ and checks/. Needs only Python's standard library."""
 from __future__ import annotations
 
-import dataclasses
 import json
 import re
-from typing import Any
+from typing import Any, NamedTuple
 
 FILE = re.compile(r"file (\d+)")
 RECORD = re.compile(r"record (\d+) n=(\d+) bytes=(\d+)")
@@ -24,9 +23,9 @@ class NoLine(ValueError):
     """A line that planarbend does not print."""
 
 
-@dataclasses.dataclass(frozen=True)
-class File:
+class File(NamedTuple):
     """The first line of a file."""
+
     number: int
 
     def __str__(self) -> str:
@@ -34,50 +33,38 @@ class File:
         return f"file {self.number}"
 
 
-@dataclasses.dataclass(frozen=True)
-class Record:
+class Record(NamedTuple):
     """The line of `frames` for a record."""
+
     number: int
     vertices: int
     size: int
 
-    @property
-    def answer(self) -> str:
-        """The text after the number."""
-        return f"n={self.vertices} bytes={self.size}"
-
     def __str__(self) -> str:
         """Return the line, without its end."""
-        return f"record {self.number} {self.answer}"
+        return f"record {self.number} n={self.vertices} bytes={self.size}"
 
 
-@dataclasses.dataclass(frozen=True)
-class Graph:
+class Graph(NamedTuple):
     """The line of one graph: its size and fewest bends, the rule that it breaks, or neither if memory ran out."""
+
     number: int
     size: tuple[int, int, int] | None = None  # vertices, edges, faces
     bends: int | None = None
     drawn: str | None = None  # yes, or why it is not drawn
     rule: str | None = None
 
-    @property
-    def answer(self) -> str:
-        """The text after the number, without `drawn` if that is not known."""
-        if self.rule is not None:
-            return f"refused {self.rule}"
-        if self.size is None:
-            return "memory"
-        drawn = {None: "", "yes": " drawn=yes"}.get(self.drawn, f" drawn=no cause={self.drawn}")
-        return "ok n={} m={} f={}".format(*self.size) + f" bends={self.bends}{drawn}"
-
     def __str__(self) -> str:
-        """Return the line, without its end."""
-        return f"graph {self.number} {self.answer}"
+        """Return the line, without its end and without `drawn` if that is not known."""
+        if self.rule is not None or self.size is None:
+            return f"graph {self.number} " + ("memory" if self.rule is None else f"refused {self.rule}")
+        drawn = {None: "", "yes": " drawn=yes"}.get(self.drawn, f" drawn=no cause={self.drawn}")
+        return f"graph {self.number} " + "ok n={} m={} f={}".format(*self.size) + f" bends={self.bends}{drawn}"
 
 
-@dataclasses.dataclass(frozen=True)
-class End:
+class End(NamedTuple):
     """The last line of a file: its ending, and its number of graphs or records."""
+
     ending: str
     count: int
     of: str = "graphs"
@@ -91,10 +78,7 @@ Line = File | Record | Graph | End
 
 
 def line_of(text: str) -> Line:
-    """Return the entry in a line of a report, given without its line end.
-
-    Raises `NoLine`: it is not a line of a report.
-    """
+    """Return the entry in a line of a report, given without its line end, or raise `NoLine`."""
     if match := RECORD.fullmatch(text):
         return Record(*map(int, match.groups()))
     if match := FILE.fullmatch(text):
@@ -119,10 +103,7 @@ def figures_of(text: str) -> Graph:
 
 
 def json_line(text: str) -> dict[str, Any]:
-    """Return the object of a JSON line.
-
-    Raises `NoLine`: it does not have the keys of such a line, in order.
-    """
+    """Return the object of a JSON line, or raise `NoLine` if it does not have the keys of such a line, in order."""
     try:
         line: dict[str, Any] = json.loads(text)
         status = line.get("status")
