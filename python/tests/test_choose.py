@@ -10,16 +10,18 @@ from collections.abc import Sequence
 
 import support
 from drawing_checker import check
-from planarbend.layout import library
-from planarbend.drawing.choose import Found, Search
 from planarbend.draw import Options, draw
-from planarbend.layout.engine import ProcessEngine, default_engine
+from planarbend.drawing.choose import Search
 from planarbend.drawing.expand import Expansion
-from planarbend.graph import Edge, Graph, Kind, Vertex
 from planarbend.drawing.mend import corners_of, ways_round_cage
 from planarbend.drawing.nets import dots_of, pieces_of
 from planarbend.drawing.numbering import Contraction, form_of
 from planarbend.drawing.planarize import planarize
+from planarbend.drawing.plans import Plan
+from planarbend.drawing.shape import Shape
+from planarbend.graph import Edge, Graph, Kind, Vertex
+from planarbend.layout import library
+from planarbend.layout.engine import ProcessEngine, default_engine
 
 # From (0, 0) to the right and round, y downwards: a square of side 4 from which the quarter at the lower left is cut away.
 STEP = [[(0, 0), (4, 0)], [(4, 0), (4, 4)], [(4, 4), (2, 4)], [(2, 4), (2, 2), (0, 2)], [(0, 2), (0, 0)]]
@@ -62,12 +64,12 @@ class Mended(unittest.TestCase):
         """Wherever a box of the least shape has a step, edges that bend in its place make it a rectangle."""
         engine, mended = default_engine(), 0
         for seed in range(1, 24):
-            search = Search(planarize(*hubs(seed)), engine, 1, 0)
+            search = Search(planarize(*hubs(seed)), engine, Options())
             pool = search.shapes_of([search.first_plan(False)])
-            best = min(pool, key=Found.price)
-            if best.shape.broken and search.mended(best):
+            best = min(pool, key=Shape.price)
+            if best.broken and search.mended(best):
                 pool += search.mend(pool)
-                found = min(pool, key=Found.price).shape
+                found = min(pool, key=Shape.price)
                 with self.subTest(seed=seed):
                     self.assertEqual(found.broken, [])
                     self.assertEqual(found.bends, sum(len(line) - 2 for line in found.lines))
@@ -94,7 +96,7 @@ class Room(unittest.TestCase):
         """Two hubs with 100 vertices between them: 300 nodes with two cages, of which 45 are left out and put back."""
         edges = [(hub, 2 + leaf) for leaf in range(100) for hub in (0, 1)]
         graph = Graph([Vertex(str(number), str(number)) for number in range(102)], [Edge(*edge) for edge in edges])
-        contracted = Contraction(Expansion(planarize(102, edges), (0, 1), {}))
+        contracted = Contraction(Expansion(planarize(102, edges), Plan(frozenset([0, 1]))))
         around = {node: [contracted.tail[dart ^ 1] for dart in contracted.rotation[node]] for node in contracted.nodes}
         self.assertEqual((len(around), len(contracted.runs)), (255, 2 * 45))
         for node, others in around.items():
@@ -126,7 +128,7 @@ def expansions() -> list[Expansion]:
     """Expansions of random graphs in which four vertices have most of the edges."""
     found = []
     for seed in range(8):
-        search = Search(planarize(*hubs(seed), effort=0), default_engine(), 0, 0)
+        search = Search(planarize(*hubs(seed), effort=0), default_engine(), Options(effort=0))
         expansion = search.expanded(search.first_plan(False))
         assert expansion is not None
         found.append(expansion)

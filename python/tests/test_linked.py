@@ -5,8 +5,7 @@ import random
 import unittest
 
 import support  # finds the package
-from planarbend.drawing.linked import FREE, NONE, LinkedEmbedding
-from planarbend.drawing.planarization import Planarization
+from planarbend.drawing.planarization import FREE, NONE, LinkedEmbedding, Planarization
 
 
 def random_route(rotation: LinkedEmbedding, edge: int, dice: random.Random) -> tuple[int, list[int], int]:
@@ -44,6 +43,53 @@ def random_route(rotation: LinkedEmbedding, edge: int, dice: random.Random) -> t
     return corner, crossed[::-1], goal
 
 
+def check(linked: LinkedEmbedding) -> None:
+    """Checks the lists against each other, and Euler's formula for each connected part."""
+    used = [dart for dart in range(len(linked.origin)) if linked.face[dart] != NONE]
+    for dart in used:
+        assert linked.face[dart ^ 1] != NONE, f"dart {dart} has no twin"
+        assert linked.back[linked.onward[dart]] == dart, f"dart {dart} is not before the one after it"
+        assert linked.origin[linked.onward[dart]] == linked.origin[dart ^ 1], f"dart {dart} ends elsewhere"
+        assert linked.face[linked.onward[dart]] == linked.face[dart], f"the face changes after dart {dart}"
+        assert linked.leaving[linked.origin[dart]] >= 0, f"vertex {linked.origin[dart]} does not know its edges"
+    degree = [0] * len(linked.leaving)
+    for dart in used:
+        degree[linked.origin[dart]] += 1
+    for vertex, first in enumerate(linked.leaving):
+        assert sum(1 for _ in linked.around(vertex)) == degree[vertex], f"vertex {vertex} is in two parts"
+        assert first < 0 or linked.origin[first] == vertex, f"vertex {vertex} knows a dart of another"
+        assert vertex < linked.vertex_count or degree[vertex] == (0 if first == FREE else 4), f"degree of {vertex}"
+    faces = [face for face, dart in enumerate(linked.corner) if dart != NONE]
+    for face in faces:
+        assert linked.face[linked.corner[face]] == face, f"face {face} knows a dart of another"
+    assert sum(sum(1 for _ in linked.along(linked.corner[face])) for face in faces) == len(used), "a face in two parts"
+    assert sorted(edge for edge in linked.edge if edge != NONE) == sorted(
+        linked.edge[dart >> 1] for edge in range(len(linked.ends)) for dart in linked.chain(edge)), "pieces of no edge"
+    for edge, (tail, head) in enumerate(linked.ends):
+        darts = linked.chain(edge)
+        assert not darts or (linked.origin[darts[0]], linked.origin[darts[-1] ^ 1]) == (tail, head), f"edge {edge}"
+        assert all(linked.edge[dart >> 1] == edge for dart in darts), f"edge {edge} goes on as another"
+    vertices = sum(1 for first in linked.leaving if first >= 0)
+    assert vertices - len(used) // 2 + len(faces) == 2 * parts_of(linked), "V - E + F is not 2"
+
+
+def parts_of(linked: LinkedEmbedding) -> int:
+    """The number of connected parts that have edges."""
+    seen = [first < 0 for first in linked.leaving]
+    parts = 0
+    for vertex in range(len(seen)):
+        if not seen[vertex]:
+            parts += 1
+            seen[vertex] = True
+            waiting = [vertex]
+            while waiting:
+                for dart in linked.around(waiting.pop()):
+                    if not seen[linked.origin[dart ^ 1]]:
+                        seen[linked.origin[dart ^ 1]] = True
+                        waiting.append(linked.origin[dart ^ 1])
+    return parts
+
+
 class RandomEdits(unittest.TestCase):
     """Edges are put in and taken out at random."""
 
@@ -67,7 +113,7 @@ class RandomEdits(unittest.TestCase):
             elif dice.random() < 0.4:
                 crossings -= len(rotation.crossed(edge))
                 rotation.remove(edge)
-            rotation.check()
+            check(rotation)
             self.assertEqual(len(rotation.crossings()), crossings)
 
     def test_sparse(self) -> None:
@@ -92,23 +138,25 @@ class Reading(unittest.TestCase):
                     for corner in range(8)]
         planar = Planarization([end for pair in ends for end in pair], rotation, 8, [[2 * edge] for edge in range(12)])
         cube = LinkedEmbedding.of(planar, ends)
-        cube.check()
+        check(cube)
         self.assertEqual([len(list(cube.along(dart))) for dart in cube.corner], [4] * 6)
-        self.assertEqual([list(cube.around(corner)) for corner in range(8)], rotation)
+        turned = [darts[1:] + darts[:1] for darts in rotation]
+        self.assertEqual([list(cube.around(corner)) for corner in range(8)], turned)
         back = cube.planarization()
-        self.assertEqual((back.tail, back.rotation, back.chains), (planar.tail, rotation, planar.chains))
+        self.assertEqual((back.tail, back.rotation, back.chains), (planar.tail, turned, planar.chains))
 
-    def test_save(self) -> None:
-        """A saved state comes back, and can come back again."""
+    def test_edges_come_and_go(self) -> None:
+        """A triangle without an edge, and with it again."""
         ends = [(0, 1), (1, 2), (2, 0)]
         planar = Planarization([0, 1, 1, 2, 2, 0], [[0, 5], [2, 1], [4, 3]], 3, [[0], [2], [4]])
         rotation = LinkedEmbedding.of(planar, ends)
-        saved = rotation.save()
         for _ in range(2):
             rotation.remove(1)
             self.assertEqual(rotation.chain(1), [])
-            rotation.restore(saved)
-            rotation.check()
+            check(rotation)
+            faces = {rotation.face[dart] for dart in rotation.around(1)}
+            rotation.insert(1, *rotation.corners(1, faces), (), *rotation.corners(2, faces))
+            check(rotation)
             self.assertEqual(len(rotation.chain(1)), 1)
         self.assertEqual(rotation.crossings(), [])
         self.assertNotIn(FREE, rotation.leaving)

@@ -14,7 +14,7 @@ import support
 from drawing_checker import check
 from planarbend.draw import Options, draw
 from planarbend.graph import Arrow, Edge, Graph, Kind, Vertex
-from planarbend.drawing.lengths import Lengths
+from planarbend.drawing.solver import Lengths
 from planarbend.readers import read
 from planarbend.drawing.texts import lines_of
 

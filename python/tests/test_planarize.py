@@ -11,7 +11,7 @@ from collections.abc import Sequence
 import support
 from planarbend.drawing.moves import neighbours
 from planarbend.drawing.planarization import Planarization
-from planarbend.drawing.planarize import TooManyCrossings, needed_crossings, planarize
+from planarbend.drawing.planarize import TooManyCrossings, needed_by_cycles, needed_crossings, planarize
 
 try:
     import networkx
@@ -54,9 +54,8 @@ def faces_of(result: Planarization) -> list[list[int]]:
     return faces
 
 
-<<<<<<< ours
-class WithoutTest(unittest.TestCase):
-    """Crossings that Euler's formula asks for need no planarity test."""
+class Needed(unittest.TestCase):
+    """Lower bounds for crossings."""
 
     def test_needed_by_cycles(self) -> None:
         """The bounds of complete graphs, and of those whose shortest cycle has four, five and six edges."""
@@ -77,19 +76,7 @@ class WithoutTest(unittest.TestCase):
             self.assertEqual(needed_crossings(count, again), needed)
         self.assertEqual(needed_crossings(6, UTILITIES), 0)
 
-    def test_without_networkx(self) -> None:
-        """These are planarized with as few crossings where networkx cannot be loaded."""
-        program = ("import sys; sys.modules['networkx'] = None\n"
-                   "from planarbend.planarize import planarize\n"
-                   "print(*[planarize(count, edges, seed=seed).crossings for count, edges in {graphs} for seed in range(3)])\n")
-        graphs = [(6, UTILITIES), (10, PETERSEN), (14, HEAWOOD)]
-        ran = subprocess.run([sys.executable, "-c", program.format(graphs=graphs)], cwd=support.PACKAGE, capture_output=True,
-                             text=True, check=False)
-        self.assertEqual(ran.stdout.split(), ["1"] * 3 + ["2"] * 3 + ["3"] * 3, ran.stderr)
 
-
-=======
->>>>>>> theirs
 @support.needs_networkx
 class Planarized(unittest.TestCase):
     """What every planarization must be."""

@@ -10,7 +10,6 @@ import random
 import sys
 from collections.abc import Callable, Iterable, Iterator, Sequence
 from dataclasses import replace
-from typing import TYPE_CHECKING
 
 from planarbend.drawing.expand import LEAST_CAGE, MOST_CONNECTIONS, Expansion, size_of
 from planarbend.drawing.mend import loosened, ways_round_cage, ways_round_spine
@@ -20,9 +19,6 @@ from planarbend.drawing.plans import Options, Plan
 from planarbend.drawing.shape import Shape, shape_of
 from planarbend.layout.engine import Engine, NotKept
 from planarbend.layout.planar_code import MOST_VERTICES
-
-if TYPE_CHECKING:
-    from planarbend.drawing.moves import Price
 
 NUMBERINGS = 7  # further numberings of each plan, for each unit of effort
 MOST_FACES = 24  # outer faces of a plan that are tried
@@ -189,7 +185,7 @@ class Search:
         pool = search.shapes_of([replace(best.plan, loose=())])
         return search.repaired(pool) if pool else []
 
-    def prices(self, planars: Sequence[Planarization], plan: Plan) -> list[Price]:
+    def prices(self, planars: Sequence[Planarization], plan: Plan) -> list[tuple[int, ...]]:
         """Return the price of a plan in each of several embeddings, which have other pieces."""
         plan = replace(plan, loose=())
         forms = [next(self.numberings(Expansion(planar, plan))) for planar in planars]

@@ -14,30 +14,20 @@ from dataclasses import dataclass
 
 @dataclass(frozen=True, slots=True)
 class Strand:
-    """An edge of the graph that carries crossings of a folded edge.
-
-    `edge`: the edge.
-    `reversed`: whether it runs against the folded edge.
-    """
+    """An edge of the graph that carries crossings of a folded edge."""
 
     edge: int
-    reversed: bool
+    reversed: bool  # whether it runs against the folded edge
 
 
 @dataclass(frozen=True, slots=True)
 class Core:
-    """A simple graph of minimum degree 3, or without edges.
+    """A simple graph of minimum degree 3, or without edges."""
 
-    `vertices`: the graph's vertex for each of the core's.
-    `ends`: tail and head of each folded edge, by the core's numbers.
-    `weights`: the weight of each folded edge.
-    `strands`: for each folded edge the edges to cross for it, from left to right as seen along it.
-    """
-
-    vertices: list[int]
-    ends: list[tuple[int, int]]
-    weights: list[int]
-    strands: list[list[Strand]]
+    vertices: list[int]  # the graph's vertex for each of the core's
+    ends: list[tuple[int, int]]  # tail and head of each folded edge, by the core's numbers
+    weights: list[int]  # of each folded edge
+    strands: list[list[Strand]]  # for each folded edge the edges to cross for it, from left to right as seen along it
 
 
 @dataclass(slots=True)
@@ -56,12 +46,8 @@ class _Fold:
 
 
 def core_of(edges: Sequence[int], ends: Sequence[tuple[int, int]], weights: Sequence[int], most: int) -> Core:
-    """Fold a graph into its core.
-
-    `edges`: the graph's edges, as numbers into ``ends`` and ``weights``.
-    `ends`, `weights`: tail and head, and weight, of each edge.
-    `most`: the greatest weight; a larger sum is reduced to it.
-    """
+    """Return the core of some of a graph's edges, of which all have ends (tail and head) and weights; a larger sum of weights is
+    reduced to `most`."""
     folds: dict[int, _Fold] = {}
     at: dict[int, list[int]] = {}
     waiting: list[int] = []

@@ -5,7 +5,7 @@ import json
 from dataclasses import dataclass
 
 from planarbend.graph import Graph
-from planarbend.drawing.net_labels import net_labels
+from planarbend.drawing.nets import net_labels
 from planarbend.layout.planar_code import HEADER, Lists, record_of
 
 Point = tuple[float, float]

@@ -12,10 +12,9 @@ from collections.abc import Sequence
 from dataclasses import dataclass, field
 
 from planarbend.drawing.drawn import Box, Point
-from planarbend.drawing.partition import Partition
 from planarbend.drawing.shape import Shape
 from planarbend.drawing.texts import LINE_HEIGHT, lines_of, width_of
-from planarbend.graph import Graph, Kind
+from planarbend.graph import Graph, Kind, Partition
 
 UNIT = 4096  # of the fine grid, to one of the shape's
 PAD = (6.0, 4.0)  # pixels between a name and the border of its box

@@ -77,20 +77,14 @@ class Contraction(Embedding):
 
 @dataclass(frozen=True, slots=True)
 class Form:
-    """An expansion as it is passed to planarbend.
-
-    `order`: the node of each vertex. The vertices of the tail that makes a face the longest have no node: their numbers are
-    above all nodes.
-    `count`: the number of nodes.
-    `graph`: the graph whose neighbour lists these are.
-    `divided`: a dart of the expansion that has one more vertex in its middle, and the dart from there to its head.
-    """
+    """An expansion as it is passed to planarbend. The vertices of the tail that makes a face the longest have no node: their
+    numbers are above all nodes."""
 
     lists: Lists
-    order: list[int]
-    count: int
-    graph: Contraction
-    divided: tuple[int, int] | None = None
+    order: list[int]  # the node of each vertex
+    count: int  # the number of nodes
+    graph: Contraction  # whose neighbour lists these are
+    divided: tuple[int, int] | None = None  # a dart with one more vertex in its middle, and the dart from there to its head
 
     def places(self, answer: Answer) -> tuple[list[GridPoint], Paths]:
         """Return the place of each node, y downwards, and the points along each dart, in at least one direction."""

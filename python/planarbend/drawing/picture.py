@@ -7,8 +7,7 @@ import os
 
 from planarbend.drawing.drawn import Drawing
 from planarbend.graph import Arrow, Kind
-from planarbend.drawing.net_labels import net_labels
-from planarbend.drawing.nets import dots_of, ends_of, pieces_of
+from planarbend.drawing.nets import dots_of, ends_of, net_labels, pieces_of
 from planarbend.drawing.texts import FAMILY, FONT, LINE_HEIGHT, lines_of, xml_text
 
 STROKE = 1.6  # pixels, of lines

@@ -13,7 +13,7 @@ from collections.abc import Iterable, Sequence
 from typing import TYPE_CHECKING, Any
 
 from planarbend.drawing.incremental import incremental_embedding
-from planarbend.drawing.partition import Partition
+from planarbend.graph import Partition
 from planarbend.drawing.planarization import LinkedEmbedding, Planarization
 from planarbend.drawing.reinsert import FIXED, Reinsertion
 
@@ -32,16 +32,13 @@ MOST_TESTS = 100  # planarity tests for one first embedding
 
 
 class TooManyCrossings(Exception):
-    """No planarization was found with as few crossings as are allowed.
-
-    `crossings`: the number of the best one that was found, or a lower bound for every one.
-    `must`: whether every planarization has at least this many.
-    """
+    """No planarization was found with as few crossings as are allowed: `crossings` is the number of the best one that was found,
+    or a lower bound for every one."""
 
     def __init__(self, crossings: int, must: bool = False) -> None:
-        super().__init__(f"at least {crossings} crossings" if must else
-                         f"{crossings} or more crossings in each attempt")
-        self.crossings, self.must = crossings, must
+        """Return the error of a number of crossings, which every planarization must have."""
+        super().__init__(f"at least {crossings} crossings" if must else f"{crossings} or more crossings in each attempt")
+        self.crossings = crossings
 
 
 def planarize(vertex_count: int, edges: Sequence[Pair], *, effort: int = 1, seed: int = 0, together: Sequence[int] = (),
@@ -83,7 +80,7 @@ def planarize(vertex_count: int, edges: Sequence[Pair], *, effort: int = 1, seed
     needed = needed_crossings(vertex_count, ends)
     if needed > limit:
         raise TooManyCrossings(needed, must=True)
-    found = _planarized(vertex_count, ends, sorted({number[vertex] for vertex in together}), (effort, seed, limit))
+    found = _planarized(vertex_count, ends, sorted({number[vertex] for vertex in together}), effort, seed, limit)
     number += range(vertex_count, len(found.rotation))
     name = {other: vertex for vertex, other in enumerate(number)}
     chains: list[list[int]] = [[] for _ in edges]
@@ -92,11 +89,9 @@ def planarize(vertex_count: int, edges: Sequence[Pair], *, effort: int = 1, seed
     return Planarization([name[other] for other in found.tail], [found.rotation[other] for other in number], vertex_count, chains)
 
 
-def _planarized(vertex_count: int, ends: list[Pair], together: list[int], search: tuple[int, int, int]) -> Planarization:
-    """Return what `planarize` returns for a graph without loops, by a search of some effort, seed and limit."""
-    effort, seed, limit = search
+def _planarized(vertex_count: int, ends: list[Pair], together: list[int], effort: int, seed: int, limit: int) -> Planarization:
+    """Return what `planarize` returns for a graph without loops."""
     count, weights = vertex_count, [1] * len(ends)
-    around = None
     if together:
         count, ends, weights = _joined(vertex_count, ends, together)
     around = incremental_embedding(count, ends)
@@ -230,21 +225,15 @@ def _blocks(vertex_count: int, ends: Sequence[Pair]) -> list[list[int]]:
 
 
 class _Starts:
-    """First embeddings of a core, each at random: a planar part, then each further edge where it crosses least.
-
-    `work`: darts that the planarity tests have passed so far, counted as in `Reinsertion.work`.
-    """
+    """First embeddings of a core, each at random: a planar part, then each further edge where it crosses least."""
 
     def __init__(self, core: Core, seed: int) -> None:
-        self.core = core
-        self.dice = random.Random(seed)
-        self.work = 0
+        """Return the source of first embeddings for a seed."""
+        self.core, self.dice = core, random.Random(seed)
+        self.work = 0  # darts that the planarity tests have passed so far, counted as in `Reinsertion.work`
 
     def next(self, limit: int = sys.maxsize) -> Reinsertion:
-        """Return another embedding, with the work that it took.
-
-        Raises `TooManyCrossings`: if its crossings cost more than the limit.
-        """
+        """Return another embedding, or raise `TooManyCrossings` if its crossings cost more than the limit."""
         core = self.core
         order = sorted(range(len(core.ends)), key=lambda edge: (core.weights[edge] != FIXED, self.dice.random()))
         search = Reinsertion(self._linked(self._planar_part(order)), core.weights, self.dice)
@@ -276,9 +265,10 @@ class _Starts:
 
         Many edges are tried at once, and halves of them if this fails. After `MOST_TESTS` tests the rest is left out.
         """
-        core = self.core
-        count = len(core.vertices)
-        kept, rest = _tree(count, [core.ends[edge] for edge in order])
+        parts, kept, rest = Partition(len(self.core.vertices)), list[Pair](), list[Pair]()
+        for edge in order:
+            pair = self.core.ends[edge]
+            (kept if parts.unite(*pair) else rest).append(pair)
         embedding = self._test(kept)
         assert embedding is not None, "a tree is planar"
         waiting = [rest]
@@ -301,20 +291,9 @@ class _Starts:
         return _planar(len(self.core.vertices), pairs)
 
 
-def _tree(count: int, pairs: Iterable[Pair]) -> tuple[list[Pair], list[Pair]]:
-    """Return the pairs that join two parts of those before them, and the others."""
-    parts = Partition(count)
-    found: tuple[list[Pair], list[Pair]] = [], []
-    for pair in pairs:
-        found[0 if parts.unite(*pair) else 1].append(pair)
-    return found
-
-
 def _least(core: Core, effort: int, seed: int, limit: int) -> LinkedEmbedding:
-    """Return an embedding of a core with few crossings: the best of several starts.
-
-    Raises `TooManyCrossings`: if the first start has far more crossings than the limit, so that no search would reach it.
-    """
+    """Return an embedding of a core with few crossings, the best of several starts; raise `TooManyCrossings` if the first has far
+    more than the limit, so that no search would reach it."""
     starts = _Starts(core, seed)
     best = starts.next(HOPELESS * max(limit, 1))
     work = 0
@@ -332,11 +311,8 @@ def _least(core: Core, effort: int, seed: int, limit: int) -> LinkedEmbedding:
 
 
 def _unfold(core: Core, embedding: LinkedEmbedding, crossed: list[list[int]], made: int) -> int:
-    """Return the number of crossings so far, after those of a core's folded edges were written to the edges of the graph.
-
-    `crossed`: for each edge of the graph the crossings on it, from its tail to its head.
-    `made`: number of crossings before these.
-    """
+    """Return the number of crossings so far, which was `made`, after those of a core's folded edges were written to `crossed`: for
+    each edge of the graph the crossings on it, from its tail to its head."""
     strands = core.strands
     chains = [embedding.chain(edge) for edge in range(len(core.ends))]
     forward = {dart for chain in chains for dart in chain}
@@ -364,10 +340,7 @@ def _unfold(core: Core, embedding: LinkedEmbedding, crossed: list[list[int]], ma
 
 
 def _embedded(vertex_count: int, count: int, ends: Sequence[Pair], crossed: list[list[int]]) -> Planarization:
-    """Return the embedding of the graph with the given crossings.
-
-    `count`: number of vertices, including those from ``vertex_count`` on, which are left out of the result.
-    """
+    """Return the embedding of the graph with the given crossings, without the vertices from `vertex_count` to `count`."""
     while True:
         numbers = sorted({crossing for found in crossed for crossing in found})
         name = {crossing: count + place for place, crossing in enumerate(numbers)}
@@ -383,10 +356,8 @@ def _embedded(vertex_count: int, count: int, ends: Sequence[Pair], crossed: list
 
 def _read(vertex_count: int, count: int, lines: Sequence[Sequence[int]], neighbours: Sequence[Sequence[int]]
           ) -> tuple[Planarization, list[int]]:
-    """Return a planarization by an embedding without parallel pieces, and the crossings in which two edges only touch.
-
-    Parallel pieces lie side by side. Vertices from `vertex_count` to `count` are left out, with their edges.
-    """
+    """Return a planarization by an embedding without parallel pieces, which then lie side by side, and without the vertices from
+    `vertex_count` to `count`; and the crossings in which two edges only touch."""
     tails: list[int] = []
     chains: list[list[int]] = []
     edge_of: list[int] = []

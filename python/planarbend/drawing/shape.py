@@ -16,25 +16,16 @@ Rect = tuple[int, int, int, int]
 
 @dataclass(slots=True)
 class Shape:
-    """A component on the grid, y downwards.
-
-    `points`: of each node.
-    `lines`: the corners of each edge, ends included.
-    `boxes`: of each vertex.
-    `broken`: the vertices whose cage is not a rectangle, or is turned inside out, and those whose spine is bent.
-    `bends`: of all edges.
-    `size`: grid lines that it takes.
-    `sections`: for each broken vertex the points from each of its nodes to the next.
-    """
+    """A component on the grid, y downwards."""
 
     expansion: Expansion
-    points: list[GridPoint]
-    lines: list[list[GridPoint]]
-    boxes: list[Rect]
-    broken: list[int]
-    bends: int
-    size: tuple[int, int] = (0, 0)
-    sections: dict[int, list[list[GridPoint]]] = field(default_factory=dict)
+    points: list[GridPoint]  # of each node
+    lines: list[list[GridPoint]]  # the corners of each edge, ends included
+    boxes: list[Rect]  # of each vertex
+    broken: list[int]  # the vertices whose cage is not a rectangle, or is turned inside out, and those whose spine is bent
+    bends: int  # of all edges
+    size: tuple[int, int] = (0, 0)  # grid lines that it takes
+    sections: dict[int, list[list[GridPoint]]] = field(default_factory=dict)  # the points between nodes of broken vertices
 
     @property
     def plan(self) -> Plan:

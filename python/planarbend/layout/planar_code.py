@@ -24,6 +24,7 @@ class Unreadable(Exception):
     """
 
     def __init__(self, ending: str, why: str) -> None:
+        """Return the error of an ending."""
         super().__init__(f"{ending}: {why}")
         self.ending, self.why = ending, why
 

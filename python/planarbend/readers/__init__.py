@@ -17,7 +17,7 @@ FORMS: tuple[str, ...] = tuple(READERS)  # what --format takes
 
 
 def read(data: bytes, name: str, form: str | None = None) -> Graph:
-    """Read a graph from the bytes of a file.
+    """Return the graph in the bytes of a file.
 
     Parameters
     ----------
@@ -36,20 +36,20 @@ def read(data: bytes, name: str, form: str | None = None) -> Graph:
     Raises
     ------
     ReadError
-        The file is not of this format or of any known one, it contains no vertices, or the library or program that reads its
-        format is missing.
+        The file is not of this format or of any known one, it contains no vertices, or the program that reads its format is
+        missing.
     ValueError
         `form` is not one of `FORMS`.
     """
     if form is not None and form not in READERS:
         raise ValueError(f"no such format: {form} (known: {', '.join(FORMS)})")
     try:
-        graph = reader_of(form or form_of(data, name))(data)
-        if not graph.vertices:
+        found = reader_of(form or form_of(data, name))(data)
+        if not found.vertices:
             raise Fault("the file contains no vertices")
     except Fault as fault:
         raise ReadError(name, fault.line, fault.reason) from None
-    return graph
+    return Graph(found.vertices, found.edges, found.directed)
 
 
 def reader_of(form: str) -> Callable[[bytes], Graph]:

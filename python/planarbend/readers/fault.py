@@ -1,8 +1,5 @@
-"""The errors of readers, and look-up of the libraries and programs that they need."""
+"""The errors of readers, and look-up of the programs that they need."""
 from __future__ import annotations
-
-import importlib
-from types import ModuleType
 
 MOST_SHOWN = 60  # characters of the input that a message quotes
 
@@ -21,6 +18,7 @@ class ReadError(Exception):
     """
 
     def __init__(self, file: str, line: int | None, reason: str) -> None:
+        """Return the error of an input."""
         place = file if line is None else f"{file}:{line}"
         super().__init__(f"{place}: {reason}")
         self.file, self.line, self.reason = file, line, reason
@@ -30,6 +28,7 @@ class Fault(Exception):
     """A fault inside a file whose name the raiser does not know; `read` turns it into a `ReadError`."""
 
     def __init__(self, reason: str, line: int | None = None) -> None:
+        """Return the fault of a line, or of the whole."""
         super().__init__(reason)
         self.reason, self.line = reason, line
 
@@ -40,22 +39,8 @@ def shown(text: str) -> str:
     return flat if len(flat) <= MOST_SHOWN else flat[:MOST_SHOWN - 2] + ".."
 
 
-def library(name: str, package: str) -> ModuleType:
-    """Import a Python library, and return it.
-
-    Raises `Fault`: it is missing; the message names Debian's package.
-    """
-    try:
-        return importlib.import_module(name)
-    except ImportError:
-        raise Fault(f"the Python library {name} is needed to read this format (Debian: apt install {package})") from None
-
-
 def program(name: str, package: str) -> str:
-    """Return the path of a program.
-
-    Raises `Fault`: it is missing; the message names Debian's package.
-    """
+    """Return the path of a program, or raise a `Fault` that names Debian's package if it is missing."""
     import shutil  # slow to load
 
     path = shutil.which(name)
@@ -65,10 +50,7 @@ def program(name: str, package: str) -> str:
 
 
 def decoded(data: bytes) -> str:
-    """Return the text of UTF-8 bytes, without a byte order mark.
-
-    Raises `Fault`: the bytes are not UTF-8; the message has the line of the first wrong byte.
-    """
+    """Return the text of bytes without a byte order mark, or raise a `Fault` with the line of the first byte that is no UTF-8."""
     try:
         return data.decode("utf-8-sig")
     except UnicodeDecodeError as error:

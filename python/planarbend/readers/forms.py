@@ -57,9 +57,6 @@ BINARY = re.compile(rb"[\x00-\x08\x0e-\x1f]")
 def form_of(data: bytes, name: str) -> str:
     """Return the format of a file, by its content or, if that does not identify a format, by the extension of its name.
 
-    `data`: the whole file.
-    `name`: its name.
-    Returns One of the formats of `read`.
     Raises `Fault`: the file is of a known kind that is not a graph, is empty, or is not text.
     """
     data = data.removeprefix(b"\xef\xbb\xbf")
@@ -79,10 +76,7 @@ def form_of(data: bytes, name: str) -> str:
 
 
 def check_foreign(data: bytes) -> None:
-    """Check that a file may be a graph.
-
-    Raises `Fault`: the file is empty, is not text, or is of a known kind that is not a graph.
-    """
+    """Check that a file may be a graph, or raise a `Fault` if it is empty, no text, or of a known kind that is not a graph."""
     for mark, what, *pattern in FOREIGN:
         if data.startswith(mark) and (not pattern or re.match(pattern[0], data, re.S)):
             raise Fault(f"{what}, not a graph" if "graph" not in what else what, 1)

@@ -3,7 +3,7 @@ from __future__ import annotations
 
 import collections
 import re
-from dataclasses import dataclass
+from dataclasses import dataclass, field
 
 from planarbend.graph import Graph, Kind
 from planarbend.readers.building import Builder
@@ -29,12 +29,12 @@ class Part:
         return self.reference if self.value in ("", "~", self.reference) else f"{self.reference}\n{self.value}"
 
 
+@dataclass
 class Circuit:
     """Parts, and nets each with its pins: the part and the pin's number."""
 
-    def __init__(self) -> None:
-        self.parts: list[Part] = []
-        self.nets: dict[str, dict[tuple[int, str], None]] = collections.defaultdict(dict)
+    parts: list[Part] = field(default_factory=list)
+    nets: dict[str, dict[tuple[int, str], None]] = field(default_factory=lambda: collections.defaultdict(dict))
 
     def graph(self) -> Graph:
         """Return the graph of the circuit, in which a net joins each of its parts once, with however many pins.
@@ -55,7 +55,7 @@ class Circuit:
                     built.edge(pin, net)
             elif len(pins) > 1:
                 built.edge(parts[0], parts[-1], shown)
-        return built.graph()
+        return built
 
 
 def read_netlist(data: bytes) -> Graph:
@@ -84,10 +84,7 @@ def read_netlist(data: bytes) -> Graph:
 
 
 def read_board(data: bytes) -> Graph:
-    """Return the circuit of a board as KiCad's board editor saves it, of its releases from 4 on.
-
-    Raises `Fault`: the text is not such a board.
-    """
+    """Return the circuit of a board as KiCad's board editor saves it from release 4 on, or raise a `Fault` if it is none."""
     whole = parsed(decoded(data))
     if whole.head != "kicad_pcb":
         raise Fault(f"not a KiCad board: it begins with ({whole.head}", whole.line)

@@ -8,7 +8,6 @@ from planarbend.readers.building import Builder
 from planarbend.readers.fault import Fault, decoded, shown
 
 QUOTED = r'"(?:[^"\\]|\\.)*"'
-SEPARATOR = re.compile(r"(?:^|\s)(--|->)(?=\s|$)")
 PIECE = re.compile(rf'{QUOTED}|\s+|[^\s"]+|"')
 WORD = re.compile(rf"{QUOTED}|\S+")
 COMMENT = re.compile(rf"({QUOTED})|(?:^|(?<=\s))#.*")
@@ -17,9 +16,10 @@ COMMENT = re.compile(rf"({QUOTED})|(?:^|(?<=\s))#.*")
 def read_list(data: bytes) -> Graph:
     """Return the graph of a list of connections.
 
-    `data`: uTF-8 text. A line has one name, two words, or names with ` -- ` or ` -> ` between them. A name in quotes may hold
-    any letters, with a backslash before a quote or a backslash.
-    Returns Vertices in the order of their first mention. It is directed if any connection is an arrow.
+    A line has one name, two words, or names with ` -- ` or ` -> ` between them. A name in quotes may hold any letters, with a
+    backslash before a quote or a backslash. Vertices are in the order of their first mention. The graph is directed if any
+    connection is an arrow.
+
     Raises `Fault`: a line is none of these; the fault has its number.
     """
     found = Builder()
@@ -32,7 +32,7 @@ def read_list(data: bytes) -> Graph:
         for tail, separator, head in zip(names, between, names[1:]):
             found.directed |= separator == "->"
             found.edge(tail, head, arrow=Arrow.FORWARD if separator == "->" else Arrow.NONE)
-    return found.graph()
+    return found
 
 
 def names_of(line: str, number: int) -> tuple[list[str], list[str]]:

@@ -10,9 +10,8 @@ from typing import Any
 
 from planarbend.graph import Arrow, Graph
 from planarbend.readers.building import Builder
-from planarbend.readers.fault import Fault, decoded, library, shown
+from planarbend.readers.fault import Fault, decoded, shown
 
-PACKAGE = "python3-networkx"
 NAMESPACE = "{http://graphml.graphdrawing.org/xmlns}"
 GRAPH6 = b">>graph6<<"
 GML_GRAPH = re.compile(r"^\s*graph\s*\[", re.M)
@@ -35,7 +34,8 @@ def read_graphml(data: bytes) -> Graph:
     """
     from xml.etree import ElementTree
 
-    networkx = library("networkx", PACKAGE)
+    import networkx
+
     directions = scanned(data)
     root = ElementTree.fromstring(data)
     for element in root.iter():
@@ -53,7 +53,7 @@ def read_graphml(data: bytes) -> Graph:
             found = networkx.parse_graphml(ElementTree.tostring(root, encoding="unicode"), force_multigraph=True)
         except Exception as error:  # networkx lets many kinds through
             raise Fault(f"not GraphML: {shown(str(error))}") from None
-    built = Builder(found.is_directed())
+    built = Builder(directed=found.is_directed())
     for node, values in found.nodes(data=True):
         built.vertex(node, label_of(values))
     for tail, head, key, values in sorted(found.edges(keys=True, data=True), key=operator.itemgetter(2)):
@@ -61,7 +61,7 @@ def read_graphml(data: bytes) -> Graph:
         is_arrow = found.is_directed() if directions[key][2] is None else directions[key][2]
         built.edge(tail, head, label_of(values) or "", Arrow.FORWARD if is_arrow else Arrow.NONE)
         built.directed |= is_arrow
-    return built.graph()
+    return built
 
 
 def scanned(data: bytes) -> list[tuple[str, str, bool | None]]:
@@ -114,7 +114,8 @@ def read_gml(data: bytes) -> Graph:
 
     Raises `Fault`: networkx refuses the text; the fault has the line given by networkx.
     """
-    networkx = library("networkx", PACKAGE)
+    import networkx
+
     text = re.sub(*PARALLEL, decoded(data), flags=re.M)
     if "multigraph" not in text:
         text = GML_GRAPH.sub(lambda match: match[0] + " multigraph 1", text, count=1)
@@ -123,13 +124,13 @@ def read_gml(data: bytes) -> Graph:
     except Exception as error:  # networkx lets many kinds through
         place = PLACE.search(str(error))
         raise Fault(f"not GML: {shown(PLACE.sub('', str(error)))}", int(place[1]) if place else None) from None
-    built = Builder(found.is_directed())
+    built = Builder(directed=found.is_directed())
     names = {node: label_of(values) or str(node) for node, values in found.nodes(data=True)}
     for node, name in names.items():
         built.vertex(node, name, name=name)
     for tail, head, values in found.edges(data=True):
         built.edge(tail, head, label_of(values) or "", Arrow.FORWARD if built.directed else Arrow.NONE)
-    return built.graph()
+    return built
 
 
 def read_graph6(data: bytes) -> Graph:
@@ -137,7 +138,8 @@ def read_graph6(data: bytes) -> Graph:
 
     Raises `Fault`: the line is not graph6, or there are several or none.
     """
-    networkx = library("networkx", PACKAGE)
+    import networkx
+
     lines = [(number, line.strip()) for number, line in enumerate(data.removeprefix(GRAPH6).split(b"\n"), 1) if line.strip()]
     if len(lines) != 1:
         count = f"{len(lines)} graphs; only one can be drawn" if lines else "no graph"
@@ -150,9 +152,9 @@ def read_graph6(data: bytes) -> Graph:
     built = Builder()
     for node in found:
         built.vertex(node)
-    for tail, head in found.edges():
-        built.edge(tail, head)
-    return built.graph()
+    for pair in found.edges():
+        built.edge(*pair)
+    return built
 
 
 def read_json(data: bytes) -> Graph:
@@ -171,7 +173,7 @@ def read_json(data: bytes) -> Graph:
     edges = found.get("links", found.get("edges")) if isinstance(found, dict) else None
     if edges is None or not isinstance(edges, list) or not isinstance(found.get("nodes"), list):
         raise Fault("not node-link JSON: it needs the lists nodes and links (or edges)")
-    built = Builder(found.get("directed") is True)
+    built = Builder(directed=found.get("directed") is True)
     for number, node in enumerate(objects(found["nodes"], "node")):
         key = hashable(node.get("id", number))
         if built.has(key):
@@ -185,7 +187,7 @@ def read_json(data: bytes) -> Graph:
                 raise Fault(f"not node-link JSON: the {key} of link {number} is not a node: {shown(str(end))}")
         label = edge.get("label")
         built.edge(ends[0], ends[1], "" if label is None else str(label), Arrow.FORWARD if built.directed else Arrow.NONE)
-    return built.graph()
+    return built
 
 
 def objects(found: Iterable[Any], what: str) -> Iterable[dict[str, Any]]:

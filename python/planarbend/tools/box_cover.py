@@ -44,6 +44,7 @@ class Cover:
     """The cells of the rectangle around a drawing, and their boxes. Each dart of the drawing is straight."""
 
     def __init__(self, darts: set[Dart]) -> None:
+        """Return the cover of a drawing with these darts."""
         self.darts = darts
         xs, ys = ([point[axis] for dart in darts for point in dart] for axis in (0, 1))
         self.left, self.below, self.right, self.above = min(xs) - 1, min(ys) - 1, max(xs) + 1, max(ys) + 1

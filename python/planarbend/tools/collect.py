@@ -12,6 +12,7 @@ import sys
 from collections.abc import Iterable, Iterator
 
 from planarbend.layout.reports import End, File, Graph, NoLine, Record, json_line, line_of, of_json
+from planarbend.tools.svg import svg
 
 TEXT = """\
 A part is a report of planarbend layout, or its JSON Lines (.jsonl). For a folder, all parts in it are read. A table
@@ -66,10 +67,7 @@ def entry_of(text: str) -> File | Graph | End:
 
 
 def graphs_of(path: str) -> Iterator[Graph]:
-    """Yield the graphs of a part.
-
-    Raises `Incomplete`: the part is not a complete report, or one of its files does not end complete.
-    """
+    """Yield the graphs of a part; raise `Incomplete` if it is no complete report, or one of its files does not end complete."""
     count, ended, place = 0, None, 0
     with open(path, encoding="utf-8", errors="replace") as lines:
         for place, text in enumerate(lines, 1):
@@ -122,10 +120,7 @@ def stem_of(path: str) -> str:
 
 
 def check_missing(paths: list[str], folder: str | None) -> None:
-    """Check that each part is given once.
-
-    Raises `Incomplete`: a part is missing or given twice.
-    """
+    """Check that each part is given once, or raise `Incomplete` if one is missing or given twice."""
     stems = collections.Counter(map(stem_of, paths))
     for stem, count in stems.items():
         if count > 1:
@@ -145,10 +140,7 @@ def check_missing(paths: list[str], folder: str | None) -> None:
 
 
 def collect(words: Iterable[str], folder: str | None = None) -> Table:
-    """Return the table of all these parts.
-
-    Raises `Incomplete`: a part is missing or incomplete.
-    """
+    """Return the table of all these parts, or raise `Incomplete` if one is missing or incomplete."""
     paths = paths_of(words)
     check_missing(paths, folder)
     table = Table()
@@ -250,13 +242,10 @@ def plot_of(table: Table) -> str:
         rows[vertices][bends] += count
     most_graphs = max((max(row.values()) for row in rows.values()), default=1)
     frame = Frame(max((max(row) for row in rows.values()), default=0) or 1, math.ceil(math.log10(most_graphs)) or 1)
-    size = f'width="{WIDTH}" height="{HEIGHT}" viewBox="0 0 {WIDTH} {HEIGHT}"'
-    lines = [f'<svg xmlns="http://www.w3.org/2000/svg" {size}>',
-             '<rect width="100%" height="100%" fill="white"/>', f'<g font-family="sans-serif" font-size="{TEXT_SIZE}">',
-             *frame.axes()]
+    lines = [f'<g font-family="sans-serif" font-size="{TEXT_SIZE}">', *frame.axes()]
     for rank, (vertices, row) in enumerate(sorted(rows.items())):
         lines += frame.curve(vertices, row, rank)
-    return "\n".join([*lines, "</g>", "</svg>"]) + "\n"
+    return svg(WIDTH, HEIGHT, [*lines, "</g>"]) + "\n"
 
 
 def command_line() -> argparse.Namespace:
@@ -278,11 +267,8 @@ def main() -> int:
         if words.svg:
             with open(words.svg, "w", encoding="utf-8") as plot:
                 plot.write(plot_of(table))
-    except Incomplete as reason:
-        print(f"collect.py: {reason}", file=sys.stderr)
-        return 1
-    except OSError as error:
-        print(f"collect.py: {error.filename}: {error.strerror}", file=sys.stderr)
+    except (Incomplete, OSError) as fault:
+        print(f"collect.py: {f'{fault.filename}: {fault.strerror}' if isinstance(fault, OSError) else fault}", file=sys.stderr)
         return 1
     print(text_of(table, words.short), end="")
     return 0

@@ -29,8 +29,8 @@ class Parts:
     """The parts of a file, written one after another."""
 
     def __init__(self, folder: str, name: str, most: int) -> None:
-        self.stem = os.path.join(folder, name)
-        self.most = most
+        """Return the parts of a file of this name, each with at most so many records."""
+        self.stem, self.most = os.path.join(folder, name), most
         self.count = 0  # parts begun
         self.held = 0  # records in the open part
         self.part: BinaryIO | None = None
@@ -46,7 +46,7 @@ class Parts:
         self.held += 1
 
     def close(self) -> None:
-        """Close the open part and gives it its name."""
+        """Close the open part and give it its name."""
         if self.part is not None:
             self.part.close()
             os.replace(self.path() + ".part", self.path())
@@ -77,7 +77,7 @@ def command_line() -> argparse.Namespace:
 
 
 def split(source: BinaryIO, parts: Parts) -> tuple[int, Unreadable | None]:
-    """Cut a stream into parts. Returns how many records they have, and the error that ended the stream, if any."""
+    """Return how many records a stream, cut into parts, has, and the error that ended it, if any."""
     total, fault = 0, None
     try:
         for record in records(source):

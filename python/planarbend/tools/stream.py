@@ -41,6 +41,7 @@ class Fault(Exception):
     """An error that ends the whole run, and its exit status."""
 
     def __init__(self, status: int) -> None:
+        """Return the error with this status."""
         super().__init__()
         self.status = status
 
@@ -55,8 +56,8 @@ class Stream:
     """Standard input after its header, cut into parts of complete records."""
 
     def __init__(self, source: io.BufferedReader) -> None:
-        self.source = source
-        self.held = b""
+        """Return the stream of a source of which the header was read."""
+        self.source, self.held = source, b""
         self.is_over = False  # whether the source has ended
         self.is_noise = False  # whether `held` begins with no record: the rest is passed on as it is, and reported
 
@@ -108,16 +109,13 @@ class Report:
     """The joined report: the lines of each part in turn, with consecutive numbers."""
 
     def __init__(self, sink: IO[bytes], is_json: bool) -> None:
+        """Return a report before its first line."""
         self.sink, self.is_json = sink, is_json
         self.graphs = 0  # in the parts that have ended
         self.ending = ""  # of the last part
 
-    def begin(self) -> None:
-        """Write the first line."""
-        self.sink.write(FIRST_LINE[self.is_json])
-
     def add(self, lines: IO[bytes]) -> None:
-        """Add the lines of a part, except its first and its last."""
+        """Write the lines of a part, except its first and its last."""
         number, base = NUMBER[self.is_json], self.graphs
         for line in lines:
             if line == FIRST_LINE[self.is_json]:
@@ -137,7 +135,7 @@ class Report:
 
 
 def run_part(words: list[str], stream: Stream, report: Report, most: int) -> int:
-    """Run the program on the next part. Returns its exit status."""
+    """Return the exit status of a run of the program on the next part."""
     report.ending = ""
     with subprocess.Popen(words, stdin=subprocess.PIPE, stdout=subprocess.PIPE) as child:
         adder = threading.Thread(target=lines_of, args=(report, child))
@@ -166,14 +164,14 @@ def lines_of(report: Report, child: subprocess.Popen[bytes]) -> None:
 
 
 def run_all(words: list[str], report: Report, most: int) -> int:
-    """Run the program on each part. Returns the greatest exit status."""
+    """Return the greatest exit status of runs of the program on each part."""
     source = sys.stdin.buffer
     assert isinstance(source, io.BufferedReader)
     beginning = source.read(len(HEADER))
     if beginning != HEADER:
         return run_whole(words, beginning, source)
     stream, status = Stream(source), 0
-    report.begin()
+    report.sink.write(FIRST_LINE[report.is_json])
     while True:
         status = max(status, run_part(words, stream, report, most))
         if report.ending != "complete" or not stream.has_more():
@@ -183,7 +181,7 @@ def run_all(words: list[str], report: Report, most: int) -> int:
 
 
 def run_whole(words: list[str], beginning: bytes, source: IO[bytes]) -> int:
-    """Run the program on a stream that is not planar_code, so that it reports this."""
+    """Return the exit status of a run on a stream that is not planar_code, which the program reports."""
     with subprocess.Popen(words, stdin=subprocess.PIPE) as child:
         assert child.stdin is not None
         try:
@@ -227,7 +225,7 @@ def main() -> int:
 
 
 def run() -> int:
-    """Run the command. Returns its exit status, also if the output is closed or the user interrupts it."""
+    """Run the command, and return its exit status, also if the output is closed or the user interrupts it."""
     try:
         status = main()
     except BrokenPipeError:

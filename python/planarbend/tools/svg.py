@@ -51,6 +51,7 @@ class Refused(Exception):
 @dataclasses.dataclass
 class Picture:
     """One graph: the caption below it, its size in pixels, and its SVG elements."""
+
     caption: str
     width: int
     height: int
@@ -252,7 +253,7 @@ def command_line() -> argparse.Namespace:
 
 
 def check_numbers(lines: Lines, numbers: list[int] | None) -> None:
-    """Check that the lines have the requested graphs."""
+    """Check that the lines have the requested graphs, or raise `Refused`."""
     if not lines.ending:
         raise Refused("standard input: incomplete, since no line gives the ending of the first file")
     missing = [str(number) for number in numbers or [] if number not in lines.graphs]
@@ -285,7 +286,7 @@ def main() -> int:
 
 
 def run() -> int:
-    """Run the command. Returns its exit status, which is 1 if the reader of the output has gone."""
+    """Run the command, and return its exit status, which is 1 if the reader of the output has gone."""
     try:
         status = main()
         sys.stdout.flush()
