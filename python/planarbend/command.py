@@ -25,8 +25,9 @@ GRAPH is a list of connections, one or more per line (`antenna -- tuner -> mixer
 node-link JSON or graph6; or a KiCad netlist or board. The content determines the format, unless --format is given.
 
 networkx (Debian: python3-networkx) tests which graphs are planar, and reads GraphML, GML and graph6. DOT is read by
-Graphviz (graphviz). rsvg-convert (librsvg2-bin) makes PNG and PDF. Layouts are computed by libplanarbend of this checkout or the system; or by the program planarbend: the one
-that PLANARBEND names, that of this checkout, or the one on the path.
+Graphviz (graphviz). rsvg-convert (librsvg2-bin) makes PNG and PDF. Layouts are computed by libplanarbend of this
+checkout or the system; or by the program planarbend: the one that PLANARBEND names, that of this checkout, or the one
+on the path.
 
 exit status: 0; 1 if the graph cannot be read or drawn (standard error says why, and nothing is written); 2 if the
 command line is wrong
@@ -38,6 +39,7 @@ class Help(argparse.RawDescriptionHelpFormatter):
     """Help as wide as COLUMNS or the terminal. To find the width, argparse would load many compression modules."""
 
     def __init__(self, prog: str) -> None:
+        """Return the help of a program."""
         columns = os.environ.get("COLUMNS", "")
         try:
             width = int(columns) if columns.isdecimal() else os.get_terminal_size().columns
@@ -76,10 +78,7 @@ def command_line() -> argparse.Namespace:
 
 
 def named(graph: Graph, names: str) -> list[int]:
-    """Return the vertices with these names.
-
-    Raises `DrawError`: several vertices, or none, have a name.
-    """
+    """Return the vertices with these names, or raise a `DrawError` if several vertices, or none, have a name."""
     found = []
     for name in filter(None, map(str.strip, names.split(","))):
         at = [number for number, vertex in enumerate(graph.vertices) if vertex.name == name]
@@ -91,10 +90,7 @@ def named(graph: Graph, names: str) -> list[int]:
 
 
 def between(graph: Graph, names: str) -> list[int]:
-    """Return the edges between two vertices, given as `NAME--NAME`.
-
-    Raises `DrawError`: there is no such vertex or no such edge.
-    """
+    """Return the edges between two vertices, given as `NAME--NAME`, or raise a `DrawError` if there are none."""
     known = {name for vertex in graph.vertices for name in (vertex.name, vertex.label)}
     cuts = [(names[:match.start()].strip(), names[match.end():].strip()) for match in re.finditer("--", names)]
     pair = next((cut for cut in cuts if known.issuperset(cut)), None)

@@ -19,8 +19,6 @@ from planarbend.layout.engine import Engine, default_engine
 from planarbend.layout.planar_code import MOST_VERTICES
 from planarbend.programs import PlanarbendError
 
-__all__ = ["DrawError", "NotStraight", "Options", "draw"]
-
 MARGIN = 10.0  # pixels around the whole
 BETWEEN = 18.0  # pixels between components
 MOST_EMBEDDINGS = 4  # that are tried while some box would not be a rectangle
@@ -135,10 +133,7 @@ def best_sheet(graph: Graph, options: Options, engine: Engine) -> Sheet:
 
 def embedded(graph: Graph, options: Options, attempt: int) -> Planarization:
     """Return a component in the plane: at each attempt but the first another embedding, by another order of its vertices and
-    edges.
-
-    Raises `DrawError`: if there are more vertices and crossings than can be drawn.
-    """
+    edges. Raise a `DrawError` if there are more vertices and crossings than can be drawn."""
     count, pairs = len(graph.vertices), [(edge.tail, edge.head) for edge in graph.edges]
     if count > MOST_VERTICES:
         raise DrawError(f"a component has {count} vertices; the limit is {MOST_VERTICES}")
@@ -153,11 +148,8 @@ def embedded(graph: Graph, options: Options, attempt: int) -> Planarization:
 
 
 def shapes_of(planar: Planarization, graph: Graph, options: Options, engine: Engine) -> list[Shape]:
-    """Return good shapes of an embedded component.
-
-    Raises `DrawError`: it takes too many vertices, or no shape was found with all of `outer` on one face, or with straight
-    edges.
-    """
+    """Return good shapes of an embedded component; raise a `DrawError` if it takes too many vertices, or no shape was found
+    with all of `outer` on one face, or with straight edges."""
     try:
         return choose(planar, engine, options)
     except TooLarge as fault:

@@ -46,8 +46,8 @@ class _Fold:
 
 
 def core_of(edges: Sequence[int], ends: Sequence[tuple[int, int]], weights: Sequence[int], most: int) -> Core:
-    """Return the core of some of a graph's edges, of which all have ends (tail and head) and weights; a larger sum of weights is
-    reduced to `most`."""
+    """Return the core of some of a graph's edges, of which all have ends (tail and head) and weights; a larger sum of weights
+    is reduced to `most`."""
     folds: dict[int, _Fold] = {}
     at: dict[int, list[int]] = {}
     waiting: list[int] = []

@@ -20,8 +20,8 @@ class Expansion(Embedding):
     """A simple embedded graph of degree at most 4 that stands for a planarization.
 
     Its vertices are called nodes. Vertices, crossings and darts of the planarization keep their numbers: the first node of a
-    box is its vertex, and a piece that is divided begins with its dart. Vertices that become cages have at least `LEAST_CAGE` connections, those that become spines at least 5. A loose piece gets a
-    node of degree 2 for each of its bends.
+    box is its vertex, and a piece that is divided begins with its dart. Vertices that become cages have at least `LEAST_CAGE`
+    connections, those that become spines at least 5. A loose piece gets a node of degree 2 for each of its bends.
 
     `homes`: for each vertex of the graph its nodes: one; or those of its cage, clockwise; or those of its spine, in order.
     `sides`: for each cage the darts from node to node, clockwise; for each spine the darts along it.
@@ -80,7 +80,7 @@ class Expansion(Embedding):
         self.homes[vertex], self.sides[vertex] = nodes, links
 
     def _divide(self, dart: int) -> int:
-        """Put a node in the middle of a piece. Return the dart from there to the head."""
+        """Return the dart to the head of a piece from a new node in its middle."""
         middle, back = self._node(), dart ^ 1
         head = self.tail[back]
         on = self._dart(middle, head)

@@ -46,8 +46,8 @@ def ways_round_cage(sections: Sections) -> Iterator[list[int]]:
 
 
 def corners_of(sections: Sections) -> list[tuple[int, int]]:
-    """Return the corners of a closed line: twice the number of the node at which one lies, or after which, plus one; and its turn.
-    They begin with the first turn to the right."""
+    """Return the corners of a closed line: twice the number of the node at which one lies, or after which, plus one; and its
+    turn. They begin with the first turn to the right."""
     found = []
     for place, section in enumerate(sections):
         before = sections[place - 1]

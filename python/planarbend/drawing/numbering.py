@@ -61,8 +61,8 @@ class Contraction(Embedding):
                 return
 
     def add_tail(self, dart: int, length: int) -> int:
-        """Put a vertex in the middle of a dart, with a path of this length in the face on its left. Return the dart from there
-        to the head."""
+        """Return the dart from a new vertex in the middle of a dart to its head; the vertex has a path of this length in the
+        face on its left."""
         middle, head, on = len(self.rotation), self.tail[dart ^ 1], len(self.tail)
         self.tail, self.rotation = [*self.tail, middle, head], list(self.rotation)
         self.tail[dart ^ 1] = middle
@@ -82,7 +82,6 @@ class Form:
 
     lists: Lists
     order: list[int]  # the node of each vertex
-    count: int  # the number of nodes
     graph: Contraction  # whose neighbour lists these are
     divided: tuple[int, int] | None = None  # a dart with one more vertex in its middle, and the dart from there to its head
 
@@ -107,7 +106,7 @@ class Form:
         for dart, run in graph.runs.items():
             if tail[run[0]] < tail[run[-1] ^ 1]:
                 put_back(points, paths, run, [tail[inner] for inner in run[1:]], path_of(paths, dart))
-        return points[:self.count], paths
+        return points[:len(graph.expansion.rotation)], paths
 
 
 def path_of(paths: Paths, dart: int) -> list[GridPoint]:
@@ -130,14 +129,14 @@ def put_back(points: list[GridPoint], paths: Paths, run: Sequence[int], inner: S
     paths[run[-1]] = [points[inner[-1]], *whole[longest + 1:]]
 
 
-def form_of(graph: Contraction, order: Sequence[int], count: int | None = None, divided: tuple[int, int] | None = None) -> Form:
+def form_of(graph: Contraction, order: Sequence[int], divided: tuple[int, int] | None = None) -> Form:
     """Return the form whose vertices are these nodes in this order."""
     number = [0] * len(graph.rotation)
     for vertex, node in enumerate(order, 1):
         number[node] = vertex
     tail = graph.tail
     lists = [[number[tail[dart ^ 1]] for dart in graph.rotation[node]] for node in order]
-    return Form(lists, list(order), len(graph.rotation) if count is None else count, graph, divided)
+    return Form(lists, list(order), graph, divided)
 
 
 def conditions_of(form: Form, edges: Iterable[int], has_outer: bool) -> Conditions:
@@ -192,13 +191,13 @@ def outer_forms(expansion: Expansion, outer: Sequence[int] = ()) -> Iterator[For
 def form_with_outer(graph: Contraction, walk: list[int], most: int) -> Form | None:
     """Return a form of which `first` takes this face: the face begins with the first dart, and has a tail if others are
     longer. None if this takes too many vertices."""
-    expansion, count = graph.expansion, len(graph.expansion.rotation)
+    expansion = graph.expansion
     if len(walk) == most:
         graph = Contraction(expansion)
         tail, first = graph.tail[walk[0]], graph.rotation[graph.tail[walk[0]]].index(walk[0])
         graph.rotation = list(graph.rotation)
         graph.rotation[tail] = graph.rotation[tail][first:] + graph.rotation[tail][:first]
-        return form_of(graph, [tail, *(node for node in graph.nodes if node != tail)], count)
+        return form_of(graph, [tail, *(node for node in graph.nodes if node != tail)])
     chosen = tail_place(graph, walk)
     tail, head = graph.tail[chosen], graph.tail[chosen ^ 1]
     length = (most - len(walk)) // 2 + 1
@@ -209,7 +208,7 @@ def form_with_outer(graph: Contraction, walk: list[int], most: int) -> Form | No
     if graph.runs and tail_needed(graph, dart) > length:
         return None
     on = graph.add_tail(dart, length)
-    return form_of(graph, graph.nodes, count, (dart, on))
+    return form_of(graph, graph.nodes, (dart, on))
 
 
 def tail_needed(graph: Contraction, dart: int) -> int:

@@ -24,7 +24,8 @@ class Planarization(Embedding):
     """An embedded planar graph that stands for another graph with crossings.
 
     Vertices below `vertex_count` are those of the graph; each further one is a crossing, at which the darts of the two edges
-    alternate. `chains` has for each edge of the graph its darts, from its tail to its head; none for a loop, which is not embedded.
+    alternate. `chains` has for each edge of the graph its darts, from its tail to its head; none for a loop, which is not
+    embedded.
     """
 
     vertex_count: int
@@ -76,11 +77,7 @@ class LinkedEmbedding:
 
     @classmethod
     def of(cls, planar: Planarization, ends: Sequence[tuple[int, int]]) -> LinkedEmbedding:
-        """Return the same embedding, with the same numbers of darts.
-
-        `planar`: an edge without darts in `chains` is not embedded.
-        `ends`: tail and head of each edge.
-        """
+        """Return the same embedding, with the same numbers of darts, of edges with these tails and heads."""
         made = cls(planar.vertex_count, ends)
         count = len(planar.tail)
         made.origin, made.onward = list(planar.tail), list(planar.onward)
@@ -164,16 +161,10 @@ class LinkedEmbedding:
     def insert(self, edge: int, tail_corner: int, crossed: Sequence[int], head_corner: int) -> None:
         """Embed an edge, from a corner of its tail across other edges to a corner of its head.
 
-        Notes
-        -----
-        With nothing crossed, corners of two faces join two connected parts; the two faces must then be of two parts.
-
-        `edge`: an edge that is not embedded.
-        `tail_corner`, `head_corner`: a dart that leaves the vertex: the edge comes to lie right before it, in the face on its
-        left. `NONE` for a vertex without edges.
-        `crossed`: the darts to cross, in order from the tail: the first has the face of the tail's corner on its left, each
-        further one the face that the dart before it has on its right, and the head's corner lies on the right of the last. No
-        face comes twice.
+        A corner is a dart that leaves the vertex: the edge comes to lie right before it, in the face on its left; `NONE` for a
+        vertex without edges. Of the darts to cross, the first has the face of the tail's corner on its left, each further one
+        the face that the dart before it has on its right, and the head's corner lies on the right of the last. No face comes
+        twice. With nothing crossed, corners of two faces join two connected parts.
         """
         tail, head = self.ends[edge]
         from_vertex, from_corner = tail, tail_corner

@@ -32,8 +32,8 @@ MOST_TESTS = 100  # planarity tests for one first embedding
 
 
 class TooManyCrossings(Exception):
-    """No planarization was found with as few crossings as are allowed: `crossings` is the number of the best one that was found,
-    or a lower bound for every one."""
+    """No planarization was found with as few crossings as are allowed: `crossings` is the number of the best one that was
+    found, or a lower bound for every one."""
 
     def __init__(self, crossings: int, must: bool = False) -> None:
         """Return the error of a number of crossings, which every planarization must have."""
@@ -292,8 +292,8 @@ class _Starts:
 
 
 def _least(core: Core, effort: int, seed: int, limit: int) -> LinkedEmbedding:
-    """Return an embedding of a core with few crossings, the best of several starts; raise `TooManyCrossings` if the first has far
-    more than the limit, so that no search would reach it."""
+    """Return an embedding of a core with few crossings, the best of several starts; raise `TooManyCrossings` if the first has
+    far more than the limit, so that no search would reach it."""
     starts = _Starts(core, seed)
     best = starts.next(HOPELESS * max(limit, 1))
     work = 0
@@ -311,8 +311,8 @@ def _least(core: Core, effort: int, seed: int, limit: int) -> LinkedEmbedding:
 
 
 def _unfold(core: Core, embedding: LinkedEmbedding, crossed: list[list[int]], made: int) -> int:
-    """Return the number of crossings so far, which was `made`, after those of a core's folded edges were written to `crossed`: for
-    each edge of the graph the crossings on it, from its tail to its head."""
+    """Return the number of crossings so far, which was `made`, after those of a core's folded edges were written to `crossed`:
+    for each edge of the graph the crossings on it, from its tail to its head."""
     strands = core.strands
     chains = [embedding.chain(edge) for edge in range(len(core.ends))]
     forward = {dart for chain in chains for dart in chain}
@@ -356,8 +356,8 @@ def _embedded(vertex_count: int, count: int, ends: Sequence[Pair], crossed: list
 
 def _read(vertex_count: int, count: int, lines: Sequence[Sequence[int]], neighbours: Sequence[Sequence[int]]
           ) -> tuple[Planarization, list[int]]:
-    """Return a planarization by an embedding without parallel pieces, which then lie side by side, and without the vertices from
-    `vertex_count` to `count`; and the crossings in which two edges only touch."""
+    """Return a planarization by an embedding without parallel pieces, which then lie side by side, and without the vertices
+    from `vertex_count` to `count`; and the crossings in which two edges only touch."""
     tails: list[int] = []
     chains: list[list[int]] = []
     edge_of: list[int] = []

@@ -13,9 +13,9 @@ WIDTH_WEIGHT = 1000.0  # of the whole width or height, to that of a line's lengt
 class Lengths:
     """A spanning tree of tight pairs, which moves subtrees until no move shortens the sum.
 
-    The linear program is: minimise the sum of `weight * (value[high] - value[low])` over pairs, where
-    `value[high] - value[low] >= distance` for each pair. Method: E. Gansner, E. Koutsofios, S. North, K. Vo, A technique for
-    drawing directed graphs, IEEE Transactions on Software Engineering 19 (1993).
+    The linear program is: minimise the sum of `weight * (value[high] - value[low])` over pairs, where `value[high] -
+    value[low] >= distance` for each pair. Method: E. Gansner, E. Koutsofios, S. North, K. Vo, A technique for drawing directed
+    graphs, IEEE Transactions on Software Engineering 19 (1993).
     """
 
     def __init__(self, count: int, order: Sequence[int], pairs: Sequence[tuple[int, int, float, float]]) -> None:

@@ -267,8 +267,7 @@ def refuse_single(graphs: Any) -> None:
 
 class Layouts:
     """An iterator over the layouts of a stream of graphs, by runs of the program. After a `GraphError`, it continues with the
-    next graph.
-    """
+    next graph."""
 
     def __init__(self, graphs: Iterable[Any], outer: str = "first", words: Iterable[str] = (), most: int = MOST_RECORDS) -> None:
         """Return an iterator, as `layouts`, with at most this many graphs in one run."""

@@ -104,12 +104,8 @@ class Library:
     def __init__(self, name: str | None = None) -> None:
         """Return the library with this path, by default that of `path`.
 
-        Raises
-        ------
-        NoProgram
-            There is no library, or it cannot be loaded.
-        MemoryError
-            Memory ran out.
+        Raises `NoProgram`: there is no library, or it cannot be loaded.
+        Raises `MemoryError`: memory ran out.
         """
         self._object = ctypes.c_void_p()
         name = name or path()

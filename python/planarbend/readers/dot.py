@@ -43,8 +43,8 @@ def read_dot(data: bytes) -> Graph:
     """Return the graph of a DOT text, as Graphviz reads it.
 
     Nodes of clusters and other subgraphs are nodes of the graph; invisible nodes and edges too. Labels are plain text: the
-    fields of a record with bars between them, an HTML label without its markup. An edge's label is `label`, or `xlabel` if that
-    is empty. Arrows are by `dir`, `arrowhead` and `arrowtail`.
+    fields of a record with bars between them, an HTML label without its markup. An edge's label is `label`, or `xlabel` if
+    that is empty. Arrows are by `dir`, `arrowhead` and `arrowtail`.
 
     Raises `Fault`: graphviz is missing, refuses the text (with its line), or finds no graph or several.
     """

@@ -221,8 +221,8 @@ class Frame:
         yield f'<text x="{LEFT - 10}" y="{TOP - 18}" text-anchor="middle">graphs</text>'
 
     def curve(self, vertices: int, row: dict[int, int], rank: int) -> Iterator[str]:
-        """Yield the curve for one number of vertices, and its legend entry: a point for each number of bends that some graph has,
-        joined to the point for one bend less if there is one."""
+        """Yield the curve for one number of vertices, and its legend entry: a point for each number of bends that some graph
+        has, joined to the point for one bend less if there is one."""
         colour, y = COLOURS[rank % len(COLOURS)], TOP + ROW * rank
         points = [(self.across(bends), self.up(count)) for bends, count in sorted(row.items())]
         steps = "".join(f"{'L' if bends - 1 in row else 'M'}{x},{y}"

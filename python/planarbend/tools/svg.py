@@ -67,7 +67,8 @@ class Lines:
 
 
 def read_lines(lines: Iterable[str], numbers: list[int] | None) -> Lines:
-    """Return the lines of these graphs of the first file; if `numbers` is None, of all graphs, up to one more than a page shows."""
+    """Return the lines of these graphs of the first file; if `numbers` is None, of all graphs, up to one more than a page
+    shows."""
     found, wanted = Lines({}, ""), None if numbers is None else set(numbers)
     for place, text in enumerate(lines, 1):  # reads all lines, so that their writer does not get SIGPIPE
         try:
