@@ -117,12 +117,6 @@ def to_split(graph: Graph, which: str) -> list[int]:
             if degree[number] > int(which) and (vertex.kind is Kind.NET or not is_circuit)]
 
 
-def read_file(path: str, form: str | None) -> Graph:
-    """Read the graph of a file."""
-    with sys.stdin.buffer if path == "-" else open(path, "rb") as source:
-        return read(source.read(), path, form)
-
-
 def write(drawing: Drawing, path: str, scale: float) -> None:
     """Write a drawing in the format of the file's extension."""
     if path == "-":
@@ -151,7 +145,8 @@ def run() -> int:
     try:
         if words.output != "-":
             check_output(words.output)
-        graph = read_file(words.graph, words.format)
+        with sys.stdin.buffer if words.graph == "-" else open(words.graph, "rb") as source:
+            graph = read(source.read(), words.graph, words.format)
         if words.split:
             graph = split(graph, to_split(graph, words.split))
         outer = named(graph, words.outer) if words.outer else ()

@@ -10,6 +10,7 @@ from dataclasses import dataclass
 from planarbend.drawing.choose import NoStraightEdges, NoSuchFace, TooLarge, choose
 from planarbend.drawing.drawn import Box, Crossing, Drawing, Point
 from planarbend.drawing.items import Sheet
+from planarbend.drawing.planarization import Planarization
 from planarbend.drawing.planarize import TooManyCrossings, planarize
 from planarbend.drawing.plans import Options
 from planarbend.drawing.shape import Shape, lone
@@ -206,26 +207,29 @@ def side_by_side(graph: Graph, parts: Sequence[Part]) -> Drawing:
     labels: dict[int, Box] = {}
     bounds = [part.sheet.bounds() for part in parts]
     places, width, height = packed([(right - left + BETWEEN, bottom - top + BETWEEN) for left, top, right, bottom in bounds])
-    for part, (left, top, _, _), (x, y) in zip(parts, bounds, places):
-        sheet, edges = part.sheet, part.edges
-
-        def point(a: float, b: float, x: float = x + MARGIN, y: float = y + MARGIN, left: float = left, top: float = top) -> Point:
-            """Return a point of the component in the picture."""
-            return round(a - left + x, 3), round(b - top + y, 3)
-
+    for part, box, (x, y) in zip(parts, bounds, places):
+        sheet, edges, corner, place = part.sheet, part.edges, box[:2], (x + MARGIN, y + MARGIN)
         for vertex, item in zip(part.vertices, sheet.boxes):
-            box = sheet.extent(item)
-            boxes[vertex] = *point(*box[:2]), *point(*box[2:])
+            boxes[vertex] = box_at(sheet.extent(item), corner, place)
         for number, edge in enumerate(edges):
-            lines[edge] = [point(*corner) for corner in sheet.line(number)]
+            lines[edge] = [point_at(point, corner, place) for point in sheet.line(number)]
         for number, item in sheet.labels.items():
-            box = sheet.extent(item)
-            labels[edges[number]] = *point(*box[:2]), *point(*box[2:])
+            labels[edges[number]] = box_at(sheet.extent(item), corner, place)
         crossings += [Crossing(meeting(lines[edges[one]], lines[edges[other]]), (edges[one], edges[other]))
                       for one, other in crossings_of(sheet.shape)]
     size = (math.ceil(width - BETWEEN + 2 * MARGIN), math.ceil(height - BETWEEN + 2 * MARGIN))
     planars = (part.sheet.shape.expansion.planar for part in parts)
     return Drawing(graph, boxes, lines, crossings, size, labels, [planar.lists for planar in planars if planar.tail])
+
+
+def point_at(point: Point, corner: Point, place: Point) -> Point:
+    """Return a point of a component whose left upper corner goes to a place in the picture."""
+    return round(point[0] - corner[0] + place[0], 3), round(point[1] - corner[1] + place[1], 3)
+
+
+def box_at(box: Box, corner: Point, place: Point) -> Box:
+    """Return a box of a component whose left upper corner goes to a place in the picture."""
+    return *point_at(box[:2], corner, place), *point_at(box[2:], corner, place)
 
 
 def packed(sizes: list[tuple[float, float]]) -> tuple[list[Point], float, float]:

@@ -59,17 +59,8 @@ class Graph:
 def split(graph: Graph, vertices: Collection[int]) -> Graph:
     """Return a graph in which some vertices, such as power nets, are split into one flag for each of their connections.
 
-    Parameters
-    ----------
-    graph : Graph
-    vertices : collection of int
-        The vertices to split.
-
-    Returns
-    -------
-    Graph
-        Its edges are those of `graph`, in the same order. The first flag of a vertex has the vertex's number; further flags
-        come after all vertices.
+    Its edges are those of `graph`, in the same order. The first flag of a vertex has the vertex's number; further flags come
+    after all vertices.
     """
     found = Graph([Vertex(one.name, one.label, Kind.FLAG if number in vertices else one.kind)
                    for number, one in enumerate(graph.vertices)], [], graph.directed)

@@ -13,6 +13,7 @@ from dataclasses import replace
 
 from planarbend.drawing.expand import LEAST_CAGE, MOST_CONNECTIONS, Expansion, size_of
 from planarbend.drawing.mend import loosened, ways_round_cage, ways_round_spine
+from planarbend.drawing.moves import climbed
 from planarbend.drawing.numbering import Contraction, Form, conditions_of, form_of, outer_forms
 from planarbend.drawing.planarization import Planarization
 from planarbend.drawing.plans import Options, Plan
@@ -125,10 +126,7 @@ class Search:
         return self.shapes_of(plans)
 
     def run(self) -> list[Shape]:
-        """Return shapes of this embedding: those of the first plan, and what `MOVES` and `REPAIRS` add.
-
-        Raises `TooLarge`, `NoSuchFace`, `NoStraightEdges`: no plan has a shape.
-        """
+        """Return shapes of this embedding: those of the first plan, and what `MOVES` and `REPAIRS` add."""
         pool = self.begin()
         for move in MOVES:
             pool += move(self, pool)
@@ -175,8 +173,6 @@ class Search:
         """Return shapes of another embedding, by the plan of the best one so far; none if a few moves find nothing better."""
         if not any(best.price()[:2]) and len(best.expansion.rotation) < LARGE:
             return []
-        from planarbend.drawing.moves import climbed  # slow to load
-
         other, _ = climbed(self.planar, lambda planars: self.prices(planars, best.plan), self.random,
                            rounds=ROUNDS * self.options.effort, width=WIDTH)
         if other is self.planar:
@@ -199,8 +195,8 @@ class Search:
 
     def outward(self, pool: list[Shape]) -> list[Shape]:
         """Return shapes of the best plans with other outer faces; none if some vertices must be on that face."""
-        plans = dict.fromkeys(found.plan for found in sorted(pool, key=Shape.price))
-        return [found for plan in itertools.islice(plans, 0 if self.options.outer else MOST_TURNED) for found in self.turned_out(plan)]
+        plans = list(dict.fromkeys(found.plan for found in sorted(pool, key=Shape.price)))
+        return [found for plan in plans[:0 if self.options.outer else MOST_TURNED] for found in self.turned_out(plan)]
 
     def spined(self, pool: list[Shape]) -> list[Shape]:
         """Return shapes with broken boxes, one after another, as points or as spines; if some stay broken, also shapes with
@@ -315,12 +311,8 @@ def best_of(pool: Iterable[Shape]) -> Shape:
 
 
 def choose(planar: Planarization, engine: Engine, options: Options) -> list[Shape]:
-    """Return some good shapes of an embedded component, the one with the fewest bends first.
-
-    Raises `TooLarge`: if it takes too many vertices, even with spines.
-    Raises `NoSuchFace`: if no face has all of `outer` on it.
-    Raises `NoStraightEdges`: if no shape was found in which all of `straight` are straight.
-    """
+    """Return some good shapes of an embedded component, the one with the fewest bends first, or raise `TooLarge` (even with
+    spines), `NoSuchFace` or `NoStraightEdges`."""
     search = Search(planar, engine, options)
     pool = search.run()
     if not options.outer:

@@ -1,10 +1,9 @@
 """The core of a graph, on which crossings are counted: what can be drawn without further crossings is folded away.
 
-A vertex of degree 2 and its two edges become one edge with the lesser of their weights: a chain of edges is crossed
-where it is lightest. Parallel edges become one edge with the sum of their weights: an edge that crosses one of them
-crosses all. Vertices of degree 1 and loops are removed. This is repeated as long as possible. A crossing of two folded
-edges costs the product of their weights (the reduction to a non-planar core by Chimani and Gutwenger 2005, for series
-and parallel parts).
+A vertex of degree 2 and its two edges become one edge with the lesser of their weights: a chain of edges is crossed where it
+is lightest. Parallel edges become one edge with the sum of their weights: an edge that crosses one of them crosses all.
+Vertices of degree 1 and loops are removed. This is repeated as long as possible. A crossing of two folded edges costs the
+product of their weights (the reduction to a non-planar core by Chimani and Gutwenger 2005, for series and parallel parts).
 """
 from __future__ import annotations
 

@@ -1,8 +1,8 @@
 """Turns an embedded graph of any degree into one of degree at most 4, as planarbend takes it.
 
-A vertex of degree d becomes a *cage*, a cycle of d vertices with one connection each, whose inner face is its box:
-planarbend then chooses which connections leave on which side. Or it becomes a *spine*, a path of (d - 2) / 2 vertices
-with a connection above and one below each, which takes fewer vertices. Parallel edges get vertices of degree 2.
+A vertex of degree d becomes a *cage*, a cycle of d vertices with one connection each, whose inner face is its box: planarbend
+then chooses which connections leave on which side. Or it becomes a *spine*, a path of (d - 2) / 2 vertices with a connection
+above and one below each, which takes fewer vertices. Parallel edges get vertices of degree 2.
 """
 from __future__ import annotations
 

@@ -2,8 +2,8 @@
 
 Drawings of it tend to have fewer bends than those of other embeddings. First, all vertices of degree 1 and 2 are folded away.
 The next vertex is always the one with the most neighbours in the embedded part. It goes into a face that has all of them; if
-there are several, into the one on which the most vertices still wait for neighbours, since other faces are mostly finished.
-If no face has all of them, an earlier vertex was put on the wrong side: everything is then repeated with other choices among
+there are several, into the one on which the most vertices still wait for neighbours, since other faces are mostly finished. If
+no face has all of them, an earlier vertex was put on the wrong side: everything is then repeated with other choices among
 equals, and sometimes with less preference for such faces. Finally, the folded vertices are put back one by one.
 
 This is not a planarity test: if no attempt succeeds, the graph may still be planar.
@@ -127,7 +127,8 @@ class _Attempt:
         if len(faces) == 1:
             return faces[0]
         embedding, missing = self.embedding, self.missing
-        waiting = [sum(missing[embedding.origin[dart]] > 0 for dart in embedding.along(embedding.corner[face])) for face in faces]
+        walks = (embedding.along(embedding.corner[face]) for face in faces)
+        waiting = [sum(missing[embedding.origin[dart]] > 0 for dart in walk) for walk in walks]
         if self.is_random:
             return max((count * self.dice.random(), face) for count, face in zip(waiting, faces))[1]
         return max(zip(waiting, faces))[1]

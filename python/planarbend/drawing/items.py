@@ -64,7 +64,7 @@ class Item:
 
 def item_at(kind: int, axis: int, at: tuple[int, float], low: tuple[int, float], high: tuple[int, float],
             host: Sequence[int]) -> Item:
-    """Return an item at one coordinate along an axis, and between two along the other; each with its place on the fine grid."""
+    """Return an item at one coordinate along an axis, and between two along the other, each with its place on the fine grid."""
     extents = [(at, at), (low, high)] if axis == 0 else [(low, high), (at, at)]
     return Item(kind, [first[0] for first, _ in extents], [last[0] for _, last in extents],
                 [(first[1], last[1]) for first, last in extents], (axis == 0, axis == 1), host=tuple(host))
@@ -246,8 +246,10 @@ class Sheet:
 
     def along(self, item: Item, axis: int, on_grid: bool = False) -> tuple[float, float]:
         """Return where an item begins and ends along an axis."""
+        if on_grid:
+            return item.grid[axis]
         value = self.axes[axis].value
-        return item.grid[axis] if on_grid else (value[item.low[axis]] + item.before[axis], value[item.high[axis]] + item.after[axis])
+        return value[item.low[axis]] + item.before[axis], value[item.high[axis]] + item.after[axis]
 
     def extent(self, item: Item) -> Box:
         """Return the rectangle of an item."""

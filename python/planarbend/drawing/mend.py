@@ -1,8 +1,8 @@
 """Mends boxes that are not rectangles: pieces of edges may bend at no cost, so that a box need not bend instead.
 
-planarbend minimises bends, and a bend of a box counts like a bend of an edge. If a cage has a step in a side, the edges
-that leave it between the two corners of the step could bend once each instead. A node of degree 2 lets an edge bend at
-no cost, which makes this cheaper.
+planarbend minimises bends, and a bend of a box counts like a bend of an edge. If a cage has a step in a side, the edges that
+leave it between the two corners of the step could bend once each instead. A node of degree 2 lets an edge bend at no cost,
+which makes this cheaper.
 """
 from __future__ import annotations
 

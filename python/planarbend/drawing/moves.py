@@ -1,10 +1,10 @@
 """Other embeddings of the same planar graph, one local move away.
 
-By Whitney (1933) all embeddings of a graph come from one another by two moves. A *flip*: two faces meet in two
-vertices, and what lies between them there is mirrored. A *turn*: what hangs on a single vertex is taken to another
-place in the order about it, with any of its faces outward. Crossings stay crossings: a move that would make their two
-edges touch is left out. Where edges cross, a third move leads to other embeddings: a *shift* takes an edge or a vertex
-out and puts it where it crosses no more than before.
+By Whitney (1933) all embeddings of a graph come from one another by two moves. A *flip*: two faces meet in two vertices, and
+what lies between them there is mirrored. A *turn*: what hangs on a single vertex is taken to another place in the order about
+it, with any of its faces outward. Crossings stay crossings: a move that would make their two edges touch is left out. Where
+edges cross, a third move leads to other embeddings: a *shift* takes an edge or a vertex out and puts it where it crosses no
+more than before.
 """
 from __future__ import annotations
 

@@ -8,7 +8,7 @@ import os
 from planarbend.drawing.drawn import Drawing
 from planarbend.graph import Arrow, Kind
 from planarbend.drawing.nets import dots_of, ends_of, net_labels, pieces_of
-from planarbend.drawing.texts import FAMILY, FONT, LINE_HEIGHT, lines_of, xml_text
+from planarbend.drawing.texts import FAMILY, FONT, LINE_HEIGHT, lines_of, svg_text, xml_text
 
 STROKE = 1.6  # pixels, of lines
 INK, LINE = "#1d2733", "#3f5873"
@@ -25,15 +25,13 @@ class NoConverter(Exception):
 
 def svg(drawing: Drawing) -> str:
     """Return the SVG text of a drawing."""
-    width, height = math.ceil(drawing.size[0]), math.ceil(drawing.size[1])
-    head = [f'<svg xmlns="http://www.w3.org/2000/svg" width="{width}" height="{height}"'
-            f' viewBox="0 0 {width} {height}">', '<rect width="100%" height="100%" fill="white"/>']
+    head = []
     if any(edge.arrow is not Arrow.NONE for edge in drawing.graph.edges):
         head.append('<defs><marker id="head" viewBox="0 0 10 10" refX="9" refY="5" markerWidth="8" markerHeight="8"'
                     ' markerUnits="userSpaceOnUse" orient="auto-start-reverse">'
                     f'<path d="M0 1L9 5L0 9z" fill="{LINE}"/></marker></defs>')
-    return "\n".join([*head, *line_elements(drawing), *box_elements(drawing), *label_elements(drawing),
-                      *net_label_elements(drawing), "</svg>"]) + "\n"
+    return svg_text(*map(math.ceil, drawing.size), [*head, *line_elements(drawing), *box_elements(drawing),
+                                                    *label_elements(drawing), *net_label_elements(drawing)])
 
 
 def line_elements(drawing: Drawing) -> list[str]:
@@ -100,11 +98,8 @@ def net_label_elements(drawing: Drawing) -> list[str]:
 
 
 def check_output(path: str) -> None:
-    """Check, before a graph is drawn, that its picture can be written.
-
-    Raises `NoConverter`: the file is PNG or PDF, and rsvg-convert is missing.
-    Raises `OSError`: the file's folder is missing.
-    """
+    """Check, before a graph is drawn, that its picture can be written; raise `NoConverter` if rsvg-convert is missing for PNG
+    or PDF, and `OSError` if the file's folder is missing."""
     folder = os.path.dirname(os.path.abspath(path))
     if not os.path.isdir(folder):
         raise FileNotFoundError(errno.ENOENT, "no such folder", folder)
@@ -116,11 +111,8 @@ def check_output(path: str) -> None:
 
 
 def write_picture(text: str, path: str, scale: float = 1.0) -> None:
-    """Write an SVG text in the format of the file's extension. The file gets its name once it is complete.
-
-    Raises `NoConverter`: the file is PNG or PDF, and rsvg-convert is missing or fails.
-    Raises `OSError`: the file's folder is missing, or the file cannot be written.
-    """
+    """Write an SVG text in the format of the file's extension, as `check_output` allows, or raise `NoConverter` if
+    rsvg-convert fails. The file gets its name once it is complete."""
     import subprocess  # this and the next module are slow to load
     import tempfile
 

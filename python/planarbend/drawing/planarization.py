@@ -2,11 +2,11 @@
 
 The search for few crossings takes edges out and puts them back a million times; in an `Embedding`, each of these edits would
 take as long as the orders and faces that it touches. Here, all state is in flat lists of integers, which callers may read;
-only the methods write them. Darts and directions are those of `Embedding`: ``h ^ 1`` is the reverse of ``h``, a dart has
-its face on its left, and turning clockwise about a vertex, ``onward[h ^ 1]`` follows ``h``.
+only the methods write them. Darts and directions are those of `Embedding`: ``h ^ 1`` is the reverse of ``h``, a dart has its
+face on its left, and turning clockwise about a vertex, ``onward[h ^ 1]`` follows ``h``.
 
-An edge is a chain of *pieces*, cut where other edges cross it. Two edges cross in a *crossing*: a vertex of degree 4,
-numbered from ``vertex_count`` up, which each of the two passes straight.
+An edge is a chain of *pieces*, cut where other edges cross it. Two edges cross in a *crossing*: a vertex of degree 4, numbered
+from ``vertex_count`` up, which each of the two passes straight.
 """
 from __future__ import annotations
 
@@ -50,9 +50,6 @@ class LinkedEmbedding:
     `start`: for each edge the dart that leaves its tail, `NONE` while the edge is not embedded.
     `edges_at`: for each vertex its edges, embedded or not, without loops.
     """
-
-    __slots__ = ("vertex_count", "ends", "origin", "onward", "back", "face", "leaving", "corner", "edge", "start",
-                 "edges_at", "free_pieces", "free_faces", "free_crossings")
 
     def __init__(self, vertex_count: int, ends: Sequence[tuple[int, int]]) -> None:
         """Return an embedding of no edge."""

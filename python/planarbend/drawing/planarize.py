@@ -1,24 +1,22 @@
 """Makes a graph planar: crossings become vertices of degree 4.
 
-What is planar is embedded as it is: vertex by vertex (`incremental`), or else by networkx. The crossings of each other block (a
-part that no single vertex cuts) are found separately: a large planar subgraph of its core (`core`) is embedded, each further
-edge is inserted along a shortest path of the dual graph, and edges and vertices are moved to places with fewer crossings
-(`reinsert`).
+What is planar is embedded as it is: vertex by vertex (`incremental`), or else by networkx. The crossings of each other block
+(a part that no single vertex cuts) are found separately: a large planar subgraph of its core (`core`) is embedded, each
+further edge is inserted along a shortest path of the dual graph, and edges and vertices are moved to places with fewer
+crossings (`reinsert`).
 """
 from __future__ import annotations
 
 import random
 import sys
 from collections.abc import Iterable, Sequence
-from typing import TYPE_CHECKING, Any
+from typing import Any
 
+from planarbend.drawing.core import Core, core_of
 from planarbend.drawing.incremental import incremental_embedding
 from planarbend.graph import Partition
 from planarbend.drawing.planarization import LinkedEmbedding, Planarization
 from planarbend.drawing.reinsert import FIXED, Reinsertion
-
-if TYPE_CHECKING:
-    from planarbend.drawing.core import Core
 
 Pair = tuple[int, int]
 
@@ -47,29 +45,16 @@ def planarize(vertex_count: int, edges: Sequence[Pair], *, effort: int = 1, seed
 
     No edge crosses itself or an edge with which it shares an end, and no two edges cross twice.
 
-    Parameters
-    ----------
-    vertex_count : int
-        Vertices are 0 to `vertex_count` - 1.
-    edges : sequence of (int, int)
-        The edges. Several edges between the same vertices are allowed; loops are left out of the embedding. The graph need not
-        be connected: then each connected part is embedded separately, and the faces of different parts are unrelated.
-    effort : int
-        How long to search for fewer crossings: 0 is not at all, 1 is the default.
-    seed : int
-        Seed of the random choices. The same arguments give the same result.
-    together : sequence of int
-        Vertices that must all lie on one face of the result; those of each connected part on one face of that part.
-    most : int, optional
-        The number of crossings above which a result is useless. The search ends early if this number is certain or likely to
-        be exceeded.
-    order : random.Random, optional
-        Puts vertices and edges in a random order first, which leads to another embedding.
-
-    Raises
-    ------
-    TooManyCrossings
-        If no planarization with at most `most` crossings was found.
+    `vertex_count`: vertices are 0 to `vertex_count` - 1.
+    `edges`: the edges. Several edges between the same vertices are allowed; loops are left out of the embedding. The graph
+    need not be connected: then each connected part is embedded separately, and the faces of different parts are unrelated.
+    `effort`: how long to search for fewer crossings: 0 is not at all, 1 is the default.
+    `seed`: seed of the random choices. The same arguments give the same result.
+    `together`: vertices that must all lie on one face of the result; those of each connected part on one face of that part.
+    `most`: the number of crossings above which a result is useless. The search ends early if this number is certain or likely
+    to be exceeded.
+    `order`: puts vertices and edges in a random order first, which leads to another embedding.
+    Raises `TooManyCrossings`: if no planarization with at most `most` crossings was found.
     """
     number, plain = list(range(vertex_count)), [edge for edge, (tail, head) in enumerate(edges) if tail != head]
     if order is not None:
@@ -86,7 +71,8 @@ def planarize(vertex_count: int, edges: Sequence[Pair], *, effort: int = 1, seed
     chains: list[list[int]] = [[] for _ in edges]
     for edge, chain in zip(plain, found.chains):
         chains[edge] = chain
-    return Planarization([name[other] for other in found.tail], [found.rotation[other] for other in number], vertex_count, chains)
+    tail, rotation = [name[other] for other in found.tail], [found.rotation[other] for other in number]
+    return Planarization(tail, rotation, vertex_count, chains)
 
 
 def _planarized(vertex_count: int, ends: list[Pair], together: list[int], effort: int, seed: int, limit: int) -> Planarization:
@@ -102,8 +88,6 @@ def _planarized(vertex_count: int, ends: list[Pair], together: list[int], effort
     around = around or _planar(count, ends)
     if around is not None:
         return _read(vertex_count, count, ends, around)[0]
-    from planarbend.drawing.core import core_of  # slow to load
-
     crossed: list[list[int]] = [[] for _ in ends]
     made = 0
     for block in _blocks(count, ends):

@@ -1,12 +1,10 @@
 """Fewer crossings by reinsertion: edges and vertices are removed from an embedding and put back where they cross least.
 
-An edge goes back along a shortest path of the dual graph (Gutwenger and Mutzel 2004, with the embedding as it is), a
-vertex into the face from which the sum of such paths to its neighbours is least (after Clancy, Haythorpe and Newcombe
-2019). Neither ever adds a crossing. Where several places are equally good, one is chosen at random, which lets the
-embedding drift.
+An edge goes back along a shortest path of the dual graph (Gutwenger and Mutzel 2004, with the embedding as it is), a vertex
+into the face from which the sum of such paths to its neighbours is least (after Clancy, Haythorpe and Newcombe 2019). Neither
+ever adds a crossing. Where several places are equally good, one is chosen at random, which lets the embedding drift.
 
-Work is counted in darts that a search of the dual graph passes, not in seconds, so the same seed gives the same
-embedding.
+Work is counted in darts that a search of the dual graph passes, not in seconds, so the same seed gives the same embedding.
 """
 from __future__ import annotations
 
@@ -50,8 +48,6 @@ class Reinsertion:
     `cost`: the sum of the costs of the embedding's crossings.
     `work`: number of darts passed so far.
     """
-
-    __slots__ = ("embedding", "weights", "dice", "cost", "work")
 
     def __init__(self, embedding: LinkedEmbedding, weights: Sequence[int], dice: random.Random) -> None:
         """Return a search that begins with an embedding."""

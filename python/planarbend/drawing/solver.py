@@ -179,11 +179,11 @@ class Solver:
 
     def least(self, number: int, but: int = -1) -> float:
         """Return the least place that others leave a coordinate."""
-        return max((self.value[other] + distance for other, distance in self.before[number] if other != but), default=-math.inf)
+        return max((self.value[other] + length for other, length in self.before[number] if other != but), default=-math.inf)
 
     def greatest(self, number: int, but: int = -1) -> float:
         """Return the greatest place that others leave a coordinate."""
-        return min((self.value[other] - distance for other, distance in self.after[number] if other != but), default=math.inf)
+        return min((self.value[other] - length for other, length in self.after[number] if other != but), default=math.inf)
 
     def move(self, number: int, ends: list[int]) -> None:
         """Move one coordinate to the middle of those at the other ends of its lines, as far as the constraints allow."""

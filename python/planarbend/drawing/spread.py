@@ -1,8 +1,8 @@
 """Gives a shape on the grid its coordinates in pixels, with room for names and no more.
 
-First x is settled, for items whose rows on the grid overlap; then y, for items that overlap in x; then both again, from
-the places so far. Each time all coordinates take their least values by longest paths, then their greatest, then the
-middle, and then what shortens lines.
+First x is settled, for items whose rows on the grid overlap; then y, for items that overlap in x; then both again, from the
+places so far. Each time all coordinates take their least values by longest paths, then their greatest, then the middle, and
+then what shortens lines.
 """
 from __future__ import annotations
 

@@ -1,7 +1,8 @@
-"""The width of a text, and its division into lines."""
+"""The width of a text, its division into lines, and SVG."""
 from __future__ import annotations
 
 import unicodedata
+from collections.abc import Iterable
 
 FONT = 11  # pixels, font size of a name
 LINE_HEIGHT = 14  # pixels from line to line of a name
@@ -51,3 +52,9 @@ def xml_text(text: str) -> str:
     """Return a text with XML escapes; characters that XML does not allow become U+FFFD."""
     known = "".join(letter if letter >= " " and letter not in "\ufffe\uffff" else "\ufffd" for letter in text)
     return known.replace("&", "&amp;").replace("<", "&lt;").replace(">", "&gt;")
+
+
+def svg_text(width: int, height: int, elements: Iterable[str]) -> str:
+    """Return the text of an SVG picture on a white background."""
+    head = f'<svg xmlns="http://www.w3.org/2000/svg" width="{width}" height="{height}" viewBox="0 0 {width} {height}">'
+    return "\n".join([head, '<rect width="100%" height="100%" fill="white"/>', *elements, "</svg>\n"])

@@ -15,12 +15,8 @@ class Embedding:
     Edge e has the darts 2e and 2e + 1, so ``dart ^ 1`` is the reverse of ``dart``. A dart has its face on its left; the next
     dart along that face is the one clockwise after the reverse dart.
 
-    Attributes
-    ----------
-    tail : list of int
-        The vertex that each dart leaves. Vertices are counted from 0.
-    rotation : list of list of int
-        For each vertex the darts that leave it, in clockwise order.
+    `tail`: the vertex that each dart leaves. Vertices are counted from 0.
+    `rotation`: for each vertex the darts that leave it, in clockwise order.
     """
 
     tail: list[int]

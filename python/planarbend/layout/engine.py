@@ -68,13 +68,9 @@ class Cut:
 class NotKept(PlanarbendError):
     """No layout keeps the conditions.
 
-    Attributes
-    ----------
-    word : str
-        "noshape" (no shape keeps them), "noedge" (two vertices are not neighbours), "noouter" (all faces must be inner) or
-        "wide" (the drawing does not fit the grid).
-    cut : Cut or None
-        With "noshape", the reason.
+    `word`: "noshape" (no shape keeps them), "noedge" (two vertices are not neighbours), "noouter" (all faces must be inner) or
+    "wide" (the drawing does not fit the grid).
+    `cut`: with "noshape", the reason.
     """
 
     def __init__(self, word: str, cut: Cut | None = None) -> None:
@@ -95,25 +91,12 @@ class Engine(Protocol):
     keeps: bool
 
     def lay(self, graphs: Sequence[Lists], outer: str) -> list[Answer]:
-        """Return the layout of each graph.
-
-        Raises
-        ------
-        PlanarbendError
-            A graph has no layout, or the engine fails.
-        """
+        """Return the layout of each graph, or raise a `PlanarbendError` if one has none, or the engine fails."""
         ...
 
     def lay_keeping(self, lists: Lists, outer: str, conditions: Conditions) -> Answer:
-        """Return a layout of one graph that keeps conditions, with the fewest bends of all that do.
-
-        Raises
-        ------
-        NotKept
-            No layout keeps the conditions.
-        PlanarbendError
-            As for `lay`, or the engine keeps no conditions.
-        """
+        """Return a layout of one graph that keeps conditions, with the fewest bends of all that do; raise `NotKept` if none
+        keeps them, and a `PlanarbendError` as `lay`, or if the engine keeps no conditions."""
         ...
 
 

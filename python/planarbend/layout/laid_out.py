@@ -3,12 +3,12 @@
     for layout in layouts([{"a": ["b"], "b": ["a"]}], outer="best"):
         print(layout.bends, layout.points["a"], layout.path("a", "b"), layout.outer_face)
 
-A graph is a mapping from each vertex to its neighbours in clockwise order, a networkx `PlanarEmbedding`, or a
-`Record`. Graphs are read and layouts returned while the program runs, so memory does not grow with their number. After a
-million graphs, another run continues. Only Python's standard library is needed.
+A graph is a mapping from each vertex to its neighbours in clockwise order, a networkx `PlanarEmbedding`, or a `Record`. Graphs
+are read and layouts returned while the program runs, so memory does not grow with their number. After a million graphs,
+another run continues. Only Python's standard library is needed.
 
-Errors are exceptions: `NoProgram` and `RunFailed`, and for a single graph `GraphRefused`, `GraphUndrawn` or `GraphLost`.
-After an error of a single graph, `next` continues with the next graph.
+Errors are exceptions: `NoProgram` and `RunFailed`, and for a single graph `GraphRefused`, `GraphUndrawn` or `GraphLost`. After
+an error of a single graph, `next` continues with the next graph.
 """
 from __future__ import annotations
 

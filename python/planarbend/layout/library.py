@@ -102,11 +102,8 @@ class Library:
     """The library, and memory for its calls."""
 
     def __init__(self, name: str | None = None) -> None:
-        """Return the library with this path, by default that of `path`.
-
-        Raises `NoProgram`: there is no library, or it cannot be loaded.
-        Raises `MemoryError`: memory ran out.
-        """
+        """Return the library with this path, by default that of `path`; raise `NoProgram` if there is none, or it cannot be
+        loaded, and `MemoryError` if memory ran out."""
         self._object = ctypes.c_void_p()
         name = name or path()
         if name is None:
@@ -162,12 +159,8 @@ class Library:
     def bends(self, records: Iterable[bytes], outer: str = "first") -> Iterator[int | None]:
         """Yield the fewest bends of each record, or None if the record is refused. Nothing is drawn.
 
-        Raises
-        ------
-        ValueError
-            An item is not exactly one record.
-        MemoryError
-            Memory ran out.
+        Raises `ValueError`: an item is not exactly one record.
+        Raises `MemoryError`: memory ran out.
         """
         layout, held, choice, counts = self._layout, self._object, OUTER[outer], self._counts
         at = self._addresses[0]
@@ -232,11 +225,8 @@ class Library:
         return self._found(self._called(record, outer, drawing, (), ()))
 
     def answer(self, record: bytes, outer: str, straight: Darts = (), inner: Darts = ()) -> Answer:
-        """Return the bends, points and corners of a record, for `planarbend.draw`.
-
-        Raises `NotKept`: the conditions cannot be kept.
-        Raises `PlanarbendError`: the record is refused, memory ran out, or the library is too old for conditions.
-        """
+        """Return the bends, points and corners of a record, for `planarbend.draw`; raise `NotKept` if the conditions cannot be
+        kept, and `PlanarbendError` if the record is refused, memory ran out, or the library is too old for conditions."""
         result = self._called(record, outer, "short", straight, inner)
         if NO_SHAPE <= result <= WIDE:
             raise NotKept(self.word(result), self._marks.cut() if result == NO_SHAPE else None)

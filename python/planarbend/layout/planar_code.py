@@ -1,5 +1,5 @@
-"""Reads and writes planar_code, one record at a time. Shared by split.py, svg.py and the scripts of bench/ and checks/.
-Needs only Python's standard library."""
+"""Reads and writes planar_code, one record at a time. Shared by split.py, svg.py and the scripts of bench/ and checks/. Needs
+only Python's standard library."""
 from __future__ import annotations
 
 import io
@@ -17,11 +17,8 @@ Lists = list[list[int]]
 
 
 class Unreadable(Exception):
-    """The bytes are not planar_code up to their end.
-
-    `ending`: the word for the ending in docs/FORMAT.md.
-    `why`: what is wrong, and where.
-    """
+    """The bytes are not planar_code up to their end: `ending` is the word of docs/FORMAT.md, `why` says what is wrong and
+    where."""
 
     def __init__(self, ending: str, why: str) -> None:
         """Return the error of an ending."""
@@ -34,11 +31,8 @@ def records(source: BinaryIO) -> Iterator[bytes]:
 
     Only one record and one piece of the stream are in memory at a time.
 
-    Raises
-    ------
-    Unreadable
-        After the last complete record, if the stream does not end there. The ending is `header`, `truncated`, `large` or
-        `oversize`.
+    Raises `Unreadable`: after the last complete record, if the stream does not end there. The ending is `header`, `truncated`,
+    `large` or `oversize`.
     """
     if source.read(len(HEADER)) != HEADER:
         raise Unreadable("header", f"it does not begin with {HEADER.decode()}")

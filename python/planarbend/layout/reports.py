@@ -1,5 +1,5 @@
-"""Reads what planarbend prints, line by line: reports of `layout` and of `frames`, and JSON Lines. Shared by
-collect.py, svg.py and the scripts of bench/ and checks/. Needs only Python's standard library."""
+"""Reads what planarbend prints, line by line: reports of `layout` and of `frames`, and JSON Lines. Shared by collect.py,
+svg.py and the scripts of bench/ and checks/. Needs only Python's standard library."""
 from __future__ import annotations
 
 import json

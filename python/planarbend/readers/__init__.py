@@ -1,7 +1,6 @@
 """Reads graphs from files: `read` finds the format from the content."""
 from __future__ import annotations
 
-from collections.abc import Callable
 from importlib import import_module
 
 from planarbend.graph import Graph
@@ -44,16 +43,10 @@ def read(data: bytes, name: str, form: str | None = None) -> Graph:
     if form is not None and form not in READERS:
         raise ValueError(f"no such format: {form} (known: {', '.join(FORMS)})")
     try:
-        found = reader_of(form or form_of(data, name))(data)
+        form = form or form_of(data, name)
+        found: Graph = getattr(import_module(f"planarbend.readers.{READERS[form]}"), f"read_{form}")(data)
         if not found.vertices:
             raise Fault("the file contains no vertices")
     except Fault as fault:
         raise ReadError(name, fault.line, fault.reason) from None
     return Graph(found.vertices, found.edges, found.directed)
-
-
-def reader_of(form: str) -> Callable[[bytes], Graph]:
-    """Return the function that reads a format."""
-    module = import_module(f"planarbend.readers.{READERS[form]}")
-    reader: Callable[[bytes], Graph] = getattr(module, f"read_{form}")
-    return reader

@@ -44,9 +44,8 @@ def read_dot(data: bytes) -> Graph:
 
     Nodes of clusters and other subgraphs are nodes of the graph; invisible nodes and edges too. Labels are plain text: the
     fields of a record with bars between them, an HTML label without its markup. An edge's label is `label`, or `xlabel` if
-    that is empty. Arrows are by `dir`, `arrowhead` and `arrowtail`.
-
-    Raises `Fault`: graphviz is missing, refuses the text (with its line), or finds no graph or several.
+    that is empty. Arrows are by `dir`, `arrowhead` and `arrowtail`. A `Fault` is raised if Graphviz is missing, refuses the
+    text (with its line), or finds no graph or several.
     """
     canonical = run([program("dot", PACKAGE), "-Tcanon"], data)
     listing = run([program("gvpr", PACKAGE), FUNCTIONS + LISTING], canonical)

@@ -5,17 +5,8 @@ MOST_SHOWN = 60  # characters of the input that a message quotes
 
 
 class ReadError(Exception):
-    """The input cannot be read as a graph.
-
-    Attributes
-    ----------
-    file : str
-        The name of the input.
-    line : int or None
-        The line of the fault, counted from 1, or None if it does not belong to one line.
-    reason : str
-        What is wrong.
-    """
+    """The input cannot be read as a graph: `file` is its name, `line` that of the fault, counted from 1, or None if it does
+    not belong to one line, and `reason` says what is wrong."""
 
     def __init__(self, file: str, line: int | None, reason: str) -> None:
         """Return the error of an input."""
@@ -50,7 +41,7 @@ def program(name: str, package: str) -> str:
 
 
 def decoded(data: bytes) -> str:
-    """Return the text of bytes without a byte order mark, or raise a `Fault` with the line of the first byte that is no UTF-8."""
+    """Return the text of bytes without a byte order mark; a `Fault` has the line of the first byte that is no UTF-8."""
     try:
         return data.decode("utf-8-sig")
     except UnicodeDecodeError as error:

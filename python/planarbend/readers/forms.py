@@ -55,10 +55,8 @@ BINARY = re.compile(rb"[\x00-\x08\x0e-\x1f]")
 
 
 def form_of(data: bytes, name: str) -> str:
-    """Return the format of a file, by its content or, if that does not identify a format, by the extension of its name.
-
-    Raises `Fault`: the file is of a known kind that is not a graph, is empty, or is not text.
-    """
+    """Return the format of a file, by its content or, if that does not identify a format, by the extension of its name; raise
+    a `Fault` if the file is of a known kind that is not a graph, is empty, or is not text."""
     data = data.removeprefix(b"\xef\xbb\xbf")
     check_foreign(data)
     head = data[:HEAD]

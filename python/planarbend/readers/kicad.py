@@ -59,10 +59,8 @@ class Circuit:
 
 
 def read_netlist(data: bytes) -> Graph:
-    """Return the circuit of a netlist as KiCad's schematic editor exports it.
-
-    Raises `Fault`: the text is not such a netlist, or a net names a part that it does not have.
-    """
+    """Return the circuit of a netlist as KiCad's schematic editor exports it, or raise a `Fault` if it is none, or a net names
+    a part that it does not have."""
     whole = parsed(decoded(data))
     if whole.head != "export":
         raise Fault(f"not a KiCad netlist: it begins with ({whole.head}", whole.line)

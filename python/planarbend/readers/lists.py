@@ -18,9 +18,7 @@ def read_list(data: bytes) -> Graph:
 
     A line has one name, two words, or names with ` -- ` or ` -> ` between them. A name in quotes may hold any letters, with a
     backslash before a quote or a backslash. Vertices are in the order of their first mention. The graph is directed if any
-    connection is an arrow.
-
-    Raises `Fault`: a line is none of these; the fault has its number.
+    connection is an arrow. A `Fault` has the number of a line that is none of these.
     """
     found = Builder()
     for number, line in enumerate(decoded(data).split("\n"), 1):

@@ -29,8 +29,7 @@ def read_graphml(data: bytes) -> Graph:
     """Return the graph of a GraphML text: its first `graph`, with the nodes and edges of graphs inside its nodes.
 
     Edges keep their order and each its own direction. Labels are the data named `label` or `name`, or the first label of yEd.
-
-    Raises `Fault`: the text is not XML or not GraphML, has a hyperedge, or an edge to a node that it does not have.
+    A `Fault` is raised if the text is not XML or not GraphML, has a hyperedge, or an edge to a node that it does not have.
     """
     from xml.etree import ElementTree
 
@@ -110,10 +109,8 @@ def scanned(data: bytes) -> list[tuple[str, str, bool | None]]:
 
 
 def read_gml(data: bytes) -> Graph:
-    """Return the graph of a GML text, with parallel edges even if it does not declare them.
-
-    Raises `Fault`: networkx refuses the text; the fault has the line given by networkx.
-    """
+    """Return the graph of a GML text, with parallel edges even if it does not declare them, or raise a `Fault` with the line
+    given by networkx if it refuses the text."""
     import networkx
 
     text = re.sub(*PARALLEL, decoded(data), flags=re.M)
@@ -134,10 +131,8 @@ def read_gml(data: bytes) -> Graph:
 
 
 def read_graph6(data: bytes) -> Graph:
-    """Return the graph of one line of graph6, with or without the header; its vertices are named 0, 1, and so on.
-
-    Raises `Fault`: the line is not graph6, or there are several or none.
-    """
+    """Return the graph of one line of graph6, with or without the header, or raise a `Fault` if there is no such line, or
+    several. Its vertices are named 0, 1, and so on."""
     import networkx
 
     lines = [(number, line.strip()) for number, line in enumerate(data.removeprefix(GRAPH6).split(b"\n"), 1) if line.strip()]
@@ -160,9 +155,8 @@ def read_graph6(data: bytes) -> Graph:
 def read_json(data: bytes) -> Graph:
     """Return the graph of node-link JSON: `nodes` with `id`, and `links` or `edges` with `source` and `target`.
 
-    A node without `id` is identified by its position from 0, as in D3. Labels are `label` or `name`.
-
-    Raises `Fault`: the text is not JSON (with its line), or not node-link JSON.
+    A node without `id` is identified by its position from 0, as in D3. Labels are `label` or `name`. A `Fault` is raised if
+    the text is not JSON (with its line), or not node-link JSON.
     """
     try:
         found = json.loads(decoded(data))

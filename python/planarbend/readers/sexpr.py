@@ -34,10 +34,8 @@ class Expression:
 
 
 def parsed(text: str) -> Expression:
-    """Return the one list that a text holds.
-
-    Raises `Fault`: parentheses or quotes do not match, or something is outside the list.
-    """
+    """Return the one list that a text holds, or raise a `Fault` if parentheses or quotes do not match, or something else is
+    outside the list."""
     open_lists: list[Expression] = []
     place, line = 0, 1
     whole: Expression | None = None

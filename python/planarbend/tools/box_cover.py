@@ -6,8 +6,9 @@ import itertools
 import sys
 from collections.abc import Iterator
 
+from planarbend.drawing.texts import svg_text
 from planarbend.layout.embedding import Embedding
-from planarbend.tools.svg import Lines, Refused, paths_of, read_lines, read_lists, reason_of, svg
+from planarbend.tools.svg import Lines, Refused, paths_of, read_lines, read_lists, reason_of
 
 TEXT = """\
   F=crates/corpus/data/families.pc
@@ -174,7 +175,7 @@ def picture(cover: Cover, vertices: list[Point], row: int, point: Point) -> str:
         elements.append(f'<text x="{a:g}" y="{b:g}" dy=".35em" stroke="none" fill="{fill}" font-size="{size}">{text}</text>')
     wide, high = (2 * MARGIN + size * STEP for size in (cover.right - cover.left, cover.above - cover.below))
     group = '<g font-family="sans-serif" text-anchor="middle" fill="none" stroke-width="3">'
-    return svg(wide, high, [group, *elements, "</g>"])
+    return svg_text(wide, high, [group, *elements, "</g>"])
 
 
 def cover_of(path: str, lines: Lines, number: int) -> tuple[Cover, list[Point]]:
@@ -207,7 +208,7 @@ def main() -> int:
     words = parser.parse_args()
     try:
         cover, vertices = cover_of(words.file, read_lines(sys.stdin, [words.graph]), words.graph)
-        print(picture(cover, vertices, words.row, words.point))
+        print(picture(cover, vertices, words.row, words.point), end="")
     except Refused as refused:
         print(f"cover.py: {refused}", file=sys.stderr)
         return 1

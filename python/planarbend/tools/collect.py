@@ -11,8 +11,8 @@ import re
 import sys
 from collections.abc import Iterable, Iterator
 
+from planarbend.drawing.texts import svg_text
 from planarbend.layout.reports import End, File, Graph, NoLine, Record, json_line, line_of, of_json
-from planarbend.tools.svg import svg
 
 TEXT = """\
 A part is a report of planarbend layout, or its JSON Lines (.jsonl). For a folder, all parts in it are read. A table
@@ -245,23 +245,18 @@ def plot_of(table: Table) -> str:
     lines = [f'<g font-family="sans-serif" font-size="{TEXT_SIZE}">', *frame.axes()]
     for rank, (vertices, row) in enumerate(sorted(rows.items())):
         lines += frame.curve(vertices, row, rank)
-    return svg(WIDTH, HEIGHT, [*lines, "</g>"]) + "\n"
+    return svg_text(WIDTH, HEIGHT, [*lines, "</g>"])
 
 
-def command_line() -> argparse.Namespace:
-    """Return the arguments."""
+def main() -> int:
+    """Run the command, and return its exit status."""
     parser = argparse.ArgumentParser(description=__doc__ + "\n\n" + TEXT, epilog=STATUSES,
                                      formatter_class=argparse.RawDescriptionHelpFormatter)
     parser.add_argument("parts", metavar="PART", nargs="+", help="a report, JSON Lines, or a folder of them")
     parser.add_argument("--of", metavar="FOLDER", help="the folder whose .pc files must all have a report")
     parser.add_argument("--short", action="store_true", help="leave out the rows for each number of edges")
     parser.add_argument("--svg", metavar="PLOT", help="also write a plot of the table to this file")
-    return parser.parse_args()
-
-
-def main() -> int:
-    """Run the command, and return its exit status."""
-    words = command_line()
+    words = parser.parse_args()
     try:
         table = collect(words.parts, words.of)
         if words.svg:

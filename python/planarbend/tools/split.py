@@ -65,17 +65,6 @@ def positive(word: str) -> int:
     return number
 
 
-def command_line() -> argparse.Namespace:
-    """Return the arguments."""
-    parser = argparse.ArgumentParser(description=__doc__ + "\n\n" + TEXT, epilog=STATUSES,
-                                     formatter_class=argparse.RawDescriptionHelpFormatter)
-    parser.add_argument("file", metavar="FILE", help="the planar_code file, or - for standard input")
-    parser.add_argument("folder", metavar="FOLDER", help="the folder for the parts; created if it does not exist")
-    parser.add_argument("-k", "--records", metavar="K", type=positive, default=10_000,
-                        help="the most records in a part (default 10000)")
-    return parser.parse_args()
-
-
 def split(source: BinaryIO, parts: Parts) -> tuple[int, Unreadable | None]:
     """Return how many records a stream, cut into parts, has, and the error that ended it, if any."""
     total, fault = 0, None
@@ -91,7 +80,13 @@ def split(source: BinaryIO, parts: Parts) -> tuple[int, Unreadable | None]:
 
 def main() -> int:
     """Run the command, and return its exit status."""
-    words = command_line()
+    parser = argparse.ArgumentParser(description=__doc__ + "\n\n" + TEXT, epilog=STATUSES,
+                                     formatter_class=argparse.RawDescriptionHelpFormatter)
+    parser.add_argument("file", metavar="FILE", help="the planar_code file, or - for standard input")
+    parser.add_argument("folder", metavar="FOLDER", help="the folder for the parts; created if it does not exist")
+    parser.add_argument("-k", "--records", metavar="K", type=positive, default=10_000,
+                        help="the most records in a part (default 10000)")
+    words = parser.parse_args()
     name = "stdin" if words.file == "-" else os.path.basename(words.file).removesuffix(".pc")
     try:
         os.makedirs(words.folder, exist_ok=True)

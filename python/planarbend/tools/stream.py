@@ -199,8 +199,8 @@ def positive(word: str) -> int:
     return int(word)
 
 
-def command_line() -> argparse.Namespace:
-    """Return the arguments."""
+def main() -> int:
+    """Run the command, and return its exit status."""
     parser = argparse.ArgumentParser(description=__doc__ + "\n\n" + TEXT, epilog=STATUSES,
                                      formatter_class=argparse.RawDescriptionHelpFormatter)
     parser.add_argument("--json", action="store_true", help="write JSON Lines instead of the report")
@@ -208,12 +208,7 @@ def command_line() -> argparse.Namespace:
                         help="the outer face: longest boundary (first, the default) or fewest bends (best)")
     parser.add_argument("-k", "--records", metavar="K", type=positive, default=MOST_RECORDS,
                         help=f"number of graphs in a part (default {MOST_RECORDS})")
-    return parser.parse_args()
-
-
-def main() -> int:
-    """Run the command, and return its exit status."""
-    words = command_line()
+    words = parser.parse_args()
     options = ["--outer", words.outer] + (["--json"] if words.json else [])
     try:
         return run_all([program(), "layout", *options, "-"], Report(sys.stdout.buffer, words.json), words.records)

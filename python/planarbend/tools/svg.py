@@ -9,6 +9,7 @@ import sys
 from collections.abc import Iterable, Iterator
 from typing import Any
 
+from planarbend.drawing.texts import svg_text
 from planarbend.layout.embedding import Embedding
 from planarbend.layout.laid_out import outer_of
 from planarbend.layout.planar_code import Lists, Unreadable, lists_of, records
@@ -182,13 +183,6 @@ def pictures(path: str, lines: Lines, shaded: bool, alone: bool) -> Iterator[Pic
             raise Refused(f"graph {number} of {path} is not graph {number} of the lines") from None
 
 
-def svg(width: int, height: int, elements: list[str]) -> str:
-    """Return an SVG picture on a white background."""
-    ground = '<rect width="100%" height="100%" fill="white"/>'
-    head = f'<svg xmlns="http://www.w3.org/2000/svg" width="{width}" height="{height}" viewBox="0 0 {width} {height}">'
-    return "\n".join([head, ground, *elements, "</svg>"])
-
-
 def grid(shown: list[Picture], columns: int) -> str:
     """Return the pictures in rows of `columns` columns, each above its caption."""
     columns = min(columns, len(shown))
@@ -204,7 +198,7 @@ def grid(shown: list[Picture], columns: int) -> str:
                             f' font-size="{CAPTION_TEXT}" text-anchor="middle">{one.caption}</text>')
             left += width + GAP
         top += high + CAPTION
-    return svg(sum(wide) + GAP * (columns - 1), top, elements)
+    return svg_text(sum(wide) + GAP * (columns - 1), top, elements)
 
 
 def page(name: str, shown: list[Picture], ending: str) -> str:
@@ -212,7 +206,7 @@ def page(name: str, shown: list[Picture], ending: str) -> str:
     title = html.escape(f"{os.path.basename(name)}: {len(shown)} graphs, file ends {ending}")
     style = ("body{font:14px sans-serif;margin:2em}main{display:flex;flex-wrap:wrap;gap:1em;align-items:flex-end}"
              "figure{margin:0;text-align:center}")
-    figures = [f"<figure>{svg(one.width, one.height, one.elements)}<figcaption>{one.caption}</figcaption></figure>"
+    figures = [f"<figure>{svg_text(one.width, one.height, one.elements).rstrip()}<figcaption>{one.caption}</figcaption></figure>"
                for one in shown]
     return "\n".join(['<!DOCTYPE html>', f'<html lang="en"><head><meta charset="utf-8"><title>{title}</title>',
                       f"<style>{style}</style></head><body><h1>{title}</h1><main>", *figures, "</main></body></html>"])
@@ -282,7 +276,7 @@ def main() -> int:
             print(f"svg.py: {words.file} ends {lines.ending}, so graphs may be missing", file=sys.stderr)
             return 3
     else:
-        print(svg(shown[0].width, shown[0].height, shown[0].elements) if alone else grid(shown, words.columns))
+        print(svg_text(shown[0].width, shown[0].height, shown[0].elements) if alone else grid(shown, words.columns), end="")
     return 0
 
 
