@@ -90,7 +90,7 @@ class Expansion(Embedding):
         return on
 
     def _divided(self, loose: Mapping[int, int]) -> list[list[int]]:
-        """Divide pieces that are loose or join nodes that are already joined. Return the darts along each edge."""
+        """Return the darts along each edge, after pieces were divided that are loose or join nodes already joined."""
         joined = {frozenset(self.tail[dart:dart + 2]) for dart in range(len(self.planar.tail), len(self.tail), 2)}
         found: list[list[int]] = []
         for chain in self.planar.chains:

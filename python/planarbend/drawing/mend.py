@@ -9,10 +9,10 @@ from __future__ import annotations
 import itertools
 from collections.abc import Iterable, Iterator, Sequence
 
-GridPoint = tuple[int, int]
+from planarbend.layout.engine import GridPoint
+
 Sections = Sequence[Sequence[GridPoint]]
-Loose = tuple[tuple[int, int], ...]
-"""Pieces that may bend at no cost, each with its number of bends."""
+Loose = tuple[tuple[int, int], ...]  # pieces that may bend at no cost, each with its number of bends
 
 
 def turns_of(points: Sequence[GridPoint]) -> list[int]:
@@ -66,7 +66,7 @@ def between(first: int, last: int, count: int) -> Iterator[int]:
 
 
 def ways_round_spine(sections: Sections, count: int) -> Iterator[list[int]]:
-    """As `ways_round_cage`, for a spine, whose connections are counted clockwise from the one at its first end."""
+    """Yield lists as `ways_round_cage`, for a spine, whose connections are counted clockwise from the one at its first end."""
     bent = [place for place, section in enumerate(sections) if any(turns_of(section))]
     bent += [place for place, (one, other) in enumerate(itertools.pairwise(sections)) if any(turns_of([*one[-2:], other[1]]))]
     first, last, nodes = min(bent), max(bent), len(sections) + 1

@@ -21,8 +21,8 @@ Flip = tuple[int, int, int, int]  # two faces, and two vertices that each of the
 
 
 def climbed(planar: Planarization, prices: Callable[[Sequence[Planarization]], Sequence[Price]], dice: random.Random, *,
-            rounds: int, width: int) -> tuple[Planarization, Price]:
-    """Return the best embedding that moves find, and its price: in each round the best of some neighbours, if it is better.
+            rounds: int, width: int) -> Planarization:
+    """Return the best embedding that moves find: in each round the best of some neighbours, if it is better.
 
     `prices`: returns the price of each of several embeddings; the search minimises it.
     `rounds`: number of rounds. The search ends after half as many consecutive rounds without success.
@@ -39,7 +39,7 @@ def climbed(planar: Planarization, prices: Callable[[Sequence[Planarization]], S
         vain += 1
         if found[place] < best:
             planar, best, vain = others[place], found[place], 0
-    return planar, best
+    return planar
 
 
 def neighbours(planar: Planarization, dice: random.Random, count: int) -> list[Planarization]:

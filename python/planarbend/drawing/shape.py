@@ -40,8 +40,8 @@ class Shape:
         """Return whether a vertex has at most one connection at each of its sides, all on different ones."""
         sides, tail, home = [], self.expansion.tail, self.expansion.homes[vertex]
         for line, chain in zip(self.lines, self.expansion.chains):
-            for node, (x, y), (after, below) in ((tail[chain[0]], line[0], line[1]), (tail[chain[-1] ^ 1], line[-1], line[-2])
-                                                 ) if line else ():
+            ends = ((tail[chain[0]], line[0], line[1]), (tail[chain[-1] ^ 1], line[-1], line[-2])) if line else ()
+            for node, (x, y), (after, below) in ends:
                 if node in home:
                     sides.append(((after > x) - (after < x), (below > y) - (below < y)))
         return len(sides) == len(set(sides))

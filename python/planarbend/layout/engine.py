@@ -29,7 +29,7 @@ class Answer:
     """The layout of one embedded graph on the grid; y grows to the north. Numbers are those of docs/JSON.md."""
 
     bends: int  # the fewest for its outer face
-    points: list[GridPoint] | None  # of each vertex, if it is drawn
+    points: list[GridPoint]  # of each vertex
     corners: list[list[GridPoint]]  # of each edge, along its lesser dart
     representation: Representation | None = None  # an engine leaves it out
 

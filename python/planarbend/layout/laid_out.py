@@ -153,7 +153,7 @@ class Layout:
             if answer.status == "refused":
                 raise GraphRefused(number, answer.word)
             raise GraphUndrawn(number, answer.word) if answer.status == "undrawn" else GraphLost(number)
-        assert answer.points is not None and answer.representation is not None, "it was asked for both"
+        assert answer.representation is not None, "it was asked for"
         embedding, names = Embedding.of(record.lists), record.names
         corners = {}
         for edge, between in enumerate(answer.corners):

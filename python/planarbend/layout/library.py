@@ -217,7 +217,8 @@ class Library:
         found, counts = self._found(result, drawing != "none"), self._counts
         if isinstance(found, Refusal):
             return ({"rule": found.word} if found.word else {}) | {"status": found.status}
-        return json_of(found, (counts.vertices, counts.edges, counts.faces))
+        line = json_of(found, (counts.vertices, counts.edges, counts.faces))
+        return line if drawing != "none" else line | {"drawn": "no", "points": None}
 
     def laid(self, record: bytes, outer: str, drawing: str) -> Answer | Refusal:
         """Return the layout of a record with its representation, or why there is none, or raise `ValueError` if the bytes are
@@ -247,8 +248,7 @@ class Library:
             counts.outer_face, buffer.angles[:2 * counts.edges],
             ["L" * left + "R" * right for left, right in zip(turns[::2], turns[1::2])],
             buffer.vertex_prices[:counts.vertices], buffer.face_prices[:counts.faces])
-        points, corners = self._points() if is_drawn else (None, [])
-        return Answer(counts.bends, points, corners, representation)
+        return Answer(counts.bends, *(self._points() if is_drawn else ([], [])), representation)
 
     def _points(self) -> tuple[list[GridPoint], list[list[GridPoint]]]:
         """Return the points of the vertices, and the corners of the edges, that the last call found."""
@@ -269,10 +269,9 @@ def json_of(answer: Answer, sizes: tuple[int, int, int]) -> dict[str, Any]:
     """Return the JSON line of a layout with its representation, without "file" and "graph"; sizes are n, m and f."""
     found = answer.representation
     assert found is not None, "it was asked for"
-    points = None if answer.points is None else {
-        "corners": [list(map(list, corners)) for corners in answer.corners], "vertices": list(map(list, answer.points))}
-    return {"angles": found.angles, "bends": answer.bends, "drawn": "no" if points is None else "yes", "f": sizes[2],
-            "m": sizes[1], "n": sizes[0], "points": points,
+    points = {"corners": [list(map(list, corners)) for corners in answer.corners], "vertices": list(map(list, answer.points))}
+    return {"angles": found.angles, "bends": answer.bends, "drawn": "yes", "f": sizes[2], "m": sizes[1], "n": sizes[0],
+            "points": points,
             "prices": {"faces": found.face_prices, "vertices": found.vertex_prices}, "status": "ok", "turns": found.turns}
 
 
