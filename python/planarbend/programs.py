@@ -4,7 +4,7 @@ from __future__ import annotations
 import os
 
 ROOT = os.path.dirname(os.path.dirname(os.path.dirname(os.path.abspath(__file__))))
-BUILT = os.path.join(ROOT, "crates/planarbend/out/planarbend")
+BUILT = os.path.join(ROOT, "out/planarbend")
 SCRIPT = os.path.join(ROOT, "planarbend")
 INSTALLED = os.path.join(os.path.dirname(os.path.dirname(ROOT)), "bin/planarbend")  # where --install puts it
 

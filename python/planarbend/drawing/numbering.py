@@ -53,7 +53,8 @@ class Contraction(Embedding):
             if other in (tail[dart ^ 1] for dart in rotation[tail[back ^ 1]]):
                 continue
             rotation[other] = [back if dart == on ^ 1 else dart for dart in rotation[other]]
-            run = self.along(back ^ 1) + self.along(on)
+            run = self.along(back ^ 1) + self.runs.pop(on, [on])
+            self.runs.pop(on ^ 1, None)
             self.runs[back ^ 1], self.runs[back] = run, [dart ^ 1 for dart in reversed(run)]
             tail[back], rotation[node] = other, []
             excess -= 1

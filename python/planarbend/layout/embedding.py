@@ -78,5 +78,8 @@ class Embedding:
     @functools.cached_property
     def face(self) -> list[int]:
         """For each dart the number of the face on its left: its place in `walks`."""
-        number = {dart: face for face, walk in enumerate(self.walks) for dart in walk}
-        return [number[dart] for dart in range(len(self.tail))]
+        found = [-1] * len(self.tail)
+        for face, walk in enumerate(self.walks):
+            for dart in walk:
+                found[dart] = face
+        return found
