@@ -15,7 +15,7 @@ from planarbend.drawing.choose import Search
 from planarbend.drawing.expand import Expansion
 from planarbend.drawing.mend import corners_of, ways_round_cage
 from planarbend.drawing.nets import dots_of, pieces_of
-from planarbend.drawing.numbering import Contraction, form_of
+from planarbend.drawing.numbering import Contraction, form_of, path_of
 from planarbend.drawing.planarize import planarize
 from planarbend.drawing.plans import Plan
 from planarbend.drawing.shape import Shape
@@ -106,14 +106,29 @@ class Room(unittest.TestCase):
             with self.subTest(outer=options.outer):
                 checked(graph, edges, options)
 
-    def test_chains_of_vertices(self) -> None:
+    def chains(self) -> list[tuple[int, int]]:
         """Two hubs with 40 chains of six vertices between them."""
         edges = []
         for chain in range(40):
             inner = list(range(2 + 6 * chain, 8 + 6 * chain))
             edges += list(zip([0, *inner], [*inner, 1]))
+        return edges
+
+    def test_chains_of_vertices(self) -> None:
+        edges = self.chains()
         graph = Graph([Vertex(str(number), str(number)) for number in range(242)], [Edge(*edge) for edge in edges])
         checked(graph, edges)
+
+    def test_paths_along_chains(self) -> None:
+        """The path of each piece leads from node to node, also where nodes next to one another are put back."""
+        expansion = Expansion(planarize(242, self.chains()), Plan(frozenset([0, 1])))
+        graph = Contraction(expansion)
+        form = form_of(graph, graph.nodes)
+        points, paths = form.places(default_engine().lay([form.lists], "best")[0])
+        for chain in expansion.chains:
+            for dart in chain:
+                path = path_of(paths, dart)
+                self.assertEqual((path[0], path[-1]), (points[expansion.tail[dart]], points[expansion.tail[dart ^ 1]]))
 
 
 @unittest.skipUnless(library.path(), "the library is missing (planarbend --build makes it)")

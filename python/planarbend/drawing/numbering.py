@@ -106,7 +106,9 @@ class Form:
             paths.pop(first ^ 1, None)
         for dart, run in graph.runs.items():
             if tail[run[0]] < tail[run[-1] ^ 1]:
-                put_back(points, paths, run, [tail[inner] for inner in run[1:]], path_of(paths, dart))
+                whole = path_of(paths, dart)
+                paths.pop(dart ^ 1, None)  # the dart's number is that of one of the run
+                put_back(points, paths, run, [tail[inner] for inner in run[1:]], whole)
         return points[:len(graph.expansion.rotation)], paths
 
 
