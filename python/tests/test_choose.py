@@ -123,10 +123,12 @@ class Room(unittest.TestCase):
         """The path of each piece leads from node to node, also where nodes next to one another are put back."""
         expansion = Expansion(planarize(242, self.chains()), Plan(frozenset([0, 1])))
         graph = Contraction(expansion)
-        form = form_of(graph, graph.nodes)
-        points, paths = form.places(default_engine().lay([form.lists], "best")[0])
-        for chain in expansion.chains:
-            for dart in chain:
+        for seed in range(4):
+            order = graph.nodes
+            random.Random(seed).shuffle(order)
+            form = form_of(graph, order)
+            points, paths = form.places(default_engine().lay([form.lists], "best")[0])
+            for dart in (dart for chain in expansion.chains for dart in chain):
                 path = path_of(paths, dart)
                 self.assertEqual((path[0], path[-1]), (points[expansion.tail[dart]], points[expansion.tail[dart ^ 1]]))
 
