@@ -21,7 +21,7 @@ from typing import Any, NamedTuple
 sys.dont_write_bytecode = True
 ROOT = os.path.dirname(os.path.dirname(os.path.abspath(__file__)))
 sys.path.append(os.path.join(ROOT, "python"))
-from planarbend.planar_code import HEADER, records
+from planarbend.layout.planar_code import HEADER, records
 
 DATA = os.path.join(ROOT, "crates/corpus/data")
 OUTSIDE = os.path.join(ROOT, "bench/outside")

@@ -4,6 +4,6 @@ import os
 import sys
 
 sys.path.insert(0, os.path.join(os.path.dirname(os.path.realpath(__file__)), "../python"))
-from planarbend.box_cover import main
+from planarbend.tools.box_cover import main
 
 sys.exit(main())

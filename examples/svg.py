@@ -4,6 +4,6 @@ import os
 import sys
 
 sys.path.insert(0, os.path.join(os.path.dirname(os.path.realpath(__file__)), "../python"))
-from planarbend.svg import run
+from planarbend.tools.svg import run
 
 sys.exit(run())

@@ -34,8 +34,7 @@ def metadata(about: dict[str, Any]) -> dict[str, str]:
     """The files of the wheel that tell about it."""
     lines = ["Metadata-Version: 2.1", f"Name: {about['name']}", f"Version: {about['version']}",
              f"Summary: {about['description']}", f"Requires-Python: {about['requires-python']}"]
-    for extra, needs in about["optional-dependencies"].items():
-        lines += [f"Provides-Extra: {extra}", *(f'Requires-Dist: {need}; extra == "{extra}"' for need in needs)]
+    lines += [f"Requires-Dist: {need}" for need in about["dependencies"]]
     scripts = "".join(f"{name} = {entry}\n" for name, entry in about["scripts"].items())
     return {"METADATA": "\n".join(lines) + "\n", "entry_points.txt": "[console_scripts]\n" + scripts,
             "WHEEL": "Wheel-Version: 1.0\nGenerator: planarbend\nRoot-Is-Purelib: true\nTag: py3-none-any\n"}

@@ -36,8 +36,8 @@ from collections.abc import Callable, Iterator
 
 sys.path.insert(0, os.path.join(os.path.dirname(os.path.abspath(__file__)), "../../checks"))
 import programs
-from planarbend.planar_code import HEADER, Lists, record_of
-from planarbend.reports import End, File, Graph
+from planarbend.layout.planar_code import HEADER, Lists, record_of
+from planarbend.layout.reports import End, File, Graph
 
 MOST_DEGREE = 4
 TREE = [[2, 3, 4], [1, 5, 6], [1, 7, 8], [1, 9, 10], [2], [2], [3], [3], [4], [4]]

@@ -20,7 +20,7 @@ from pathlib import Path
 sys.dont_write_bytecode = True
 ROOT = Path(__file__).resolve().parents[2]
 sys.path.append(str(ROOT / "python"))
-from planarbend.planar_code import HEADER, record_of
+from planarbend.layout.planar_code import HEADER, record_of
 
 SOURCE, TESTS, OUT, DATA = ROOT / "c", ROOT / "c/tests", ROOT / "out", ROOT / "crates/corpus/data"
 COMPILER = os.environ.get("CC") or "cc"

@@ -22,7 +22,7 @@ from machine import (
     AS_NOBODY, both_ends, BULKY, closing, Command, COMMANDS, EDGE, File, FRAMES, IO, is_fault, is_stopped, is_whole,
     LAYOUT, LAYOUT_JSON, LAYOUTS, LONE, Machine, PATH_OF_10, PATIENCE, place_in, Ran, split, TRIANGLE, TWICE, TWO,
     wait_for, waiting_bytes, Wrong)
-from planarbend.planar_code import HEADER, MOST_RECORDS
+from planarbend.layout.planar_code import HEADER, MOST_RECORDS
 
 
 # ---- Files of all kinds, good and bad, one or several in a run.

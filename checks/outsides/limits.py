@@ -15,7 +15,7 @@ from machine import (
     are_same, AS_NOBODY, both_ends, Command, COMMANDS, events_of, expected_events, File, IO, is_beginning, is_fault,
     IS_ROOT, is_whole, lacks_memory, LAYOUT, LAYOUT_JSON, LAYOUTS, limits, Machine, NOBODY, Ran, split, TRIANGLE, TWO,
     wait_for, waiting_bytes, Wrong)
-from planarbend.planar_code import HEADER
+from planarbend.layout.planar_code import HEADER
 from programs import LOST, MEMORY, THREAD
 
 

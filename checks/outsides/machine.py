@@ -16,8 +16,8 @@ import time
 from collections.abc import Callable, Iterable, Iterator
 from typing import Any, NamedTuple
 
-from planarbend import planar_code, reports
-from planarbend.planar_code import HEADER
+from planarbend.layout import planar_code, reports
+from planarbend.layout.planar_code import HEADER
 from programs import EDGE, LONE, TRIANGLE
 
 

@@ -19,7 +19,7 @@ from machine import (
     both_ends, broken_pipe, closing, Command, COMMANDS, EDGE, Event, events_of, expected_events, File, FRAMES, FULL,
     full_disk, IO, is_beginning, is_fault, is_whole, LAYOUT, LAYOUTS, limits, LONG, Machine, MANY, PATIENCE, place_in,
     Ran, split, TRIANGLE, TWO, wait_for, waiting_bytes, WRITE, Wrong)
-from planarbend.planar_code import HEADER
+from planarbend.layout.planar_code import HEADER
 
 
 # ---- Standard output and standard error that are closed or full.

@@ -12,17 +12,17 @@ from planarbend.graph import Arrow, Edge, Graph, Kind, Vertex
 from planarbend.programs import NoProgram, PlanarbendError, RunFailed, program
 
 if TYPE_CHECKING:
-    from planarbend.laid_out import (GraphError, GraphLost, GraphRefused, GraphUndrawn, Layout, Layouts, Record, layout_of,
-                                    layouts)
+    from planarbend.layout.laid_out import (GraphError, GraphLost, GraphRefused, GraphUndrawn, Layout, Layouts, Record,
+                                            layout_of, layouts)
 
 __all__ = ["Arrow", "Edge", "Graph", "GraphError", "GraphLost", "GraphRefused", "GraphUndrawn", "Kind", "Layout", "Layouts",
            "NoProgram", "PlanarbendError", "Record", "RunFailed", "Vertex", "layout_of", "layouts", "program"]
 
 
 def __getattr__(name: str) -> Any:
-    """Return a name of `planarbend.laid_out`, which is loaded on first use: drawing does not need it."""
+    """Return a name of `planarbend.layout.laid_out`, which is loaded on first use: drawing does not need it."""
     if name not in __all__:
         raise AttributeError(f"module 'planarbend' has no attribute {name!r}")
     import importlib
 
-    return getattr(importlib.import_module("planarbend.laid_out"), name)
+    return getattr(importlib.import_module("planarbend.layout.laid_out"), name)

@@ -6,16 +6,16 @@ import sys
 
 COMMANDS = {  # name: module, function, description
     "draw": ("command", "run", "draw a graph from a file"),
-    "svg": ("svg", "run", "draw graphs of a planar_code file from the program's JSON Lines"),
-    "cover": ("box_cover", "main", "draw how boxes cover a drawing"),
-    "split": ("split", "main", "cut a planar_code file into parts"),
-    "stream": ("stream", "run", "lay out planar_code of any length"),
-    "collect": ("collect", "main", "make one table of many reports"),
+    "svg": ("tools.svg", "run", "draw graphs of a planar_code file from the program's JSON Lines"),
+    "cover": ("tools.box_cover", "main", "draw how boxes cover a drawing"),
+    "split": ("tools.split", "main", "cut a planar_code file into parts"),
+    "stream": ("tools.stream", "run", "lay out planar_code of any length"),
+    "collect": ("tools.collect", "main", "make one table of many reports"),
 }
 
 
 def main() -> int:
-    """Run the command named by the first argument."""
+    """Return the exit status of the command that the first argument names."""
     name = sys.argv[1] if len(sys.argv) > 1 else "--help"
     if name in ("-h", "--help") or name not in COMMANDS:
         lines = ["usage: python3 -m planarbend COMMAND ...", ""]

@@ -7,11 +7,11 @@ import re
 import sys
 
 from planarbend.draw import DrawError, Options, draw
-from planarbend.drawn import Drawing
-from planarbend.engine import Engine, ProcessEngine, default_engine
+from planarbend.drawing.drawn import Drawing
+from planarbend.layout.engine import Engine, ProcessEngine, default_engine
 from planarbend.graph import Graph, Kind, split
 from planarbend.programs import SCRIPT, PlanarbendError
-from planarbend.picture import CONVERTED, NoConverter, look_at_output, svg, write_picture
+from planarbend.drawing.picture import CONVERTED, NoConverter, check_output, svg, write_picture
 from planarbend.readers import FORMS, ReadError, read
 
 ABOUT = "Draws a graph along horizontal and vertical lines with few bends and few crossings, which are right angles."
@@ -24,10 +24,10 @@ examples:
 GRAPH is a list of connections, one or more per line (`antenna -- tuner -> mixer`, or two words); DOT, GraphML, GML,
 node-link JSON or graph6; or a KiCad netlist or board. The content determines the format, unless --format is given.
 
-DOT is read by Graphviz (Debian: graphviz). networkx (python3-networkx) reads GraphML, GML and graph6, and tests which
-graphs are planar: without it, most planar graphs can be drawn, but few others. rsvg-convert (librsvg2-bin) makes PNG
-and PDF. Layouts are computed by libplanarbend of this checkout or the system; or by the program planarbend: the one
-that PLANARBEND names, that of this checkout, or the one on the path.
+networkx (Debian: python3-networkx) tests which graphs are planar, and reads GraphML, GML and graph6. DOT is read by
+Graphviz (graphviz). rsvg-convert (librsvg2-bin) makes PNG and PDF. Layouts are computed by libplanarbend of this
+checkout or the system; or by the program planarbend: the one that PLANARBEND names, that of this checkout, or the one
+on the path.
 
 exit status: 0; 1 if the graph cannot be read or drawn (standard error says why, and nothing is written); 2 if the
 command line is wrong
@@ -39,6 +39,7 @@ class Help(argparse.RawDescriptionHelpFormatter):
     """Help as wide as COLUMNS or the terminal. To find the width, argparse would load many compression modules."""
 
     def __init__(self, prog: str) -> None:
+        """Return the help of a program."""
         columns = os.environ.get("COLUMNS", "")
         try:
             width = int(columns) if columns.isdecimal() else os.get_terminal_size().columns
@@ -48,7 +49,7 @@ class Help(argparse.RawDescriptionHelpFormatter):
 
 
 def command_line() -> argparse.Namespace:
-    """Parse the arguments."""
+    """Return the arguments."""
     parser = argparse.ArgumentParser(description=ABOUT, epilog=TEXT, formatter_class=Help)
     parser.add_argument("graph", metavar="GRAPH", help="the file, or - for standard input")
     parser.add_argument("-o", "--output", metavar="OUT", required=True,
@@ -77,13 +78,7 @@ def command_line() -> argparse.Namespace:
 
 
 def named(graph: Graph, names: str) -> list[int]:
-    """Return the vertices with these names.
-
-    Raises
-    ------
-    DrawError
-        Several vertices, or none, have a name.
-    """
+    """Return the vertices with these names, or raise a `DrawError` if several vertices, or none, have a name."""
     found = []
     for name in filter(None, map(str.strip, names.split(","))):
         at = [number for number, vertex in enumerate(graph.vertices) if vertex.name == name]
@@ -95,13 +90,7 @@ def named(graph: Graph, names: str) -> list[int]:
 
 
 def between(graph: Graph, names: str) -> list[int]:
-    """Return the edges between two vertices, given as `NAME--NAME`.
-
-    Raises
-    ------
-    DrawError
-        There is no such vertex or no such edge.
-    """
+    """Return the edges between two vertices, given as `NAME--NAME`, or raise a `DrawError` if there are none."""
     known = {name for vertex in graph.vertices for name in (vertex.name, vertex.label)}
     cuts = [(names[:match.start()].strip(), names[match.end():].strip()) for match in re.finditer("--", names)]
     pair = next((cut for cut in cuts if known.issuperset(cut)), None)
@@ -115,8 +104,8 @@ def between(graph: Graph, names: str) -> list[int]:
 
 
 def to_split(graph: Graph, which: str) -> list[int]:
-    """Return the vertices to split: those with these names, or those with more connections than a number; in a circuit,
-    only nets."""
+    """Return the vertices to split: those with these names, or those with more connections than a number; in a circuit, only
+    nets."""
     if not which.isdecimal():
         return named(graph, which)
     degree = [0] * len(graph.vertices)
@@ -126,12 +115,6 @@ def to_split(graph: Graph, which: str) -> list[int]:
     is_circuit = any(vertex.kind is Kind.NET for vertex in graph.vertices)
     return [number for number, vertex in enumerate(graph.vertices)
             if degree[number] > int(which) and (vertex.kind is Kind.NET or not is_circuit)]
-
-
-def read_file(path: str, form: str | None) -> Graph:
-    """Read the graph of a file."""
-    with sys.stdin.buffer if path == "-" else open(path, "rb") as source:
-        return read(source.read(), path, form)
 
 
 def write(drawing: Drawing, path: str, scale: float) -> None:
@@ -157,12 +140,13 @@ def engine_of() -> Engine:
 
 
 def run() -> int:
-    """Run the command, and return its exit status."""
+    """Return the exit status of the command."""
     words = command_line()
     try:
         if words.output != "-":
-            look_at_output(words.output)
-        graph = read_file(words.graph, words.format)
+            check_output(words.output)
+        with sys.stdin.buffer if words.graph == "-" else open(words.graph, "rb") as source:
+            graph = read(source.read(), words.graph, words.format)
         if words.split:
             graph = split(graph, to_split(graph, words.split))
         outer = named(graph, words.outer) if words.outer else ()

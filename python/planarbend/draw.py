@@ -7,16 +7,18 @@ import random
 from collections.abc import Sequence
 from dataclasses import dataclass
 
-from planarbend.choose import NoStraightEdges, NoSuchFace, Shape, TooLarge, choose
-from planarbend.drawn import Box, Crossing, Drawing, Point
-from planarbend.engine import Engine, default_engine
-from planarbend.expand import Expansion
-from planarbend.graph import Edge, Graph
-from planarbend.keeping import keeper_of
+from planarbend.drawing.choose import NoStraightEdges, NoSuchFace, TooLarge, choose
+from planarbend.drawing.drawn import Box, Crossing, Drawing, Point
+from planarbend.drawing.items import Sheet
+from planarbend.drawing.planarization import Planarization
+from planarbend.drawing.planarize import TooManyCrossings, planarize
+from planarbend.drawing.plans import Options
+from planarbend.drawing.shape import Shape, lone
+from planarbend.drawing.spread import spread
+from planarbend.graph import Edge, Graph, Partition
+from planarbend.layout.engine import Engine, default_engine
+from planarbend.layout.planar_code import MOST_VERTICES
 from planarbend.programs import PlanarbendError
-from planarbend.planar_code import MOST_VERTICES, Lists
-from planarbend.planarize import Planarization, TooManyCrossings, planarize
-from planarbend.spread import Sheet
 
 MARGIN = 10.0  # pixels around the whole
 BETWEEN = 18.0  # pixels between components
@@ -35,76 +37,16 @@ class NotStraight(DrawError):
 
 
 @dataclass(frozen=True, slots=True)
-class Options:
-    """How to draw.
-
-    Attributes
-    ----------
-    outer : sequence of int
-        Vertices that must lie on the outer face.
-    compact : bool
-        Whether to fix the sides of vertices of degree over 4 in advance, which takes less room but more bends.
-    effort : int
-        How long to search for fewer crossings and bends (0 is fastest).
-    seed : int
-        The seed of the random choices.
-    straight : sequence of int
-        Edges that must not bend. They need the library; the program cannot keep them straight.
-    """
-
-    outer: Sequence[int] = ()
-    compact: bool = False
-    effort: int = 1
-    seed: int = 0
-    straight: Sequence[int] = ()
-
-
-@dataclass(slots=True)
 class Part:
-    """A component of a graph in pixels, its left upper corner at 0, 0."""
+    """A component of a graph in pixels, with the graph's numbers of its vertices and edges."""
 
     vertices: list[int]
     edges: list[int]
-    boxes: list[Box]
-    lines: list[list[Point]]
-    crossings: list[Crossing]
-    labels: dict[int, Box]
-    width: float
-    height: float
-    planar: Planarization | None
-
-
-@dataclass(frozen=True, slots=True)
-class Wanted:
-    """The vertices of a component that must lie on its outer face, and those of its edges without loops that must not bend."""
-
-    outer: Sequence[int]
-    straight: Sequence[int]
-
-
-def components_of(graph: Graph) -> list[tuple[list[int], list[int]]]:
-    """The vertices and the edges of each component, in the graph's order."""
-    root = list(range(len(graph.vertices)))
-
-    def find(vertex: int) -> int:
-        while root[vertex] != vertex:
-            root[vertex] = root[root[vertex]]
-            vertex = root[vertex]
-        return vertex
-
-    for edge in graph.edges:
-        one, other = find(edge.tail), find(edge.head)
-        root[max(one, other)] = min(one, other)
-    found: dict[int, tuple[list[int], list[int]]] = {}
-    for vertex in range(len(graph.vertices)):
-        found.setdefault(find(vertex), ([], []))[0].append(vertex)
-    for number, edge in enumerate(graph.edges):
-        found[find(edge.tail)][1].append(number)
-    return list(found.values())
+    sheet: Sheet
 
 
 def draw(graph: Graph, options: Options = Options(), engine: Engine | None = None) -> Drawing:
-    """Draw a graph.
+    """Return a drawing of a graph.
 
     Parameters
     ----------
@@ -113,28 +55,22 @@ def draw(graph: Graph, options: Options = Options(), engine: Engine | None = Non
     engine : Engine, optional
         What lays out embedded graphs; by default the library or, without one, the program.
 
-    Returns
-    -------
-    Drawing
-
     Raises
     ------
     DrawError
-        A component would need more than 255 vertices; vertices of `outer` in one component lie on no common face; or
-        the edges of `straight` cannot be kept straight (there is no library, an edge is a loop, or no such drawing was
-        found).
+        A component would need more than 255 vertices; vertices of `outer` in one component lie on no common face; or the edges
+        of `straight` cannot be kept straight (there is no library, an edge is a loop, or no such drawing was found).
     PlanarbendError
         The program is missing or fails.
     """
     engine = engine or default_engine()
-    look_at_straight(graph, options, engine)
-    parts = [part_of(graph, vertices, edges, options, engine) for vertices, edges in components_of(graph)]
-    return side_by_side(graph, parts)
+    check_straight(graph, options, engine)
+    return side_by_side(graph, [part_of(graph, vertices, edges, options, engine) for vertices, edges in components_of(graph)])
 
 
-def look_at_straight(graph: Graph, options: Options, engine: Engine) -> None:
-    """Refuses straight edges if the engine cannot keep them, or if one is a loop."""
-    if options.straight and keeper_of(engine) is None:
+def check_straight(graph: Graph, options: Options, engine: Engine) -> None:
+    """Return if the engine can keep the edges that must be straight, and none is a loop; otherwise raise a `DrawError`."""
+    if options.straight and not engine.keeps:
         raise DrawError("straight edges need the library libplanarbend of this version: `./planarbend --build` builds it, and"
                         " PLANARBEND must not be set")
     for number in options.straight:
@@ -143,163 +79,117 @@ def look_at_straight(graph: Graph, options: Options, engine: Engine) -> None:
             raise DrawError(f"a loop cannot be straight: {graph.vertices[edge.tail].name}")
 
 
+def components_of(graph: Graph) -> list[tuple[list[int], list[int]]]:
+    """Return the vertices and the edges of each component, in the graph's order."""
+    parts = Partition(len(graph.vertices))
+    for edge in graph.edges:
+        parts.unite(edge.tail, edge.head)
+    found: dict[int, tuple[list[int], list[int]]] = {}
+    for vertex in range(len(graph.vertices)):
+        found.setdefault(parts.find(vertex), ([], []))[0].append(vertex)
+    for number, edge in enumerate(graph.edges):
+        found[parts.find(edge.tail)][1].append(number)
+    return list(found.values())
+
+
 def part_of(graph: Graph, vertices: list[int], edges: list[int], options: Options, engine: Engine) -> Part:
-    """Draw one component."""
+    """Return one component, drawn. Inside, its vertices and edges have their places in these lists as numbers."""
     number = {vertex: place for place, vertex in enumerate(vertices)}
-    inner = Graph([graph.vertices[vertex] for vertex in vertices], [], graph.directed)
-    for place in edges:
-        edge = graph.edges[place]
-        inner.edges.append(Edge(number[edge.tail], number[edge.head], edge.label, edge.arrow))
-    pairs = [(edge.tail, edge.head) for edge in inner.edges]
-    plain = [place for place, (tail, head) in enumerate(pairs) if tail != head]  # loops are drawn at their boxes
-    if not plain:
-        return in_pixels(settled(lone(len(pairs)), inner), vertices, edges)
-    together = [number[vertex] for vertex in options.outer if vertex in number]
-    straight = [at for at, place in enumerate(plain) if edges[place] in options.straight]
-    ends = [pairs[place] for place in plain]
+    chosen = [graph.edges[edge] for edge in edges]
+    inner = Graph([graph.vertices[vertex] for vertex in vertices],
+                  [Edge(number[edge.tail], number[edge.head], edge.label, edge.arrow) for edge in chosen], graph.directed)
+    options = dataclasses.replace(options, outer=[number[vertex] for vertex in options.outer if vertex in number],
+                                  straight=[place for place, edge in enumerate(edges) if edge in options.straight])
+    if all(edge.tail == edge.head for edge in chosen):
+        return Part(vertices, edges, settled(lone(len(edges)), inner))
+    sheet = best_sheet(inner, options, engine)
+    if sheet.shape.broken:
+        names = ", ".join(inner.vertices[vertex].name for vertex in sheet.shape.broken)
+        raise DrawError(f"no drawing was found in which these boxes are rectangles: {names} (try another --seed, or --split"
+                        " with the nets that join most)")
+    return Part(vertices, edges, sheet)
+
+
+def best_sheet(graph: Graph, options: Options, engine: Engine) -> Sheet:
+    """Return the best drawing of a component."""
+    weight = COMPACT_WEIGHT if options.compact else BEND_WEIGHT
     best = None
     for attempt in range(MOST_EMBEDDINGS):
         try:
-            planar = embedded(len(vertices), ends, options, together, attempt)
-            shapes = shapes_of_planar(planar, inner, Wanted(together, straight), options, engine)
+            shapes = shapes_of(embedded(graph, options, attempt), graph, options, engine)
         except DrawError as fault:
             if best is None and not (isinstance(fault, NotStraight) and attempt + 1 < MOST_EMBEDDINGS):
                 raise
             continue  # an earlier embedding was drawn, or a later one may be
         for shape in shapes:
-            sheet = settled(with_loops(shape, plain, len(pairs)), inner)
-            price = (len(shape.broken), price_of(sheet, len(pairs), COMPACT_WEIGHT if options.compact else BEND_WEIGHT))
+            sheet = settled(shape, graph)
+            price = len(shape.broken), price_of(sheet, len(graph.edges), weight)
             if best is None or price < best[0]:
                 best = price, sheet
         if best is not None and not 0 < best[0][0] <= MOST_BROKEN:
             break
     assert best is not None, "a component has a shape"
-    (broken, _), sheet = best
-    if broken:
-        names = ", ".join(inner.vertices[vertex].name for vertex in sheet.shape.broken)
-        raise DrawError(f"no drawing was found in which these boxes are rectangles: {names} (try another --seed, or --split"
-                        " with the nets that join most)")
-    return in_pixels(sheet, vertices, edges)
+    return best[1]
 
 
-def embedded(count: int, pairs: list[tuple[int, int]], options: Options, together: Sequence[int],
-             attempt: int) -> Planarization:
-    """A component in the plane: at each attempt but the first another embedding, by another order of its vertices and
-    edges.
-
-    Raises
-    ------
-    DrawError
-        If there are more vertices and crossings than can be drawn.
-    """
-    most = MOST_VERTICES - count
-    if most < 0:
+def embedded(graph: Graph, options: Options, attempt: int) -> Planarization:
+    """Return a component in the plane: at each attempt but the first another embedding, by another order of its vertices and
+    edges. Raise a `DrawError` if there are more vertices and crossings than can be drawn."""
+    count, pairs = len(graph.vertices), [(edge.tail, edge.head) for edge in graph.edges]
+    if count > MOST_VERTICES:
         raise DrawError(f"a component has {count} vertices; the limit is {MOST_VERTICES}")
+    order = random.Random(options.seed * MOST_EMBEDDINGS + attempt) if attempt else None
     try:
-        return embedded_within(most, count, pairs, options, together, attempt)
+        return planarize(count, pairs, effort=options.effort, seed=options.seed, together=options.outer,
+                         most=MOST_VERTICES - count, order=order)
     except TooManyCrossings as fault:
-        raise DrawError(f"a component has {count} vertices, {len(pairs)} edges and {fault}; the limit is {MOST_VERTICES}"
+        plain = sum(tail != head for tail, head in pairs)
+        raise DrawError(f"a component has {count} vertices, {plain} edges and {fault}; the limit is {MOST_VERTICES}"
                         " vertices and crossings") from None
 
 
-def embedded_within(most: int, count: int, pairs: list[tuple[int, int]], options: Options, together: Sequence[int],
-                    attempt: int) -> Planarization:
-    """A component in the plane, as `embedded`, with at most `most` crossings, or raises `TooManyCrossings`."""
-    if not attempt:
-        return planarize(count, pairs, effort=options.effort, seed=options.seed, together=together, most=most)
-    source = random.Random(options.seed * MOST_EMBEDDINGS + attempt)
-    number, order = list(range(count)), list(range(len(pairs)))
-    source.shuffle(number)
-    source.shuffle(order)
-    found = planarize(count, [(number[pairs[place][0]], number[pairs[place][1]]) for place in order],
-                      effort=options.effort, seed=options.seed, together=[number[vertex] for vertex in together],
-                      most=most)
-    name = [0] * count
-    for vertex, other in enumerate(number):
-        name[other] = vertex
-    name += range(count, len(found.rotation))
-    chains: list[list[int]] = [[] for _ in pairs]
-    for place, chain in zip(order, found.chains):
-        chains[place] = chain
-    rotation = [found.rotation[other] for other in (*number, *range(count, len(found.rotation)))]
-    return Planarization(count, [(name[tail], name[head]) for tail, head in found.pieces], rotation, chains)
-
-
-def settled(shape: Shape, graph: Graph) -> Sheet:
-    """A shape in pixels."""
-    sheet = Sheet(shape, graph)
-    sheet.place()
-    return sheet
-
-
-def price_of(sheet: Sheet, edges: int, weight: float) -> float:
-    """The price to minimise: the area, times a factor that grows with the bends per edge."""
-    left, top, right, bottom = sheet.bounds()
-    return (right - left) * (bottom - top) * (1 + weight * sheet.shape.bends / edges)
-
-
-def with_loops(shape: Shape, plain: list[int], count: int) -> Shape:
-    """A shape whose edges have the numbers of the graph; loops have no line."""
-    lines: list[list[tuple[int, int]]] = [[] for _ in range(count)]
-    chains: list[list[int]] = [[] for _ in range(count)]
-    for place, line, chain in zip(plain, shape.lines, shape.expansion.chains):
-        lines[place], chains[place] = line, chain
-    expansion = dataclasses.replace(shape.expansion, chains=chains)
-    return dataclasses.replace(shape, expansion=expansion, lines=lines)
-
-
-def lone(loops: int) -> Shape:
-    """The shape of a single vertex with loops."""
-    chains: list[list[int]] = [[] for _ in range(loops)]
-    return Shape(Expansion([[]], [[0]], chains, set(), set()), [(0, 0)], [[] for _ in range(loops)], [(0, 0, 0, 0)], [], 0)
-
-
-def shapes_of_planar(planar: Planarization, graph: Graph, wanted: Wanted, options: Options, engine: Engine) -> list[Shape]:
-    """Good shapes of an embedded component."""
+def shapes_of(planar: Planarization, graph: Graph, options: Options, engine: Engine) -> list[Shape]:
+    """Return good shapes of an embedded component; raise a `DrawError` if it takes too many vertices, or no shape was found
+    with all of `outer` on one face, or with straight edges."""
     try:
-        return choose(planar, engine, compact=options.compact, effort=options.effort, seed=options.seed, outer=wanted.outer,
-                      straight=wanted.straight)
+        return choose(planar, engine, options)
     except TooLarge as fault:
         raise DrawError(f"a component has {len(graph.vertices)} vertices, {len(graph.edges)} edges and {planar.crossings}"
                         f" crossings, which takes {fault} vertices of degree 4; the limit is {MOST_VERTICES}") from None
     except NoSuchFace:
-        names = ", ".join(graph.vertices[vertex].name for vertex in wanted.outer)
+        names = ", ".join(graph.vertices[vertex].name for vertex in options.outer)
         raise DrawError(f"no embedding was found with these vertices on one face: {names}") from None
     except NoStraightEdges:
-        ends = [(edge.tail, edge.head) for edge in graph.edges if edge.tail != edge.head]
-        names = ", ".join("--".join(graph.vertices[end].name for end in ends[number]) for number in wanted.straight)
+        ends = ((graph.edges[number].tail, graph.edges[number].head) for number in options.straight)
+        names = ", ".join("--".join(graph.vertices[end].name for end in pair) for pair in ends)
         raise NotStraight(f"no drawing was found in which these edges are straight: {names}") from None
 
 
-def crossings_of(shape: Shape) -> list[tuple[int, tuple[int, int]]]:
-    """The node of each crossing, with the two edges that cross there."""
-    met: dict[int, list[int]] = {}
-    for edge, chain in enumerate(shape.expansion.chains):
-        for node in chain[1:-1]:
-            met.setdefault(node, []).append(edge)
-    return [(node, (min(met[node]), max(met[node]))) for node in shape.expansion.crossings]
+def settled(shape: Shape, graph: Graph) -> Sheet:
+    """Return a shape in pixels."""
+    sheet = Sheet(shape, graph)
+    spread(sheet)
+    return sheet
 
 
-def in_pixels(sheet: Sheet, vertices: list[int], edges: list[int]) -> Part:
-    """A settled component, moved to 0, 0."""
-    crossings = crossings_of(sheet.shape)
-    boxes = [sheet.extent(box) for box in sheet.boxes]
-    lines = [sheet.line(number) for number in range(len(edges))]
-    labels = {number: sheet.extent(item) for number, item in sheet.labels.items()}
+def price_of(sheet: Sheet, edges: int, weight: float) -> float:
+    """Return the price to minimise: the area, times a factor that grows with the bends per edge."""
     left, top, right, bottom = sheet.bounds()
+    return (right - left) * (bottom - top) * (1 + weight * sheet.shape.bends / edges)
 
-    def moved(box: Box) -> Box:
-        return box[0] - left, box[1] - top, box[2] - left, box[3] - top
 
-    lines = [[(x - left, y - top) for x, y in line] for line in lines]
-    found = [Crossing(meeting(lines[one], lines[other]), (edges[one], edges[other])) for _, (one, other) in crossings]
-    return Part(vertices, edges, list(map(moved, boxes)), lines, found,
-                {edges[number]: moved(box) for number, box in labels.items()}, right - left, bottom - top,
-                sheet.shape.expansion.planar)
+def crossings_of(shape: Shape) -> list[tuple[int, int]]:
+    """Return for each crossing the two edges that cross there, the lesser first."""
+    planar = shape.expansion.planar
+    met: list[list[int]] = [[] for _ in planar.rotation]
+    for edge, chain in enumerate(planar.chains):
+        for dart in chain[1:]:
+            met[planar.tail[dart]].append(edge)
+    return [(min(pair), max(pair)) for pair in met[planar.vertex_count:]]
 
 
 def meeting(one: list[Point], other: list[Point]) -> Point:
-    """The point at which two lines cross."""
+    """Return the point at which two lines cross."""
     for (a, b), (c, d) in zip(one, one[1:]):
         for (e, f), (g, h) in zip(other, other[1:]):
             if a == c and f == h and min(e, g) < a < max(e, g) and min(b, d) < f < max(b, d):
@@ -309,32 +199,41 @@ def meeting(one: list[Point], other: list[Point]) -> Point:
     raise PlanarbendError("two edges that cross do not meet: please report this graph")
 
 
-def side_by_side(graph: Graph, parts: list[Part]) -> Drawing:
-    """All components in one picture."""
+def side_by_side(graph: Graph, parts: Sequence[Part]) -> Drawing:
+    """Return all components in one picture."""
     boxes: list[Box] = [(0.0, 0.0, 0.0, 0.0)] * len(graph.vertices)
     lines: list[list[Point]] = [[]] * len(graph.edges)
     crossings: list[Crossing] = []
     labels: dict[int, Box] = {}
-    places, width, height = packed([(part.width + BETWEEN, part.height + BETWEEN) for part in parts])
-    for part, (left, top) in zip(parts, places):
-        x, y = left + MARGIN, top + MARGIN
-
-        def place(box: Box, x: float = x, y: float = y) -> Box:
-            return round(box[0] + x, 3), round(box[1] + y, 3), round(box[2] + x, 3), round(box[3] + y, 3)
-
-        for vertex, box in zip(part.vertices, part.boxes):
-            boxes[vertex] = place(box)
-        for edge, line in zip(part.edges, part.lines):
-            lines[edge] = [(round(a + x, 3), round(b + y, 3)) for a, b in line]
-        crossings += [Crossing((round(one.at[0] + x, 3), round(one.at[1] + y, 3)), one.edges) for one in part.crossings]
-        labels |= {edge: place(box) for edge, box in part.labels.items()}
+    bounds = [part.sheet.bounds() for part in parts]
+    places, width, height = packed([(right - left + BETWEEN, bottom - top + BETWEEN) for left, top, right, bottom in bounds])
+    for part, box, (x, y) in zip(parts, bounds, places):
+        sheet, edges, corner, place = part.sheet, part.edges, box[:2], (x + MARGIN, y + MARGIN)
+        for vertex, item in zip(part.vertices, sheet.boxes):
+            boxes[vertex] = box_at(sheet.extent(item), corner, place)
+        for number, edge in enumerate(edges):
+            lines[edge] = [point_at(point, corner, place) for point in sheet.line(number)]
+        for number, item in sheet.labels.items():
+            labels[edges[number]] = box_at(sheet.extent(item), corner, place)
+        crossings += [Crossing(meeting(lines[edges[one]], lines[edges[other]]), (edges[one], edges[other]))
+                      for one, other in crossings_of(sheet.shape)]
     size = (math.ceil(width - BETWEEN + 2 * MARGIN), math.ceil(height - BETWEEN + 2 * MARGIN))
-    planes = [part.planar for part in parts if part.planar is not None]
-    return Drawing(graph, boxes, lines, crossings, size, labels, list(map(lists_of, planes)))
+    planars = (part.sheet.shape.expansion.planar for part in parts)
+    return Drawing(graph, boxes, lines, crossings, size, labels, [planar.lists for planar in planars if planar.tail])
+
+
+def point_at(point: Point, corner: Point, place: Point) -> Point:
+    """Return a point of a component whose left upper corner goes to a place in the picture."""
+    return round(point[0] - corner[0] + place[0], 3), round(point[1] - corner[1] + place[1], 3)
+
+
+def box_at(box: Box, corner: Point, place: Point) -> Box:
+    """Return a box of a component whose left upper corner goes to a place in the picture."""
+    return *point_at(box[:2], corner, place), *point_at(box[2:], corner, place)
 
 
 def packed(sizes: list[tuple[float, float]]) -> tuple[list[Point], float, float]:
-    """Places for rectangles, and their total width and height. Several widths are tried, and the one with the least
+    """Return places for rectangles, and their total width and height. Several widths are tried, and the one with the least
     area is taken; results more stretched than the largest rectangle count more."""
     widest, area = max(width for width, _ in sizes), sum(width * height for width, height in sizes)
     least = stretch_of(*max(sizes, key=lambda size: size[0] * size[1]))
@@ -344,12 +243,12 @@ def packed(sizes: list[tuple[float, float]]) -> tuple[list[Point], float, float]
 
 
 def stretch_of(width: float, height: float) -> float:
-    """How much a rectangle is stretched: 1 if it is at most three times as wide as high, and twice as high as wide."""
+    """Return how much a rectangle is stretched: 1 if it is at most three times as wide as high, and twice as high as wide."""
     return max(1.0, width / height / 3, height / width / 2)
 
 
 def at_skyline(sizes: list[tuple[float, float]], width: float) -> tuple[list[Point], float, float]:
-    """Places within a width: the highest rectangles first, each as far up, then as far left, as it may go."""
+    """Return places within a width: the highest rectangles first, each as far up, then as far left, as it may go."""
     skyline: list[tuple[float, float, float]] = [(0.0, width, 0.0)]  # from, to, how far down it is taken
     places: list[Point] = [(0.0, 0.0)] * len(sizes)
     for number in sorted(range(len(sizes)), key=lambda number: (-sizes[number][1], number)):
@@ -367,8 +266,3 @@ def at_skyline(sizes: list[tuple[float, float]], width: float) -> tuple[list[Poi
         skyline = cut
     return (places, max(x + wide for (x, _), (wide, _) in zip(places, sizes)),
             max(y + high for (_, y), (_, high) in zip(places, sizes)))
-
-
-def lists_of(planar: Planarization) -> Lists:
-    """The neighbour lists of a planarization."""
-    return [[planar.pieces[dart // 2][1 - dart % 2] + 1 for dart in darts] for darts in planar.rotation]

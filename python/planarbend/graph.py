@@ -59,23 +59,15 @@ class Graph:
 def split(graph: Graph, vertices: Collection[int]) -> Graph:
     """Return a graph in which some vertices, such as power nets, are split into one flag for each of their connections.
 
-    Parameters
-    ----------
-    graph : Graph
-    vertices : collection of int
-        The vertices to split.
-
-    Returns
-    -------
-    Graph
-        Its edges are those of `graph`, in the same order. The first flag of a vertex has the vertex's number; further
-        flags come after all vertices.
+    Its edges are those of `graph`, in the same order. The first flag of a vertex has the vertex's number; further flags come
+    after all vertices.
     """
     found = Graph([Vertex(one.name, one.label, Kind.FLAG if number in vertices else one.kind)
                    for number, one in enumerate(graph.vertices)], [], graph.directed)
     used: set[int] = set()
 
     def end(vertex: int) -> int:
+        """Return the number of an end: the vertex itself at first, then a further flag."""
         if vertex not in vertices or vertex not in used:
             used.add(vertex)
             return vertex
@@ -85,3 +77,29 @@ def split(graph: Graph, vertices: Collection[int]) -> Graph:
     for edge in graph.edges:
         found.edges.append(dataclasses.replace(edge, tail=end(edge.tail), head=end(edge.head)))
     return found
+
+
+class Partition:
+    """Disjoint sets of the numbers from 0 up (union-find): at first, each number is a set of its own."""
+
+    def __init__(self, count: int = 0) -> None:
+        """Return the partition of this many numbers."""
+        self.parent = list(range(count))
+
+    def add(self) -> int:
+        """Return a new number, which is a set of its own."""
+        self.parent.append(len(self.parent))
+        return len(self.parent) - 1
+
+    def find(self, number: int) -> int:
+        """Return the number that represents the set of a number."""
+        parent = self.parent
+        while parent[number] != number:
+            parent[number] = number = parent[parent[number]]
+        return number
+
+    def unite(self, one: int, other: int) -> bool:
+        """Return whether two sets were different, after making them one that is represented as that of `one`."""
+        one, other = self.find(one), self.find(other)
+        self.parent[other] = one
+        return one != other

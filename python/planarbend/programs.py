@@ -18,17 +18,10 @@ class NoProgram(PlanarbendError):
 
 
 class RunFailed(PlanarbendError):
-    """The run ended before its last graph.
-
-    Attributes
-    ----------
-    status : int
-        The exit status.
-    said : str
-        The whole standard error.
-    """
+    """The run ended before its last graph, with an exit `status`; `said` is the whole standard error."""
 
     def __init__(self, status: int, said: str) -> None:
+        """Return the error of a run."""
         super().__init__(said or f"planarbend ended with status {status}")
         self.status, self.said = status, said
 

@@ -199,7 +199,7 @@ def processor() -> float:
 def planarized(name: str, size: tuple[int, int], graph: Graph, words: argparse.Namespace) -> Result:
     """The crossings of one graph, component by component."""
     import networkx
-    from planarbend.planarize import planarize
+    from planarbend.drawing.planarize import planarize
 
     whole = networkx.Graph()
     whole.add_nodes_from(range(len(graph.vertices)))

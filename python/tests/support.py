@@ -28,6 +28,7 @@ GRAPHS = {path.name: path for path in [*sorted((TESTS / "graphs").iterdir()), EX
 BUILT = ROOT / "out/planarbend"  # where `./planarbend --build` and `--test` leave the program
 CORPUS = ROOT / "crates/corpus/data"  # planar_code files
 sys.path.insert(0, str(PACKAGE))
+sys.path.append(str(ROOT / "checks"))
 os.environ.setdefault("PLANARBEND", str(BUILT))
 
 has_networkx = importlib.util.find_spec("networkx") is not None

@@ -10,17 +10,19 @@ from collections.abc import Sequence
 
 import support
 from drawing_checker import check
-from planarbend import library
-from planarbend.choose import Found, Search
 from planarbend.draw import Options, draw
-from planarbend.engine import ProcessEngine, default_engine
-from planarbend.expand import Expansion, expand
+from planarbend.drawing.choose import Search
+from planarbend.drawing.expand import Expansion
+from planarbend.drawing.incremental import incremental_embedding
+from planarbend.drawing.mend import corners_of, ways_round_cage
+from planarbend.drawing.nets import dots_of, pieces_of
+from planarbend.drawing.numbering import Contraction, form_of, path_of
+from planarbend.drawing.planarize import planarize
+from planarbend.drawing.plans import Plan
+from planarbend.drawing.shape import Shape
 from planarbend.graph import Edge, Graph, Kind, Vertex
-from planarbend.mend import corners_of, ways_round_cage
-from planarbend.nets import dots_of, pieces_of
-from planarbend.numbering import contracted, numbered
-from planarbend.easy import easily_embedded
-from planarbend.planarize import planarize
+from planarbend.layout import library
+from planarbend.layout.engine import ProcessEngine, default_engine
 
 # From (0, 0) to the right and round, y downwards: a square of side 4 from which the quarter at the lower left is cut away.
 STEP = [[(0, 0), (4, 0)], [(4, 0), (4, 4)], [(4, 4), (2, 4)], [(2, 4), (2, 2), (0, 2)], [(0, 2), (0, 0)]]
@@ -63,12 +65,12 @@ class Mended(unittest.TestCase):
         """Wherever a box of the least shape has a step, edges that bend in its place make it a rectangle."""
         engine, mended = default_engine(), 0
         for seed in range(1, 24):
-            search = Search(planarize(*hubs(seed)), engine, 1, 0)
+            search = Search(planarize(*hubs(seed)), engine, Options())
             pool = search.shapes_of([search.first_plan(False)])
-            best = min(pool, key=Found.price)
-            if best.shape.broken and search.mended(best):
-                search.mend(pool)
-                found = min(pool, key=Found.price).shape
+            best = min(pool, key=Shape.price)
+            if best.broken and search.mended(best):
+                pool += search.mend(pool)
+                found = min(pool, key=Shape.price)
                 with self.subTest(seed=seed):
                     self.assertEqual(found.broken, [])
                     self.assertEqual(found.bends, sum(len(line) - 2 for line in found.lines))
@@ -95,8 +97,9 @@ class Room(unittest.TestCase):
         """Two hubs with 100 vertices between them: 300 nodes with two cages, of which 45 are left out and put back."""
         edges = [(hub, 2 + leaf) for leaf in range(100) for hub in (0, 1)]
         graph = Graph([Vertex(str(number), str(number)) for number in range(102)], [Edge(*edge) for edge in edges])
-        around, runs = contracted(expand(planarize(102, edges), (0, 1), {}))
-        self.assertEqual((len(around), len(runs)), (255, 2 * 45))
+        contracted = Contraction(Expansion(planarize(102, edges), Plan(frozenset([0, 1]))))
+        around = {node: [contracted.tail[dart ^ 1] for dart in contracted.rotation[node]] for node in contracted.nodes}
+        self.assertEqual((len(around), len(contracted.runs)), (255, 2 * 45))
         for node, others in around.items():
             self.assertEqual(len(set(others)), len(others))
             self.assertTrue(all(node in around[other] for other in others))
@@ -104,20 +107,37 @@ class Room(unittest.TestCase):
             with self.subTest(outer=options.outer):
                 checked(graph, edges, options)
 
-    def test_chains_of_vertices(self) -> None:
+    def chains(self) -> list[tuple[int, int]]:
         """Two hubs with 40 chains of six vertices between them."""
         edges = []
         for chain in range(40):
             inner = list(range(2 + 6 * chain, 8 + 6 * chain))
             edges += list(zip([0, *inner], [*inner, 1]))
+        return edges
+
+    def test_chains_of_vertices(self) -> None:
+        edges = self.chains()
         graph = Graph([Vertex(str(number), str(number)) for number in range(242)], [Edge(*edge) for edge in edges])
         checked(graph, edges)
+
+    def test_paths_along_chains(self) -> None:
+        """The path of each piece leads from node to node, also where nodes next to one another are put back."""
+        expansion = Expansion(planarize(242, self.chains()), Plan(frozenset([0, 1])))
+        graph = Contraction(expansion)
+        for seed in range(4):
+            order = graph.nodes
+            random.Random(seed).shuffle(order)
+            form = form_of(graph, order)
+            points, paths = form.places(default_engine().lay([form.lists], "best")[0])
+            for dart in (dart for chain in expansion.chains for dart in chain):
+                path = path_of(paths, dart)
+                self.assertEqual((path[0], path[-1]), (points[expansion.tail[dart]], points[expansion.tail[dart ^ 1]]))
 
 
 @unittest.skipUnless(library.path(), "the library is missing (planarbend --build makes it)")
 class Engines(unittest.TestCase):
     def test_library_and_program_answer_alike(self) -> None:
-        graphs = [numbered(around, list(around), runs).lists for around, runs in map(contracted, expansions())]
+        graphs = [form_of(graph, graph.nodes).lists for graph in map(Contraction, expansions())]
         for outer in ("first", "best"):
             self.assertEqual(library.LibraryEngine().lay(graphs, outer), ProcessEngine().lay(graphs, outer))
 
@@ -126,24 +146,25 @@ def expansions() -> list[Expansion]:
     """Expansions of random graphs in which four vertices have most of the edges."""
     found = []
     for seed in range(8):
-        search = Search(planarize(*hubs(seed), effort=0), default_engine(), 0, 0)
+        search = Search(planarize(*hubs(seed), effort=0), default_engine(), Options(effort=0))
         expansion = search.expanded(search.first_plan(False))
         assert expansion is not None
         found.append(expansion)
     return found
 
 
-class Easy(unittest.TestCase):
+class Incremental(unittest.TestCase):
     def test_planar_graphs_without_a_test(self) -> None:
         """Whatever is found is an embedding of the graph: each edge at both ends, and Euler's formula holds."""
         for seed in range(60):
             dice = random.Random(seed)
             count = dice.randrange(1, 14)
             edges = [(dice.randrange(count), dice.randrange(count)) for _ in range(dice.randrange(2 * count))]
-            around = easily_embedded(count, edges)
+            edges = [pair for pair in edges if pair[0] != pair[1]]
+            around = incremental_embedding(count, edges)
             if around is None:
                 continue
-            pairs = {frozenset(edge) for edge in edges if edge[0] != edge[1]}
+            pairs = set(map(frozenset, edges))
             self.assertEqual({frozenset((tail, head)) for tail, heads in enumerate(around) for head in heads}, pairs)
             self.assertEqual(sum(map(len, around)), 2 * len(pairs))
             self.assertEqual(count - len(pairs) + faces(around), 1 + parts(around))
@@ -151,7 +172,7 @@ class Easy(unittest.TestCase):
     def test_what_is_not_planar(self) -> None:
         for edges in ([(one, other) for one in range(5) for other in range(one)],
                       [(one, other) for one in range(3) for other in range(3, 6)]):
-            self.assertIsNone(easily_embedded(6, edges))
+            self.assertIsNone(incremental_embedding(6, edges))
 
     def test_grids(self) -> None:
         """Most grids are found planar, with as many faces as they have squares, and one more."""
@@ -160,7 +181,7 @@ class Easy(unittest.TestCase):
             for height in range(2, width + 1):
                 edges = [(place, place + 1) for place in range(width * height) if (place + 1) % width]
                 edges += [(place, place + width) for place in range(width * (height - 1))]
-                around = easily_embedded(width * height, edges)
+                around = incremental_embedding(width * height, edges)
                 missed += around is None
                 if around is not None:
                     self.assertEqual(faces(around), (width - 1) * (height - 1) + 1)
@@ -172,28 +193,11 @@ class Easy(unittest.TestCase):
             edges = [(0, 1)] * has_edge
             for middle in range(2, 20, 2):
                 edges += [(0, middle), (middle, middle + 1), (middle + 1, 1), (middle, middle + 20)]
-            around = easily_embedded(40, edges)
+            around = incremental_embedding(40, edges)
             assert around is not None
             self.assertEqual(sorted((tail, head) for tail, heads in enumerate(around) for head in heads),
                              sorted([*edges, *((head, tail) for tail, head in edges)]))
             self.assertEqual(40 - len(edges) + faces(around), 1 + parts(around))
-
-    def test_drawing_without_networkx(self) -> None:
-        """A tree, a ring and an octahedron are drawn where networkx cannot be loaded, and quickly loaded modules suffice."""
-        program = ("import sys; sys.modules['networkx'] = None\n"
-                   "from planarbend.draw import draw\nfrom planarbend.graph import Edge, Graph, Vertex\n"
-                   "import planarbend.command\n"
-                   "for edges in ({edges!r}):\n"
-                   "    count = 1 + max(map(max, edges))\n"
-                   "    graph = Graph([Vertex(str(n), str(n)) for n in range(count)], [Edge(*edge) for edge in edges])\n"
-                   "    assert not draw(graph).crossings\n"
-                   "assert 'xml' not in sys.modules and 'planarbend.laid_out' not in sys.modules\n")
-        octahedron = [(one, other) for one in range(6) for other in range(one) if one + other != 5]
-        edges = [[(number // 2, number + 1) for number in range(20)], [(number, (number + 1) % 9) for number in range(9)],
-                 octahedron]
-        ran = subprocess.run([sys.executable, "-c", program.format(edges=edges)], cwd=support.PACKAGE, capture_output=True,
-                             text=True, check=False)
-        self.assertEqual(ran.returncode, 0, ran.stderr)
 
 
 def faces(around: list[list[int]]) -> int:
@@ -224,6 +228,15 @@ def parts(around: list[list[int]]) -> int:
                     left.discard(other)
                     waiting.append(other)
     return count
+
+
+class Loaded(unittest.TestCase):
+    def test_quickly_loaded_modules_suffice(self) -> None:
+        """The command loads networkx only where it tests whether a graph is planar, and nothing of streams."""
+        program = ("import sys, planarbend.command\n"
+                   "assert not {'networkx', 'xml', 'subprocess', 'planarbend.layout.laid_out'} & set(sys.modules)\n")
+        ran = subprocess.run([sys.executable, "-c", program], cwd=support.PACKAGE, capture_output=True, text=True, check=False)
+        self.assertEqual(ran.returncode, 0, ran.stderr)
 
 
 class Nets(unittest.TestCase):

@@ -15,7 +15,7 @@ from typing import Any
 from unittest import mock
 
 import support
-from planarbend.planar_code import HEADER, lists_of, split
+from planarbend.layout.planar_code import HEADER, lists_of, split
 
 SVG = "{http://www.w3.org/2000/svg}"
 N4, N5, N7, CUBIC = (support.CORPUS / name for name in ("planar_d4_n4.pc", "planar_d4_n5.pc", "planar_d4_n7.pc",

@@ -7,7 +7,7 @@ import unittest
 from collections import Counter
 
 import support  # finds the package
-from planarbend.core import Core, Strand, core_of
+from planarbend.drawing.core import Core, Strand, core_of
 
 FIXED = 1 << 20
 Pair = tuple[int, int]

@@ -15,7 +15,7 @@ import support
 from drawing_checker import Found, check, on_outer_face
 from planarbend.draw import DrawError, Options, draw
 from planarbend.graph import Edge, Graph, Vertex
-from planarbend.picture import svg
+from planarbend.drawing.picture import svg
 from planarbend.readers import read
 
 # The most crossings and bends of each graph; crossings are the published numbers where there are any.

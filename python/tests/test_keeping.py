@@ -7,16 +7,17 @@ import unittest
 
 import support
 from drawing_checker import check
-from planarbend import library
-from planarbend.choose import Search
+from planarbend.layout import library
+from planarbend.drawing.choose import Search
 from planarbend.draw import DrawError, Options, draw
-from planarbend.engine import Answer, Conditions, Cut, NotKept, ProcessEngine, keeps_conditions
-from planarbend.expand import expand
+from planarbend.layout.engine import Answer, Conditions, Cut, NotKept, ProcessEngine
+from planarbend.drawing.expand import Expansion
 from planarbend.graph import Edge, Graph, Vertex
-from planarbend.keeping import conditions_of
-from planarbend.numbering import contracted, numbered, outer_forms
-from planarbend.planar_code import Lists, Plane, record_of
-from planarbend.planarize import planarize
+from planarbend.drawing.numbering import Contraction, conditions_of, form_of, outer_forms
+from planarbend.layout.planar_code import Lists, record_of
+from planarbend.drawing.planarize import planarize
+from planarbend.drawing.plans import Plan
+from planes import Plane
 
 HUBS = [(hub, leaf) for hub in (0, 1) for leaf in range(2, 9)]  # two vertices of degree 7
 
@@ -26,7 +27,7 @@ def keeper() -> library.LibraryEngine:
     if library.path() is None:
         raise unittest.SkipTest("libplanarbend is missing (planarbend --build)")
     engine = library.LibraryEngine()
-    if not keeps_conditions(engine):
+    if not engine.keeps:
         raise unittest.SkipTest("libplanarbend is older than the package (planarbend --build)")
     return engine
 
@@ -70,12 +71,12 @@ class Named(unittest.TestCase):
     def test_cages_and_spines(self) -> None:
         planar = planarize(9, HUBS)
         for cages, spines in (((0, 1), {}), ((0,), {1: 2}), ((), {0: 0, 1: 3})):
-            expansion = expand(planar, cages, spines)
-            around, runs = contracted(expansion)
-            order = list(around)
+            expansion = Expansion(planar, Plan(frozenset(cages), tuple(spines.items())))
+            graph = Contraction(expansion)
+            order = graph.nodes
             random.Random(1).shuffle(order)
-            for form in (numbered(around, order, runs), *outer_forms(expansion)):
-                kept = conditions_of(expansion, form, (), boxes=True, has_outer=False)
+            for form in (form_of(graph, order), *outer_forms(expansion)):
+                kept = conditions_of(form, (), has_outer=False)
                 plane = Plane(form.lists)
                 home = {node: vertex for vertex, nodes in enumerate(expansion.homes) for node in nodes}
                 with self.subTest(cages=cages, spines=spines):
@@ -88,16 +89,16 @@ class Named(unittest.TestCase):
                         met = [form.order[plane.darts[place][0] - 1] for place in walk]
                         self.assertEqual({home[node] for node in met}, {vertex})
                         self.assertEqual(len(met), 7)
-                    self.assertEqual(conditions_of(expansion, form, (), boxes=True, has_outer=True).inner, ())
+                    self.assertEqual(conditions_of(form, (), has_outer=True).inner, ())
 
     def test_edges_along_which_nodes_are_left_out(self) -> None:
         edges = [(hub, 2 + leaf) for leaf in range(100) for hub in (0, 1)]
-        expansion = expand(planarize(102, edges), (0, 1), {})
-        around, runs = contracted(expansion)
-        form = numbered(around, list(around), runs)
-        kept = conditions_of(expansion, form, range(len(edges)), boxes=False, has_outer=False)
+        expansion = Expansion(planarize(102, edges), Plan(frozenset([0, 1])))
+        graph = Contraction(expansion)
+        form = form_of(graph, graph.nodes)
+        kept = conditions_of(form, range(len(edges)), has_outer=False)
         self.assertLessEqual(set(kept.straight), set(Plane(form.lists).darts))
-        self.assertEqual(len(kept.straight), 200 - 45)
+        self.assertEqual(len(kept.straight), 200 - 45 + 2 * 100)  # with the pieces of two cages
 
 
 class Refused(unittest.TestCase):
@@ -134,12 +135,12 @@ class Kept(unittest.TestCase):
             count = dice.randrange(8, 22)
             edges = [(dice.randrange(min(vertex, 4)), vertex) for vertex in range(1, count)]
             edges += [tuple(dice.sample(range(count), 2)) for _ in range(dice.randrange(count // 2, 2 * count))]
-            search = Search(planarize(count, edges), engine, 1, 0)
+            search = Search(planarize(count, edges), engine, Options())
             pool = search.shapes_of([search.first_plan(False)])
             for found in search.kept_boxes(pool):
                 tried += 1
                 with self.subTest(seed=seed):
-                    self.assertEqual(found.shape.broken, [])
+                    self.assertEqual(found.broken, [])
         self.assertGreater(tried, 100)
 
     def test_straight_edges(self) -> None:

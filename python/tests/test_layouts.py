@@ -17,9 +17,10 @@ from unittest import mock
 
 import support
 import planarbend
-from planarbend import library
-from planarbend.engine import Conditions, Cut, NotKept
-from planarbend.planar_code import Plane, split
+from planarbend.layout import laid_out, library
+from planarbend.layout.engine import Conditions, Cut, NotKept
+from planarbend.layout.planar_code import split
+from planes import Plane
 
 # The fewest bends of all graphs of a file, with the longest outer face and with the best one, by LEMON.
 BENDS = {"cubic60.pc": (176, 169), "medial60.pc": (1102, 1082), "planar_d4_n6.pc": (217, 216),
@@ -141,7 +142,7 @@ class Library(unittest.TestCase):
             wanted = by_program(name, "first", *words)
             with calling(library.path()):
                 layouts = planarbend.layouts(records_of(name), "first", words)
-                self.assertIsInstance(layouts, library.LibraryLayouts)
+                self.assertIsInstance(layouts, laid_out.LibraryLayouts)
                 self.assertEqual(list(layouts), wanted, (name, words))
 
     def test_one_graph(self) -> None:
@@ -288,8 +289,8 @@ class StandIn(unittest.TestCase):
             self.assertFalse(library.is_wanted())
             del os.environ["PLANARBEND"]
             self.assertTrue(library.is_wanted())
-            self.assertIsInstance(planarbend.layouts([]), library.LibraryLayouts)
-            self.assertIsInstance(planarbend.layouts([], words=["--drawing", "quick"]), library.LibraryLayouts)
+            self.assertIsInstance(planarbend.layouts([]), laid_out.LibraryLayouts)
+            self.assertIsInstance(planarbend.layouts([], words=["--drawing", "quick"]), laid_out.LibraryLayouts)
             os.environ["PLANARBEND_LIBRARY"] = ""
             self.assertFalse(library.is_wanted())
             with self.assertRaisesRegex(planarbend.NoProgram, "was not found"):

@@ -13,7 +13,7 @@ from unittest import mock
 
 import support
 from drawing_checker import check, on_outer_face
-from planarbend import library
+from planarbend.layout import library
 
 # Three squares, one in another, each joined to the next: any face can be outside. The second is a component of its own.
 RINGS = ["{0}{1} {0}{2}".format(name, 4 * ring + place, 4 * ring + (place + 1) % 4)

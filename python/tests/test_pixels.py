@@ -14,9 +14,9 @@ import support
 from drawing_checker import check
 from planarbend.draw import Options, draw
 from planarbend.graph import Arrow, Edge, Graph, Kind, Vertex
-from planarbend.lengths import Lengths
+from planarbend.drawing.solver import Lengths
 from planarbend.readers import read
-from planarbend.texts import lines_of
+from planarbend.drawing.texts import lines_of
 
 Box = tuple[float, float, float, float]
 # Pixels between boxes, labels and straight pieces of edges: enough that nobody takes one for part of another.

@@ -9,8 +9,9 @@ import unittest
 from collections.abc import Sequence
 
 import support
-from planarbend.embeddings import neighbours
-from planarbend.planarize import Planarization, TooManyCrossings, needed_by_cycles, needed_crossings, planarize
+from planarbend.drawing.moves import neighbours
+from planarbend.drawing.planarization import Planarization
+from planarbend.drawing.planarize import TooManyCrossings, needed_by_cycles, needed_crossings, planarize
 
 try:
     import networkx
@@ -19,11 +20,11 @@ except ImportError:
 
 PRINTED = """
 import random
-from planarbend.planarize import planarize
+from planarbend.drawing.planarize import planarize
 dice = random.Random(5)
 pairs = [(tail, head) for head in range(14) for tail in range(head)]
 result = planarize(14, dice.sample(pairs, 45), effort=1, seed=3, together=(2, 9, 11))
-print(result.pieces, result.rotation, result.chains)
+print(result.tail, result.rotation, result.chains)
 """
 
 
@@ -34,7 +35,7 @@ HEAWOOD = [(place, (place + 1) % 14) for place in range(14)] + [(place, (place +
 
 def faces_of(result: Planarization) -> list[list[int]]:
     """The faces, as the vertices on their boundaries."""
-    origin = [vertex for piece in result.pieces for vertex in piece]
+    origin = result.tail
     following = {}
     for around in result.rotation:
         for dart, after in zip(around, around[1:] + around[:1]):
@@ -53,8 +54,8 @@ def faces_of(result: Planarization) -> list[list[int]]:
     return faces
 
 
-class WithoutTest(unittest.TestCase):
-    """Crossings that Euler's formula asks for need no planarity test."""
+class Needed(unittest.TestCase):
+    """Lower bounds for crossings."""
 
     def test_needed_by_cycles(self) -> None:
         """The bounds of complete graphs, and of those whose shortest cycle has four, five and six edges."""
@@ -75,16 +76,6 @@ class WithoutTest(unittest.TestCase):
             self.assertEqual(needed_crossings(count, again), needed)
         self.assertEqual(needed_crossings(6, UTILITIES), 0)
 
-    def test_without_networkx(self) -> None:
-        """These are planarized with as few crossings where networkx cannot be loaded."""
-        program = ("import sys; sys.modules['networkx'] = None\n"
-                   "from planarbend.planarize import planarize\n"
-                   "print(*[planarize(count, edges, seed=seed).crossings for count, edges in {graphs} for seed in range(3)])\n")
-        graphs = [(6, UTILITIES), (10, PETERSEN), (14, HEAWOOD)]
-        ran = subprocess.run([sys.executable, "-c", program.format(graphs=graphs)], cwd=support.PACKAGE, capture_output=True,
-                             text=True, check=False)
-        self.assertEqual(ran.stdout.split(), ["1"] * 3 + ["2"] * 3 + ["3"] * 3, ran.stderr)
-
 
 @support.needs_networkx
 class Planarized(unittest.TestCase):
@@ -100,13 +91,16 @@ class Planarized(unittest.TestCase):
     def check(self, result: Planarization, edges: Sequence[tuple[int, int]], together: Sequence[int] = ()) -> None:
         """Finds a planarization right."""
         count = result.vertex_count
-        origin = [vertex for piece in result.pieces for vertex in piece]
+        origin = result.tail
         self.assertEqual(sorted(dart for around in result.rotation for dart in around), list(range(len(origin))))
         for vertex, around in enumerate(result.rotation):
             self.assertEqual([origin[dart] for dart in around], [vertex] * len(around))
         self.assertEqual(sorted(dart >> 1 for chain in result.chains for dart in chain), list(range(len(origin) // 2)))
         owner = {dart: edge for edge, chain in enumerate(result.chains) for step in chain for dart in (step, step ^ 1)}
         for chain, (tail, head) in zip(result.chains, edges, strict=True):
+            self.assertEqual(bool(chain), tail != head, "loops alone are left out")
+            if not chain:
+                continue
             self.assertEqual((origin[chain[0]], origin[chain[-1] ^ 1]), (tail, head))
             for dart, after in zip(chain, chain[1:]):
                 self.assertEqual(origin[dart ^ 1], origin[after])
@@ -122,12 +116,12 @@ class Planarized(unittest.TestCase):
         self.assertEqual(len(set(pairs)), len(pairs), "two edges cross twice")
         planar = networkx.Graph()
         planar.add_nodes_from(range(len(result.rotation)))
-        planar.add_edges_from(piece for piece in result.pieces if piece[0] != piece[1])
+        planar.add_edges_from(zip(origin[::2], origin[1::2]))
         self.assertTrue(networkx.check_planarity(planar)[0])
         parts = list(networkx.connected_components(planar))
         alone = sum(1 for around in result.rotation if not around)
         faces = faces_of(result)
-        self.assertEqual(len(result.rotation) - len(result.pieces) + len(faces) + alone, 2 * len(parts))
+        self.assertEqual(len(result.rotation) - len(origin) // 2 + len(faces) + alone, 2 * len(parts))
         for part in parts:
             members = set(together) & part
             self.assertTrue(len(members) < 2 or any(members <= set(face) for face in faces))

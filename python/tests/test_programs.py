@@ -12,7 +12,7 @@ from pathlib import Path
 
 import support
 
-ASKED = "import planarbend; from planarbend import library; print(planarbend.program()); print(library.path())"
+ASKED = "import planarbend; from planarbend.layout import library; print(planarbend.program()); print(library.path())"
 
 
 class Found(unittest.TestCase):

@@ -14,7 +14,7 @@ from typing import Any
 
 import support
 from drawing_checker import check
-from planarbend.planar_code import lists_of, split
+from planarbend.layout.planar_code import lists_of, split
 from svg_reader import Picture, Point, meets, on_border, read_svg
 
 # Two components with labels on everything, none like the name; a loop, parallel edges, all arrows, and a box alone.

@@ -191,9 +191,11 @@ class Networks(Case):
         self.refused(">>graph6<<\n", "no graph")
 
     def test_without_networkx(self) -> None:
-        with mock.patch("importlib.import_module", side_effect=ImportError):
+        with mock.patch.dict("sys.modules", networkx=None):
             for text in ("<graphml/>", "graph [ node [ id 1 ] ]", ">>graph6<<@"):
-                self.refused(text, "networkx is needed .*apt install python3-networkx")
+                status, _, errors = support.said(["draw", "-", "-o", "-"], text)
+                self.assertEqual(status, 1)
+                self.assertIn("needs the Python library networkx (Debian: python3-networkx)", errors)
 
 
 class Json(Case):

@@ -9,29 +9,31 @@ from typing import Any
 from unittest import mock
 
 import support  # noqa: F401  finds the package
-from planarbend.choose import (Found, Plan, Search, Shape, choose, is_clockwise_rectangle, picked, shape_of,
-                               smallest, without_straight)
 from planarbend.draw import Options, draw, meeting, packed, price_of, stretch_of
-from planarbend.drawn import Box, Drawing, Point
-from planarbend.engine import GridPoint, default_engine
-from planarbend.expand import size_of
+from planarbend.drawing.choose import Search, choose, picked, smallest
+from planarbend.drawing.drawn import Box, Drawing, Point
+from planarbend.drawing.expand import size_of
+from planarbend.drawing.mend import loosened, ways_round_spine
+from planarbend.drawing.numbering import conditions_of
+from planarbend.drawing.planarize import planarize
+from planarbend.drawing.plans import Plan
+from planarbend.drawing.shape import Shape, is_clockwise_rectangle, shape_of, without_straight
 from planarbend.graph import Edge, Graph, Kind, Vertex
-from planarbend.keeping import conditions_of
-from planarbend.mend import loosened, ways_round_spine
-from planarbend.planarize import planarize
+from planarbend.layout.engine import GridPoint, default_engine
 
 NOTHING: Any = None
 # Two vertices of degree 6 with all of their neighbours in common, of which two pairs are joined: degrees 2, 3 and 6.
 EDGES = [(hub, leaf) for leaf in range(2, 8) for hub in (0, 1)] + [(2, 3), (4, 5)]
 
 
-def found(plan: int = 0, broken: int = 0, bends: int = 0, size: tuple[int, int] = (1, 1)) -> Found:
-    """A shape with nothing but a price."""
-    return Found(Shape(NOTHING, [], [], [], list(range(broken)), bends, size), Plan(frozenset([plan])))
+def by_plan(plan: Plan) -> Any:
+    """An expansion with nothing but a plan."""
+    return SimpleNamespace(plan=plan)
 
 
-def shapes(*pool: Found) -> list[Shape]:
-    return [one.shape for one in pool]
+def found(plan: int = 0, broken: int = 0, bends: int = 0, size: tuple[int, int] = (1, 1)) -> Shape:
+    """A shape with nothing but a plan and a price."""
+    return Shape(by_plan(Plan(frozenset([plan]))), [], [], [], list(range(broken)), bends, size)
 
 
 class Prices(unittest.TestCase):
@@ -43,22 +45,22 @@ class Prices(unittest.TestCase):
         one, two = found(1, bends=1), found(2, bends=2, size=(3, 3))
         three, four = found(3, bends=2, size=(2, 5)), found(4, bends=4)
         more = [found(5, bends=5), found(2, bends=3), found(6, broken=1), found(1, bends=1, size=(9, 9))]
-        self.assertEqual(picked([*more, four, three, two, one]), shapes(one, two, three, four))
+        self.assertEqual(picked([*more, four, three, two, one]), [one, two, three, four])
 
     def test_broken_shapes_if_there_are_no_others(self) -> None:
         worse, better = found(1, broken=2), found(2, broken=1, bends=9)
-        self.assertEqual(picked([worse, better]), shapes(better))
+        self.assertEqual(picked([worse, better]), [better])
         self.assertEqual(smallest([found(1, broken=2), found(2, broken=1, bends=9, size=(8, 8))]),
-                         shapes(found(2, broken=1, bends=9, size=(8, 8))))
+                         [found(2, broken=1, bends=9, size=(8, 8))])
 
     def test_the_smallest(self) -> None:
         wide, high, bent = found(bends=6, size=(5, 2)), found(size=(3, 4)), found(bends=7, size=(2, 5))
         broken = found(broken=1)
-        self.assertEqual(smallest([high, broken, bent, wide]), shapes(wide, bent, high))
-        self.assertEqual(smallest([broken, high]), shapes(high))
-        self.assertEqual(smallest([high]), shapes(high))
+        self.assertEqual(smallest([high, broken, bent, wide]), [wide, bent, high])
+        self.assertEqual(smallest([broken, high]), [high])
+        self.assertEqual(smallest([high]), [high])
         many = [found(size=(1, side)) for side in range(1, 11)]
-        self.assertEqual(smallest(many[::-1]), shapes(*many[:8]))
+        self.assertEqual(smallest(many[::-1]), many[:8])
 
 
 class Plans(unittest.TestCase):
@@ -81,15 +83,15 @@ class Plans(unittest.TestCase):
         """A cage has a node for each connection, and its sides must be kept straight from five on. A spine has two at
         each node, one more at its ends, and a leaf if they are odd."""
         for count in range(3, 10):
-            search = Search(planarize(count + 1, [(0, end) for end in range(1, count + 1)]), NOTHING, 0, 0)
+            search = Search(planarize(count + 1, [(0, end) for end in range(1, count + 1)]), NOTHING, Options(effort=0))
             plans = [Plan(frozenset([0]))] + [Plan(frozenset(), ((0, 0),))] * (count > 4)
             for plan in plans:
                 expansion = search.expanded(plan)
                 assert expansion is not None
-                size = size_of(search.planar, search.degree, plan.cages, dict(plan.spines))
+                size = size_of(search.planar, plan)
                 self.assertEqual(size, sum(map(len, expansion.homes)) + (count % 2 if plan.spines else 0))
                 form = next(search.numberings(expansion))
-                kept = conditions_of(expansion, form, (), boxes=True, has_outer=False)
+                kept = conditions_of(form, (), has_outer=False)
                 nodes = len(expansion.homes[0])
                 self.assertEqual(len(kept.straight), nodes - 1 if plan.spines else count if count > 4 else 0)
                 self.assertEqual(nodes, (count - 1) // 2 if plan.spines else count)
@@ -100,7 +102,7 @@ class Mending(unittest.TestCase):
         """Each of three plans leads to all three, and none makes the box a rectangle."""
         plans, looked = [Plan(frozenset([number])) for number in range(3)], list[Plan]()
 
-        def look(_: Search, *plans: Plan) -> list[Found]:
+        def look(_: Search, *plans: Plan) -> list[Shape]:
             looked.extend(plans)
             return [found(broken=1) for _ in plans]
 
@@ -113,9 +115,9 @@ class Mending(unittest.TestCase):
         plan, looked = Plan(frozenset([7]), (), ((0, 1), (1, 1), (2, 3))), list[Plan]()
         lines = [[(0, 0), (1, 0)], [(0, 0), (0, 1), (1, 1)]]
 
-        def look(_: Search, *plans: Plan) -> list[Found]:
+        def look(_: Search, *plans: Plan) -> list[Shape]:
             looked.extend(plans)
-            return [Found(Shape(NOTHING, [], lines, [], [], 1), one) for one in plans]
+            return [Shape(by_plan(one), [], lines, [], [], 1) for one in plans]
 
         search: Any = Search.__new__(Search)
         search.planar = SimpleNamespace(chains=[[0], [2, 5]])
@@ -140,7 +142,7 @@ class Moved:
     """A form with all places moved by (3, 5)."""
 
     def __init__(self, form: Any) -> None:
-        self.form = form
+        self.form, self.graph = form, form.graph
 
     def places(self, answer: Any) -> tuple[list[GridPoint], dict[Any, list[GridPoint]]]:
         points, paths = self.form.places(answer)
@@ -166,7 +168,7 @@ class OnTheGrid(unittest.TestCase):
 
     def test_a_shape(self) -> None:
         """Boxes, bends and the size are those of the points, wherever on the grid these lie."""
-        search = Search(planarize(8, EDGES), default_engine(), 0, 0)
+        search = Search(planarize(8, EDGES), default_engine(), Options(effort=0))
         plans = [search.first_plan(False), search.first_plan(True), search.first_plan(False).caged([2, 3, 4, 5])]
         for plan in plans:
             expansion = search.expanded(plan)
@@ -174,11 +176,11 @@ class OnTheGrid(unittest.TestCase):
             form: Any = next(search.numberings(expansion))
             answer = search.engine.lay([form.lists], "best")[0]
             for given in (form, Moved(form)):
-                shape = shape_of(expansion, given, answer)
+                shape = shape_of(given, answer)
                 xs, ys = zip(*shape.points, *itertools.chain(*shape.lines))
                 self.assertEqual(shape.size, (max(xs) - min(xs) + 1, max(ys) - min(ys) + 1))
                 self.assertEqual(shape.bends, sum(len(line) - 2 for line in shape.lines))
-                self.sides(Found(shape, plan))
+                self.sides(shape)
                 for vertex, nodes in enumerate(expansion.homes):
                     left, top, right, bottom = shape.boxes[vertex]
                     if vertex not in shape.broken:
@@ -186,9 +188,9 @@ class OnTheGrid(unittest.TestCase):
                             self.assertTrue(x in (left, right) or y in (top, bottom))
                     self.assertEqual(left == right and top == bottom, len(nodes) == 1)
 
-    def sides(self, found: Found) -> None:
+    def sides(self, found: Shape) -> None:
         """A vertex is a point if no two of its edges leave in the same direction."""
-        lines = found.shape.lines
+        lines = found.lines
         for vertex in range(8):
             ways = [(line[0], line[1]) for (tail, _), line in zip(EDGES, lines) if tail == vertex]
             ways += [(line[-1], line[-2]) for (_, head), line in zip(EDGES, lines) if head == vertex]

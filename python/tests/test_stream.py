@@ -16,9 +16,9 @@ from unittest import mock
 
 import support
 import planarbend
-from planarbend import library
-from planarbend.planar_code import HEADER
-from planarbend.reports import End, Graph, line_of
+from planarbend.layout import laid_out, library
+from planarbend.layout.planar_code import HEADER
+from planarbend.layout.reports import End, Graph, line_of
 
 SCRIPT = support.EXAMPLES / "stream.py"
 TRIANGLE, EDGE = bytes([3, 2, 3, 0, 3, 1, 0, 1, 2, 0]), bytes([2, 2, 0, 1, 0])
@@ -138,7 +138,7 @@ class Exceptions(unittest.TestCase):
             with self.subTest(single, by="the library"), stand_in, self.assertRaisesRegex(TypeError, "single graph"):
                 planarbend.layouts(single)
         with stand_in:
-            self.assertIsInstance(planarbend.layouts([graph]), library.LibraryLayouts)
+            self.assertIsInstance(planarbend.layouts([graph]), laid_out.LibraryLayouts)
 
     def test_what_the_caller_raises(self) -> None:
         def graphs() -> Iterator[dict[str, list[str]]]:

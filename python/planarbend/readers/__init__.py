@@ -1,7 +1,6 @@
 """Reads graphs from files: `read` finds the format from the content."""
 from __future__ import annotations
 
-from collections.abc import Callable
 from importlib import import_module
 
 from planarbend.graph import Graph
@@ -17,7 +16,7 @@ FORMS: tuple[str, ...] = tuple(READERS)  # what --format takes
 
 
 def read(data: bytes, name: str, form: str | None = None) -> Graph:
-    """Read a graph from the bytes of a file.
+    """Return the graph in the bytes of a file.
 
     Parameters
     ----------
@@ -36,24 +35,18 @@ def read(data: bytes, name: str, form: str | None = None) -> Graph:
     Raises
     ------
     ReadError
-        The file is not of this format or of any known one, it contains no vertices, or the library or program that
-        reads its format is missing.
+        The file is not of this format or of any known one, it contains no vertices, or the program that reads its format is
+        missing.
     ValueError
         `form` is not one of `FORMS`.
     """
     if form is not None and form not in READERS:
         raise ValueError(f"no such format: {form} (known: {', '.join(FORMS)})")
     try:
-        graph = reader_of(form or form_of(data, name))(data)
-        if not graph.vertices:
+        form = form or form_of(data, name)
+        found: Graph = getattr(import_module(f"planarbend.readers.{READERS[form]}"), f"read_{form}")(data)
+        if not found.vertices:
             raise Fault("the file contains no vertices")
     except Fault as fault:
         raise ReadError(name, fault.line, fault.reason) from None
-    return graph
-
-
-def reader_of(form: str) -> Callable[[bytes], Graph]:
-    """The function that reads a format."""
-    module = import_module(f"planarbend.readers.{READERS[form]}")
-    reader: Callable[[bytes], Graph] = getattr(module, f"read_{form}")
-    return reader
+    return Graph(found.vertices, found.edges, found.directed)

@@ -34,28 +34,18 @@ VALUE = re.compile(r'(h?)"([^"]*)"')
 COUNTED = re.compile(r'(?:^|\n)([gne]) ((?:[01] )?)((?:h?"[^"]*" ?)+)')
 SYNTAX = re.compile(r"Error: .*?: (syntax error) in line (\d+)(.*)|Error: (.*)")
 ARROWS = {"forward": (False, True), "back": (True, False), "both": (True, True), "none": (False, False)}
+ARROW = {(False, False): Arrow.NONE, (False, True): Arrow.FORWARD, (True, False): Arrow.BACK, (True, True): Arrow.BOTH}
 LATIN = ("latin1", "latin-1", "l1", "iso-8859-1", "iso_8859-1", "iso8859-1", "iso-ir-100")
 RECORDS = ("record", "Mrecord")
 
 
 def read_dot(data: bytes) -> Graph:
-    """The graph of a DOT text, as Graphviz reads it.
+    """Return the graph of a DOT text, as Graphviz reads it.
 
-    Parameters
-    ----------
-    data : bytes
-        The text. Nodes of clusters and other subgraphs are nodes of the graph; invisible nodes and edges too.
-
-    Returns
-    -------
-    Graph
-        Labels are plain text: the fields of a record with bars between them, an HTML label without its markup. An
-        edge's label is `label`, or `xlabel` if that is empty. Arrows are by `dir`, `arrowhead` and `arrowtail`.
-
-    Raises
-    ------
-    Fault
-        Graphviz is missing, refuses the text (with its line), or finds no graph or several.
+    Nodes of clusters and other subgraphs are nodes of the graph; invisible nodes and edges too. Labels are plain text: the
+    fields of a record with bars between them, an HTML label without its markup. An edge's label is `label`, or `xlabel` if
+    that is empty. Arrows are by `dir`, `arrowhead` and `arrowtail`. A `Fault` is raised if Graphviz is missing, refuses the
+    text (with its line), or finds no graph or several.
     """
     canonical = run([program("dot", PACKAGE), "-Tcanon"], data)
     listing = run([program("gvpr", PACKAGE), FUNCTIONS + LISTING], canonical)
@@ -69,11 +59,11 @@ def read_dot(data: bytes) -> Graph:
             add_edge(found, values, name)
     if graphs != 1:
         raise Fault("the file has no graph" if not graphs else f"the file has {graphs} graphs; only one can be drawn")
-    return found.graph()
+    return found
 
 
 def run(words: list[str], data: bytes) -> bytes:
-    """The output of a program of Graphviz for these bytes."""
+    """Return the output of a program of Graphviz for these bytes."""
     ran = subprocess.run(words, input=data, capture_output=True, check=False)
     for error in map(SYNTAX.match, ran.stderr.decode(errors="replace").splitlines()):
         if error and error[1]:
@@ -86,7 +76,7 @@ def run(words: list[str], data: bytes) -> bytes:
 
 
 def listed(listing: bytes) -> Iterator[tuple[str, str, list[tuple[bool, str]]]]:
-    """The entries of a listing: the letter, the flag of a graph, and the values, each with whether it is HTML."""
+    """Yield the entries of a listing: the letter, the flag of a graph, and the values, each with whether it is HTML."""
     is_latin = re.match(rb'g [01] "[^"]*" "(?i:' + "|".join(LATIN).encode() + rb')"', listing)
     text = listing.decode("latin-1" if is_latin else "utf-8", errors="replace")
     for kind, flag, values in COUNTED.findall(text):
@@ -95,30 +85,19 @@ def listed(listing: bytes) -> Iterator[tuple[str, str, list[tuple[bool, str]]]]:
 
 
 def add_node(found: Builder, values: list[tuple[bool, str]], graph: str) -> None:
-    """Adds the node of an entry: its name, its shape and its label."""
+    """Add the node of an entry: its name, its shape and its label."""
     (_, name), (_, shape), (is_html, label) = values
     names = {"N": name, "G": graph}
-    if is_html:
-        found.vertex(name, texts.of_html(label))
-    elif shape in RECORDS:
-        found.vertex(name, texts.of_record(label, names))
-    else:
-        found.vertex(name, texts.plain(label, names))
+    text = texts.of_record if shape in RECORDS else texts.plain
+    found.vertex(name, texts.of_html(label) if is_html else text(label, names))
 
 
 def add_edge(found: Builder, values: list[tuple[bool, str]], graph: str) -> None:
-    """Adds the edge of an entry: its ends, `dir`, `arrowhead`, `arrowtail`, `label` and `xlabel`."""
+    """Add the edge of an entry: its ends, `dir`, `arrowhead`, `arrowtail`, `label` and `xlabel`."""
     tail, head, way, at_head, at_tail = (value for _, value in values[:5])
     is_html, label = values[5] if values[5][1] else values[6]
     joint = "->" if found.directed else "--"
     names = {"T": tail, "H": head, "E": f"{tail}{joint}{head}", "G": graph}
     back, forward = ARROWS.get(way, (False, found.directed))
-    arrow = arrow_of(back and at_tail != "none", forward and at_head != "none")
+    arrow = ARROW[back and at_tail != "none", forward and at_head != "none"]
     found.edge(tail, head, texts.of_html(label) if is_html else texts.plain(label, names), arrow)
-
-
-def arrow_of(back: bool, forward: bool) -> Arrow:
-    """The arrow with a head at its tail's end, its head's end, both or neither."""
-    if back:
-        return Arrow.BOTH if forward else Arrow.BACK
-    return Arrow.FORWARD if forward else Arrow.NONE

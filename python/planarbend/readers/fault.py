@@ -1,26 +1,15 @@
-"""The errors of readers, and look-up of the libraries and programs that they need."""
+"""The errors of readers, and look-up of the programs that they need."""
 from __future__ import annotations
-
-import importlib
-from types import ModuleType
 
 MOST_SHOWN = 60  # characters of the input that a message quotes
 
 
 class ReadError(Exception):
-    """The input cannot be read as a graph.
-
-    Attributes
-    ----------
-    file : str
-        The name of the input.
-    line : int or None
-        The line of the fault, counted from 1, or None if it does not belong to one line.
-    reason : str
-        What is wrong.
-    """
+    """The input cannot be read as a graph: `file` is its name, `line` that of the fault, counted from 1, or None if it does
+    not belong to one line, and `reason` says what is wrong."""
 
     def __init__(self, file: str, line: int | None, reason: str) -> None:
+        """Return the error of an input."""
         place = file if line is None else f"{file}:{line}"
         super().__init__(f"{place}: {reason}")
         self.file, self.line, self.reason = file, line, reason
@@ -30,6 +19,7 @@ class Fault(Exception):
     """A fault inside a file whose name the raiser does not know; `read` turns it into a `ReadError`."""
 
     def __init__(self, reason: str, line: int | None = None) -> None:
+        """Return the fault of a line, or of the whole."""
         super().__init__(reason)
         self.reason, self.line = reason, line
 
@@ -40,28 +30,8 @@ def shown(text: str) -> str:
     return flat if len(flat) <= MOST_SHOWN else flat[:MOST_SHOWN - 2] + ".."
 
 
-def library(name: str, package: str) -> ModuleType:
-    """Import a Python library, and return it.
-
-    Raises
-    ------
-    Fault
-        It is missing; the message names Debian's package.
-    """
-    try:
-        return importlib.import_module(name)
-    except ImportError:
-        raise Fault(f"the Python library {name} is needed to read this format (Debian: apt install {package})") from None
-
-
 def program(name: str, package: str) -> str:
-    """Return the path of a program.
-
-    Raises
-    ------
-    Fault
-        It is missing; the message names Debian's package.
-    """
+    """Return the path of a program, or raise a `Fault` that names Debian's package if it is missing."""
     import shutil  # slow to load
 
     path = shutil.which(name)
@@ -71,13 +41,7 @@ def program(name: str, package: str) -> str:
 
 
 def decoded(data: bytes) -> str:
-    """Return the text of UTF-8 bytes, without a byte order mark.
-
-    Raises
-    ------
-    Fault
-        The bytes are not UTF-8; the message has the line of the first wrong byte.
-    """
+    """Return the text of bytes without a byte order mark; a `Fault` has the line of the first byte that is no UTF-8."""
     try:
         return data.decode("utf-8-sig")
     except UnicodeDecodeError as error:

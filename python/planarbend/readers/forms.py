@@ -55,27 +55,10 @@ BINARY = re.compile(rb"[\x00-\x08\x0e-\x1f]")
 
 
 def form_of(data: bytes, name: str) -> str:
-    """The format of a file, by its content or, if that does not identify a format, by the extension of its name.
-
-    Parameters
-    ----------
-    data : bytes
-        The whole file.
-    name : str
-        Its name.
-
-    Returns
-    -------
-    str
-        One of the formats of `read`.
-
-    Raises
-    ------
-    Fault
-        The file is of a known kind that is not a graph, is empty, or is not text.
-    """
+    """Return the format of a file, by its content or, if that does not identify a format, by the extension of its name; raise
+    a `Fault` if the file is of a known kind that is not a graph, is empty, or is not text."""
     data = data.removeprefix(b"\xef\xbb\xbf")
-    look_for_foreign(data)
+    check_foreign(data)
     head = data[:HEAD]
     by_name = ENDINGS.get(os.path.splitext(name)[1].lower())
     found = of_expression(data) or of_xml(head) or of_json(data)
@@ -90,14 +73,8 @@ def form_of(data: bytes, name: str) -> str:
     return by_name or "list"
 
 
-def look_for_foreign(data: bytes) -> None:
-    """Check that a file may be a graph.
-
-    Raises
-    ------
-    Fault
-        The file is empty, is not text, or is of a known kind that is not a graph.
-    """
+def check_foreign(data: bytes) -> None:
+    """Check that a file may be a graph, or raise a `Fault` if it is empty, no text, or of a known kind that is not a graph."""
     for mark, what, *pattern in FOREIGN:
         if data.startswith(mark) and (not pattern or re.match(pattern[0], data, re.S)):
             raise Fault(f"{what}, not a graph" if "graph" not in what else what, 1)
@@ -112,7 +89,7 @@ def look_for_foreign(data: bytes) -> None:
 
 
 def of_expression(data: bytes) -> str | None:
-    """The format of an S-expression, or None if it is not one."""
+    """Return the format of an S-expression, or None if it is not one."""
     match = EXPRESSION.match(data)
     if match is None:
         return None
@@ -125,7 +102,7 @@ def of_expression(data: bytes) -> str | None:
 
 
 def of_xml(head: bytes) -> str | None:
-    """The format of an XML text, or None if it is not one."""
+    """Return the format of an XML text, or None if it is not one."""
     match = XML.match(head)
     if match is None:
         return None
@@ -137,7 +114,7 @@ def of_xml(head: bytes) -> str | None:
 
 
 def of_json(data: bytes) -> str | None:
-    """`json` if the text begins like JSON, or None."""
+    """Return `json` if the text begins like JSON, or None."""
     match = re.match(rb'\s*(?:\{\s*(?:"|\}|$)|\[)', data)
     if match is None:
         return None

@@ -3,7 +3,7 @@ from __future__ import annotations
 
 import collections
 import re
-from dataclasses import dataclass
+from dataclasses import dataclass, field
 
 from planarbend.graph import Graph, Kind
 from planarbend.readers.building import Builder
@@ -29,18 +29,18 @@ class Part:
         return self.reference if self.value in ("", "~", self.reference) else f"{self.reference}\n{self.value}"
 
 
+@dataclass
 class Circuit:
     """Parts, and nets each with its pins: the part and the pin's number."""
 
-    def __init__(self) -> None:
-        self.parts: list[Part] = []
-        self.nets: dict[str, dict[tuple[int, str], None]] = collections.defaultdict(dict)
+    parts: list[Part] = field(default_factory=list)
+    nets: dict[str, dict[tuple[int, str], None]] = field(default_factory=lambda: collections.defaultdict(dict))
 
     def graph(self) -> Graph:
-        """The graph of the circuit, in which a net joins each of its parts once, with however many pins.
+        """Return the graph of the circuit, in which a net joins each of its parts once, with however many pins.
 
-        Parts, and nets that join three or more, are vertices; a net of two parts is an edge, and a net that joins pins
-        of only one part is a loop. A single pin is not a connection.
+        Parts, and nets that join three or more, are vertices; a net of two parts is an edge, and a net that joins pins of only
+        one part is a loop. A single pin is not a connection.
         """
         built = Builder()
         for number, part in enumerate(self.parts):
@@ -55,17 +55,12 @@ class Circuit:
                     built.edge(pin, net)
             elif len(pins) > 1:
                 built.edge(parts[0], parts[-1], shown)
-        return built.graph()
+        return built
 
 
 def read_netlist(data: bytes) -> Graph:
-    """The circuit of a netlist as KiCad's schematic editor exports it.
-
-    Raises
-    ------
-    Fault
-        The text is not such a netlist, or a net names a part that it does not have.
-    """
+    """Return the circuit of a netlist as KiCad's schematic editor exports it, or raise a `Fault` if it is none, or a net names
+    a part that it does not have."""
     whole = parsed(decoded(data))
     if whole.head != "export":
         raise Fault(f"not a KiCad netlist: it begins with ({whole.head}", whole.line)
@@ -87,13 +82,7 @@ def read_netlist(data: bytes) -> Graph:
 
 
 def read_board(data: bytes) -> Graph:
-    """The circuit of a board as KiCad's board editor saves it, of its releases from 4 on.
-
-    Raises
-    ------
-    Fault
-        The text is not such a board.
-    """
+    """Return the circuit of a board as KiCad's board editor saves it from release 4 on, or raise a `Fault` if it is none."""
     whole = parsed(decoded(data))
     if whole.head != "kicad_pcb":
         raise Fault(f"not a KiCad board: it begins with ({whole.head}", whole.line)
@@ -110,13 +99,13 @@ def read_board(data: bytes) -> Graph:
 
 
 def net_of(pad: Expression, names: dict[str, str]) -> str:
-    """The name of a pad's net: its second word after the number, or, in newer boards, its only word."""
+    """Return the name of a pad's net: its second word after the number, or, in newer boards, its only word."""
     words: list[str] = next((net.words[1:] for net in pad.all("net")), [])
     return words[1] if len(words) > 1 else names.get(words[0], words[0]) if words else ""
 
 
 def field_of(footprint: Expression, name: str) -> str:
-    """The text of a footprint's field: `property` of newer boards, `fp_text` of older ones."""
+    """Return the text of a footprint's field: `property` of newer boards, `fp_text` of older ones."""
     for one in footprint.all("property", "fp_text"):
         if len(one.words) > 2 and one.words[1].lower() == name.lower():
             return one.words[2]
@@ -124,7 +113,7 @@ def field_of(footprint: Expression, name: str) -> str:
 
 
 def wanted(expression: Expression, head: str) -> str:
-    """The value of a required inner list."""
+    """Return the value of a required inner list."""
     value = expression.value(head)
     if value is None:
         raise Fault(f"a {expression.head} without {head}", expression.line)

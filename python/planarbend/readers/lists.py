@@ -8,30 +8,17 @@ from planarbend.readers.building import Builder
 from planarbend.readers.fault import Fault, decoded, shown
 
 QUOTED = r'"(?:[^"\\]|\\.)*"'
-SEPARATOR = re.compile(r"(?:^|\s)(--|->)(?=\s|$)")
 PIECE = re.compile(rf'{QUOTED}|\s+|[^\s"]+|"')
 WORD = re.compile(rf"{QUOTED}|\S+")
 COMMENT = re.compile(rf"({QUOTED})|(?:^|(?<=\s))#.*")
 
 
 def read_list(data: bytes) -> Graph:
-    """The graph of a list of connections.
+    """Return the graph of a list of connections.
 
-    Parameters
-    ----------
-    data : bytes
-        UTF-8 text. A line has one name, two words, or names with ` -- ` or ` -> ` between them. A name in quotes may
-        hold any letters, with a backslash before a quote or a backslash.
-
-    Returns
-    -------
-    Graph
-        Vertices in the order of their first mention. It is directed if any connection is an arrow.
-
-    Raises
-    ------
-    Fault
-        A line is none of these; the fault has its number.
+    A line has one name, two words, or names with ` -- ` or ` -> ` between them. A name in quotes may hold any letters, with a
+    backslash before a quote or a backslash. Vertices are in the order of their first mention. The graph is directed if any
+    connection is an arrow. A `Fault` has the number of a line that is none of these.
     """
     found = Builder()
     for number, line in enumerate(decoded(data).split("\n"), 1):
@@ -43,11 +30,11 @@ def read_list(data: bytes) -> Graph:
         for tail, separator, head in zip(names, between, names[1:]):
             found.directed |= separator == "->"
             found.edge(tail, head, arrow=Arrow.FORWARD if separator == "->" else Arrow.NONE)
-    return found.graph()
+    return found
 
 
 def names_of(line: str, number: int) -> tuple[list[str], list[str]]:
-    """The names of a line that is not empty, and the separators between them."""
+    """Return the names of a line that is not empty, and the separators between them."""
     names, between = [""], []
     for piece in PIECE.findall(line):
         if piece in ("--", "->"):
@@ -69,7 +56,7 @@ def names_of(line: str, number: int) -> tuple[list[str], list[str]]:
 
 
 def unquoted(name: str, number: int) -> str:
-    """A name without its quotes, if it has any."""
+    """Return a name without its quotes, if it has any."""
     if re.fullmatch(QUOTED, name):
         return re.sub(r"\\(.)", r"\1", name[1:-1])
     if name[0] == '"':

@@ -10,9 +10,8 @@ from typing import Any
 
 from planarbend.graph import Arrow, Graph
 from planarbend.readers.building import Builder
-from planarbend.readers.fault import Fault, decoded, library, shown
+from planarbend.readers.fault import Fault, decoded, shown
 
-PACKAGE = "python3-networkx"
 NAMESPACE = "{http://graphml.graphdrawing.org/xmlns}"
 GRAPH6 = b">>graph6<<"
 GML_GRAPH = re.compile(r"^\s*graph\s*\[", re.M)
@@ -22,24 +21,20 @@ LABELS = ("label", "name")
 
 
 def label_of(data: dict[str, Any]) -> str | None:
-    """The label that a vertex's or an edge's data give it, or None."""
+    """Return the label that a vertex's or an edge's data give it, or None."""
     return next((str(data[key]) for key in LABELS if data.get(key) not in (None, "")), None)
 
 
 def read_graphml(data: bytes) -> Graph:
-    """The graph of a GraphML text: its first `graph`, with the nodes and edges of graphs inside its nodes.
+    """Return the graph of a GraphML text: its first `graph`, with the nodes and edges of graphs inside its nodes.
 
-    Edges keep their order and each its own direction. Labels are the data named `label` or `name`, or the first label
-    of yEd.
-
-    Raises
-    ------
-    Fault
-        The text is not XML or not GraphML, has a hyperedge, or an edge to a node that it does not have.
+    Edges keep their order and each its own direction. Labels are the data named `label` or `name`, or the first label of yEd.
+    A `Fault` is raised if the text is not XML or not GraphML, has a hyperedge, or an edge to a node that it does not have.
     """
     from xml.etree import ElementTree
 
-    networkx = library("networkx", PACKAGE)
+    import networkx
+
     directions = scanned(data)
     root = ElementTree.fromstring(data)
     for element in root.iter():
@@ -57,7 +52,7 @@ def read_graphml(data: bytes) -> Graph:
             found = networkx.parse_graphml(ElementTree.tostring(root, encoding="unicode"), force_multigraph=True)
         except Exception as error:  # networkx lets many kinds through
             raise Fault(f"not GraphML: {shown(str(error))}") from None
-    built = Builder(found.is_directed())
+    built = Builder(directed=found.is_directed())
     for node, values in found.nodes(data=True):
         built.vertex(node, label_of(values))
     for tail, head, key, values in sorted(found.edges(keys=True, data=True), key=operator.itemgetter(2)):
@@ -65,11 +60,11 @@ def read_graphml(data: bytes) -> Graph:
         is_arrow = found.is_directed() if directions[key][2] is None else directions[key][2]
         built.edge(tail, head, label_of(values) or "", Arrow.FORWARD if is_arrow else Arrow.NONE)
         built.directed |= is_arrow
-    return built.graph()
+    return built
 
 
 def scanned(data: bytes) -> list[tuple[str, str, bool | None]]:
-    """The edges of a GraphML text in order: source, target, and `directed` if it is given."""
+    """Return the edges of a GraphML text in order: source, target, and `directed` if it is given."""
     from xml.parsers import expat
 
     parser = expat.ParserCreate(namespace_separator="}")
@@ -79,6 +74,7 @@ def scanned(data: bytes) -> list[tuple[str, str, bool | None]]:
     graphs = 0
 
     def begun(element: str, values: dict[str, str]) -> None:
+        """Note the beginning of an element."""
         nonlocal graphs
         kind, line = element.rpartition("}")[2], parser.CurrentLineNumber
         open_elements.append(kind)
@@ -113,14 +109,10 @@ def scanned(data: bytes) -> list[tuple[str, str, bool | None]]:
 
 
 def read_gml(data: bytes) -> Graph:
-    """The graph of a GML text, with parallel edges even if it does not declare them.
+    """Return the graph of a GML text, with parallel edges even if it does not declare them, or raise a `Fault` with the line
+    given by networkx if it refuses the text."""
+    import networkx
 
-    Raises
-    ------
-    Fault
-        networkx refuses the text; the fault has the line given by networkx.
-    """
-    networkx = library("networkx", PACKAGE)
     text = re.sub(*PARALLEL, decoded(data), flags=re.M)
     if "multigraph" not in text:
         text = GML_GRAPH.sub(lambda match: match[0] + " multigraph 1", text, count=1)
@@ -129,24 +121,20 @@ def read_gml(data: bytes) -> Graph:
     except Exception as error:  # networkx lets many kinds through
         place = PLACE.search(str(error))
         raise Fault(f"not GML: {shown(PLACE.sub('', str(error)))}", int(place[1]) if place else None) from None
-    built = Builder(found.is_directed())
+    built = Builder(directed=found.is_directed())
     names = {node: label_of(values) or str(node) for node, values in found.nodes(data=True)}
     for node, name in names.items():
         built.vertex(node, name, name=name)
     for tail, head, values in found.edges(data=True):
         built.edge(tail, head, label_of(values) or "", Arrow.FORWARD if built.directed else Arrow.NONE)
-    return built.graph()
+    return built
 
 
 def read_graph6(data: bytes) -> Graph:
-    """The graph of one line of graph6, with or without the header; its vertices are named 0, 1, and so on.
+    """Return the graph of one line of graph6, with or without the header, or raise a `Fault` if there is no such line, or
+    several. Its vertices are named 0, 1, and so on."""
+    import networkx
 
-    Raises
-    ------
-    Fault
-        The line is not graph6, or there are several or none.
-    """
-    networkx = library("networkx", PACKAGE)
     lines = [(number, line.strip()) for number, line in enumerate(data.removeprefix(GRAPH6).split(b"\n"), 1) if line.strip()]
     if len(lines) != 1:
         count = f"{len(lines)} graphs; only one can be drawn" if lines else "no graph"
@@ -159,20 +147,16 @@ def read_graph6(data: bytes) -> Graph:
     built = Builder()
     for node in found:
         built.vertex(node)
-    for tail, head in found.edges():
-        built.edge(tail, head)
-    return built.graph()
+    for pair in found.edges():
+        built.edge(*pair)
+    return built
 
 
 def read_json(data: bytes) -> Graph:
-    """The graph of node-link JSON: `nodes` with `id`, and `links` or `edges` with `source` and `target`.
+    """Return the graph of node-link JSON: `nodes` with `id`, and `links` or `edges` with `source` and `target`.
 
-    A node without `id` is identified by its position from 0, as in D3. Labels are `label` or `name`.
-
-    Raises
-    ------
-    Fault
-        The text is not JSON (with its line), or not node-link JSON.
+    A node without `id` is identified by its position from 0, as in D3. Labels are `label` or `name`. A `Fault` is raised if
+    the text is not JSON (with its line), or not node-link JSON.
     """
     try:
         found = json.loads(decoded(data))
@@ -183,7 +167,7 @@ def read_json(data: bytes) -> Graph:
     edges = found.get("links", found.get("edges")) if isinstance(found, dict) else None
     if edges is None or not isinstance(edges, list) or not isinstance(found.get("nodes"), list):
         raise Fault("not node-link JSON: it needs the lists nodes and links (or edges)")
-    built = Builder(found.get("directed") is True)
+    built = Builder(directed=found.get("directed") is True)
     for number, node in enumerate(objects(found["nodes"], "node")):
         key = hashable(node.get("id", number))
         if built.has(key):
@@ -197,11 +181,11 @@ def read_json(data: bytes) -> Graph:
                 raise Fault(f"not node-link JSON: the {key} of link {number} is not a node: {shown(str(end))}")
         label = edge.get("label")
         built.edge(ends[0], ends[1], "" if label is None else str(label), Arrow.FORWARD if built.directed else Arrow.NONE)
-    return built.graph()
+    return built
 
 
 def objects(found: Iterable[Any], what: str) -> Iterable[dict[str, Any]]:
-    """The entries of a JSON list, each of which must be an object."""
+    """Return the entries of a JSON list, each of which must be an object."""
     for number, one in enumerate(found, 1):
         if not isinstance(one, dict):
             raise Fault(f"not node-link JSON: {what} {number} is not an object")
@@ -209,7 +193,7 @@ def objects(found: Iterable[Any], what: str) -> Iterable[dict[str, Any]]:
 
 
 def hashable(key: Any) -> Hashable:
-    """A node's id as in networkx: a list becomes a tuple."""
+    """Return a node's id as in networkx: a list becomes a tuple."""
     if isinstance(key, dict):
         raise Fault("not node-link JSON: an id is an object")
     found: Hashable = tuple(map(hashable, key)) if isinstance(key, list) else key

@@ -25,22 +25,17 @@ class Expression:
         return self.words[0] if self.words else ""
 
     def all(self, *heads: str) -> Iterator[Expression]:
-        """The inner lists that begin with one of these words."""
+        """Yield the inner lists that begin with one of these words."""
         return (one for one in self.inner if one.head in heads)
 
     def value(self, head: str) -> str | None:
-        """The word after this first word, in the first such inner list, or None."""
+        """Return the word after this first word, in the first such inner list, or None."""
         return next((one.words[1] for one in self.all(head) if len(one.words) > 1), None)
 
 
 def parsed(text: str) -> Expression:
-    """The one list that a text holds.
-
-    Raises
-    ------
-    Fault
-        Parentheses or quotes do not match, or something is outside the list.
-    """
+    """Return the one list that a text holds, or raise a `Fault` if parentheses or quotes do not match, or something else is
+    outside the list."""
     open_lists: list[Expression] = []
     place, line = 0, 1
     whole: Expression | None = None
@@ -73,7 +68,7 @@ def parsed(text: str) -> Expression:
 
 
 def unescaped(text: str) -> str:
-    """The text of a quoted word."""
+    """Return the text of a quoted word."""
     if "\\" not in text:
         return text
     return re.sub(r"\\(.)", lambda match: ESCAPES.get(match[1], match[1]), text, flags=re.S)

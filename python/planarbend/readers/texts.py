@@ -10,17 +10,17 @@ FIELD_END = " | "  # between the fields of a record, or the cells of a row
 
 
 def plain(label: str, names: dict[str, str]) -> str:
-    """A label with its escapes resolved: line ends, and the names that `\\N`, `\\G`, `\\T`, `\\H` and `\\E` stand for."""
+    """Return a label with its escapes resolved: line ends, and the names that `\\N`, `\\G`, `\\T`, `\\H` and `\\E` stand for."""
     return html.unescape(re.sub(r"\\(.)", lambda match: escape(str(match[1]), names), label, flags=re.S)).strip("\n")
 
 
 def escape(letter: str, names: dict[str, str]) -> str:
-    """The meaning of a backslash and this letter."""
+    """Return the meaning of a backslash and this letter."""
     return "\n" if letter in "nlr" else names.get(letter, letter)
 
 
 def of_record(label: str, names: dict[str, str]) -> str:
-    """The text of a record label: its fields in order, without ports and braces."""
+    """Return the text of a record label: its fields in order, without ports and braces."""
     fields, text, port, place = [], "", False, 0
     while place < len(label):
         letter = label[place]
@@ -40,14 +40,14 @@ def of_record(label: str, names: dict[str, str]) -> str:
 
 
 def of_html(label: str) -> str:
-    """The text of an HTML label: a line for each row or line break, cells with a bar between them."""
+    """Return the text of an HTML label: a line for each row or line break, cells with a bar between them."""
     text = TAG.sub(lambda match: of_tag(match[0], match[1]), re.sub(r"\s+", " ", label))
     lines = [" ".join(line.split()).strip("| ") for line in html.unescape(text).split("\n")]
     return "\n".join(line for line in lines if line)
 
 
 def of_tag(tag: str, name: str | None) -> str:
-    """The text that replaces a tag of an HTML label."""
+    """Return the text that replaces a tag of an HTML label."""
     kind = ("/" if tag.startswith("</") else "") + (name or "").lower()
     if kind in LINE_ENDS:
         return "\n"

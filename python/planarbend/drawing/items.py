@@ -1,0 +1,289 @@
+"""The items of a drawing, everything with an extent: boxes, labels of edges, and the straight pieces of edges.
+
+Along an axis (0 is x, 1 is y) an item lies between two coordinates: that of a piece across the axis, or the two sides of a
+box. Coordinates have numbers on their axis; pieces at one point of a net share one.
+"""
+from __future__ import annotations
+
+import itertools
+import math
+from collections import Counter
+from collections.abc import Sequence
+from dataclasses import dataclass, field
+
+from planarbend.drawing.drawn import Box, Point
+from planarbend.drawing.shape import Shape
+from planarbend.drawing.texts import LINE_HEIGHT, lines_of, width_of
+from planarbend.graph import Graph, Kind, Partition
+
+UNIT = 4096  # of the fine grid, to one of the shape's
+PAD = (6.0, 4.0)  # pixels between a name and the border of its box
+INSET = 6.0  # pixels from a corner of a box to a line at its side
+LEAST_SIDE = 22.0  # pixels, the width of a box
+LEAST_FLAG = 14.0  # pixels, the width of a flag
+LABEL_FONT = 10
+LABEL_HEIGHT = 12.0
+LOOP = 32  # units of the fine grid, from the border of a box to the far side of a loop
+
+BOX, LABEL, PIECE = range(3)  # the kinds of items
+
+
+@dataclass(slots=True)
+class Axis:
+    """The coordinates along one axis."""
+
+    value: list[float] = field(default_factory=list)  # on the fine grid at first, in pixels later
+    rank: list[float] = field(default_factory=list)  # the order of coordinates with the same value on the grid
+    same: Partition = field(default_factory=Partition)  # numbers of the same coordinate
+
+    def add(self, value: float, rank: float = 0.0) -> int:
+        """Return the number of a new coordinate."""
+        self.value.append(value)
+        self.rank.append(rank)
+        return self.same.add()
+
+
+@dataclass(slots=True)
+class Item:
+    """A thing with an extent: along axis a from coordinate `low[a]` plus `before[a]` to `high[a]` plus `after[a]`."""
+
+    kind: int  # `BOX`, `LABEL` or `PIECE`
+    low: list[int]
+    high: list[int]
+    grid: list[tuple[float, float]]  # its extents on the fine grid
+    owns: tuple[bool, bool] = (True, True)  # along which axes it is kept apart from others
+    before: list[float] = field(default_factory=lambda: [0.0, 0.0])  # pixels
+    after: list[float] = field(default_factory=lambda: [0.0, 0.0])
+    host: tuple[int, ...] = ()  # the box itself; the boxes at the ends of a piece; for a label its edge as -1 - number
+
+    @property
+    def across(self) -> int:
+        """The axis along which a piece has no extent."""
+        return 0 if self.owns[0] else 1
+
+
+def item_at(kind: int, axis: int, at: tuple[int, float], low: tuple[int, float], high: tuple[int, float],
+            host: Sequence[int]) -> Item:
+    """Return an item at one coordinate along an axis, and between two along the other, each with its place on the fine grid."""
+    extents = [(at, at), (low, high)] if axis == 0 else [(low, high), (at, at)]
+    return Item(kind, [first[0] for first, _ in extents], [last[0] for _, last in extents],
+                [(first[1], last[1]) for first, last in extents], (axis == 0, axis == 1), host=tuple(host))
+
+
+class Sheet:
+    """A shape of a component and its items: `boxes` of the vertices, `pieces` of each edge, `labels` by edge."""
+
+    def __init__(self, shape: Shape, graph: Graph) -> None:
+        """Return the sheet of a shape, whose coordinates are still those of its grid."""
+        self.shape, self.graph = shape, graph
+        self.axes = (Axis(), Axis())
+        self.items: list[Item] = []
+        self.boxes: list[Item] = []
+        self.pieces: list[list[Item]] = []
+        self.labels: dict[int, Item] = {}
+        self.sides: Counter[tuple[int, int, bool]] = Counter()  # the lines at a box's sides: above, below, left, right
+        self.loops: Counter[tuple[int, int, bool]] = Counter()
+        self.corners: dict[int, list[tuple[int, int]]] = {}  # of loops
+        self.within: tuple[list[tuple[int, int, float]], ...] = ([], [])  # distances within boxes: from, to, at least
+        self.at_box: tuple[dict[int, list[int]], ...] = ({}, {})  # for each box the coordinates of the pieces at its sides
+        self.sizes = [size_of(vertex.label, vertex.kind) for vertex in graph.vertices]  # the least ones
+        for number, flat in enumerate(self._flat()):
+            self._add_box(number, flat)
+        for number, line in enumerate(shape.lines):
+            self.pieces.append([])
+            if line:
+                self._add_line(number)
+        for number, line in enumerate(shape.lines):
+            if not line:
+                self._add_loop(number)
+        for number, edge in enumerate(graph.edges):
+            if edge.label.strip():
+                self._add_label(number, edge.label)
+        self._unite()
+
+    def _flat(self) -> list[list[int | None]]:
+        """Return for each vertex and axis its grid coordinate if it has no extent along that axis, as a net at one point, or a
+        net whose lines across the axis are all on one line."""
+        ends: list[tuple[set[int], set[int]]] = [(set(), set()) for _ in self.graph.vertices]
+        has_loop = set()
+        for edge, line in zip(self.graph.edges, self.shape.lines):
+            if not line:
+                has_loop.add(edge.tail)
+                continue
+            for end, one, other in ((edge.tail, line[0], line[1]), (edge.head, line[-1], line[-2])):
+                axis = 0 if one[0] == other[0] else 1
+                ends[end][axis].add(one[axis])
+        found: list[list[int | None]] = []
+        for number, vertex in enumerate(self.graph.vertices):
+            left, top, right, bottom = self.shape.boxes[number]
+            is_net = vertex.kind is Kind.NET and number not in has_loop
+            found.append([min(ends[number][axis], default=(low + high) // 2) if is_net and len(ends[number][axis]) < 2 else None
+                          for axis, low, high in ((0, left, right), (1, top, bottom))])
+        return found
+
+    def _add_box(self, number: int, flat: list[int | None]) -> None:
+        """Add the box of a vertex."""
+        left, top, right, bottom = (UNIT * side for side in self.shape.boxes[number])
+        low, high = [], []
+        for axis, first, last in ((0, left, right), (1, top, bottom)):
+            place = flat[axis]
+            low.append(self.axes[axis].add(first if place is None else UNIT * place, -1.0 if place is None else 0.0))
+            high.append(low[-1] if place is not None else self.axes[axis].add(last, 1.0))
+            if place is None:
+                self.within[axis].append((low[-1], high[-1], self.sizes[number][axis]))
+        self.boxes.append(Item(BOX, low, high, [(left, right), (top, bottom)], host=(number,)))
+        self.items.append(self.boxes[-1])
+
+    def _add_line(self, number: int) -> None:
+        """Add the pieces of an edge."""
+        line, edge = self.shape.lines[number], self.graph.edges[number]
+        across = [0 if before[0] == after[0] else 1 for before, after in itertools.pairwise(line)]
+        last = len(across) - 1
+        coordinates = []
+        for place, axis in enumerate(across):
+            hosts = [edge.tail] * (place == 0) + [edge.head] * (place == last)
+            coordinates.append(self._coordinate(axis, UNIT * line[place][axis], hosts))
+        for place, axis in enumerate(across):
+            other = 1 - axis
+            forward = line[place][other] < line[place + 1][other]
+            ends, hosts = [], []
+            for at, neighbour, host in ((0, place - 1, edge.tail), (1, place + 1, edge.head)):
+                is_low = (at == 0) == forward
+                on_grid = UNIT * line[place + at][other]
+                if 0 <= neighbour <= last:
+                    ends.append((coordinates[neighbour], on_grid))
+                else:
+                    hosts.append(host)
+                    self.sides[host, axis, not is_low] += 1
+                    box = self.boxes[host]
+                    ends.append((box.high[other], on_grid + 1) if is_low else (box.low[other], on_grid - 1))
+            low, high = ends if forward else ends[::-1]
+            self.pieces[number].append(
+                item_at(PIECE, axis, (coordinates[place], UNIT * line[place][axis]), low, high, hosts))
+        self.items += self.pieces[number]
+
+    def _add_loop(self, number: int) -> None:
+        """Put a loop on the side of its box that has the fewest lines, after all other lines there."""
+        host = self.graph.edges[number].tail
+        box = self.boxes[host]
+        along, is_low = min(((along, is_low) for along in (0, 1) for is_low in (True, False)),
+                            key=lambda side: (self.sides[host, *side], side))
+        across, count = 1 - along, self.loops[host, along, is_low]
+        self.loops[host, along, is_low] += 1
+        self.sides[host, along, is_low] += 2
+        end = UNIT * self.shape.boxes[host][2 + along]
+        sign, border = (-1, box.grid[across][0]) if is_low else (1, box.grid[across][1])
+        places = [end + 4 + 8 * count, end + 8 + 8 * count]
+        ends = [self._coordinate(along, end, [host], 0.1 + (2 * count + last) / 1000) for last in (0, 1)]
+        far = self.axes[across].add(border + LOOP * sign), border + LOOP * sign
+        near = box.low[across] if is_low else box.high[across], border + sign
+        box.grid[along] = box.grid[along][0], places[1] + 1
+        legs = list(zip(ends, places))
+        extent = (far, near) if is_low else (near, far)
+        self.pieces[number] = [item_at(PIECE, along, legs[0], *extent, [host]), item_at(PIECE, across, far, *legs, []),
+                               item_at(PIECE, along, legs[1], *extent, [host])]
+        self.items += self.pieces[number]
+        corners = [(ends[0], near[0]), (ends[0], far[0]), (ends[1], far[0]), (ends[1], near[0])]
+        self.corners[number] = corners if along == 0 else [(b, a) for a, b in corners]
+
+    def _coordinate(self, axis: int, value: float, hosts: Sequence[int], rank: float = 0.0) -> int:
+        """Return the coordinate of a piece across an axis, which lies within the boxes at its ends."""
+        points = [self.boxes[host].low[axis] for host in hosts if self.boxes[host].low[axis] == self.boxes[host].high[axis]]
+        found = points[0] if points else self.axes[axis].add(value, rank)
+        for host in hosts:
+            box = self.boxes[host]
+            if box.low[axis] == box.high[axis]:
+                self.axes[axis].same.unite(box.low[axis], found)
+                continue
+            inset = self.inset(host)
+            self.within[axis].extend([(box.low[axis], found, inset), (found, box.high[axis], inset)])
+            self.at_box[axis].setdefault(host, []).append(found)
+        return found
+
+    def inset(self, host: int) -> float:
+        """Return the distance from a corner of a box to a line at its side."""
+        return 0.0 if self.graph.vertices[host].kind is Kind.NET else INSET
+
+    def _add_label(self, number: int, text: str) -> None:
+        """Put a label on the piece of its edge that has the most room."""
+        lines = lines_of(text)
+        size = (max(width_of(line, LABEL_FONT) for line in lines) + 4, LABEL_HEIGHT * len(lines))
+        pieces = self.pieces[number]
+
+        def room(place: int) -> tuple[float, int]:
+            """Return the length of a piece, a little more if it runs downwards; the first is preferred."""
+            running = 1 - pieces[place].across
+            return pieces[place].grid[running][1] - pieces[place].grid[running][0] + 2 * running, -place
+
+        piece = pieces[1 if number in self.corners else max(range(len(pieces)), key=room)]
+        across, running = piece.across, 1 - piece.across
+        first, last = piece.grid[running]
+        middle = UNIT * math.floor((first + last) / 2 / UNIT) + UNIT / 2 if last - first > UNIT / 2 else (first + last) / 2
+        axis = self.axes[running]
+        if number in self.corners:
+            legs = [leg.low[running] for leg in (pieces[0], pieces[2])]
+            place = axis.add(axis.value[legs[0]], sum(axis.rank[leg] for leg in legs) / 2)
+        else:
+            place = axis.add(middle)
+        item = item_at(LABEL, across, (piece.low[across], piece.grid[across][0]), (place, middle), (place, middle),
+                       [-1 - number])
+        item.owns, item.before, item.after = (True, True), [-size[0] / 2, -size[1] / 2], [size[0] / 2, size[1] / 2]
+        self.labels[number] = item
+        self.items.append(item)
+
+    def _unite(self) -> None:
+        """Replace each coordinate by its representative number."""
+        finds = [axis.same.find for axis in self.axes]
+        for item in self.items:
+            item.low = [find(number) for find, number in zip(finds, item.low)]
+            item.high = [find(number) for find, number in zip(finds, item.high)]
+        for number, corners in self.corners.items():
+            self.corners[number] = [(finds[0](x), finds[1](y)) for x, y in corners]
+        for find, within, at_box in zip(finds, self.within, self.at_box):
+            within[:] = [(find(low), find(high), distance) for low, high, distance in within]
+            for lines in at_box.values():
+                lines[:] = map(find, lines)
+
+    def along(self, item: Item, axis: int, on_grid: bool = False) -> tuple[float, float]:
+        """Return where an item begins and ends along an axis."""
+        if on_grid:
+            return item.grid[axis]
+        value = self.axes[axis].value
+        return value[item.low[axis]] + item.before[axis], value[item.high[axis]] + item.after[axis]
+
+    def extent(self, item: Item) -> Box:
+        """Return the rectangle of an item."""
+        (left, right), (top, bottom) = self.along(item, 0), self.along(item, 1)
+        return left, top, right, bottom
+
+    def bounds(self) -> Box:
+        """Return the rectangle around all items."""
+        left, top, right, bottom = zip(*map(self.extent, self.items))
+        return min(left), min(top), max(right), max(bottom)
+
+    def line(self, number: int) -> list[Point]:
+        """Return the corners of an edge."""
+        x, y = self.axes[0].value, self.axes[1].value
+        if number in self.corners:
+            return [(x[across], y[upright]) for across, upright in self.corners[number]]
+        shape, pieces = self.shape.lines[number], self.pieces[number]
+        found = []
+        for place, (before, after) in enumerate(itertools.pairwise(shape)):
+            piece = pieces[place]
+            axis = 1 - piece.across
+            low, high = (x[piece.low[0]], y[piece.low[1]]), (x[piece.high[0]], y[piece.high[1]])
+            start, end = (low, high) if before[axis] < after[axis] else (high, low)
+            if place == 0:
+                found.append(start)
+            found.append(end)
+        return found
+
+
+def size_of(label: str, kind: Kind) -> tuple[float, float]:
+    """Return the least width and height of a box."""
+    if kind is Kind.NET:
+        return 0.0, 0.0
+    lines = lines_of(label)
+    if kind is Kind.FLAG:
+        return max(LEAST_FLAG, max(map(width_of, lines)) + 8), len(lines) * LINE_HEIGHT + 2
+    return (max(LEAST_SIDE, max(map(width_of, lines)) + 2 * PAD[0]), len(lines) * LINE_HEIGHT + 2 * PAD[1])

@@ -1,0 +1,229 @@
+"""Fewer crossings by reinsertion: edges and vertices are removed from an embedding and put back where they cross least.
+
+An edge goes back along a shortest path of the dual graph (Gutwenger and Mutzel 2004, with the embedding as it is), a vertex
+into the face from which the sum of such paths to its neighbours is least (after Clancy, Haythorpe and Newcombe 2019). Neither
+ever adds a crossing. Where several places are equally good, one is chosen at random, which lets the embedding drift.
+
+Work is counted in darts that a search of the dual graph passes, not in seconds, so the same seed gives the same embedding.
+"""
+from __future__ import annotations
+
+import random
+from collections.abc import Iterator, Sequence
+
+from planarbend.drawing.planarization import NONE, LinkedEmbedding
+
+FIXED = 1 << 20  # the weight of an edge that nothing may cross
+FAR = 1 << 60  # the distance of a face that no path reaches
+
+
+def one_of(numbers: Sequence[int], dice: random.Random) -> int:
+    """Return one of some numbers, at random if there are several."""
+    return numbers[int(dice.random() * len(numbers))] if len(numbers) > 1 else numbers[0]
+
+
+def growth(embedding: LinkedEmbedding, dice: random.Random) -> Iterator[tuple[int, list[int]]]:
+    """Yield each vertex with its edges to those before it: always one with the most such edges, then with the most edges."""
+    placed = [0] * embedding.vertex_count  # neighbours that come before
+    waiting = dict.fromkeys(range(embedding.vertex_count))
+    while waiting:
+        vertex = max(waiting, key=lambda vertex: (placed[vertex], len(embedding.edges_at[vertex]), dice.random()))
+        del waiting[vertex]
+        edges = []
+        for edge in embedding.edges_at[vertex]:
+            other = sum(embedding.ends[edge]) - vertex
+            placed[other] += 1
+            if other not in waiting:
+                edges.append(edge)
+        yield vertex, edges
+
+
+class Reinsertion:
+    """A search for an embedding with few crossings.
+
+    `embedding`: of all of the graph's edges, of some that connect all its vertices, or of none. It is edited.
+    `weights`: for each edge its weight: a crossing of two edges costs the product of their weights. An edge of weight `FIXED`
+    is never crossed; such edges must form no cycle.
+    `dice`: the source of random choices.
+    `cost`: the sum of the costs of the embedding's crossings.
+    `work`: number of darts passed so far.
+    """
+
+    def __init__(self, embedding: LinkedEmbedding, weights: Sequence[int], dice: random.Random) -> None:
+        """Return a search that begins with an embedding."""
+        self.embedding, self.weights, self.dice, self.work = embedding, list(weights), dice, 0
+        self.cost = sum(map(self.cost_of, range(len(embedding.ends)))) // 2
+
+    def cost_of(self, edge: int) -> int:
+        """Return the cost of an edge's crossings."""
+        weights = self.weights
+        return weights[edge] * sum(weights[other] for other in self.embedding.crossed(edge))
+
+    # Distances
+
+    def distances(self, vertex: int, goals: Sequence[int] = ()) -> list[int]:
+        """Return for each face the weight of the edges to cross from a vertex to it, by Dial's algorithm; `FAR` if there is no
+        path, and maybe for faces farther than the nearest of some goals."""
+        embedding, weights = self.embedding, self.weights
+        onward, face, corner, edge = embedding.onward, embedding.face, embedding.corner, embedding.edge
+        buckets = [list({face[dart] for dart in embedding.around(vertex)})]
+        distance = [FAR] * len(corner)
+        for here in buckets[0]:
+            distance[here] = 0
+        work = steps = 0
+        while steps < len(buckets) and min(map(distance.__getitem__, goals), default=FAR) > steps:
+            next_step = steps + 1
+            for here in buckets[steps]:
+                if distance[here] < steps:
+                    continue
+                first = dart = corner[here]
+                while True:
+                    work += 1
+                    other = face[dart ^ 1]
+                    if distance[other] > next_step:
+                        there = steps + weights[edge[dart >> 1]]
+                        if there < distance[other] and there < FIXED:
+                            distance[other] = there
+                            while len(buckets) <= there:
+                                buckets.append([])
+                            buckets[there].append(other)
+                    dart = onward[dart]
+                    if dart == first:
+                        break
+            steps = next_step
+        self.work += work
+        return distance
+
+    def path(self, distance: list[int], to: int) -> list[int]:
+        """Return the darts that a shortest path to a face crosses, from its start on, chosen at random among the shortest."""
+        embedding, weights, chance = self.embedding, self.weights, self.dice.random
+        onward, face, edge = embedding.onward, embedding.face, embedding.edge
+        crossed: list[int] = []
+        here = to
+        while distance[here]:
+            left = distance[here]
+            first = dart = embedding.corner[here]
+            choices: list[int] = []
+            while True:
+                weight = weights[edge[dart >> 1]]
+                if distance[face[dart ^ 1]] == left - weight and weight != FIXED:
+                    choices.append(dart ^ 1)
+                dart = onward[dart]
+                if dart == first:
+                    break
+            chosen = choices[int(chance() * len(choices))] if len(choices) > 1 else choices[0]
+            crossed.append(chosen)
+            here = face[chosen]
+        crossed.reverse()
+        return crossed
+
+    # Moves
+
+    def take(self, edge: int) -> None:
+        """Remove an edge."""
+        self.cost -= self.cost_of(edge)
+        self.embedding.remove(edge)
+
+    def put(self, edge: int) -> None:
+        """Insert an edge along a shortest path between its ends, which have other edges."""
+        embedding = self.embedding
+        tail, head = embedding.ends[edge]
+        goals = sorted({embedding.face[dart] for dart in embedding.around(head)})
+        distance = self.distances(tail, goals)
+        least = min(distance[goal] for goal in goals)
+        goal = one_of([goal for goal in goals if distance[goal] == least], self.dice)
+        crossed = self.path(distance, goal)
+        from_face = embedding.face[crossed[0]] if crossed else goal
+        self.cost += self.weights[edge] * least
+        embedding.insert(edge, self._corner(tail, from_face), crossed, self._corner(head, goal))
+
+    def put_at(self, edge: int, vertex: int, face: int, distance: list[int]) -> None:
+        """Insert the first edge of a vertex, from a face, by the distances from the edge's other end."""
+        embedding = self.embedding
+        tail, head = embedding.ends[edge]
+        crossed = self.path(distance, face)
+        other = head if tail == vertex else tail
+        corner = self._corner(other, embedding.face[crossed[0]] if crossed else face)
+        self.cost += self.weights[edge] * distance[face]
+        if tail == vertex:
+            embedding.insert(edge, NONE, [dart ^ 1 for dart in reversed(crossed)], corner)
+        else:
+            embedding.insert(edge, corner, crossed, NONE)
+
+    def _corner(self, vertex: int, face: int) -> int:
+        """Return a dart that leaves the vertex with the face on its left, chosen at random."""
+        return one_of(self.embedding.corners(vertex, (face,)), self.dice)
+
+    def move_edge(self, edge: int) -> None:
+        """Remove an edge and put it back."""
+        self.take(edge)
+        self.put(edge)
+
+    def move_vertex(self, vertex: int) -> None:
+        """Remove a vertex with its edges and put it back."""
+        edges = self.embedding.edges_at[vertex]
+        for edge in edges:
+            self.take(edge)
+        self.put_vertex(vertex, edges)
+
+    def put_vertex(self, vertex: int, edges: Sequence[int]) -> None:
+        """Insert a vertex with these of its edges, whose other ends have further edges."""
+        totals: list[int] = [0] * len(self.embedding.corner)
+        near: list[list[int]] = []
+        for edge in edges:
+            tail, head = self.embedding.ends[edge]
+            distance = self.distances(head if tail == vertex else tail)
+            near.append(distance)
+            weight = self.weights[edge]
+            totals = [total + weight * far for total, far in zip(totals, distance)]
+        least = min(totals)
+        places = [face for face, total in enumerate(totals) if total == least]
+        face = places[int(self.dice.random() * len(places))]
+        self.put_at(edges[0], vertex, face, near[0])
+        for edge in edges[1:]:
+            self.put(edge)
+
+    def put_all(self) -> None:
+        """Insert all vertices into an embedding without edges, each time the one with the most embedded neighbours."""
+        embedding = self.embedding
+        for vertex, edges in growth(embedding, self.dice):
+            if edges and embedding.leaving[sum(embedding.ends[edges[0]]) - vertex] == NONE:  # the second vertex of a part
+                embedding.insert(edges[0], NONE, (), NONE)
+            elif edges:
+                self.put_vertex(vertex, edges)
+
+    def improve(self, patience: int, most_work: int) -> None:
+        """Move all vertices and edges in random order, repeatedly.
+
+        This ends after as many consecutive rounds as `patience` that save no crossing, or with a move after which `work` is
+        above `most_work`.
+        """
+        edges = [edge for edge, weight in enumerate(self.weights) if weight != FIXED]
+        vertices = list(range(self.embedding.vertex_count))
+        vain = 0
+        while vain < patience and self.cost:
+            before = self.cost
+            self.dice.shuffle(vertices)
+            for vertex in vertices:
+                if self.work <= most_work:
+                    self.move_vertex(vertex)
+            self.dice.shuffle(edges)
+            for edge in edges:
+                if self.work <= most_work and self.cost_of(edge):
+                    self.move_edge(edge)
+            vain = vain + 1 if self.cost == before else 0
+            if self.work > most_work:
+                return
+
+    def settle(self) -> None:
+        """Move each edge that crosses others until none saves a crossing.
+
+        After this no two edges with a common end cross, and no two edges cross twice: one of them would save a crossing along
+        the other.
+        """
+        before = self.cost + 1
+        while self.cost < before:
+            before = self.cost
+            for edge in range(len(self.weights)):
+                if self.weights[edge] != FIXED and self.cost_of(edge):
+                    self.move_edge(edge)

@@ -1,0 +1,88 @@
+"""Gives a shape on the grid its coordinates in pixels, with room for names and no more.
+
+First x is settled, for items whose rows on the grid overlap; then y, for items that overlap in x; then both again, from the
+places so far. Each time all coordinates take their least values by longest paths, then their greatest, then the middle, and
+then what shortens lines.
+"""
+from __future__ import annotations
+
+from planarbend.drawing.constraints import apart, lengths_of, reach_of
+from planarbend.drawing.items import Sheet
+from planarbend.drawing.solver import Solver
+from planarbend.graph import Kind
+
+PASSES = 2
+
+
+def spread(sheet: Sheet) -> None:
+    """Settle all coordinates."""
+    for step in range(PASSES):
+        for axis in (0, 1):
+            settle(sheet, axis, step)
+
+
+def settle(sheet: Sheet, axis: int, step: int) -> None:
+    """Settle the coordinates along one axis: at step 0 from the order on the grid, at the last step with least lengths."""
+    constraints = list(sheet.within[axis]) + apart(sheet, axis, step)
+    along = sheet.axes[axis]
+    order = sorted(range(len(along.value)), key=lambda number: (along.value[number], along.rank[number]))
+    solver = Solver(len(order), order, constraints)
+    if step == PASSES - 1:
+        solver.shorten(lengths_of(sheet, axis), reach_of(sheet, axis))
+        centre(sheet, axis, solver)
+    else:
+        solver.settle()
+        pull(sheet, axis, solver)
+    along.value = [round(value, 4) for value in solver.value]
+
+
+def centre(sheet: Sheet, axis: int, solver: Solver) -> None:
+    """Move boxes to the middle of their lines, and straight lines to the middle of their boxes, as far as nothing else moves."""
+    hosts: dict[int, list[int]] = {}
+    for number, lines in sheet.at_box[axis].items():
+        for line in lines:
+            hosts.setdefault(line, []).append(number)
+    bent = {side for pieces in sheet.pieces for piece in pieces if piece.owns[1 - axis]
+            for side in (piece.low[axis], piece.high[axis])}
+    at_nets = {line for number, lines in sheet.at_box[axis].items() for line in lines
+               if len(lines) == 2 and sheet.graph.vertices[number].kind is Kind.NET}
+    for _ in range(3):
+        before = solver.value[:]
+        for number, box in enumerate(sheet.boxes):
+            lines = sheet.at_box[axis].get(number, [])
+            if sheet.graph.vertices[number].kind is Kind.NET and len(lines) == 2 and box.low[axis] != box.high[axis]:
+                solver.move_to(lines[0], solver.value[lines[1]])
+                solver.move_to(lines[1], solver.value[lines[0]])
+        for line, numbers in hosts.items():
+            if line not in bent and line not in at_nets:
+                wanted = [(solver.value[sheet.boxes[number].low[axis]] + solver.value[sheet.boxes[number].high[axis]]) / 2
+                          for number in numbers]
+                solver.move_to(line, sum(wanted) / len(wanted))
+        for number, lines in sheet.at_box[axis].items():
+            box = sheet.boxes[number]
+            solver.fit(box.low[axis], box.high[axis], lines, sheet.sizes[number][axis], sheet.inset(number))
+        if solver.value == before:
+            return
+
+
+def pull(sheet: Sheet, axis: int, solver: Solver) -> None:
+    """Move coordinates to make lines shorter, and boxes no larger than necessary."""
+    other = 1 - axis
+    ends: dict[int, list[int]] = {}
+    for pieces in sheet.pieces:
+        for piece in pieces:
+            if piece.owns[other]:
+                ends.setdefault(piece.low[axis], []).append(piece.high[axis])
+                ends.setdefault(piece.high[axis], []).append(piece.low[axis])
+    sides = {side for box in sheet.boxes for side in (box.low[axis], box.high[axis]) if box.low[axis] != box.high[axis]}
+    movable = [number for number in ends if number not in sides]
+    fits = [(box.low[axis], box.high[axis], sheet.at_box[axis].get(number, []), sheet.sizes[number][axis],
+             sheet.inset(number)) for number, box in enumerate(sheet.boxes) if box.low[axis] != box.high[axis]]
+    for _ in range(6):
+        before = solver.value[:]
+        for fit in fits:
+            solver.fit(*fit)
+        for number in movable:
+            solver.move(number, ends[number])
+        if solver.value == before:
+            return

@@ -1,0 +1,60 @@
+"""The width of a text, its division into lines, and SVG."""
+from __future__ import annotations
+
+import unicodedata
+from collections.abc import Iterable
+
+FONT = 11  # pixels, font size of a name
+LINE_HEIGHT = 14  # pixels from line to line of a name
+LONGEST_LINE = 110  # pixels: a wider name is broken at a space
+FAMILY = "DejaVu Sans, Verdana, sans-serif"
+
+WIDTHS = {0.32: " ", 0.40: "ijlI.,:;'|!()[]{}`frt-\"/\\", 0.98: "mMwW@%&"}  # of characters, relative to the font size
+WIDTH = {letter: width for width, letters in WIDTHS.items() for letter in letters}
+LOWER, UPPER, OTHER, WIDE = 0.64, 0.80, 0.85, 1.05
+
+
+def width_of(text: str, font: float = FONT) -> float:
+    """Return the greatest width of a text, in pixels."""
+    return font * sum(map(letter_width, text))
+
+
+def letter_width(letter: str) -> float:
+    """Return the width of a character, relative to the font size."""
+    if unicodedata.combining(letter):
+        return 0.0
+    if unicodedata.east_asian_width(letter) in "WF":
+        return WIDE
+    plain = unicodedata.normalize("NFD", letter)[0]
+    if plain in WIDTH:
+        return WIDTH[plain]
+    if plain.isascii():
+        return UPPER if plain.isupper() else LOWER
+    return OTHER
+
+
+def lines_of(name: str, longest: float = LONGEST_LINE) -> list[str]:
+    """Return a name in lines, none wider than `longest` if it has spaces at which to break."""
+    lines = []
+    for whole in name.split("\n"):
+        line = ""
+        for word in whole.split():
+            longer = f"{line} {word}".strip()
+            if line and width_of(longer) > longest:
+                lines.append(line)
+                longer = word
+            line = longer
+        lines.append(line)
+    return lines
+
+
+def xml_text(text: str) -> str:
+    """Return a text with XML escapes; characters that XML does not allow become U+FFFD."""
+    known = "".join(letter if letter >= " " and letter not in "\ufffe\uffff" else "\ufffd" for letter in text)
+    return known.replace("&", "&amp;").replace("<", "&lt;").replace(">", "&gt;")
+
+
+def svg_text(width: int, height: int, elements: Iterable[str]) -> str:
+    """Return the text of an SVG picture on a white background."""
+    head = f'<svg xmlns="http://www.w3.org/2000/svg" width="{width}" height="{height}" viewBox="0 0 {width} {height}">'
+    return "\n".join([head, '<rect width="100%" height="100%" fill="white"/>', *elements, "</svg>\n"])

@@ -1,0 +1,151 @@
+"""The interface between drawing and planarbend: neighbour lists in, bends and points out."""
+from __future__ import annotations
+
+import json
+import os
+from collections.abc import Sequence
+from dataclasses import dataclass
+from typing import Any, Protocol
+
+from planarbend.layout.planar_code import HEADER, Lists, record_of
+from planarbend.programs import PlanarbendError, RunFailed, program
+
+GridPoint = tuple[int, int]
+
+
+@dataclass(frozen=True, slots=True)
+class Representation:
+    """An orthogonal representation, and the dual prices that prove that it has the fewest bends."""
+
+    outer: int  # the outer face
+    angles: list[int]  # for each dart, at its head, in right angles
+    turns: list[str]  # for each dart, an L or R for each
+    vertex_prices: list[int]
+    face_prices: list[int]
+
+
+@dataclass(frozen=True, slots=True)
+class Answer:
+    """The layout of one embedded graph on the grid; y grows to the north. Numbers are those of docs/JSON.md."""
+
+    bends: int  # the fewest for its outer face
+    points: list[GridPoint]  # of each vertex
+    corners: list[list[GridPoint]]  # of each edge, along its lesser dart
+    representation: Representation | None = None  # an engine leaves it out
+
+
+@dataclass(frozen=True, slots=True)
+class Refusal:
+    """Why a graph has no layout: its status is "refused" (the word is the rule), "undrawn" (the cause) or "memory"."""
+
+    status: str
+    word: str = ""
+
+
+@dataclass(frozen=True, slots=True)
+class Conditions:
+    """Conditions on a layout. Vertices are numbered from 1."""
+
+    straight: Sequence[tuple[int, int]] = ()  # edges that must be straight, each given by its ends
+    inner: Sequence[tuple[int, int]] = ()  # faces that must not be the outer one, each given by a dart with it on its left
+
+
+@dataclass(frozen=True, slots=True)
+class Cut:
+    """Why no shape keeps the edges straight: a set of vertices and faces that turn more than can leave it."""
+
+    vertices: tuple[int, ...]  # numbered from 1
+    faces: tuple[int, ...]  # numbered from 0, in the order of their lowest darts
+    outer: int  # the outer face for which the cut shows this
+
+    def __str__(self) -> str:
+        """Return the cut in words."""
+        named = [f"{what} {', '.join(map(str, numbers))}"
+                 for what, numbers in (("vertices", self.vertices), ("faces", self.faces)) if numbers]
+        return f"{' and '.join(named)} turn more than can leave them"
+
+
+class NotKept(PlanarbendError):
+    """No layout keeps the conditions.
+
+    `word`: "noshape" (no shape keeps them), "noedge" (two vertices are not neighbours), "noouter" (all faces must be inner) or
+    "wide" (the drawing does not fit the grid).
+    `cut`: with "noshape", the reason.
+    """
+
+    def __init__(self, word: str, cut: Cut | None = None) -> None:
+        """Return the error of a word."""
+        super().__init__(f"planarbend has no layout that keeps the conditions: {word}{f' ({cut})' if cut else ''}")
+        self.word, self.cut = word, cut
+
+
+class Engine(Protocol):
+    """What lays out embedded graphs with the fewest bends: the library, the program, or a stand-in.
+
+    Neighbour lists have vertices numbered from 1 and neighbours in clockwise order. A graph has at most 255 vertices of degree
+    at most 4; it is connected and has an edge, but no loops or parallel edges. `outer` is "first", for the outer face with the
+    longest boundary (among several, the one with the lowest number), or "best", for the one that minimises bends. `keeps` says
+    whether conditions can be kept.
+    """
+
+    keeps: bool
+
+    def lay(self, graphs: Sequence[Lists], outer: str) -> list[Answer]:
+        """Return the layout of each graph, or raise a `PlanarbendError` if one has none, or the engine fails."""
+        ...
+
+    def lay_keeping(self, lists: Lists, outer: str, conditions: Conditions) -> Answer:
+        """Return a layout of one graph that keeps conditions, with the fewest bends of all that do; raise `NotKept` if none
+        keeps them, and a `PlanarbendError` as `lay`, or if the engine keeps no conditions."""
+        ...
+
+
+class ProcessEngine:
+    """The program, which runs once for each call of `lay`. It keeps no conditions."""
+
+    keeps = False
+
+    def __init__(self) -> None:
+        """Return the program's engine, or raise `NoProgram`."""
+        self.program = program()
+
+    def lay(self, graphs: Sequence[Lists], outer: str) -> list[Answer]:
+        """Return the layout of each graph, as `Engine.lay`."""
+        if not graphs:
+            return []
+        import subprocess  # slow to load, and not needed by the library
+
+        given = HEADER + b"".join(map(record_of, graphs))
+        ran = subprocess.run([self.program, "layout", "--json", "--outer", outer, "-"], input=given, capture_output=True)
+        lines = [json.loads(line) for line in ran.stdout.splitlines()] if ran.returncode in (0, 3) else []
+        if len(lines) != len(graphs) + 1 or lines[-1].get("end") != "complete":
+            raise RunFailed(ran.returncode, ran.stderr.decode(errors="replace").strip())
+        return [answer_of(line) for line in lines[:-1]]
+
+    def lay_keeping(self, lists: Lists, outer: str, conditions: Conditions) -> Answer:
+        """Return no layout: raise a `PlanarbendError`, since the program takes no conditions."""
+        raise PlanarbendError("the program planarbend keeps no conditions: they need the library")
+
+
+def answer_of(line: dict[str, Any]) -> Answer:
+    """Return the answer in a JSON line, without its representation, or raise `PlanarbendError` if the graph is not drawn."""
+    if line["status"] != "ok" or line["points"] is None:
+        raise PlanarbendError(f"planarbend does not draw a graph: {line}")
+    return Answer(line["bends"], *points_of(line["points"]))
+
+
+def points_of(points: dict[str, Any]) -> tuple[list[GridPoint], list[list[GridPoint]]]:
+    """Return the points of the vertices, and the corners of the edges, in the `points` of a JSON line."""
+    return ([(x, y) for x, y in points["vertices"]], [[(x, y) for x, y in corners] for corners in points["corners"]])
+
+
+def default_engine() -> Engine:
+    """Return the engine to use: the library if there is one, otherwise the program. Both answer the same.
+
+    If PLANARBEND is set, the program that it names is used.
+    """
+    if "PLANARBEND" in os.environ:
+        return ProcessEngine()
+    from planarbend.layout import library  # imported here: it uses this module, and is slow to load
+
+    return library.LibraryEngine() if library.is_wanted() else ProcessEngine()
