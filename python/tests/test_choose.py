@@ -51,6 +51,15 @@ class Corners(unittest.TestCase):
         self.assertEqual(sorted([after, before]), [[3], [4]])
         self.assertEqual(every, [0, 1, 2, 3, 4])
 
+    def test_ways_from_any_node_on(self) -> None:
+        """If the cage begins with another node, the connections have other numbers, and are the same."""
+        for first in range(len(STEP)):
+            one, *others, every = ways_round_cage(STEP[first:] + STEP[:first])
+            found = [[(place + first) % len(STEP) for place in way] for way in (one, *others, every)]
+            self.assertIn(found[0], ([3], [4]))
+            self.assertEqual(sorted(found[1:3]), [[3], [4]])
+            self.assertEqual(sorted(found[3]), [0, 1, 2, 3, 4])
+
     def test_turned_inside_out(self) -> None:
         """No edge helps where the inside of a cage lies outside."""
         turned = [section[::-1] for section in reversed(SQUARE)]
@@ -181,6 +190,13 @@ class Nets(unittest.TestCase):
                     reached.add(point)
                     waiting += [end for piece in pieces if point in piece for end in piece if end not in reached]
                 self.assertLessEqual(points, reached)
+
+    def test_the_trunk(self) -> None:
+        """Halfway up the box; in a box of less than 12 pixels straight with the first end."""
+        for height, one, other, trunk in ((20, 3, 15, 10), (12, 2, 10, 6), (11, 2, 10, 2)):
+            ends = [((0.0, float(one)), False), ((40.0, float(other)), False)]
+            wanted = [((0, min(one, trunk)), (0, trunk)), ((0, trunk), (40, trunk)), ((40, trunk), (40, other))]
+            self.assertEqual(pieces_of((0.0, 0.0, 40.0, height), ends), wanted[trunk == one:])
 
     def test_a_dot_where_three_meet(self) -> None:
         ends = [((0.0, 5.0), False), ((20.0, 5.0), False), ((8.0, 0.0), True)]

@@ -1,6 +1,7 @@
 """Planarizations are planar, are of the graph, and have as few crossings as is known to be needed."""
 from __future__ import annotations
 
+import math
 import os
 import random
 import subprocess
@@ -9,9 +10,11 @@ import unittest
 from collections.abc import Sequence
 
 import support
-from planarbend.drawing.moves import neighbours
+from planarbend.drawing.incremental import incremental_embedding
+from planarbend.drawing.moves import Faces, climbed, flipped, flips_of, neighbours
 from planarbend.drawing.planarization import Planarization
 from planarbend.drawing.planarize import TooManyCrossings, needed_by_cycles, needed_crossings, planarize
+from planes import Plane
 
 try:
     import networkx
@@ -75,6 +78,20 @@ class Needed(unittest.TestCase):
             again = [*complete[count], *((head, tail) for tail, head in complete[count]), (1, 1)]
             self.assertEqual(needed_crossings(count, again), needed)
         self.assertEqual(needed_crossings(6, UTILITIES), 0)
+
+
+@support.needs_networkx
+class Incremental(unittest.TestCase):
+    def test_planar_graphs_are_embedded_vertex_by_vertex(self) -> None:
+        """Without a planarity test, and with as many faces as Euler's formula says."""
+        for made in (networkx.grid_2d_graph(6, 6), networkx.grid_2d_graph(8, 8), networkx.tutte_graph(), networkx.dodecahedral_graph(),
+                     networkx.circular_ladder_graph(9)):
+            graph = networkx.convert_node_labels_to_integers(made)
+            found = incremental_embedding(len(graph), graph.edges())
+            assert found is not None
+            self.assertEqual([set(around) for around in found], [set(graph[vertex]) for vertex in graph])
+            faces = Plane([[other + 1 for other in around] for around in found]).walks
+            self.assertEqual(len(graph) - graph.number_of_edges() + len(faces), 2)
 
 
 @support.needs_networkx
@@ -223,6 +240,39 @@ class Planarized(unittest.TestCase):
                         self.check(other, edges)
                         self.assertLessEqual(other.crossings, embedding.crossings)
                         embedding = other
+
+    def test_edges_that_cross_are_not_made_to_touch(self) -> None:
+        """Two triangles at a vertex, joined by two edges that cross: if one triangle is mirrored, these edges touch."""
+        places = [(0, -1), (-3, 3), (-1, 1), (1, 1), (3, 3), (0, 1.5)]
+        edges = [(0, 1), (0, 2), (1, 2), (0, 3), (0, 4), (3, 4), (1, 3), (2, 4)]
+        tail = [end for pair in (*edges[:6], (1, 5), (5, 3), (2, 5), (5, 4)) for end in pair]
+
+        def angle(dart: int) -> float:
+            (x, y), (u, v) = places[tail[dart]], places[tail[dart ^ 1]]
+            return math.atan2(v - y, u - x)
+
+        rotation = [sorted((dart for dart in range(20) if tail[dart] == vertex), key=angle, reverse=True) for vertex in range(6)]
+        planar = Planarization(tail, rotation, 5, [*([2 * edge] for edge in range(6)), [12, 14], [16, 18]])
+        self.check(planar, edges)
+        found = [flipped(Faces(planar), flip) for flip in flips_of(Faces(planar)) if {0, 5} == {*flip[2:]}]
+        self.assertEqual(found, [None])
+
+    def test_a_cube_has_no_other_embedding(self) -> None:
+        """But for its mirror image, since it is three-connected: no flip and no turn leads anywhere."""
+        cube = [(corner, corner ^ bit) for corner in range(8) for bit in (1, 2, 4) if not corner & bit]
+        self.assertEqual(neighbours(planarize(8, cube), random.Random(1), 4), [])
+
+    def test_a_search_in_vain(self) -> None:
+        """It ends after half as many rounds as it may take; each better embedding makes it go on."""
+        prices = []
+
+        def priced(planars: Sequence[Planarization]) -> list[tuple[int, ...]]:
+            prices.append(len(planars))
+            return [(0 if len(prices) == 4 else 1,)] * len(planars)
+
+        star = planarize(6, [(0, leaf) for leaf in range(1, 6)])
+        climbed(star, priced, random.Random(1), rounds=8, width=3)
+        self.assertEqual(len(prices), 1 + 3 + 4)
 
     def test_all_embeddings(self) -> None:
         """Moves lead to each embedding of a graph, and mirrored ones are two: K(2,4) and a star of four have six."""
