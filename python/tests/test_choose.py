@@ -15,7 +15,7 @@ from planarbend.drawing.choose import Search
 from planarbend.drawing.expand import Expansion
 from planarbend.drawing.mend import corners_of, ways_round_cage
 from planarbend.drawing.nets import dots_of, pieces_of
-from planarbend.drawing.numbering import Contraction, form_of, path_of
+from planarbend.drawing.numbering import Contraction, form_of, path_of, put_back
 from planarbend.drawing.planarize import planarize
 from planarbend.drawing.plans import Plan
 from planarbend.drawing.shape import Shape
@@ -127,6 +127,18 @@ class Room(unittest.TestCase):
         edges = self.chains()
         graph = Graph([Vertex(str(number), str(number)) for number in range(242)], [Edge(*edge) for edge in edges])
         checked(graph, edges)
+
+    def test_nodes_are_put_back_on_the_longest_part(self) -> None:
+        """At equal distances, whichever way that part of the line runs."""
+        for a, b in ((1, 0), (0, 1), (-1, 0), (0, -1)):
+            def turned(line: list[tuple[int, int]]) -> list[tuple[int, int]]:
+                return [(a * x - b * y, b * x + a * y) for x, y in line]
+
+            points, paths = [(0, 0)] * 4, dict[int, list[tuple[int, int]]]()
+            put_back(points, paths, [10, 12, 14], [1, 2], turned([(0, 0), (0, 3), (9, 3), (9, 5)]))
+            self.assertEqual(points[1:3], turned([(3, 3), (6, 3)]))
+            self.assertEqual(paths, {10: turned([(0, 0), (0, 3), (3, 3)]), 12: turned([(3, 3), (6, 3)]),
+                                     14: turned([(6, 3), (9, 3), (9, 5)])})
 
     def test_paths_along_chains(self) -> None:
         """The path of each piece leads from node to node, also where nodes next to one another are put back."""

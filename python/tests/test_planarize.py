@@ -8,12 +8,15 @@ import subprocess
 import sys
 import unittest
 from collections.abc import Sequence
+from unittest import mock
 
 import support
+from planarbend.drawing.core import core_of
 from planarbend.drawing.incremental import incremental_embedding
 from planarbend.drawing.moves import Faces, climbed, flipped, flips_of, neighbours
 from planarbend.drawing.planarization import Planarization
-from planarbend.drawing.planarize import TooManyCrossings, needed_by_cycles, needed_crossings, planarize
+from planarbend.drawing.planarize import TooManyCrossings, _embedded, _least, _Starts, needed_by_cycles, needed_crossings, planarize
+from planarbend.drawing.reinsert import FIXED, Reinsertion
 from planes import Plane
 
 try:
@@ -92,6 +95,29 @@ class Incremental(unittest.TestCase):
             self.assertEqual([set(around) for around in found], [set(graph[vertex]) for vertex in graph])
             faces = Plane([[other + 1 for other in around] for around in found]).walks
             self.assertEqual(len(graph) - graph.number_of_edges() + len(faces), 2)
+
+
+@support.needs_networkx
+class Effort(unittest.TestCase):
+    def searched(self, count: int, work: int) -> tuple[int, list[int]]:
+        """For a complete graph, the number of first embeddings, and for each the work that may be spent on improving it."""
+        edges, allowed = [(tail, head) for tail in range(count) for head in range(tail)], list[int]()
+
+        def improve(search: Reinsertion, patience: int, most_work: int) -> None:
+            allowed.append(most_work - search.work)
+
+        with (mock.patch("planarbend.drawing.planarize.WORK", work), mock.patch.object(Reinsertion, "improve", improve),
+              mock.patch.object(_Starts, "next", autospec=True, side_effect=_Starts.next) as made):
+            _least(core_of(range(len(edges)), edges, [1] * len(edges), FIXED), 1, 0, sys.maxsize)
+        return made.call_count, allowed
+
+    def test_a_search_ends(self) -> None:
+        """After eight starts; before, if there is one crossing or none, or the work is done. Planarity tests are work."""
+        self.assertEqual(self.searched(5, 10 ** 9)[0], 1)
+        starts, allowed = self.searched(8, 10 ** 9)
+        self.assertEqual((starts, len(allowed)), (8, 8))
+        self.assertTrue(all(one > other for one, other in zip([10 ** 9, *allowed], allowed)))
+        self.assertEqual(self.searched(8, 0), (1, [0]))
 
 
 @support.needs_networkx
@@ -188,6 +214,16 @@ class Planarized(unittest.TestCase):
         chained = [pair for pair in mixed if pair != (3, 2)] + [(3, 5), (5, 2), (2, 6), (6, 7), (7, 3)]
         self.assertEqual(self.checked(8, chained).crossings, 2)
 
+    def test_edges_that_only_touch(self) -> None:
+        """If two edges touch in the embedding, they are drawn again without a crossing; those that cross stay."""
+        ends, crossed = [(0, 1), (2, 3), (4, 5), (6, 7)], [[5], [5], [3], [3]]
+        apart = [[1], [0], [3], [2], [8], [8], [8], [8], [4, 6, 5, 7]]
+        met = [[9]] * 4 + [[8]] * 4 + [[4, 6, 5, 7], [0, 1, 2, 3]]  # crossing 3 becomes vertex 8, and crossing 5 vertex 9
+        with mock.patch("planarbend.drawing.planarize._planar", side_effect=[met, apart]) as planar:
+            result = _embedded(8, 8, ends, crossed)
+        self.assertEqual(list(planar.call_args[0][1]), [(0, 1), (2, 3), (4, 8), (8, 5), (6, 8), (8, 7)])
+        self.assertEqual((result.crossings, [len(chain) for chain in result.chains]), (1, [1, 1, 2, 2]))
+
     def test_random(self) -> None:
         """Random graphs with loops, parallel edges and vertices that are to lie on one face."""
         for seed in range(40):
@@ -212,11 +248,11 @@ class Planarized(unittest.TestCase):
         """A limit on crossings is kept, at once where it cannot be met."""
         eight = [(tail, head) for tail in range(8) for head in range(tail)]
         self.assertEqual(planarize(8, eight, most=18).crossings, 18)
-        with self.assertRaises(TooManyCrossings) as caught:
+        with self.assertRaisesRegex(TooManyCrossings, "^18 or more crossings in each attempt$") as caught:
             planarize(8, eight, most=17)
         self.assertEqual(caught.exception.crossings, 18)
         many = [(tail, head) for tail in range(60) for head in range(tail)]
-        with self.assertRaises(TooManyCrossings):
+        with self.assertRaisesRegex(TooManyCrossings, "^at least [0-9]+ crossings$"):
             planarize(60, many, most=255)
         # Twice and more the limit; few edges a vertex, so that only the search can tell.
         dice = random.Random(1)
@@ -275,9 +311,11 @@ class Planarized(unittest.TestCase):
         self.assertEqual(len(prices), 1 + 3 + 4)
 
     def test_all_embeddings(self) -> None:
-        """Moves lead to each embedding of a graph, and mirrored ones are two: K(2,4) and a star of four have six."""
+        """Moves lead to each embedding of a graph, and mirrored ones are two: K(2,4) and a star of four have six, and two
+        triangles at one vertex four."""
         double = [(end, middle) for end in (0, 1) for middle in (2, 3, 4, 5)]
-        for edges, known in ((double, 6), ([(0, 1), (0, 2), (0, 3), (0, 4)], 6)):
+        bow = [(0, 1), (1, 2), (2, 0), (0, 3), (3, 4), (4, 0)]
+        for edges, known in ((double, 6), ([(0, 1), (0, 2), (0, 3), (0, 4)], 6), (bow, 4)):
             dice = random.Random(2)
             embedding = planarize(6, edges)
             seen = set()
