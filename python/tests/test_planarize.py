@@ -111,6 +111,18 @@ class Effort(unittest.TestCase):
             _least(core_of(range(len(edges)), edges, [1] * len(edges), FIXED), 1, 0, sys.maxsize)
         return made.call_count, allowed
 
+    def test_planar_parts(self) -> None:
+        """Those of K5 and K(3,3) lack one edge, which then makes one crossing."""
+        for edges in ([(tail, head) for tail in range(5) for head in range(tail)], UTILITIES):
+            for seed in range(4):
+                order = list(range(len(edges)))
+                random.Random(seed).shuffle(order)
+                starts = _Starts(core_of(range(len(edges)), edges, [1] * len(edges), FIXED), seed)
+                self.assertEqual(sum(map(len, starts._planar_part(order))), 2 * (len(edges) - 1))
+                self.assertEqual(starts.next(1).cost, 1)
+                with self.assertRaises(TooManyCrossings):
+                    starts.next(0)
+
     def test_a_search_ends(self) -> None:
         """After eight starts; before, if there is one crossing or none, or the work is done. Planarity tests are work."""
         self.assertEqual(self.searched(5, 10 ** 9)[0], 1)
