@@ -14,7 +14,7 @@ import support
 from planarbend.drawing.core import core_of
 from planarbend.drawing.incremental import incremental_embedding
 from planarbend.drawing.moves import Faces, climbed, flipped, flips_of, neighbours
-from planarbend.drawing.planarization import Planarization
+from planarbend.drawing.planarization import LinkedEmbedding, Planarization
 from planarbend.drawing.planarize import TooManyCrossings, _embedded, _least, _Starts, needed_by_cycles, needed_crossings, planarize
 from planarbend.drawing.reinsert import FIXED, Reinsertion
 from planes import Plane
@@ -95,6 +95,20 @@ class Incremental(unittest.TestCase):
             self.assertEqual([set(around) for around in found], [set(graph[vertex]) for vertex in graph])
             faces = Plane([[other + 1 for other in around] for around in found]).walks
             self.assertEqual(len(graph) - graph.number_of_edges() + len(faces), 2)
+
+
+def triangles() -> tuple[Planarization, list[tuple[int, int]]]:
+    """Two triangles at a vertex, joined by two edges that cross: their embedding, and the edges."""
+    places = [(0, -1), (-3, 3), (-1, 1), (1, 1), (3, 3), (0, 1.5)]
+    edges = [(0, 1), (0, 2), (1, 2), (0, 3), (0, 4), (3, 4), (1, 3), (2, 4)]
+    tail = [end for pair in (*edges[:6], (1, 5), (5, 3), (2, 5), (5, 4)) for end in pair]
+
+    def angle(dart: int) -> float:
+        (x, y), (u, v) = places[tail[dart]], places[tail[dart ^ 1]]
+        return math.atan2(v - y, u - x)
+
+    rotation = [sorted((dart for dart in range(20) if tail[dart] == vertex), key=angle, reverse=True) for vertex in range(6)]
+    return Planarization(tail, rotation, 5, [*([2 * edge] for edge in range(6)), [12, 14], [16, 18]]), edges
 
 
 @support.needs_networkx
@@ -290,20 +304,18 @@ class Planarized(unittest.TestCase):
                         embedding = other
 
     def test_edges_that_cross_are_not_made_to_touch(self) -> None:
-        """Two triangles at a vertex, joined by two edges that cross: if one triangle is mirrored, these edges touch."""
-        places = [(0, -1), (-3, 3), (-1, 1), (1, 1), (3, 3), (0, 1.5)]
-        edges = [(0, 1), (0, 2), (1, 2), (0, 3), (0, 4), (3, 4), (1, 3), (2, 4)]
-        tail = [end for pair in (*edges[:6], (1, 5), (5, 3), (2, 5), (5, 4)) for end in pair]
-
-        def angle(dart: int) -> float:
-            (x, y), (u, v) = places[tail[dart]], places[tail[dart ^ 1]]
-            return math.atan2(v - y, u - x)
-
-        rotation = [sorted((dart for dart in range(20) if tail[dart] == vertex), key=angle, reverse=True) for vertex in range(6)]
-        planar = Planarization(tail, rotation, 5, [*([2 * edge] for edge in range(6)), [12, 14], [16, 18]])
+        """If one of the two triangles is mirrored, these edges touch."""
+        planar, edges = triangles()
         self.check(planar, edges)
         found = [flipped(Faces(planar), flip) for flip in flips_of(Faces(planar)) if {0, 5} == {*flip[2:]}]
         self.assertEqual(found, [None])
+
+    def test_a_crossing_costs_the_product_of_its_weights(self) -> None:
+        planar, edges = triangles()
+        search = Reinsertion(LinkedEmbedding.of(planar, edges), [1] * 6 + [2, 3], random.Random(1))
+        self.assertEqual(search.cost, 6)
+        search.take(6)
+        self.assertEqual(search.cost, 0)
 
     def test_a_cube_has_no_other_embedding(self) -> None:
         """But for its mirror image, since it is three-connected: no flip and no turn leads anywhere."""
