@@ -223,6 +223,14 @@ class LeastLengths(unittest.TestCase):
         found.shorten(5)
         self.assertEqual(found.value, [0, 2, 3, 2])
 
+    def test_one_after_another(self) -> None:
+        """Two coordinates are moved up to a third, each by an exchange."""
+        pairs = [(2, 1, 0.0, 1.0), (0, 1, 5.0, 0.0), (0, 2, 0.0, 0.0), (3, 1, 0.0, 1.0), (0, 3, 0.0, 0.0)]
+        for most, values in ((0, [0, 0, 0, 5]), (1, [0, 0, 5, 5]), (5, [0, 5, 5, 5])):
+            found = Lengths(4, (0, 2, 3, 1), pairs)
+            found.shorten(most)
+            self.assertEqual(sorted(found.value), values)
+
 
 def fits(values: Any, pairs: list[tuple[int, int, int, int]]) -> bool:
     """Whether all pairs have their distance, and nothing lies before the first."""

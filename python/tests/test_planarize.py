@@ -1,6 +1,7 @@
 """Planarizations are planar, are of the graph, and have as few crossings as is known to be needed."""
 from __future__ import annotations
 
+import itertools
 import math
 import os
 import random
@@ -13,10 +14,10 @@ from unittest import mock
 import support
 from planarbend.drawing.core import core_of
 from planarbend.drawing.incremental import incremental_embedding
-from planarbend.drawing.moves import Faces, climbed, flipped, flips_of, neighbours
+from planarbend.drawing.moves import Faces, climbed, flipped, flips_of, neighbours, shifted
 from planarbend.drawing.planarization import LinkedEmbedding, Planarization
 from planarbend.drawing.planarize import TooManyCrossings, _embedded, _least, _Starts, needed_by_cycles, needed_crossings, planarize
-from planarbend.drawing.reinsert import FIXED, Reinsertion
+from planarbend.drawing.reinsert import FIXED, Reinsertion, one_of
 from planes import Plane
 
 try:
@@ -97,18 +98,39 @@ class Incremental(unittest.TestCase):
             self.assertEqual(len(graph) - graph.number_of_edges() + len(faces), 2)
 
 
-def triangles() -> tuple[Planarization, list[tuple[int, int]]]:
-    """Two triangles at a vertex, joined by two edges that cross: their embedding, and the edges."""
-    places = [(0, -1), (-3, 3), (-1, 1), (1, 1), (3, 3), (0, 1.5)]
-    edges = [(0, 1), (0, 2), (1, 2), (0, 3), (0, 4), (3, 4), (1, 3), (2, 4)]
-    tail = [end for pair in (*edges[:6], (1, 5), (5, 3), (2, 5), (5, 4)) for end in pair]
+def straight(places: Sequence[tuple[float, float]], edges: Sequence[tuple[int, int]]) -> Planarization:
+    """The embedding of a drawing with straight edges, of which no three meet at one point and none passes a vertex."""
+    points, along = list(places), [[(0.0, tail), (1.0, head)] for tail, head in edges]
+    for (one, (a, b)), (other, (c, d)) in itertools.combinations(enumerate(edges), 2):
+        if not {a, b} & {c, d}:
+            (ax, ay), (bx, by), (cx, cy), (dx, dy) = (places[vertex] for vertex in (a, b, c, d))
+            area = (bx - ax) * (dy - cy) - (by - ay) * (dx - cx)
+            first = ((cx - ax) * (dy - cy) - (cy - ay) * (dx - cx)) / area
+            second = ((cx - ax) * (by - ay) - (cy - ay) * (bx - ax)) / area
+            if 0 < first < 1 and 0 < second < 1:
+                along[one].append((first, len(points)))
+                along[other].append((second, len(points)))
+                points.append((ax + first * (bx - ax), ay + first * (by - ay)))
+    tail: list[int] = []
+    chains: list[list[int]] = []
+    for met in along:
+        pieces = list(itertools.pairwise(vertex for _, vertex in sorted(met)))
+        chains.append(list(range(len(tail), len(tail) + 2 * len(pieces), 2)))
+        tail += [end for piece in pieces for end in piece]
 
     def angle(dart: int) -> float:
-        (x, y), (u, v) = places[tail[dart]], places[tail[dart ^ 1]]
+        (x, y), (u, v) = points[tail[dart]], points[tail[dart ^ 1]]
         return math.atan2(v - y, u - x)
 
-    rotation = [sorted((dart for dart in range(20) if tail[dart] == vertex), key=angle, reverse=True) for vertex in range(6)]
-    return Planarization(tail, rotation, 5, [*([2 * edge] for edge in range(6)), [12, 14], [16, 18]]), edges
+    rotation = [sorted((dart for dart in range(len(tail)) if tail[dart] == vertex), key=angle, reverse=True)
+                for vertex in range(len(points))]
+    return Planarization(tail, rotation, len(places), chains)
+
+
+def triangles() -> tuple[Planarization, list[tuple[int, int]]]:
+    """Two triangles at a vertex, joined by two edges that cross: their embedding, and the edges."""
+    edges = [(0, 1), (0, 2), (1, 2), (0, 3), (0, 4), (3, 4), (1, 3), (2, 4)]
+    return straight([(0, -1), (-3, 3), (-1, 1), (1, 1), (3, 3)], edges), edges
 
 
 @support.needs_networkx
@@ -136,6 +158,11 @@ class Effort(unittest.TestCase):
                 self.assertEqual(starts.next(1).cost, 1)
                 with self.assertRaises(TooManyCrossings):
                     starts.next(0)
+
+    def test_one_of_several(self) -> None:
+        """Any of them, by the dice."""
+        for numbers in ([7], [7, 8], [7, 8, 9]):
+            self.assertEqual({one_of(numbers, random.Random(seed)) for seed in range(30)}, set(numbers))
 
     def test_a_search_ends(self) -> None:
         """After eight starts; before, if there is one crossing or none, or the work is done. Planarity tests are work."""
@@ -309,6 +336,22 @@ class Planarized(unittest.TestCase):
         self.check(planar, edges)
         found = [flipped(Faces(planar), flip) for flip in flips_of(Faces(planar)) if {0, 5} == {*flip[2:]}]
         self.assertEqual(found, [None])
+
+    def test_shifts_of_straight_drawings(self) -> None:
+        """Drawings at random places have more crossings than they need; an edge or a vertex that is put back crosses no edge at
+        its own ends."""
+        for seed in (2, 3, 12, 30):
+            dice = random.Random(seed)
+            edges = [(vertex, (vertex + 1) % 12) for vertex in range(12)]
+            edges += dice.sample([(one, other) for one, other in itertools.combinations(range(12), 2)
+                                  if 1 < other - one < 11], 24)
+            planar = straight([(dice.random(), dice.random()) for _ in range(12)], edges)
+            self.check(planar, edges)
+            for _ in range(4):
+                other = shifted(Faces(planar), dice)
+                assert other is not None
+                self.check(other, edges)
+                self.assertLessEqual(other.crossings, planar.crossings)
 
     def test_a_crossing_costs_the_product_of_its_weights(self) -> None:
         planar, edges = triangles()
