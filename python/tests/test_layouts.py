@@ -165,6 +165,14 @@ class Library(unittest.TestCase):
             self.assertEqual(next(found).number, 3)
             self.assertEqual(list(found), [])
 
+    def test_no_layouts_follow_the_end(self) -> None:
+        edge = {"a": ["b"], "b": ["a"]}
+        with calling(library.path()):
+            found = planarbend.layouts([edge] * 3)
+            self.assertEqual(next(found).number, 1)
+            found.close()
+            self.assertEqual(list(found), [])
+
     def test_bends_alone(self) -> None:
         with library.Library() as called:
             for name, wanted in BENDS.items():
@@ -291,6 +299,10 @@ class StandIn(unittest.TestCase):
             self.assertTrue(library.is_wanted())
             self.assertIsInstance(planarbend.layouts([]), laid_out.LibraryLayouts)
             self.assertIsInstance(planarbend.layouts([], words=["--drawing", "quick"]), laid_out.LibraryLayouts)
+            del os.environ["PLANARBEND_LIBRARY"]
+            for name, wanted in (("libnone.so.1", None), (self.path, self.path)):
+                with mock.patch.multiple(library, PLACES=[], NAME=name):
+                    self.assertEqual(library.path(), wanted)
             os.environ["PLANARBEND_LIBRARY"] = ""
             self.assertFalse(library.is_wanted())
             with self.assertRaisesRegex(planarbend.NoProgram, "was not found"):

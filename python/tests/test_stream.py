@@ -1,6 +1,7 @@
 """Streams of graphs: layouts whose points another reader checks, exceptions, and examples/stream.py up to a million graphs."""
 from __future__ import annotations
 
+import gc
 import itertools
 import json
 import os
@@ -149,6 +150,17 @@ class Exceptions(unittest.TestCase):
         self.assertEqual(next(found).points.keys(), {"a", "b"})
         with self.assertRaises(KeyError):
             next(found)
+
+    def test_a_stream_that_is_left(self) -> None:
+        """The program does not run on when nobody takes further layouts."""
+        found = planarbend.Layouts(itertools.repeat(planarbend.Record.read(TRIANGLE)))
+        next(found)
+        assert found.run
+        child = found.run.child
+        self.assertIsNone(child.poll())
+        del found
+        gc.collect()
+        self.assertIsNotNone(child.poll())
 
     def test_no_program(self) -> None:
         with mock.patch.dict(os.environ, PLANARBEND="/nowhere"), self.assertRaises(planarbend.NoProgram):
