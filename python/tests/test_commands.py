@@ -465,6 +465,7 @@ class Help(Case):
             status, out, _ = support.said([command, "--help"])
             self.assertEqual((status, f"usage: planarbend {command}" in out or "usage: planarbend-draw" in out),
                              (0, True))
+        self.assertRegex(support.said(["split", "--help"])[1], r"(?s)usage: .* FOLDER\n.*\n +FOLDER +the folder for the parts")
         for words in ([], ["no-command"]):
             status, out, errors = support.said(words)
             self.assertEqual((status, out, errors), (2, "", text))
