@@ -15,7 +15,7 @@ COMMANDS = {  # name: module, function, description
 
 
 def main() -> int:
-    """Run the command named by the first argument."""
+    """Return the exit status of the command that the first argument names."""
     name = sys.argv[1] if len(sys.argv) > 1 else "--help"
     if name in ("-h", "--help") or name not in COMMANDS:
         lines = ["usage: python3 -m planarbend COMMAND ...", ""]

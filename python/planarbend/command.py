@@ -49,7 +49,7 @@ class Help(argparse.RawDescriptionHelpFormatter):
 
 
 def command_line() -> argparse.Namespace:
-    """Parse the arguments."""
+    """Return the arguments."""
     parser = argparse.ArgumentParser(description=ABOUT, epilog=TEXT, formatter_class=Help)
     parser.add_argument("graph", metavar="GRAPH", help="the file, or - for standard input")
     parser.add_argument("-o", "--output", metavar="OUT", required=True,
@@ -140,7 +140,7 @@ def engine_of() -> Engine:
 
 
 def run() -> int:
-    """Run the command, and return its exit status."""
+    """Return the exit status of the command."""
     words = command_line()
     try:
         if words.output != "-":

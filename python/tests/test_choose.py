@@ -13,6 +13,7 @@ from drawing_checker import check
 from planarbend.draw import Options, draw
 from planarbend.drawing.choose import Search
 from planarbend.drawing.expand import Expansion
+from planarbend.drawing.incremental import incremental_embedding
 from planarbend.drawing.mend import corners_of, ways_round_cage
 from planarbend.drawing.nets import dots_of, pieces_of
 from planarbend.drawing.numbering import Contraction, form_of, path_of, put_back
@@ -171,6 +172,83 @@ def expansions() -> list[Expansion]:
         assert expansion is not None
         found.append(expansion)
     return found
+
+
+class Incremental(unittest.TestCase):
+    def test_planar_graphs_without_a_test(self) -> None:
+        """Whatever is found is an embedding of the graph: each edge at both ends, and Euler's formula holds."""
+        for seed in range(60):
+            dice = random.Random(seed)
+            count = dice.randrange(1, 14)
+            edges = [(dice.randrange(count), dice.randrange(count)) for _ in range(dice.randrange(2 * count))]
+            edges = [pair for pair in edges if pair[0] != pair[1]]
+            around = incremental_embedding(count, edges)
+            if around is None:
+                continue
+            pairs = set(map(frozenset, edges))
+            self.assertEqual({frozenset((tail, head)) for tail, heads in enumerate(around) for head in heads}, pairs)
+            self.assertEqual(sum(map(len, around)), 2 * len(pairs))
+            self.assertEqual(count - len(pairs) + faces(around), 1 + parts(around))
+
+    def test_what_is_not_planar(self) -> None:
+        for edges in ([(one, other) for one in range(5) for other in range(one)],
+                      [(one, other) for one in range(3) for other in range(3, 6)]):
+            self.assertIsNone(incremental_embedding(6, edges))
+
+    def test_grids(self) -> None:
+        """Most grids are found planar, with as many faces as they have squares, and one more."""
+        missed = 0
+        for width in range(2, 12):
+            for height in range(2, width + 1):
+                edges = [(place, place + 1) for place in range(width * height) if (place + 1) % width]
+                edges += [(place, place + width) for place in range(width * (height - 1))]
+                around = incremental_embedding(width * height, edges)
+                missed += around is None
+                if around is not None:
+                    self.assertEqual(faces(around), (width - 1) * (height - 1) + 1)
+        self.assertLess(missed, 6)
+
+    def test_nothing_but_folded(self) -> None:
+        """Chains between two vertices, with an edge there or without, and trees at them, are folded away and come back."""
+        for has_edge in (False, True):
+            edges = [(0, 1)] * has_edge
+            for middle in range(2, 20, 2):
+                edges += [(0, middle), (middle, middle + 1), (middle + 1, 1), (middle, middle + 20)]
+            around = incremental_embedding(40, edges)
+            assert around is not None
+            self.assertEqual(sorted((tail, head) for tail, heads in enumerate(around) for head in heads),
+                             sorted([*edges, *((head, tail) for tail, head in edges)]))
+            self.assertEqual(40 - len(edges) + faces(around), 1 + parts(around))
+
+
+def faces(around: list[list[int]]) -> int:
+    """The number of faces of an embedding, with one for each vertex that stands alone."""
+    after = {}
+    for vertex, others in enumerate(around):
+        for one, other in zip(others, others[1:] + others[:1]):
+            after[one, vertex] = vertex, other
+    count, left = sum(not others for others in around), set(after)
+    while left:
+        count += 1
+        dart = first = left.pop()
+        while after[dart] != first:
+            dart = after[dart]
+            left.discard(dart)
+    return count - (parts(around) - 1)
+
+
+def parts(around: list[list[int]]) -> int:
+    """The number of connected parts."""
+    left, count = set(range(len(around))), 0
+    while left:
+        count += 1
+        waiting = [left.pop()]
+        while waiting:
+            for other in around[waiting.pop()]:
+                if other in left:
+                    left.discard(other)
+                    waiting.append(other)
+    return count
 
 
 class Loaded(unittest.TestCase):

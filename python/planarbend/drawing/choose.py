@@ -13,7 +13,6 @@ from dataclasses import replace
 
 from planarbend.drawing.expand import LEAST_CAGE, MOST_CONNECTIONS, Expansion, size_of
 from planarbend.drawing.mend import loosened, ways_round_cage, ways_round_spine
-from planarbend.drawing.moves import Price, climbed
 from planarbend.drawing.numbering import Contraction, Form, conditions_of, form_of, outer_forms
 from planarbend.drawing.planarization import Planarization
 from planarbend.drawing.plans import Options, Plan
@@ -173,6 +172,8 @@ class Search:
         """Return shapes of another embedding, by the plan of the best one so far; none if a few moves find nothing better."""
         if not any(best.price()[:2]) and len(best.expansion.rotation) < LARGE:
             return []
+        from planarbend.drawing.moves import climbed  # slow to load, and often not needed
+
         other = climbed(self.planar, lambda planars: self.prices(planars, best.plan), self.random,
                         rounds=ROUNDS * self.options.effort, width=WIDTH)
         if other is self.planar:
@@ -181,7 +182,7 @@ class Search:
         pool = search.shapes_of([replace(best.plan, loose=())])
         return search.repaired(pool) if pool else []
 
-    def prices(self, planars: Sequence[Planarization], plan: Plan) -> list[Price]:
+    def prices(self, planars: Sequence[Planarization], plan: Plan) -> list[tuple[int, ...]]:
         """Return the price of a plan in each of several embeddings, which have other pieces."""
         plan = replace(plan, loose=())
         forms = [next(self.numberings(Expansion(planar, plan))) for planar in planars]

@@ -76,7 +76,7 @@ def core_of(edges: Sequence[int], ends: Sequence[tuple[int, int]], weights: Sequ
         made += 1
 
     def drop(name: int) -> _Fold:
-        """Remove a folded edge."""
+        """Return a folded edge, which is removed."""
         fold = folds.pop(name)
         at[fold.tail].remove(name)
         at[fold.head].remove(name)

@@ -74,7 +74,7 @@ class Lengths:
         return found
 
     def _exchange(self, node: int) -> bool:
-        """Move a subtree away from its parent until another pair becomes tight, which then joins it."""
+        """Return whether a subtree could move away from its parent until another pair became tight, which then joins it."""
         moved = self._subtree(node)
         is_up = self.pairs[self.link[node]][1] == node
         best, room = -1, float("inf")

@@ -197,7 +197,7 @@ def point_of(word: str) -> Point:
 
 
 def main() -> int:
-    """Run the command, and return its exit status."""
+    """Return the exit status of the command."""
     parser = argparse.ArgumentParser(description=__doc__ + "\n\n" + TEXT, epilog=STATUSES,
                                      formatter_class=argparse.RawDescriptionHelpFormatter)
     parser.add_argument("file", metavar="FILE", help="the planar_code file from which the JSON Lines were made")

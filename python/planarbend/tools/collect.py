@@ -249,7 +249,7 @@ def plot_of(table: Table) -> str:
 
 
 def main() -> int:
-    """Run the command, and return its exit status."""
+    """Return the exit status of the command."""
     parser = argparse.ArgumentParser(description=__doc__ + "\n\n" + TEXT, epilog=STATUSES,
                                      formatter_class=argparse.RawDescriptionHelpFormatter)
     parser.add_argument("parts", metavar="PART", nargs="+", help="a report, JSON Lines, or a folder of them")

@@ -79,7 +79,7 @@ def split(source: BinaryIO, parts: Parts) -> tuple[int, Unreadable | None]:
 
 
 def main() -> int:
-    """Run the command, and return its exit status."""
+    """Return the exit status of the command."""
     parser = argparse.ArgumentParser(description=__doc__ + "\n\n" + TEXT, epilog=STATUSES,
                                      formatter_class=argparse.RawDescriptionHelpFormatter)
     parser.add_argument("file", metavar="FILE", help="the planar_code file, or - for standard input")

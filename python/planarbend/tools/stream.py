@@ -200,7 +200,7 @@ def positive(word: str) -> int:
 
 
 def main() -> int:
-    """Run the command, and return its exit status."""
+    """Return the exit status of the command."""
     parser = argparse.ArgumentParser(description=__doc__ + "\n\n" + TEXT, epilog=STATUSES,
                                      formatter_class=argparse.RawDescriptionHelpFormatter)
     parser.add_argument("--json", action="store_true", help="write JSON Lines instead of the report")
@@ -220,7 +220,7 @@ def main() -> int:
 
 
 def run() -> int:
-    """Run the command, and return its exit status, also if the output is closed or the user interrupts it."""
+    """Return the exit status of the command, also if the output is closed or the user interrupts it."""
     try:
         status = main()
     except BrokenPipeError:

@@ -259,7 +259,7 @@ def check_numbers(lines: Lines, numbers: list[int] | None) -> None:
 
 
 def main() -> int:
-    """Run the command, and return its exit status."""
+    """Return the exit status of the command."""
     words = command_line()
     numbers = words.graph or words.graphs
     alone = numbers is not None and len(numbers) == 1 and not words.html
@@ -281,7 +281,7 @@ def main() -> int:
 
 
 def run() -> int:
-    """Run the command, and return its exit status, which is 1 if the reader of the output has gone."""
+    """Return the exit status of the command, which is 1 if the reader of the output has gone."""
     try:
         status = main()
         sys.stdout.flush()
