@@ -434,7 +434,7 @@ class Closed(Case):
             reader, writer = os.pipe()
             os.close(reader)
             done = subprocess.run([sys.executable, "-m", "planarbend", *words], input=data, stdout=writer, stderr=subprocess.PIPE,
-                                  env=support.variables(), check=False)
+                                  env=support.variables(PYTHONUNBUFFERED=""), check=False)
             os.close(writer)
             self.assertEqual((done.returncode, done.stderr), (1, b""), words)
 
