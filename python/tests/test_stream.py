@@ -23,7 +23,7 @@ from planarbend.layout.reports import End, Graph, line_of
 
 SCRIPT = support.EXAMPLES / "stream.py"
 TRIANGLE, EDGE = bytes([3, 2, 3, 0, 3, 1, 0, 1, 2, 0]), bytes([2, 2, 0, 1, 0])
-GRAPHS, SEED = 150, 2026
+GRAPHS, SEED = 100, 2026
 MANY, GROWTH = 15_000, 16_000  # graphs, and kB
 LONG = 1_000_010  # more than one run takes
 STEPS = [(1, 0), (0, 1), (-1, 0), (0, -1)]
