@@ -4,6 +4,7 @@ from __future__ import annotations
 
 import functools
 import itertools
+import json
 import os
 import shutil
 import subprocess
@@ -78,6 +79,13 @@ class Program(unittest.TestCase):
                 self.assertEqual(sum(layout.bends for layout in found), wanted, (name, outer))
                 for layout in found:
                     self.assertEqual(sum(map(len, layout.corners.values())), 2 * layout.bends)
+
+    def test_lines(self) -> None:
+        """Each layout has the line that `layout --json` writes for its graph."""
+        for name in ("planar_d4_n6.pc", "tree60.pc"):
+            *lines, _ = support.program_run("layout", "--json", "--outer", "best", support.CORPUS / name).stdout.splitlines()
+            made = [json.dumps(layout.line, separators=(",", ":")).encode() for layout in by_program(name, "best")]
+            self.assertEqual(made, lines)
 
     def test_faces_lie_on_the_left_of_their_walks(self) -> None:
         """The inner faces are walked counter-clockwise, and the outer face round all of them."""
