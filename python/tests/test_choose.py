@@ -16,7 +16,7 @@ from planarbend.drawing.expand import Expansion
 from planarbend.drawing.incremental import incremental_embedding
 from planarbend.drawing.mend import corners_of, ways_round_cage
 from planarbend.drawing.nets import dots_of, pieces_of
-from planarbend.drawing.numbering import Contraction, form_of, path_of
+from planarbend.drawing.numbering import Contraction, form_of, path_of, put_back
 from planarbend.drawing.planarize import planarize
 from planarbend.drawing.plans import Plan
 from planarbend.drawing.shape import Shape
@@ -51,6 +51,15 @@ class Corners(unittest.TestCase):
         self.assertIn(one, ([3], [4]))
         self.assertEqual(sorted([after, before]), [[3], [4]])
         self.assertEqual(every, [0, 1, 2, 3, 4])
+
+    def test_ways_from_any_node_on(self) -> None:
+        """If the cage begins with another node, the connections have other numbers, and are the same."""
+        for first in range(len(STEP)):
+            one, *others, every = ways_round_cage(STEP[first:] + STEP[:first])
+            found = [[(place + first) % len(STEP) for place in way] for way in (one, *others, every)]
+            self.assertIn(found[0], ([3], [4]))
+            self.assertEqual(sorted(found[1:3]), [[3], [4]])
+            self.assertEqual(sorted(found[3]), [0, 1, 2, 3, 4])
 
     def test_turned_inside_out(self) -> None:
         """No edge helps where the inside of a cage lies outside."""
@@ -119,6 +128,18 @@ class Room(unittest.TestCase):
         edges = self.chains()
         graph = Graph([Vertex(str(number), str(number)) for number in range(242)], [Edge(*edge) for edge in edges])
         checked(graph, edges)
+
+    def test_nodes_are_put_back_on_the_longest_part(self) -> None:
+        """At equal distances, whichever way that part of the line runs."""
+        for a, b in ((1, 0), (0, 1), (-1, 0), (0, -1)):
+            def turned(line: list[tuple[int, int]]) -> list[tuple[int, int]]:
+                return [(a * x - b * y, b * x + a * y) for x, y in line]
+
+            points, paths = [(0, 0)] * 4, dict[int, list[tuple[int, int]]]()
+            put_back(points, paths, [10, 12, 14], [1, 2], turned([(0, 0), (0, 3), (9, 3), (9, 5)]))
+            self.assertEqual(points[1:3], turned([(3, 3), (6, 3)]))
+            self.assertEqual(paths, {10: turned([(0, 0), (0, 3), (3, 3)]), 12: turned([(3, 3), (6, 3)]),
+                                     14: turned([(6, 3), (9, 3), (9, 5)])})
 
     def test_paths_along_chains(self) -> None:
         """The path of each piece leads from node to node, also where nodes next to one another are put back."""
@@ -259,6 +280,13 @@ class Nets(unittest.TestCase):
                     reached.add(point)
                     waiting += [end for piece in pieces if point in piece for end in piece if end not in reached]
                 self.assertLessEqual(points, reached)
+
+    def test_the_trunk(self) -> None:
+        """Halfway up the box; in a box of less than 12 pixels straight with the first end."""
+        for height, one, other, trunk in ((20, 3, 15, 10), (12, 2, 10, 6), (11, 2, 10, 2)):
+            ends = [((0.0, float(one)), False), ((40.0, float(other)), False)]
+            wanted = [((0, min(one, trunk)), (0, trunk)), ((0, trunk), (40, trunk)), ((40, trunk), (40, other))]
+            self.assertEqual(pieces_of((0.0, 0.0, 40.0, height), ends), wanted[trunk == one:])
 
     def test_a_dot_where_three_meet(self) -> None:
         ends = [((0.0, 5.0), False), ((20.0, 5.0), False), ((8.0, 0.0), True)]

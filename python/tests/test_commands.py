@@ -6,6 +6,8 @@ import math
 import os
 import re
 import stat
+import subprocess
+import sys
 import tempfile
 import unittest
 import xml.etree.ElementTree as xml
@@ -163,6 +165,13 @@ class Svg(Case):
         page = self.refused("cut.pc ends truncated, so graphs may be missing", "svg", path, "--html",
                             data=self.lines(path), status=3)
         self.assertEqual((page.count("<figure>"), page.count("breaks the rule edgeless")), (3, 1))
+
+    def test_graphs_in_order(self) -> None:
+        """Also if the lines come in another order."""
+        *lines, end = self.lines(N5).splitlines()
+        page = self.said("svg", N5, "--html", data="\n".join([*lines[::-1], end]) + "\n")
+        found = [int(number) for number in re.findall(r"graph (\d+): ", page)]
+        self.assertEqual(found, list(range(1, 21)))
 
     def test_refusals(self) -> None:
         path = self.written("some.pc", HEADER + TRIANGLE + LONE + EDGE)
@@ -417,6 +426,19 @@ class Split(Case):
         self.assertEqual((self.folder / "parts/x-0001.pc").read_bytes(), path.read_bytes())
 
 
+class Closed(Case):
+    def test_a_reader_that_has_gone(self) -> None:
+        """Nothing is said about it."""
+        for words, data in ((["svg", str(N5), "--html"], support.program_run("layout", "--json", N5).stdout),
+                            (["stream"], CUBIC.read_bytes())):
+            reader, writer = os.pipe()
+            os.close(reader)
+            done = subprocess.run([sys.executable, "-m", "planarbend", *words], input=data, stdout=writer, stderr=subprocess.PIPE,
+                                  env=support.variables(PYTHONUNBUFFERED=""), check=False)
+            os.close(writer)
+            self.assertEqual((done.returncode, done.stderr), (1, b""), words)
+
+
 class Stream(Case):
     """`stream`, which runs the program on parts of standard input; it needs a process of its own."""
 
@@ -465,6 +487,7 @@ class Help(Case):
             status, out, _ = support.said([command, "--help"])
             self.assertEqual((status, f"usage: planarbend {command}" in out or "usage: planarbend-draw" in out),
                              (0, True))
+        self.assertRegex(support.said(["split", "--help"])[1], r"(?s)usage: .* FOLDER\n.*\n +FOLDER +the folder for the parts")
         for words in ([], ["no-command"]):
             status, out, errors = support.said(words)
             self.assertEqual((status, out, errors), (2, "", text))

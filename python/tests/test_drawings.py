@@ -117,6 +117,12 @@ class Kinds(unittest.TestCase):
                 self.assertEqual(counted.crossings, 0)
                 self.assertLessEqual(set(outer), on_outer_face(drawing))
 
+    def test_a_short_face_outside(self) -> None:
+        """The triangle of a K4 whose other edges are long: all other faces are longer."""
+        spokes = [pair for corner in range(3) for pair in itertools.pairwise((corner, *range(4 + 5 * corner, 9 + 5 * corner), 3))]
+        counted, drawing = found(graph_of(19, [(0, 1), (1, 2), (2, 0), *spokes]), Options(outer=(0, 1, 2)))
+        self.assertEqual((counted.crossings, on_outer_face(drawing)), (0, {0, 1, 2}))
+
 
 def renumbered(edges: Sequence[tuple[int, int]], order: Sequence[int]) -> list[tuple[int, int]]:
     """The edges of the same graph with other numbers, in order."""

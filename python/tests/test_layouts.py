@@ -4,6 +4,7 @@ from __future__ import annotations
 
 import functools
 import itertools
+import json
 import os
 import shutil
 import subprocess
@@ -78,6 +79,13 @@ class Program(unittest.TestCase):
                 self.assertEqual(sum(layout.bends for layout in found), wanted, (name, outer))
                 for layout in found:
                     self.assertEqual(sum(map(len, layout.corners.values())), 2 * layout.bends)
+
+    def test_lines(self) -> None:
+        """Each layout has the line that `layout --json` writes for its graph."""
+        for name in ("planar_d4_n6.pc", "tree60.pc"):
+            *lines, _ = support.program_run("layout", "--json", "--outer", "best", support.CORPUS / name).stdout.splitlines()
+            made = [json.dumps(layout.line, separators=(",", ":")).encode() for layout in by_program(name, "best")]
+            self.assertEqual(made, lines)
 
     def test_faces_lie_on_the_left_of_their_walks(self) -> None:
         """The inner faces are walked counter-clockwise, and the outer face round all of them."""
@@ -163,6 +171,14 @@ class Library(unittest.TestCase):
             with self.assertRaisesRegex(planarbend.GraphRefused, "^graph 2: refused edgeless$"):
                 next(found)
             self.assertEqual(next(found).number, 3)
+            self.assertEqual(list(found), [])
+
+    def test_no_layouts_follow_the_end(self) -> None:
+        edge = {"a": ["b"], "b": ["a"]}
+        with calling(library.path()):
+            found = planarbend.layouts([edge] * 3)
+            self.assertEqual(next(found).number, 1)
+            found.close()
             self.assertEqual(list(found), [])
 
     def test_bends_alone(self) -> None:
@@ -291,6 +307,10 @@ class StandIn(unittest.TestCase):
             self.assertTrue(library.is_wanted())
             self.assertIsInstance(planarbend.layouts([]), laid_out.LibraryLayouts)
             self.assertIsInstance(planarbend.layouts([], words=["--drawing", "quick"]), laid_out.LibraryLayouts)
+            del os.environ["PLANARBEND_LIBRARY"]
+            for name, wanted in (("libnone.so.1", None), (self.path, self.path)):
+                with mock.patch.multiple(library, PLACES=[], NAME=name):
+                    self.assertEqual(library.path(), wanted)
             os.environ["PLANARBEND_LIBRARY"] = ""
             self.assertFalse(library.is_wanted())
             with self.assertRaisesRegex(planarbend.NoProgram, "was not found"):

@@ -95,6 +95,18 @@ class Room(unittest.TestCase):
                     check(drawing)
                     self.look_at(drawing)
 
+    def test_labels_of_loops(self) -> None:
+        """They keep their distance from all that is drawn."""
+        for seed in (1, 2, 3, 21, 22):
+            dice = random.Random(seed)
+            count = dice.randrange(2, 6)
+            edges = [Edge(dice.randrange(vertex), vertex) for vertex in range(1, count)]
+            edges += [Edge(vertex, vertex, "label\nx") for vertex in range(count) for _ in range(dice.randrange(4))]
+            drawing = drawing_of(Graph([Vertex(str(vertex), str(vertex)) for vertex in range(count)], edges), effort=0)
+            with self.subTest(seed=seed):
+                check(drawing)
+                self.look_at(drawing)
+
     def look_at(self, drawing: dict[str, Any]) -> None:
         """Looks at the room between all items but those that belong together."""
         part = components_of(drawing)
@@ -222,6 +234,14 @@ class LeastLengths(unittest.TestCase):
         self.assertEqual(found.value, [0, 2, 3, 0])
         found.shorten(5)
         self.assertEqual(found.value, [0, 2, 3, 2])
+
+    def test_one_after_another(self) -> None:
+        """Two coordinates are moved up to a third, each by an exchange."""
+        pairs = [(2, 1, 0.0, 1.0), (0, 1, 5.0, 0.0), (0, 2, 0.0, 0.0), (3, 1, 0.0, 1.0), (0, 3, 0.0, 0.0)]
+        for most, values in ((0, [0, 0, 0, 5]), (1, [0, 0, 5, 5]), (5, [0, 5, 5, 5])):
+            found = Lengths(4, (0, 2, 3, 1), pairs)
+            found.shorten(most)
+            self.assertEqual(sorted(found.value), values)
 
 
 def fits(values: Any, pairs: list[tuple[int, int, int, int]]) -> bool:

@@ -121,6 +121,7 @@ class Dot(Case):
         self.refused("graph { a -- b", "syntax error", 1, "plan.gv")
         self.refused("nonsense", "syntax error", 1, "plan.dot")
         self.refused("graph {a} graph {b}", "2 graphs; only one can be drawn")
+        self.refused("graph { a [shape=nosuch]; b [label=<<nob>x</nob>>] }", "Graphviz: Unknown HTML element")
 
     def test_without_graphviz(self) -> None:
         with mock.patch.object(shutil, "which", return_value=None):
@@ -241,6 +242,16 @@ class Circuits(Case):
     def test_newer_boards_name_nets_without_numbers(self) -> None:
         graph = of('(kicad_pcb (footprint "x" (property "Reference" "A") (pad "1" (net "N"))) (footprint "x" (pad "1" (net "N"))))')
         self.assertEqual(pairs(graph), [("A", "part 2")])
+
+    def test_pads_of_one_name_are_one_pin(self) -> None:
+        """Pads without a name are one each, whether the name is empty or left out: a net that joins two pins of a part is a loop."""
+        for one, other, wanted in (('"1"', '"1"', []), ('"1"', '"2"', [("A", "A")]), ('""', '""', [("A", "A")]), ("", "", [("A", "A")])):
+            graph = of(f'(kicad_pcb (footprint "x" (property "Reference" "A") (pad {one} (net "N")) (pad {other} (net "N"))))')
+            self.assertEqual(pairs(graph), wanted)
+
+    def test_quotes_and_backslashes_in_words(self) -> None:
+        graph = of(r'(export (components (comp (ref "A\"1") (value "x\\y"))))')
+        self.assertEqual(labels(graph), ['A"1\nx\\y'])
 
     def test_a_net_within_a_part_is_a_loop_and_a_single_pin_nothing(self) -> None:
         parts = '(components (comp (ref "U1")) (comp (ref "U2")))'

@@ -11,8 +11,10 @@ from unittest import mock
 import support  # noqa: F401  finds the package
 from planarbend.draw import Options, draw, meeting, packed, price_of, stretch_of
 from planarbend.drawing.choose import Search, choose, picked, smallest
+from planarbend.drawing.constraints import apart, lengths_of
 from planarbend.drawing.drawn import Box, Drawing, Point
 from planarbend.drawing.expand import size_of
+from planarbend.drawing.items import PIECE, Item, Sheet
 from planarbend.drawing.mend import loosened, ways_round_spine
 from planarbend.drawing.numbering import conditions_of
 from planarbend.drawing.planarize import planarize
@@ -109,6 +111,20 @@ class Mending(unittest.TestCase):
         with mock.patch.multiple(Search, mended=lambda *_: plans, look=look):
             Search.__new__(Search).mend([found(broken=1)])
         self.assertEqual(looked, plans)
+
+    def test_three_vertices_become_spines(self) -> None:
+        """One after another, as long as a further box is broken; more are not tried."""
+        rounds = list[set[int]]()
+
+        def look(_: Search, *plans: Plan) -> list[Shape]:
+            rounds.append({vertex for plan in plans for vertex, _ in plan.spines})
+            return [Shape(by_plan(plans[0]), [], [], [], [len(rounds)], 0)]
+
+        search: Any = Search.__new__(Search)
+        search.degree, search.options = [5] * 9, Options(outer=(0,))
+        with mock.patch.object(Search, "look", look):
+            self.assertEqual(len(search.spined([found(broken=1)])), 3)
+        self.assertEqual(rounds, [{0}, {0, 1}, {0, 1, 2}])
 
     def test_only_what_bends_stays_loose(self) -> None:
         """Edge 0 is piece 0 and is straight; edge 1 is pieces 1 and 2, and bends."""
@@ -218,6 +234,33 @@ class Pixels(unittest.TestCase):
         places, width, height = packed([(10.0, 10.0)] * 9)
         self.assertEqual((width, height), (30, 30))
         self.assertEqual(sorted(places), [(x, y) for x in (0, 10, 20) for y in (0, 10, 20)])
+
+    def test_lines_at_one_net(self) -> None:
+        """Lines at its two sides may be one straight line, or are 10 pixels apart. Lines of others are, where they pass one
+        another."""
+        def distances(hosts: tuple[int, int], at: tuple[float, float], begins: float) -> list[tuple[int, int, float]]:
+            items = [Item(PIECE, [0, 2], [0, 3], [], (True, False), host=hosts[:1]),
+                     Item(PIECE, [1, 4], [1, 5], [], (True, False), host=hosts[1:])]
+            places = {id(items[0]): [(at[0],) * 2, (0.0, 20.0)], id(items[1]): [(at[1],) * 2, (begins, 50.0)]}
+            sheet: Any = SimpleNamespace(items=items, along=lambda item, axis, on_grid: places[id(item)][axis])
+            return apart(sheet, 0, 1)
+
+        self.assertEqual(distances((7, 7), (30.0, 30.0), 25.0), [])
+        self.assertEqual(distances((7, 7), (30.0, 31.0), 25.0), [(0, 1, 10.0)])
+        self.assertEqual(distances((7, 8), (30.0, 30.0), 25.0), [(0, 1, 10.0)])
+        self.assertEqual(distances((7, 8), (30.0, 30.0), 30.0), [])
+
+    def test_boxes_weigh_four_lines(self) -> None:
+        """Along the line between two boxes: the line once, and each box four times, from its least size on."""
+        graph = graph_of(2, [(0, 1)])
+        sheet = Sheet(choose(planarize(2, [(0, 1)]), default_engine(), Options())[0], graph)
+        found = [sorted((weight, length) for _, _, length, weight in lengths_of(sheet, axis)) for axis in (0, 1)]
+        self.assertEqual(sorted(found), [[(1, 0), (4, 22), (4, 22)], [(4, 22), (4, 22)]])
+
+    def test_two_rows_of_eleven(self) -> None:
+        """22 rectangles: with more columns than two, and fewer than 22, all other numbers of columns leave places empty."""
+        for size, page in (((27.0, 100.0), (297, 200)), ((59.0, 100.0), (649, 200))):
+            self.assertEqual(packed([size] * 22)[1:], page)
 
     def test_where_lines_cross(self) -> None:
         level, upright = [(0.0, 5.0), (10.0, 5.0)], [(4.0, 9.0), (4.0, 1.0)]

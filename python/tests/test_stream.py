@@ -1,6 +1,7 @@
 """Streams of graphs: layouts whose points another reader checks, exceptions, and examples/stream.py up to a million graphs."""
 from __future__ import annotations
 
+import gc
 import itertools
 import json
 import os
@@ -22,7 +23,7 @@ from planarbend.layout.reports import End, Graph, line_of
 
 SCRIPT = support.EXAMPLES / "stream.py"
 TRIANGLE, EDGE = bytes([3, 2, 3, 0, 3, 1, 0, 1, 2, 0]), bytes([2, 2, 0, 1, 0])
-GRAPHS, SEED = 150, 2026
+GRAPHS, SEED = 100, 2026
 MANY, GROWTH = 15_000, 16_000  # graphs, and kB
 LONG = 1_000_010  # more than one run takes
 STEPS = [(1, 0), (0, 1), (-1, 0), (0, -1)]
@@ -149,6 +150,17 @@ class Exceptions(unittest.TestCase):
         self.assertEqual(next(found).points.keys(), {"a", "b"})
         with self.assertRaises(KeyError):
             next(found)
+
+    def test_a_stream_that_is_left(self) -> None:
+        """The program does not run on when nobody takes further layouts."""
+        found = planarbend.Layouts(itertools.repeat(planarbend.Record.read(TRIANGLE)))
+        next(found)
+        assert found.run
+        child = found.run.child
+        self.assertIsNone(child.poll())
+        del found
+        gc.collect()
+        self.assertIsNotNone(child.poll())
 
     def test_no_program(self) -> None:
         with mock.patch.dict(os.environ, PLANARBEND="/nowhere"), self.assertRaises(planarbend.NoProgram):
