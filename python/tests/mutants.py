@@ -47,6 +47,7 @@ COPIED = {"test_programs.Found": ("programs.py", "library.py")}  # it tries thes
 LEAST = 4  # mutants of a module
 MOST_SECONDS = 1200  # of one mutant, of the clock: only those that wait for ever need it
 MOST_OF_TEST = 3  # seconds of processor time of one test
+MOST_OF_CHILD = 20  # seconds of processor time of one process that a test starts
 NOTING = '''
 import atexit, os, sys, threading
 if "PLANARBEND_CALLS" in os.environ:
@@ -227,6 +228,9 @@ def in_child(tree: Path, names: list[str], said: Path, calls: Path | None) -> No
         os.environ["PLANARBEND_CALLS"] = str(calls)
         exec(NOTING, noting)
         Timed.startTest = unittest.TextTestResult.startTest  # without a limit
+    else:
+        signal.signal(signal.SIGXCPU, lambda *_: None)  # the tests go on; a process that they start ends
+        resource.setrlimit(resource.RLIMIT_CPU, (MOST_OF_CHILD, resource.RLIM_INFINITY))
     os.chdir(tree / "python/tests")
     sys.path[0] = os.getcwd()
     signal.setitimer(signal.ITIMER_PROF, 0 if calls else MOST_OF_TEST)
