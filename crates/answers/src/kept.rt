@@ -1,6 +1,7 @@
 //! Records that are answered one after another on the caller's thread, in memory that is kept.
 
 ghost use Rattle.std.specs.Prelude.{◌≡◌, IfOk, IfErr};
+ghost use Rattle.planar_code.specs.Stream.{lists_of};
 ghost use Rattle.entries.specs.declared.cause.Cause.TheVariants.{Wide};
 ghost use Rattle.entries.specs.Drawn.{IsCause};
 ghost use Rattle.answers.specs.Drawings.{IsDrawing};
@@ -58,7 +59,7 @@ impl RecordScratch {
         choice: Choice,
         drawing_kind: DrawingKind,
     ) -> Result<ShapedPlane, ReadFault>
-        ensures shaped { IsShaped choice rec.now result }
+        ensures shaped { IsShaped choice (lists_of rec.now) result }
         ensures kind { IfOk result (λ shaped_plane. shaped_plane.drawing_kind ≡ drawing_kind) }
     {
         let plane = embed(alloc, &mut self.planes, rec);
@@ -108,10 +109,10 @@ impl RecordScratch {
         choice: Choice,
         drawing_kind: DrawingKind,
     ) -> Result<Result<KeptPlane, KeepFault>, ReadFault>
-        ensures kept { IfOk result (λ made. IfOk made (IsKeptPlane conditions.now choice rec.now)) }
+        ensures kept { IfOk result (λ made. IfOk made (IsKeptPlane conditions.now choice (lists_of rec.now))) }
         ensures kind { IfOk result (λ made. IfOk made (λ kept. kept.drawing_kind ≡ drawing_kind)) }
-        ensures unkept { IfOk result (λ made. IfErr made (IsUnkept conditions.now choice rec.now)) }
-        ensures refused { IfErr result (IsRefused rec.now) }
+        ensures unkept { IfOk result (λ made. IfErr made (IsUnkept conditions.now choice (lists_of rec.now))) }
+        ensures refused { IfErr result (IsRefused (lists_of rec.now)) }
     {
         let plane = embed(alloc, &mut self.planes, rec)?;
         Ok(with_shape_keeping(

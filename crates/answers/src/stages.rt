@@ -23,7 +23,7 @@ use std::alloc::{AllocError, Global};
 /// Why a record has no plane if there is no memory for its graph: the first rule that it breaks, or else out of memory.
 /// Trying the rules allocates nothing.
 fn fault_without_graph(rec: &Record) -> ReadFault
-    ensures { IsRefused rec.now result }
+    ensures { IsRefused (lists_of rec.now) result }
 {
     match broken_rule(rec) {
         Some(rule) => ReadFault::Rule(rule),
@@ -37,7 +37,7 @@ pub(crate) fn embed(
     scratch: &mut faces::Scratch,
     rec: &Record,
 ) -> Result<Plane, ReadFault>
-    ensures { IsEmbedded rec.now result }
+    ensures { IsEmbedded (lists_of rec.now) result }
 {
     let graph = match Graph::read_in(alloc, &mut scratch.graph, rec) {
         Ok(graph) => graph,
@@ -62,7 +62,7 @@ pub(crate) fn shape(
     choice: Choice,
     drawing_kind: DrawingKind,
 ) -> Result<ShapedPlane, ReadFault>
-    ensures shaped { (bytes : List ℕ) → IsEmbedded bytes plane → IsShaped choice bytes result }
+    ensures shaped { (g : List (List ℕ)) → IsEmbedded g plane → IsShaped choice g result }
     ensures kind { IfOk result (λ shaped_plane. shaped_plane.drawing_kind ≡ drawing_kind) }
 {
     match with_least_shape(alloc, scratch, plane?, choice, drawing_kind) {
@@ -78,9 +78,9 @@ pub(crate) fn answer_with(
     shaped_plane: Result<ShapedPlane, ReadFault>,
     drawing_kind: DrawingKind,
 ) -> Answer
-    ensures answers { (choice : Choice) (bytes : List ℕ) → IsShaped choice bytes shaped_plane → Answers choice bytes result }
-    ensures memory { (choice : Choice) (bytes : List ℕ) → IsShaped choice bytes shaped_plane
-        → result ≡ Answer.NoMemory → KeepsBefore (lists_of bytes) 9 }
+    ensures answers { (choice : Choice) (g : List (List ℕ)) → IsShaped choice g shaped_plane → Answers choice g result }
+    ensures memory { (choice : Choice) (g : List (List ℕ)) → IsShaped choice g shaped_plane
+        → result ≡ Answer.NoMemory → KeepsBefore g 9 }
     ensures quick { drawing_kind ≡ DrawingKind.Quick → IfDrawn IsQuick result }
     ensures no_longer { IfDrawn IsNoLonger result }
     ensures near { IfDrawn IsNear result }
@@ -117,7 +117,7 @@ pub fn find_points(
     shaped_plane: Result<ShapedPlane, ReadFault>,
     drawing_kind: DrawingKind,
 ) -> PointsFound
-    ensures answers { (choice : Choice) (bytes : List ℕ) → IsShaped choice bytes shaped_plane → Answers choice bytes (answer_in result) }
+    ensures answers { (choice : Choice) (g : List (List ℕ)) → IsShaped choice g shaped_plane → Answers choice g (answer_in result) }
     ensures same { IsFoundFor shaped_plane result }
     ensures quick { drawing_kind ≡ DrawingKind.Quick → IfDrawn IsQuick (answer_in result) }
     ensures no_longer { IfDrawn IsNoLonger (answer_in result) }
@@ -139,7 +139,7 @@ pub fn answer(alloc: Global, file: u32, ordinal: u32, rec: Record, choice: Choic
     ensures ordinal { result.ordinal ≡ ordinal }
     ensures same { result.rec ≡ rec }
     ensures chosen { result.choice ≡ choice }
-    ensures answered { Answers choice rec result.answer }
+    ensures answered { Answers choice (lists_of rec) result.answer }
     ensures drawn { IsDrawnIfLaid result.answer }
     ensures quick { IfDrawn IsQuick result.answer }
     ensures near { IfDrawn IsNear result.answer }

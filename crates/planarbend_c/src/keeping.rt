@@ -1,7 +1,7 @@
 //! What is found of a record whose layout keeps conditions.
 
 ghost use Rattle.std.specs.Prelude.{◌≡◌, ℕ, List, OnOk, IfOk, IfErr, is_some};
-ghost use Rattle.planar_code.specs.Stream.{IsRecord};
+ghost use Rattle.planar_code.specs.Stream.{IsRecord, lists_of};
 ghost use Rattle.common.specs.declared.choice.Choice.{Choice};
 ghost use Rattle.conditions.specs.declared.conditions.Conditions.{Conditions};
 ghost use Rattle.conditions.specs.Chosen.{IsKept};
@@ -13,7 +13,7 @@ ghost use Rattle.planarbend_c.specs.declared.outcome.Outcome.{Outcome};
 ghost use Rattle.planarbend_c.specs.Cuts.{cut_contents};
 ghost use Rattle.planarbend_c.specs.Left.{AreAsLong};
 ghost use Rattle.planarbend_c.specs.Found.{AreKeptStraightIfAsked, AreStraightIfAsked, IsAsAsked, IsDrawnIfAsked, IsFoundKeeping, IsQuickIfAsked, finding, finding_of};
-ghost use Rattle.planarbend_c.specs.Faults.{IsKeepingFault};
+ghost use Rattle.planarbend_c.specs.Faults.{IsKeepingFault, IsKeepingFaultOf};
 
 use crate::cut::{CutLists, put_cut};
 use crate::laid::Layout;
@@ -40,10 +40,10 @@ pub(crate) fn lay_out_keeping(
     conditions: &Conditions<'_>,
     cut: &mut CutLists<'_>,
 ) -> Result<Layout, Outcome>
-    ensures found { IfOk result (λ layout. IsFoundKeeping conditions.now choice bytes.now (finding_of layout)) }
+    ensures found { IfOk result (λ layout. IsFoundKeeping conditions.now choice (lists_of bytes.now) (finding_of layout)) }
     ensures asked { IfOk result (λ layout. IsAsAsked kind (finding_of layout)) }
     ensures is_record { IfOk result (λ _. IsRecord bytes.now) }
-    ensures fault { IfErr result (IsKeepingFault conditions.now choice bytes.now (cut_contents cut.new)) }
+    ensures fault { IfErr result (IsKeepingFaultOf conditions.now choice bytes.now (cut_contents cut.new)) }
     ensures laid { OnOk result (cut_contents cut.new ≡ cut_contents cut.old) }
     ensures uncut { IfErr result (λ fault. ¬ (fault ≡ Outcome.NoShape) → cut_contents cut.new ≡ cut_contents cut.old) }
     ensures long { AreAsLong (cut_contents cut.old) (cut_contents cut.new) }
@@ -64,10 +64,9 @@ fn laid_keeping(
     conditions: &Conditions<'_>,
     cut: &mut CutLists<'_>,
 ) -> Result<Layout, Outcome>
-    requires { IsRecord rec.now }
-    ensures found { IfOk result (λ layout. IsFoundKeeping conditions.now choice rec.now (finding_of layout)) }
+    ensures found { IfOk result (λ layout. IsFoundKeeping conditions.now choice (lists_of rec.now) (finding_of layout)) }
     ensures asked { IfOk result (λ layout. IsAsAsked kind (finding_of layout)) }
-    ensures fault { IfErr result (IsKeepingFault conditions.now choice rec.now (cut_contents cut.new)) }
+    ensures fault { IfErr result (IsKeepingFault conditions.now choice (lists_of rec.now) (cut_contents cut.new)) }
     ensures laid { OnOk result (cut_contents cut.new ≡ cut_contents cut.old) }
     ensures uncut { IfErr result (λ fault. ¬ (fault ≡ Outcome.NoShape) → cut_contents cut.new ≡ cut_contents cut.old) }
     ensures long { AreAsLong (cut_contents cut.old) (cut_contents cut.new) }
@@ -110,8 +109,8 @@ fn laid_kept(kept: KeptPlane, drawing: Option<Points>) -> Layout
 /// The outcome of a call if the plane of a record has no shape that keeps the conditions for this reason. If none keeps
 /// the edges straight, the cut is written.
 fn unkept(fault: KeepFault, cut: &mut CutLists<'_>) -> Outcome
-    ensures told { (conditions : Conditions) (choice : Choice) (bytes : List ℕ) → IsRecord bytes
-        → IsUnkept conditions choice bytes fault → IsKeepingFault conditions choice bytes (cut_contents cut.new) result }
+    ensures told { (conditions : Conditions) (choice : Choice) (g : List (List ℕ))
+        → IsUnkept conditions choice g fault → IsKeepingFault conditions choice g (cut_contents cut.new) result }
     ensures uncut { ¬ (result ≡ Outcome.NoShape) → cut_contents cut.new ≡ cut_contents cut.old }
     ensures long { AreAsLong (cut_contents cut.old) (cut_contents cut.new) }
 {

@@ -17,12 +17,12 @@ ghost use Rattle.entries.specs.Answers.{IsLaid};
 ///
 /// This is at most five for each edge, and never more than 1,534.
 pub fn laid_bends()
-    ensures inner { (choice : Choice) (bytes : List ℕ) (plane : PlaneModel) (shape : ShapeModel) (prices : PricesModel) (drawing : Result PointsModel Cause)
-        → IsLaid choice bytes plane shape prices drawing → bends plane shape ≤ bend_bound plane }
-    ensures five { (choice : Choice) (bytes : List ℕ) (plane : PlaneModel) (shape : ShapeModel) (prices : PricesModel) (drawing : Result PointsModel Cause)
-        → IsLaid choice bytes plane shape prices drawing → bends plane shape ≤ 5 * edges plane }
-    ensures limit { (choice : Choice) (bytes : List ℕ) (plane : PlaneModel) (shape : ShapeModel) (prices : PricesModel) (drawing : Result PointsModel Cause)
-        → IsLaid choice bytes plane shape prices drawing → bends plane shape ≤ 1534 }
+    ensures inner { (choice : Choice) (g : List (List ℕ)) (plane : PlaneModel) (shape : ShapeModel) (prices : PricesModel) (drawing : Result PointsModel Cause)
+        → IsLaid choice g plane shape prices drawing → bends plane shape ≤ bend_bound plane }
+    ensures five { (choice : Choice) (g : List (List ℕ)) (plane : PlaneModel) (shape : ShapeModel) (prices : PricesModel) (drawing : Result PointsModel Cause)
+        → IsLaid choice g plane shape prices drawing → bends plane shape ≤ 5 * edges plane }
+    ensures limit { (choice : Choice) (g : List (List ℕ)) (plane : PlaneModel) (shape : ShapeModel) (prices : PricesModel) (drawing : Result PointsModel Cause)
+        → IsLaid choice g plane shape prices drawing → bends plane shape ≤ 1534 }
 {}
 
 /// The boxes that a shape with the fewest bends is cut into have at most 3,838 vertices.
