@@ -3,13 +3,12 @@ use Rattle.std.proofs.Common.{◌≡◌, ◌∙◌, ℕ, List, Bool, false, Opti
 use Rattle.planar_code.specs.Stream.{IsRecord, lists_of}
 use Rattle.common.specs.declared.choice.Choice.{Choice}
 use Rattle.common.specs.declared.drawing_kind.DrawingKind.{DrawingKind}
-use Rattle.conditions.specs.declared.conditions.Conditions.{Conditions}
 use Rattle.planarbend_c.specs.declared.counts.Counts.{Counts}
 use Rattle.planarbend_c.specs.declared.outcome.Outcome.{Outcome}
 use Rattle.planarbend_c.specs.declared.outcome.Outcome.TheVariants.{Laid, Refused, NotARecord, Memory, Room, Argument, NoShape, NoEdge, NoOuter, Wide}
 use Rattle.planarbend_c.specs.declared.request.Request.{Request}
 use Rattle.planarbend_c.specs.Cuts.{CutModel}
-use Rattle.planarbend_c.specs.Faults.{IsFault, IsFaultOf, IsKeepingFaultOf}
+use Rattle.planarbend_c.specs.Faults.{IsFault, IsFaultOf, IsKeepingFaultOf, IsUnparsed}
 use Rattle.planarbend_c.specs.Requests.{choice_in, drawing_in}
 use Rattle.planarbend_c.specs.Held.{ListsModel}
 use Rattle.planarbend_c.specs.Found.{Finding, IsAsAsked}
@@ -79,30 +78,29 @@ refused_told bytes outer drawing counts lists Wide shown = absurd shown.1
 pub unlaid_told : (request : Request) (choice : Choice) (bytes : List ℕ) (counts : Counts) (lists : ListsModel) (cut : CutModel) (it : Outcome)
     → choice_in request.outer ≡ Some choice → IsKeepingFaultOf request.conditions choice bytes cut it
     → IsOutcomeKeeping request bytes counts lists cut it
-unlaid_told request choice bytes counts lists cut (Refused rule) asked shown = shown
+unlaid_told request choice bytes counts lists cut (Refused rule) asked shown = (shown.0, shown.1.shown)
 unlaid_told request choice bytes counts lists cut NotARecord asked shown = shown
 unlaid_told request choice bytes counts lists cut Memory asked shown = tt
 unlaid_told request choice bytes counts lists cut NoShape asked shown = record { choice = choice; choice_asked = asked; is_record = shown.0; shown = shown.1 }
 unlaid_told request choice bytes counts lists cut NoEdge asked shown = record { choice = choice; choice_asked = asked; is_record = shown.0; shown = shown.1 }
 unlaid_told request choice bytes counts lists cut NoOuter asked shown = record { choice = choice; choice_asked = asked; is_record = shown.0; shown = shown.1 }
 unlaid_told request choice bytes counts lists cut Wide asked shown = record { choice = choice; choice_asked = asked; is_record = shown.0; shown = shown.1 }
-unlaid_told request choice bytes counts lists cut Laid asked shown = absurd shown.1
-unlaid_told request choice bytes counts lists cut Room asked shown = absurd shown.1
-unlaid_told request choice bytes counts lists cut Argument asked shown = absurd shown.1
+unlaid_told request choice bytes counts lists cut Laid asked shown = absurd shown.1.shown
+unlaid_told request choice bytes counts lists cut Room asked shown = absurd shown.1.shown
+unlaid_told request choice bytes counts lists cut Argument asked shown = absurd shown.1.shown
 
--- bytes that are not laid out without conditions are not laid out with any
-pub unlaid_anyhow : (conditions : Conditions) (choice : Choice) (bytes : List ℕ) (cut : CutModel) (it : Outcome)
-    → IsFaultOf IsFault bytes it → IsKeepingFaultOf conditions choice bytes cut it
-unlaid_anyhow conditions choice bytes cut (Refused rule) shown = shown
-unlaid_anyhow conditions choice bytes cut NotARecord shown = shown
-unlaid_anyhow conditions choice bytes cut Memory shown = tt
-unlaid_anyhow conditions choice bytes cut Laid shown = absurd shown.1
-unlaid_anyhow conditions choice bytes cut Room shown = absurd shown.1
-unlaid_anyhow conditions choice bytes cut Argument shown = absurd shown.1
-unlaid_anyhow conditions choice bytes cut NoShape shown = absurd shown.1
-unlaid_anyhow conditions choice bytes cut NoEdge shown = absurd shown.1
-unlaid_anyhow conditions choice bytes cut NoOuter shown = absurd shown.1
-unlaid_anyhow conditions choice bytes cut Wide shown = absurd shown.1
+-- bytes that are not parsed are not laid out
+pub unparsed_anyhow : (Shows : List (List ℕ) → Outcome → Type 0) (bytes : List ℕ) (it : Outcome) → IsUnparsed bytes it → IsFaultOf Shows bytes it
+unparsed_anyhow Shows bytes NotARecord shown = shown
+unparsed_anyhow Shows bytes Memory shown = tt
+unparsed_anyhow Shows bytes (Refused rule) shown = absurd shown.1
+unparsed_anyhow Shows bytes Laid shown = absurd shown.1
+unparsed_anyhow Shows bytes Room shown = absurd shown.1
+unparsed_anyhow Shows bytes Argument shown = absurd shown.1
+unparsed_anyhow Shows bytes NoShape shown = absurd shown.1
+unparsed_anyhow Shows bytes NoEdge shown = absurd shown.1
+unparsed_anyhow Shows bytes NoOuter shown = absurd shown.1
+unparsed_anyhow Shows bytes Wide shown = absurd shown.1
 
 -- whether a kind of drawing is asked for
 abbrev is_drawn_in : Option (Option DrawingKind) → Bool

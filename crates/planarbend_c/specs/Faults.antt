@@ -14,6 +14,8 @@ use Rattle.conditions.specs.declared.fault.Unkept.{Unkept}
 use Rattle.conditions.specs.Chosen.{IsKept}
 use Rattle.answers.specs.Kept.{IsUnkept}
 use Rattle.planarbend_c.specs.Cuts.{CutModel, HoldsCut}
+use Rattle.planarbend_c.specs.Named.{AreOf}
+use Rattle.planarbend_c.specs.declared.named.NamedConditions.{NamedConditions}
 use Rattle.planarbend_c.specs.declared.outcome.Outcome.{Outcome}
 use Rattle.planarbend_c.specs.declared.outcome.Outcome.TheVariants.{Refused, NotARecord, Memory, NoShape, NoEdge, NoOuter, Wide}
 
@@ -57,6 +59,16 @@ IsFaultOf Shows bytes NotARecord = ¬ IsRecord bytes
 IsFaultOf Shows bytes Memory = ⊤
 IsFaultOf Shows bytes outcome = IsRecord bytes × Shows (lists_of bytes) outcome
 
--- the same where conditions are to be kept
-abbrev pub IsKeepingFaultOf : Conditions → Choice → List ℕ → CutModel → Outcome → Type 0
-IsKeepingFaultOf conditions choice bytes cut outcome = IsFaultOf (λ g shown. IsKeepingFault conditions choice g cut shown) bytes outcome
+-- what it shows of bytes that are not parsed as a record
+abbrev pub IsUnparsed : List ℕ → Outcome → Type 0
+IsUnparsed bytes outcome = IsFaultOf (λ g shown. ⊥) bytes outcome
+
+-- what it shows of neighbour lists where the conditions that C names are to be kept
+pub record IsNamedFault (named : NamedConditions) (choice : Choice) (g : List (List ℕ)) (cut : CutModel) (outcome : Outcome) : Type 0 where
+  pub conditions : Conditions
+  pub same : AreOf named conditions
+  pub shown : IsKeepingFault conditions choice g cut outcome
+
+-- and of bytes
+abbrev pub IsKeepingFaultOf : NamedConditions → Choice → List ℕ → CutModel → Outcome → Type 0
+IsKeepingFaultOf named choice bytes cut outcome = IsFaultOf (λ g shown. IsNamedFault named choice g cut shown) bytes outcome

@@ -22,6 +22,8 @@ use Rattle.planarbend_c.specs.declared.counts.Counts.{Counts}
 use Rattle.planarbend_c.specs.declared.laid.Layout.{Layout}
 use Rattle.planarbend_c.specs.declared.lists.DartTurns.{DartTurns}
 use Rattle.planarbend_c.specs.declared.lists.GridPoint.{GridPoint}
+use Rattle.planarbend_c.specs.declared.named.NamedConditions.{NamedConditions}
+use Rattle.planarbend_c.specs.Named.{AreOf}
 use Rattle.planarbend_c.specs.Requests.{shape_kind}
 use Rattle.planarbend_c.specs.Held.{ListsModel, HasRoom, Holds}
 
@@ -100,6 +102,12 @@ pub record IsFoundKeeping (conditions : Conditions) (choice : Choice) (g : List 
   pub quick : found.kind ≡ Quick → IsQuickIfAsked found.plane found.shape found.points
   pub straight : AreStraightIfAsked found.plane found.shape found.points
   pub kept_straight : AreKeptStraightIfAsked conditions found.plane found.points
+
+-- the same under the conditions that C names
+pub record IsNamedFinding (named : NamedConditions) (choice : Choice) (g : List (List ℕ)) (found : Finding) : Type 0 where
+  pub conditions : Conditions
+  pub same : AreOf named conditions
+  pub is_found : IsFoundKeeping conditions choice g found
 
 -- ---- how it is told
 

@@ -6,13 +6,13 @@ use Rattle.common.specs.declared.choice.Choice.{Choice}
 use Rattle.common.specs.declared.drawing_kind.DrawingKind.{DrawingKind}
 use Rattle.planarbend_c.specs.declared.request.Request.{Request}
 use Rattle.planarbend_c.specs.Cuts.{CutModel}
-use Rattle.planarbend_c.specs.Faults.{IsKeepingFault}
+use Rattle.planarbend_c.specs.Faults.{IsNamedFault}
 use Rattle.planarbend_c.specs.declared.counts.Counts.{Counts}
 use Rattle.planarbend_c.specs.declared.outcome.Outcome.{Outcome}
 use Rattle.planarbend_c.specs.declared.outcome.Outcome.TheVariants.{Laid, Refused, NotARecord, Memory, Room, Argument, NoShape, NoEdge, NoOuter, Wide}
 use Rattle.planarbend_c.specs.Requests.{choice_in, drawing_in}
 use Rattle.planarbend_c.specs.Held.{ListsModel}
-use Rattle.planarbend_c.specs.Found.{Finding, IsAsAsked, IsFound, IsFoundKeeping, AreCounts, HoldFinding, HaveRoom}
+use Rattle.planarbend_c.specs.Found.{Finding, IsAsAsked, IsFound, IsNamedFinding, AreCounts, HoldFinding, HaveRoom}
 
 -- the bytes are a record, of which something is found under what the numbers of an outer face and of a drawing ask for:
 -- `Is` says what
@@ -68,12 +68,12 @@ pub record IsUnlaid (request : Request) (bytes : List ℕ) (cut : CutModel) (out
   pub choice : Choice
   pub choice_asked : choice_in request.outer ≡ Some choice
   pub is_record : IsRecord bytes
-  pub shown : IsKeepingFault request.conditions choice (lists_of bytes) cut outcome
+  pub shown : IsNamedFault request.conditions choice (lists_of bytes) cut outcome
 
 -- with conditions
 abbrev pub IsOutcomeKeeping : Request → List ℕ → Counts → ListsModel → CutModel → Outcome → Type 0
 IsOutcomeKeeping request bytes counts lists cut outcome =
-    IsOutcomeOf (IsFoundKeeping request.conditions) (IsUnlaid request bytes cut) bytes request.outer request.drawing counts lists outcome
+    IsOutcomeOf (IsNamedFinding request.conditions) (IsUnlaid request bytes cut) bytes request.outer request.drawing counts lists outcome
 
 -- what an outcome shows of a finding that is told to C
 abbrev pub IsTold : Finding → Counts → ListsModel → Outcome → Type 0

@@ -12,12 +12,13 @@ ghost use Rattle.answers.specs.Kept.{IsKeptPlane, IsUnkept};
 ghost use Rattle.planarbend_c.specs.declared.outcome.Outcome.{Outcome};
 ghost use Rattle.planarbend_c.specs.Cuts.{cut_contents};
 ghost use Rattle.planarbend_c.specs.Left.{AreAsLong};
-ghost use Rattle.planarbend_c.specs.Found.{AreKeptStraightIfAsked, AreStraightIfAsked, IsAsAsked, IsDrawnIfAsked, IsFoundKeeping, IsQuickIfAsked, finding, finding_of};
+ghost use Rattle.planarbend_c.specs.Found.{AreKeptStraightIfAsked, AreStraightIfAsked, IsAsAsked, IsDrawnIfAsked, IsFoundKeeping, IsNamedFinding, IsQuickIfAsked, finding, finding_of};
 ghost use Rattle.planarbend_c.specs.Faults.{IsKeepingFault, IsKeepingFaultOf};
 
 use crate::cut::{CutLists, put_cut};
 use crate::laid::Layout;
 use crate::layout::parsed;
+use crate::named::{NamedConditions, ends_of};
 use crate::outcome::Outcome;
 use crate::request::shape_kind;
 use answers::{KeptPlane, RecordScratch};
@@ -37,13 +38,13 @@ pub(crate) fn lay_out_keeping(
     bytes: &[u8],
     choice: Choice,
     kind: Option<DrawingKind>,
-    conditions: &Conditions<'_>,
+    named: &NamedConditions<'_>,
     cut: &mut CutLists<'_>,
 ) -> Result<Layout, Outcome>
-    ensures found { IfOk result (λ layout. IsFoundKeeping conditions.now choice (lists_of bytes.now) (finding_of layout)) }
+    ensures found { IfOk result (λ layout. IsNamedFinding named.now choice (lists_of bytes.now) (finding_of layout)) }
     ensures asked { IfOk result (λ layout. IsAsAsked kind (finding_of layout)) }
     ensures is_record { IfOk result (λ _. IsRecord bytes.now) }
-    ensures fault { IfErr result (IsKeepingFaultOf conditions.now choice bytes.now (cut_contents cut.new)) }
+    ensures fault { IfErr result (IsKeepingFaultOf named.now choice bytes.now (cut_contents cut.new)) }
     ensures laid { OnOk result (cut_contents cut.new ≡ cut_contents cut.old) }
     ensures uncut { IfErr result (λ fault. ¬ (fault ≡ Outcome.NoShape) → cut_contents cut.new ≡ cut_contents cut.old) }
     ensures long { AreAsLong (cut_contents cut.old) (cut_contents cut.new) }
@@ -52,7 +53,17 @@ pub(crate) fn lay_out_keeping(
         Ok(rec) => rec,
         Err(outcome) => return Err(outcome),
     };
-    laid_keeping(alloc, &rec, choice, kind, conditions, cut)
+    let Ok(straight) = ends_of(alloc, named.straight) else {
+        return Err(Outcome::Memory);
+    };
+    let Ok(inner) = ends_of(alloc, named.inner) else {
+        return Err(Outcome::Memory);
+    };
+    let conditions = Conditions {
+        straight: straight.as_slice(),
+        inner: inner.as_slice(),
+    };
+    laid_keeping(alloc, &rec, choice, kind, &conditions, cut)
 }
 
 /// The layout that keeps conditions of a record, with this drawing or none.

@@ -5,7 +5,7 @@ ghost use Rattle.answers.specs.Steps.{IsPlaneOf};
 ghost use Rattle.planar_code.specs.Stream.{IsRecord, lists_of};
 ghost use Rattle.planarbend_c.specs.Requests.{shape_kind};
 ghost use Rattle.planarbend_c.specs.Found.{IsAsAsked, IsDrawnIfAsked, IsFound, IsQuickIfAsked, finding, finding_of};
-ghost use Rattle.planarbend_c.specs.Faults.{IsFault, IsFaultOf};
+ghost use Rattle.planarbend_c.specs.Faults.{IsFault, IsFaultOf, IsUnparsed};
 
 use crate::laid::Layout;
 use crate::outcome::Outcome;
@@ -75,7 +75,7 @@ fn laid_shape(shaped_plane: ShapedPlane, drawing: Option<Points>) -> Layout
 pub(crate) fn parsed(alloc: Global, bytes: &[u8]) -> Result<Record, Outcome>
     ensures same { IfOk result (λ rec. rec ≡ bytes.now) }
     ensures is_record { IfOk result (λ _. IsRecord bytes.now) }
-    ensures fault { IfErr result (IsFaultOf IsFault bytes.now) }
+    ensures fault { IfErr result (IsUnparsed bytes.now) }
 {
     match Record::parse(alloc, bytes) {
         Ok(rec) => Ok(rec),

@@ -4,7 +4,7 @@ use Rattle.planar_code.specs.Stream.{IsRecord, lists_of}
 use Rattle.planarbend_c.specs.declared.laid.Layout.{Layout}
 use Rattle.planarbend_c.specs.Faults.{IsFault, IsFaultOf}
 use Rattle.planarbend_c.specs.Found.{IsAsAsked, IsFound, finding_of}
-use Rattle.planarbend_c.proofs.Told.{of_record}
+use Rattle.planarbend_c.proofs.Told.{of_record, unparsed_anyhow}
 use Rattle.planarbend_c.proofs.layout.lay_out.Goals as goal
 
 pub returns-in_err-rec-clause-found : goal.returns-in_err-rec-clause-found
@@ -19,7 +19,7 @@ returns-in_err-rec-clause-is_record c = let p = err_from_is_err_and c.from_resid
 pub returns-in_err-rec-clause-fault : goal.returns-in_err-rec-clause-fault
 returns-in_err-rec-clause-fault c =
     let p = err_from_is_err_and c.from_residual.result c.from_residual.ensures.1 in
-    rw (p.1, p.2) c.in_err-rec.ensures.fault
+    rw p.1 (unparsed_anyhow IsFault c.args.bytes.now _ (rw p.2 c.in_err-rec.ensures.fault))
 
 pub returns-clause-found : goal.returns-clause-found
 returns-clause-found c =
