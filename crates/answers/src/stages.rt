@@ -1,10 +1,10 @@
 //! The stages that answer a record.
 
-ghost use Rattle.std.specs.Prelude.{◌≡◌, ℕ, List, IfOk};
+ghost use Rattle.std.specs.Prelude.{◌≡◌, ℕ, List, IfOk, MatchOption};
 ghost use Rattle.entries.specs.Lengths.{IfDrawn, IsNear, IsNoLonger, IsQuick};
 ghost use Rattle.answers.specs.Steps.{IsRefused, IsEmbedded, IsShaped, IsFoundFor, answer_in};
 ghost use Rattle.common.specs.declared.choice.Choice.{Choice};
-ghost use Rattle.embedding.specs.Rules.{KeepsBefore};
+ghost use Rattle.embedding.specs.Rules.{FirstBroken, KeepsBefore};
 ghost use Rattle.planar_code.specs.Stream.{lists_of};
 ghost use Rattle.entries.specs.Answers.{Answers};
 ghost use Rattle.drawing_laws.specs.Drawings.{IsDrawnIfLaid};
@@ -20,30 +20,25 @@ use faces::{Plane, TraceFault};
 use planar_code::Record;
 use std::alloc::{AllocError, Global};
 
-/// Why a record has no plane if there is no memory for its graph: the first rule that it breaks, or else out of memory.
-/// Trying the rules allocates nothing.
-fn fault_without_graph(rec: &Record) -> ReadFault
-    ensures { IsRefused (lists_of rec.now) result }
+/// Why lists have no plane if there is no memory for their graph: the first rule that they break, or else out of memory.
+pub(crate) fn fault_without_graph(broken: Option<Rule>) -> ReadFault
+    ensures { (g : List (List ℕ))
+        → MatchOption broken (KeepsBefore g 9) (λ rule. FirstBroken g rule) → IsRefused g result }
 {
-    match broken_rule(rec) {
+    match broken {
         Some(rule) => ReadFault::Rule(rule),
         None => ReadFault::Memory,
     }
 }
 
-/// The plane of a record, or why there is none; reuses the caller's scratch.
-pub(crate) fn embed(
+/// The plane of a graph, unless it breaks the last rule; reuses the caller's scratch.
+pub(crate) fn trace(
     alloc: Global,
     scratch: &mut faces::Scratch,
-    rec: &Record,
+    graph: Graph,
 ) -> Result<Plane, ReadFault>
-    ensures { IsEmbedded (lists_of rec.now) result }
+    ensures { IsEmbedded graph result }
 {
-    let graph = match Graph::read_in(alloc, &mut scratch.graph, rec) {
-        Ok(graph) => graph,
-        Err(ReadFault::Rule(rule)) => return Err(ReadFault::Rule(rule)),
-        Err(ReadFault::Memory) => return Err(fault_without_graph(rec)),
-    };
     match Plane::trace_in(alloc, scratch, graph) {
         Ok(plane) => Ok(plane),
         Err(TraceFault::Genus(graph)) => {
@@ -51,6 +46,22 @@ pub(crate) fn embed(
             Err(ReadFault::Rule(Rule::Genus))
         }
         Err(TraceFault::Memory(_)) => unreachable!(),
+    }
+}
+
+/// The plane of a record, or why there is none; reuses the caller's scratch. If there is no memory for the graph, the
+/// rules are tried without one, which allocates nothing.
+pub(crate) fn embed(
+    alloc: Global,
+    scratch: &mut faces::Scratch,
+    rec: &Record,
+) -> Result<Plane, ReadFault>
+    ensures { IsEmbedded (lists_of rec.now) result }
+{
+    match Graph::read_in(alloc, &mut scratch.graph, rec) {
+        Ok(graph) => trace(alloc, scratch, graph),
+        Err(ReadFault::Rule(rule)) => Err(ReadFault::Rule(rule)),
+        Err(ReadFault::Memory) => Err(fault_without_graph(broken_rule(rec))),
     }
 }
 
