@@ -82,8 +82,8 @@ impl RecordScratch {
         ensures shaped { IsShaped choice (lists_of rec.now) result }
         ensures kind { IfOk result (λ shaped_plane. shaped_plane.drawing_kind ≡ drawing_kind) }
     {
-        let plane = embed_wide(alloc, &mut self.planes, rec);
-        shape(alloc, &mut self.shapes, plane, choice, drawing_kind)
+        let embedded = embed_wide(alloc, &mut self.planes, rec);
+        shape(alloc, &mut self.shapes, embedded, choice, drawing_kind)
     }
 
     /// Returns points that draw a shaped plane: a drawing of the kind that its shape is for.

@@ -26,17 +26,23 @@ pub struct NamedConditions<'a> {
     pub inner: &'a [NamedDart],
 }
 
+/// A dart by its ends.
+fn dart_ends(dart: NamedDart) -> DartEnds
+    ensures { result ≡ ends_of dart }
+{
+    DartEnds {
+        from: u16::from(dart.from),
+        to: u16::from(dart.to),
+    }
+}
+
 /// The darts of a list, each by its ends.
 pub(crate) fn ends_of(alloc: Global, darts: &[NamedDart]) -> Result<Vec<DartEnds>, AllocError>
     ensures { IfOk result (λ list. list.items ≡ map ends_of darts.now) }
 {
     let mut list = Vec::with_capacity(alloc, darts.len())?;
     for place in 0..darts.len() {
-        let dart = darts[place];
-        list.push(DartEnds {
-            from: u16::from(dart.from),
-            to: u16::from(dart.to),
-        })?;
+        list.push(dart_ends(darts[place]))?;
     }
     Ok(list)
 }
