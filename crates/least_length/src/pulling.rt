@@ -38,7 +38,7 @@ pub(crate) struct Pulling {
     marks: Vec<u16>,
     /// The segments that the search has reached.
     reached: Vec<u16>,
-    /// The segments reached that the search has not looked at yet.
+    /// The segments reached that the search has still to look at, since pairs may lead on from them.
     unlooked: Vec<u16>,
     /// Whether some segments have moved and others have not.
     moved: bool,
@@ -176,21 +176,24 @@ impl Pulling {
         self.marks[usize::from(root)] = ROOT;
         self.reached.clear();
         self.reached.push(root)?;
+        self.unlooked.clear();
+        self.unlooked.push(root)?;
         for _ in 0..self.marks.len() {
             if let Some(target) = self.search_pairs()? {
                 return Ok(self.augment(root, target));
             }
-            if !spend(looks, self.reached.len()) || !self.move_up() {
+            if !spend(looks, self.reached.len()) || !self.move_up()? {
                 return Ok(false);
             }
         }
         Ok(false)
     }
 
-    /// Reaches all segments to which pairs lead, up to the first one that is pulled down, which it returns. It searches
-    /// depth first, which finds one after fewer segments than their order does.
+    /// Reaches all segments to which pairs lead from those still to be looked at, up to the first one that is pulled down,
+    /// which it returns. It searches depth first, which finds one after fewer segments than their order does.
     fn search_pairs(&mut self) -> Result<Option<u16>, AllocError>
         requires ready { IsReady self.old }
+        requires unlooked { AreSegments (vec_len self.old.coordinates) self.old.unlooked.items }
         ensures ready { OnOk result (IsReady self.new) }
         ensures count { vec_len self.new.coordinates ≡ vec_len self.old.coordinates }
         ensures up { self.new.up ≡ self.old.up }
@@ -198,8 +201,6 @@ impl Pulling {
         ensures target { IfOk result (λ found. IfSome found (λ target. target < vec_len self.new.coordinates)) }
         ensures pulled { IfOk result (λ found. IfSome found (λ target. slice_index self.new.up.items target < slice_index self.new.down.items target)) }
     {
-        self.unlooked.clear();
-        self.unlooked.extend_from_slice(self.reached.as_slice())?;
         for _ in 0..self.marks.len() {
             let Some(segment) = self.unlooked.pop() else {
                 break;
@@ -267,35 +268,52 @@ impl Pulling {
     }
 
     /// Moves all segments reached up until one of them is adjacent to one that is not reached; returns whether there is
-    /// one, and whether there is room.
-    fn move_up(&mut self) -> bool
+    /// one, and whether there is room. From such ones alone pairs lead on then.
+    fn move_up(&mut self) -> Result<bool, AllocError>
         requires ready { IsReady self.old }
-        ensures ready { IsReady self.new }
+        ensures ready { OnOk result (IsReady self.new) }
+        ensures unlooked { OnOk result (AreSegments (vec_len self.new.coordinates) self.new.unlooked.items) }
         ensures count { vec_len self.new.coordinates ≡ vec_len self.old.coordinates }
         ensures up { self.new.up ≡ self.old.up }
         ensures down { self.new.down ≡ self.old.down }
     {
-        let slack = self.least_slack();
+        let slack = self.least_slack()?;
         if slack == u32::MAX {
-            return false;
+            return Ok(false);
         }
         self.moved = true;
-        raise(
+        let is_room = raise(
             self.coordinates.as_mut_slice(),
             self.reached.as_slice(),
             slack,
-        )
+        );
+        Ok(is_room)
     }
 
-    /// How far all segments reached can move up together; `u32::MAX` if none is in their way.
-    fn least_slack(&self) -> u32
-        requires { IsReady self.now }
+    /// How far all segments reached can move up together; `u32::MAX` if none is in their way. Those that can move no
+    /// further are then still to be looked at.
+    fn least_slack(&mut self) -> Result<u32, AllocError>
+        requires { IsReady self.old }
+        ensures ready { OnOk result (IsReady self.new) }
+        ensures unlooked { OnOk result (AreSegments (vec_len self.new.coordinates) self.new.unlooked.items) }
+        ensures count { vec_len self.new.coordinates ≡ vec_len self.old.coordinates }
+        ensures up { self.new.up ≡ self.old.up }
+        ensures down { self.new.down ≡ self.old.down }
     {
         let mut least = u32::MAX;
-        for segment in self.reached.as_slice() {
-            least = least.min(self.slack_of(*segment));
+        self.unlooked.clear();
+        for place in 0..self.reached.len() {
+            let segment = self.reached[place];
+            let slack = self.slack_of(segment);
+            if slack < least {
+                least = slack;
+                self.unlooked.clear();
+            }
+            if slack == least {
+                self.unlooked.push(segment)?;
+            }
         }
-        least
+        Ok(least)
     }
 
     /// How far this segment can move up towards segments that are not reached; `u32::MAX` if none is in its way.
