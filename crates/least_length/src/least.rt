@@ -23,7 +23,7 @@ use std::alloc::AllocError;
 /// to segments that are pulled down: over segments that are next to each other, and if these lead no further, all
 /// segments reached move up together (the primal-dual method for least-cost flow: Ahuja, Magnanti and Orlin, Network
 /// Flows, 1993). True is returned only if [`certify_lengths`](crate::certify_lengths) accepts the result. It is false if
-/// more than 4,096 pairs are met, if more than 65,536 wires or 65,533 segments are given, or if the input is other than
+/// more than 16,384 pairs are met, if more than 65,536 wires or 65,533 segments are given, or if the input is other than
 /// said above; that it is never false otherwise is measured and not proved. It reuses the caller's scratch and list; if
 /// it is false, what the list holds does not matter.
 ///

@@ -126,7 +126,7 @@ impl Segments {
         requires few { AreFew self.old.segments.items }
         ensures few { AreFew self.new.segments.items }
         ensures of { self.new.of ≡ self.old.of }
-        ensures edges { self.new.edges ≡ self.old.edges }
+        ensures edges { vec_len self.new.edges.beside ≡ vec_len self.old.edges.beside }
         ensures count { vec_len self.old.segments ≤ vec_len self.new.segments }
         ensures added { IfOk result (λ found. IfSome found (λ segment. segment < vec_len self.new.segments)) }
     {
@@ -155,7 +155,7 @@ impl Segments {
         requires few { AreFew self.old.segments.items }
         ensures few { AreFew self.new.segments.items }
         ensures of { vec_len self.new.of ≡ vec_len self.old.of }
-        ensures edges { self.new.edges ≡ self.old.edges }
+        ensures edges { vec_len self.new.edges.beside ≡ vec_len self.old.edges.beside }
     {
         if self.edges.is_led_to(vertex) {
             return Ok(true);

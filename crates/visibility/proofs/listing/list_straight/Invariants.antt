@@ -8,6 +8,6 @@ invariant-loop-place l = record {
   y : AreFew l.y.segments.items;
   x_of : vec_len l.x.of ≡ vec_len l.initial.x.of;
   y_of : vec_len l.y.of ≡ vec_len l.initial.y.of;
-  x_edges : l.x.edges ≡ l.initial.x.edges;
-  y_edges : l.y.edges ≡ l.initial.y.edges;
+  x_edges : vec_len l.x.edges.beside ≡ vec_len l.initial.x.edges.beside;
+  y_edges : vec_len l.y.edges.beside ≡ vec_len l.initial.y.edges.beside;
 }

@@ -6,7 +6,7 @@ abbrev pub invariant-loop-steps : goal.invariant-loop-steps
 invariant-loop-steps l = record {
   last : 0 < l.last;
   of : vec_len l.self.of ≡ vec_len l.initial.self.of;
-  edges : l.self.edges ≡ l.initial.self.edges;
+  edges : vec_len l.self.edges.beside ≡ vec_len l.initial.self.edges.beside;
   few : AreFew l.self.segments.items;
   added : l.segment < vec_len l.self.segments;
 }
