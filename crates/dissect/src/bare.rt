@@ -29,7 +29,7 @@ pub fn room_for(plane: &Plane, shape: &Shape) -> Result<u32, AllocError>
     ensures refused { OnErr result (2 ^ 32 ≤ room_of plane.now shape.now) }
 {
     let graph = plane.graph();
-    let turns = u64::from(shape.turn_count());
+    let turns = shape.turn_count();
     let old = u64::from(graph.darts()) + 8 * u64::from(graph.vertices());
     match u32::try_from(old + 3 * turns + u64::from(RECTANGLE_ROOM)) {
         Ok(room) => Ok(room),
