@@ -65,9 +65,13 @@ impl Shortening {
         self.list_wires(other.segments.as_slice())?;
         let segments = self.segments.as_slice();
         let wires = self.wires.as_slice();
-        let looks = &mut self.looks;
-        let coordinates = &mut self.coordinates;
-        if !find_shorter(&mut self.search, segments, wires, looks, coordinates)? {
+        if !find_shorter(
+            &mut self.search,
+            segments,
+            wires,
+            &mut self.looks,
+            &mut self.coordinates,
+        )? {
             return Ok(false);
         }
         // The search does not say how great coordinates are.

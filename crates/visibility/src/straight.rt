@@ -45,11 +45,19 @@ impl StraightEdges {
         requires head { head < vec_len self.old.beside }
         ensures count { vec_len self.new.beside ≡ vec_len self.old.beside }
     {
-        let (low, high) = if from < to {
-            (tail, head)
+        if from < to {
+            self.lead(tail, head);
         } else {
-            (head, tail)
-        };
+            self.lead(head, tail);
+        }
+    }
+
+    /// Adds the straight edge that leads ahead from the lower vertex to the higher one.
+    fn lead(&mut self, low: u16, high: u16)
+        requires low { low < vec_len self.old.beside }
+        requires high { high < vec_len self.old.beside }
+        ensures count { vec_len self.new.beside ≡ vec_len self.old.beside }
+    {
         self.beside[usize::from(low)].ahead = high;
         self.beside[usize::from(high)].back = low;
     }
