@@ -11,6 +11,7 @@ pub mod RowBits
 pub mod RowWords
 pub mod EachList
 pub mod SmallGraphs
+pub mod Ranges
 pub mod Flagging
 pub mod Symmetry
 pub mod Reached

@@ -5,7 +5,7 @@ use Rattle.std.specs.List.{flat_map}
 use Rattle.std.proofs.lemmas.List.{length-append}
 use Rattle.std.proofs.lemmas.List.Elements.{All-tail}
 use Rattle.planar_code.specs.Stream.{IsList, IsRecord, ended, lists_of}
-use Rattle.planar_code.proofs.Lists.{lists_of-record, each-record}
+use Rattle.planar_code.proofs.Lists.{lists_of-record, each-record, ended_short}
 use Rattle.faces.specs.Planes.{PlaneModel, IsPlane, darts}
 use Rattle.faces.proofs.Ends.{plane_ends}
 
@@ -17,18 +17,6 @@ few_lists bytes r = omega (arith, r.few, ap (λ (g : List (List ℕ)). length g)
 
 pub short_lists : (bytes : List ℕ) → IsRecord bytes → All (λ entries. length entries ≤ 254) (lists_of bytes)
 short_lists bytes r k other inside = (each-record bytes r k other inside).short
-
--- lists of at most 254 entries, each ended, take at most 255 bytes each
-ended_short : (lists : List (List ℕ)) → All IsList lists → length (flat_map ended lists) ≤ 255 * length lists
-ended_short [] each = omega arith
-ended_short (l ∷ ls) each =
-    omega (
-      arith,
-      length-append (ended l) (flat_map ended ls),
-      length-append l (0 ∷ []),
-      (each 0 l (omega arith)).short,
-      ended_short ls (All-tail IsList l ls each),
-    )
 
 pub few_bytes : (bytes : List ℕ) → IsRecord bytes → length bytes ≤ 65026
 few_bytes bytes r =

@@ -1,14 +1,15 @@
 use Rattle.std.proofs.Common.{replicate, false, refl, arith}
+use Rattle.embedding.specs.declared.lists.TheConstants.{NUMBERS}
 use Rattle.embedding.proofs.Reached.{queue_none, queue_short, blank_flags, walking_starts, walking_more, walking_ends}
 use Rattle.embedding.proofs.reach.reached_from_first.Goals as goal
 
-pub reach-requires : goal.reach-requires
-reach-requires c =
-    queue_none _ _ refl refl (blank_flags 256)
+pub reach-requires-clause-queue : goal.reach-requires-clause-queue
+reach-requires-clause-queue c =
+    queue_none _ _ refl refl (blank_flags NUMBERS)
 
 pub loop-done-init : goal.loop-done-init
 loop-done-init c =
-    walking_starts c.args.lists.now (replicate 256 false) (replicate 256 0) c.reach.new.vertices.reached c.reach.new.vertices.queue c.reach.new.vertices.found (blank_flags 256)
+    walking_starts c.args.lists.now (replicate NUMBERS false) (replicate NUMBERS 0) c.reach.new.vertices.reached c.reach.new.vertices.queue c.reach.new.vertices.found (blank_flags NUMBERS)
     (record {
       queue_is = c.reach.ensures.queue;
       here = c.reach.ensures.reached;

@@ -2,7 +2,7 @@ use Rattle.std.proofs.Common.{ℕ, ◌+◌, ◌<◌, [], get_or}
 use Rattle.std.specs.List.{Any}
 use Rattle.embedding.specs.Pairs.{HasPair}
 use Rattle.embedding.proofs.Symmetry.{HasLists}
-use Rattle.embedding.proofs.breaks.breaks_asymmetric.Given as goal
+use Rattle.embedding.proofs.breaks.lacks_any_pair.Given as goal
 
 -- the pairs are those of the lists that the loop has passed
 abbrev pub invariant-loop-place : goal.invariant-loop-place

@@ -4,19 +4,18 @@ use Rattle.std.specs.List.{Any}
 use Rattle.embedding.specs.Pairs.{HasPair}
 use Rattle.embedding.proofs.EachList.{yes_is, no_is}
 use Rattle.embedding.proofs.Symmetry.{HasLists, lacks_breaks, lacks_none}
-use Rattle.embedding.proofs.breaks.breaks_asymmetric.Goals as goal
+use Rattle.embedding.proofs.breaks.lacks_any_pair.Goals as goal
 
 pub returns-then-lacks_pair : goal.returns-then-lacks_pair
 returns-then-lacks_pair c =
     let g = c.args.lists.now in
     let size : length g ≡ c.loop-place.place =
     omega (arith, c.count-place-end.ensures.count, c.loop-place-test.false, c.loop-place.auto.place-end) in
-    let small : length g < 256 = omega (arith, c.count-place-end.ensures.count) in
     let has : HasLists g (length g) c.loop-place.pairs.words =
     subst (λ (n : ℕ). HasLists g n c.loop-place.pairs.words) (sym size) c.loop-place.invariant in
     let lacks : Any (λ v. HasPair c.loop-place.pairs.words v (c.loop-place-2.place + 1) → ⊥) (get_or g c.loop-place-2.place []) =
     subst (λ (l : List ℕ). Any (λ v. HasPair c.loop-place.pairs.words v (c.loop-place-2.place + 1) → ⊥) l) c.at-in-loop-place-2.ensures.value (c.lacks_pair.ensures.0 c.if-lacks_pair.true) in
-    yes_is (lacks_breaks g c.loop-place.pairs.words c.loop-place-2.place c.count-place-end.ensures.each small (omega (arith, c.count-place-end-2.ensures.count)) has lacks)
+    yes_is (lacks_breaks g c.loop-place.pairs.words c.loop-place-2.place c.requires.range c.requires.few (omega (arith, c.count-place-end-2.ensures.count)) has lacks)
 
 pub loop-place-2-preserved : goal.loop-place-2-preserved
 loop-place-2-preserved c =
@@ -29,7 +28,6 @@ returns c =
     let g = c.args.lists.now in
     let size : length g ≡ c.loop-place.place =
     omega (arith, c.count-place-end.ensures.count, c.loop-place-test.false, c.loop-place.auto.place-end) in
-    let small : length g < 256 = omega (arith, c.count-place-end.ensures.count) in
     let has : HasLists g (length g) c.loop-place.pairs.words =
     subst (λ (n : ℕ). HasLists g n c.loop-place.pairs.words) (sym size) c.loop-place.invariant in
-    no_is (lacks_none g c.loop-place.pairs.words c.count-place-end.ensures.each small has (λ k below. c.loop-place-2.invariant k (omega (arith, c.count-place-end-2.ensures.count, c.loop-place-2-test.false))))
+    no_is (lacks_none g c.loop-place.pairs.words c.requires.range c.requires.few has (λ k below. c.loop-place-2.invariant k (omega (arith, c.count-place-end-2.ensures.count, c.loop-place-2-test.false))))
