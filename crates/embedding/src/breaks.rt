@@ -1,6 +1,7 @@
 //! Whether a record's lists break each of the first seven rules. No test allocates.
 
 ghost use Rattle.std.specs.Prelude.{◌≡◌, ℕ, ◌+◌, ◌<◌, ◌≤◌, ◌↔◌, ◌⊎◌, List, [], length, slice_index, IsTrue, MatchOption, All, Any, Contains};
+ghost use Rattle.embedding.specs.declared.lists.TheConstants.{NUMBERS};
 ghost use Rattle.embedding.specs.Lists.{list_of};
 ghost use Rattle.embedding.specs.Pairs.{HasPair};
 ghost use Rattle.embedding.specs.Rules.{Breaks, KeepsBefore, FirstBroken, NamesTwice, rule_number};

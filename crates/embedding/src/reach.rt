@@ -1,6 +1,7 @@
 //! Breadth-first search (Moore 1959): which vertices are reached from the first one.
 
 ghost use Rattle.std.specs.Prelude.{◌≡◌, ℕ, ◌+◌, ◌<◌, ◌≤◌, ◌↔◌, ◌⊎◌, Bool, List, [], length, slice_index, slice_index_or, IsTrue, All, Contains};
+ghost use Rattle.embedding.specs.declared.lists.TheConstants.{NUMBERS};
 ghost use Rattle.embedding.specs.Lists.{list_of};
 ghost use Rattle.embedding.specs.Rules.{Breaks};
 ghost use Rattle.embedding.specs.Reached.{IsQueue, IsReached, Holds};

@@ -10,6 +10,7 @@ mod drawing_check_polylines;
 mod embedding_graphs;
 #[cfg(test)]
 mod embedding_rules;
+mod embedding_wide;
 #[cfg(test)]
 mod faces_planes;
 #[cfg(test)]
