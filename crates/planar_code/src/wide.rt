@@ -116,6 +116,7 @@ impl WideRecord {
     pub fn into_entries(self) -> Vec<u16>
         ensures { result.items ≡ self }
     {
-        self.entries
+        let WideRecord { entries } = self;
+        entries
     }
 }
