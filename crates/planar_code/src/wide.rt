@@ -45,9 +45,10 @@ fn are_lists(entries: &[u16], count: u16) -> bool
         if remaining == 0 {
             return false;
         }
-        if entries[i] == 0 {
-            remaining -= 1;
+        if entries[i] != 0 {
+            continue;
         }
+        remaining -= 1;
     }
     remaining == 0
 }
