@@ -1,9 +1,10 @@
-use Rattle.std.proofs.Common.{arith}
+use Rattle.std.proofs.Common.{ℕ, List, subst, sym, arith}
+use Rattle.ortho_rep.specs.Tries.{AreBounds}
 use Rattle.ortho_rep.proofs.Tries.{moved_again, incumbent_moved, tried_moved, tried_moving, tried_next, no_bounds, best_of}
 use Rattle.ortho_rep.proofs.best.best_incumbent.Goals as goal
 
 pub bends_and_bounds-bends-requires-clause-bounds : goal.bends_and_bounds-bends-requires-clause-bounds
-bends_and_bounds-bends-requires-clause-bounds c = no_bounds _ 257 (omega (arith, c.face_count-faces.ensures.value, c.face_count-faces.ensures.few))
+bends_and_bounds-bends-requires-clause-bounds c = subst (λ (bounds : List ℕ). AreBounds c.args.plane.now bounds) (sym c.in_ok-bounds.ensures.items) (no_bounds _ _ (omega (arith, c.face_count-faces.ensures.value)))
 
 pub loop-face-preserved : goal.loop-face-preserved
 loop-face-preserved c =

@@ -8,6 +8,6 @@ invariant-loop-face l = record {
   outer_moved : l.plane ≡ with_outer l.fn.plane l.plane.outer;
   moving : IsMoving l.plane l.moving;
   incumbent : IsIncumbent l.plane l.incumbent;
-  bounds : AreBounds l.plane l.bounds;
+  bounds : AreBounds l.plane l.bounds.items;
   best : (f : ℕ) → f < l.face → IsNoBetter l.plane l.incumbent.bends l.incumbent.face f;
 }

@@ -1,8 +1,8 @@
 use Rattle.std.proofs.Common.{◌≡◌, ◌+◌, ◌-◌, ℕ, List, length, get_or, ap, ◌∙◌, sym, rules, arith}
-use Rattle.ortho_rep.proofs.representation.angles_sum_to_four.Goals as goal
+use Rattle.ortho_rep.proofs.representation.angles_sum_to_four_in.Goals as goal
 
 pub returns-then-sums-from-ne4 : goal.returns-then-sums-from-ne4
-returns-then-sums-from-ne4 c =
+returns-then-sums-from-ne4 g c =
     let vertex = c.from.result + 1 in
     let order = ap (length {A = List ℕ}) c.graph.ensures.value in (
       λ f. search rules,
@@ -10,7 +10,7 @@ returns-then-sums-from-ne4 c =
     )
 
 pub returns : goal.returns
-returns c =
+returns g c =
     let order = ap (length {A = List ℕ}) c.graph.ensures.value in (
       λ _ v from to.
           let back : v - 1 + 1 ≡ v = omega arith in

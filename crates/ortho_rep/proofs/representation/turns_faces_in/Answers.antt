@@ -1,10 +1,10 @@
 use Rattle.std.proofs.Common.{ℕ, cond, eqb, get_or, ap, ◌∙◌, sym, rules, arith, below_more}
 use Rattle.std.specs.Prelude.{pos, negsuc, ◌-ℤ◌}
 use Rattle.std.proofs.lemmas.Bool.{iff_false}
-use Rattle.ortho_rep.proofs.representation.turns_faces.Goals as goal
+use Rattle.ortho_rep.proofs.representation.turns_faces_in.Goals as goal
 
 pub returns-then-not-turns_once : goal.returns-then-not-turns_once
-returns-then-not-turns_once c =
+returns-then-not-turns_once g c =
     let face = c.loop-face.face in
     let outer = ap (λ (o : ℕ). cond (eqb face o) (negsuc 3) (pos 4)) c.outer.ensures.value in
     let place = ap (λ (k : ℕ). pos (get_or c.add_turns.new.left_sums k 0) -ℤ pos (get_or c.add_turns.new.right_sums k 0)) c.from-place.ensures in (
@@ -14,7 +14,7 @@ returns-then-not-turns_once c =
     )
 
 pub loop-face-preserved : goal.loop-face-preserved
-loop-face-preserved c =
+loop-face-preserved g c =
     let face = c.loop-face.face in
     let outer = ap (λ (o : ℕ). cond (eqb face o) (negsuc 3) (pos 4)) c.outer.ensures.value in
     let place = ap (λ (k : ℕ). pos (get_or c.add_turns.new.left_sums k 0) -ℤ pos (get_or c.add_turns.new.right_sums k 0)) c.from-place.ensures in
