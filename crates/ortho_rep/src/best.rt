@@ -9,6 +9,7 @@ ghost use Rattle.ortho_rep.specs.Prices.{IsProof};
 ghost use Rattle.ortho_rep.specs.Best.{HasRep, NeedsBends, IsBest};
 ghost use Rattle.ortho_rep.specs.Tries.{IsMoving, IsIncumbent, IsNoWorse, IsNoBetter, AreBounds, HasRoom};
 
+use crate::distances::raise_bounds;
 use crate::least::shape_in;
 use crate::prices::Prices;
 use crate::scratch::ShapeLists;
@@ -18,6 +19,9 @@ use faces::Plane;
 use flow_network::FaceNet;
 use min_cost_flow::{SolveFault, WarmStart};
 use std::alloc::{AllocError, Global};
+
+/// In a plane with no more faces, it is quicker to try a face than to measure distances from it.
+const FEW_FACES: u16 = 64;
 
 /// The best face so far, and how many bends are needed with it as the outer one.
 #[derive(Clone, Copy)]
@@ -140,6 +144,9 @@ fn best_incumbent(
     let bends = bends_and_bounds(plane, &moving, &mut bounds);
     let face = plane.outer();
     let mut incumbent = Incumbent { face, bends };
+    if faces > FEW_FACES {
+        raise_bounds(alloc, plane, &mut bounds)?;
+    }
     let mut moving = tour(plane, moving, &mut incumbent, &mut bounds, &mut walk);
     for face in 0..faces {
         moving = visit(plane, moving, &mut incumbent, &mut bounds, face);
