@@ -202,9 +202,9 @@ fn at_darts(plane: &Plane, far: &[u16], near: &[u16]) -> u64
     let graph = plane.graph();
     let mut sum = 0;
     for dart in 0..graph.darts() {
-        let far = far[usize::from(plane.face_of(dart))];
-        let near = near[usize::from(graph.head(dart))];
-        sum += u64::from(far) + u64::from(near);
+        let of_face = far[usize::from(plane.face_of(dart))];
+        let of_head = near[usize::from(graph.head(dart))];
+        sum += u64::from(of_face) + u64::from(of_head);
     }
     sum
 }
