@@ -1,6 +1,6 @@
 //! Segments whose least length is known by hand.
 use crate::made::{Drawn, segments_of, wires_of};
-use least_length::{Scratch, Wire, find_shortest};
+use least_length::{Scratch, Wire, find_shorter, find_shortest};
 use std::alloc::{AllocError, Global};
 use test_tools::same;
 
@@ -150,6 +150,43 @@ pub(crate) fn length_of(wires: &[Wire], coordinates: &[u16]) -> u32 {
         total = total.saturating_add(u32::from(from.abs_diff(to)));
     }
     total
+}
+
+/// Three segments on a line. The search goes over the first one, which moves to the second; over these two, which move to
+/// the third; and over all three.
+const LINE: Drawn<'static> = Drawn {
+    segments: &[(0, 3, 3), (5, 3, 3), (9, 3, 3)],
+    wires: &[(0, 1), (1, 2)],
+};
+
+/// The total length of the wires with the lesser coordinates that a search with this many looks finds, or `None` if it
+/// finds none; and how many looks are left.
+fn length_within(
+    alloc: Global,
+    drawn: Drawn<'_>,
+    looks: u64,
+) -> Result<(Option<u32>, u64), AllocError> {
+    let segments = segments_of(alloc, drawn.segments)?;
+    let wires = wires_of(alloc, &segments, drawn.wires)?;
+    let (mut scratch, mut coordinates) = (Scratch::empty(alloc), Vec::new(alloc));
+    let mut left = looks;
+    if !find_shorter(&mut scratch, &segments, &wires, &mut left, &mut coordinates)? {
+        return Ok((None, left));
+    }
+    Ok((Some(length_of(&wires, &coordinates)), left))
+}
+
+/// A search that takes six looks needs them all, and leaves those that it does not take.
+#[test]
+fn searches_take_their_looks(rt: HostRuntime) {
+    for (looks, wanted) in [
+        (0, (None, 0)),
+        (5, (None, 2)),
+        (6, (Some(2), 0)),
+        (100, (Some(2), 94)),
+    ] {
+        same!(&rt, length_within(rt.alloc(), LINE, looks), Ok(wanted));
+    }
 }
 
 /// The least lengths are those found by hand.

@@ -9,6 +9,10 @@ use crate::segments::{MAX_COORDINATE, Segment, Segments};
 use least_length::{Wire, find_shorter};
 use std::alloc::{AllocError, Global};
 
+/// How many segments the searches for one drawing may go over in all, each counted each time. Only drawings with many
+/// segments round one another need more.
+const MAX_LOOKS: u64 = 1_000_000;
+
 /// The buffers of a shortening.
 #[derive(Drop)]
 pub(crate) struct Shortening {
@@ -19,6 +23,8 @@ pub(crate) struct Shortening {
     places: Vec<u16>,
     /// The coordinates found, in that order.
     coordinates: Vec<u16>,
+    /// How many more segments the searches for this drawing may go over.
+    looks: u64,
     search: least_length::Scratch,
 }
 
@@ -32,12 +38,19 @@ impl Shortening {
             wires: Vec::new(alloc),
             places: Vec::new(alloc),
             coordinates: Vec::new(alloc),
+            looks: 0,
             search: least_length::Scratch::empty(alloc),
         }
     }
 
+    /// Lets the searches for a drawing go over `MAX_LOOKS` segments in all.
+    pub(crate) fn begin(&mut self) {
+        self.looks = MAX_LOOKS;
+    }
+
     /// Gives segments coordinates with which those of the other axis, `other`, are shortest in all, while the
-    /// segments on each level keep their order; returns whether they are shorter then. If not, no coordinate changes.
+    /// segments on each level keep their order; returns whether they are shorter then. If not, or if the searches for
+    /// this drawing have no looks left, no coordinate changes.
     pub(crate) fn shorten(
         &mut self,
         along: &mut Segments,
@@ -52,7 +65,13 @@ impl Shortening {
         self.list_wires(other.segments.as_slice())?;
         let segments = self.segments.as_slice();
         let wires = self.wires.as_slice();
-        if !find_shorter(&mut self.search, segments, wires, &mut self.coordinates)? {
+        if !find_shorter(
+            &mut self.search,
+            segments,
+            wires,
+            &mut self.looks,
+            &mut self.coordinates,
+        )? {
             return Ok(false);
         }
         // The search does not say how great coordinates are.
