@@ -45,11 +45,12 @@ impl Incumbent {
 /// Makes the best face the outer face; returns a least shape, with prices that prove it.
 ///
 /// The best face minimises bends, and has the least number among equals. Each face is tried, except those for which the
-/// potentials of an earlier one prove that they are no better.
+/// potentials of an earlier one, or in a large plane the distances from it, prove that they are no better.
 ///
 /// # Errors
 ///
-/// `AllocError` if there is no memory for a network, its flow, the shape or the prices. The plane is then unchanged.
+/// `AllocError` if there is no memory for a network, its flow, the bounds of faces, the shape or the prices. The plane is
+/// then unchanged.
 pub fn best_shape(alloc: Global, plane: &mut Plane) -> Result<(Shape, Prices), AllocError>
     ensures outer_moved { OnOk result (plane.new ≡ with_outer plane.old plane.new.outer) }
     ensures best { OnOk result (IsBest plane.new) }
