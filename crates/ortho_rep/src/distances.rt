@@ -83,12 +83,30 @@ impl Distances {
     {
         measure_faces(plane, dart, &mut self.of_faces, &mut self.queue);
         measure_vertices(plane, &self.of_faces, &mut self.of_vertices);
-        let outer = usize::from(plane.face_of(dart));
-        if self.of_faces[outer] != 0 || !are_smooth(plane, &self.of_faces) {
-            return 0;
-        }
-        excess(plane, &self.of_faces, &self.of_vertices)
+        needed(plane, dart, &self.of_faces, &self.of_vertices)
     }
+}
+
+/// How many bends distances from the face of a dart show to be needed with it as the outer one; 0 if they are no such
+/// distances.
+fn needed(plane: &Plane, dart: u16, far: &[u16], near: &[u16]) -> u64
+    requires dart { dart < darts plane.now }
+    requires far { plane.now.faces ≤ length far.now }
+    requires near { vertices plane.now < length near.now }
+    requires none { slice_index near.now 0 ≡ 0 }
+    requires nearest { AreNear plane.now far.now near.now }
+    ensures { NeedsBends (with_outer plane.now (face_at plane.now dart)) result }
+{
+    // Only the proof needs this: `graph` says what ends darts have.
+    let _graph = plane.graph();
+    let outer = usize::from(plane.face_of(dart));
+    if far[outer] > 0 {
+        return 0;
+    }
+    if !are_smooth(plane, far) {
+        return 0;
+    }
+    excess(plane, far, near)
 }
 
 /// Gives each face its distance from that of a dart, by a breadth-first search (Moore 1959).
