@@ -1,11 +1,13 @@
 -- Lists that are written one after another, each ended by a 0.
 use Rattle.std.proofs.Common.{◌≡◌, ℕ, zero, suc, ◌+◌, ◌-◌, ◌*◌, ◌<◌, ◌≤◌, List, [], ◌∷◌, ◌++◌, length, get_or, take, drop, refl, sym, ap, ◌∙◌, arith}
-use Rattle.std.specs.List.{flat_map, slice_range}
+use Rattle.std.specs.List.{flat_map, slice_range, All}
 use Rattle.std.proofs.lemmas.List.{length-append, append_assoc, take_at, drop_at, get_or_append_left, get_or_at, drop-drop}
 use Rattle.std.proofs.lemmas.List.Concat.{get_or-flat_map}
-use Rattle.planar_code.specs.Stream.{ended, before_first, lists_in}
+use Rattle.planar_code.specs.declared.TheConstants.{MAX_ENTRIES}
+use Rattle.planar_code.specs.Stream.{IsList, ended, before_first, lists_in, lists_of}
+use Rattle.common.specs.declared.limits.TheConstants.{MAX_VERTICES}
 use Rattle.embedding.specs.Darts.{heads, first_dart}
-use Rattle.embedding.specs.Split.{start_of}
+use Rattle.embedding.specs.Split.{AreStarts, HoldsLists, start_of}
 
 pub length-ended : (l : List ℕ) → length (ended l) ≡ length l + 1
 length-ended l = length-append l (0 ∷ [])
@@ -100,3 +102,32 @@ first_dart-start [] (suc k) below = absurd (omega arith)
 first_dart-start (l ∷ ls) zero below = refl
 first_dart-start (l ∷ ls) (suc k) below =
     omega (arith, length-append (ended l) (flat_map ended (take k ls)), length-append l (heads (take k ls)), length-ended l, first_dart-start ls k (omega arith))
+
+-- lists of at most 254 entries are written in few
+pub written_few : (g : List (List ℕ)) → All IsList g → length (flat_map ended g) ≤ 255 * length g
+written_few [] each = omega arith
+written_few (l ∷ ls) each =
+    omega (arith, length-append (ended l) (flat_map ended ls), length-ended l, (each 0 [] (omega arith)).short, written_few ls (λ k d b. each (suc k) d (omega arith)))
+
+-- the lists of a record are those of its entries after the first
+pub lists_of-rest : (entries : List ℕ) → lists_of entries ≡ lists_in (drop 1 entries)
+lists_of-rest [] = refl
+lists_of-rest (order ∷ rest) = refl
+
+-- what is known of a record's entries after the first, once it is known where its lists begin
+pub written : (entries rest starts : List ℕ) (g : List (List ℕ)) (count : ℕ) → rest ≡ drop 1 entries → lists_of entries ≡ g → entries ≡ length g ∷ flat_map ended g → length rest < MAX_ENTRIES → count ≡ length g → 0 < count → count ≤ MAX_VERTICES → length g < length starts → AreStarts (lists_in rest) starts
+    → (lists_in rest ≡ g) × HoldsLists rest starts count
+written entries rest starts g count is same spelt short counted some few room begins =
+    let lists : lists_in rest ≡ g = ap lists_in is ∙ sym (lists_of-rest entries) ∙ same in
+    let written_is : rest ≡ flat_map ended g = is ∙ ap (drop 1) spelt in (
+      lists,
+      record {
+        spelt = written_is ∙ ap (flat_map ended) (sym lists);
+        short = short;
+        size = ap length lists ∙ sym counted;
+        some = some;
+        few = few;
+        room = omega arith;
+        starts_are = begins;
+      },
+    )

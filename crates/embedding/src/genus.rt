@@ -13,7 +13,7 @@ use crate::rules::Rule;
 use crate::tables::write_rotation;
 use crate::writing::{
     FEW_ENTRIES, FEW_STARTS, RECORD_ENTRIES, RECORD_STARTS, SOME_ENTRIES, WIDE_STARTS, find_starts,
-    write_lists,
+    size_of, write_lists,
 };
 use planar_code::{Record, WideRecord};
 
@@ -61,9 +61,9 @@ fn broken_within<const ENTRIES: usize, const STARTS: usize>(rec: &Record) -> Opt
 {
     let mut room = [0u16; ENTRIES];
     let mut starts = [0u16; STARTS];
-    let entries = &mut room[..rec.bytes().len() - 1];
-    write_lists(rec, entries, &mut starts);
-    let lists = Lists::new(entries, &starts, u16::from(rec.order()));
+    let entries = &mut room[..size_of(rec)];
+    let count = write_lists(rec, entries, &mut starts);
+    let lists = Lists::new(entries, &starts, count);
     broken_by_lists(&lists)
 }
 
@@ -75,7 +75,7 @@ pub fn broken_rule(rec: &Record) -> Option<Rule>
     ensures { MatchOption result (KeepsBefore (lists_of rec.now) 9)
         (λ rule. FirstBroken (lists_of rec.now) rule) }
 {
-    let size = rec.bytes().len() - 1;
+    let size = size_of(rec);
     if size <= FEW_ENTRIES && usize::from(rec.order()) < FEW_STARTS {
         broken_within::<FEW_ENTRIES, FEW_STARTS>(rec)
     } else if size <= SOME_ENTRIES {

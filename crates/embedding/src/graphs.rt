@@ -18,7 +18,7 @@ use crate::scratch::Scratch;
 use crate::tables::darts_in;
 use crate::writing::{
     FEW_ENTRIES, FEW_STARTS, RECORD_ENTRIES, RECORD_STARTS, SOME_ENTRIES, WIDE_STARTS, find_starts,
-    write_lists,
+    size_of, write_lists,
 };
 use common::MAX_VERTICES;
 use planar_code::{Record, WideRecord};
@@ -89,7 +89,7 @@ impl Graph {
         ensures rules { OnOk result (KeepsBefore (lists_of rec.now) 8) }
         ensures fault { IfErr result (IsReadFault (lists_of rec.now)) }
     {
-        let size = rec.bytes().len() - 1;
+        let size = size_of(rec);
         if size <= FEW_ENTRIES && usize::from(rec.order()) < FEW_STARTS {
             Graph::read_within::<FEW_ENTRIES, FEW_STARTS>(alloc, scratch, rec)
         } else if size <= SOME_ENTRIES {
@@ -115,9 +115,9 @@ impl Graph {
     {
         let mut room = [0u16; ENTRIES];
         let mut starts = [0u16; STARTS];
-        let entries = &mut room[..rec.bytes().len() - 1];
-        write_lists(rec, entries, &mut starts);
-        let lists = Lists::new(entries, &starts, u16::from(rec.order()));
+        let entries = &mut room[..size_of(rec)];
+        let count = write_lists(rec, entries, &mut starts);
+        let lists = Lists::new(entries, &starts, count);
         Graph::read_lists(alloc, scratch, &lists)
     }
 

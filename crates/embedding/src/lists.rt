@@ -111,7 +111,8 @@ impl<'a> Lists<'a> {
 
     /// The list of a vertex, empty where no vertex has that number.
     pub(crate) fn of_vertex(&self, vertex: u16) -> &'a [u16]
-        ensures { result.now ≡ list_of self.now vertex }
+        ensures value { result.now ≡ list_of self.now vertex }
+        ensures few { length self.now ≤ MAX_VERTICES }
     {
         if vertex == 0 || vertex > self.count() {
             &[]

@@ -27,6 +27,14 @@ pub(crate) const RECORD_STARTS: usize = 256;
 /// Room for where each list of any wide record begins, and where the last one ends.
 pub(crate) const WIDE_STARTS: usize = MAX_VERTICES + 1;
 
+/// How many entries the lists of a record are written in, with the 0 that ends each.
+pub(crate) fn size_of(rec: &Record) -> usize
+    ensures size { result + 1 ≡ length rec.now }
+    ensures few { result ≤ RECORD_ENTRIES }
+{
+    rec.bytes().len() - 1
+}
+
 /// Copies bytes as numbers of 16 bits.
 fn widen(bytes: &[u8], entries: &mut [u16])
     requires { length entries.old ≡ length bytes.now }
@@ -54,13 +62,15 @@ pub(crate) fn find_starts(entries: &[u16], starts: &mut [u16])
     }
 }
 
-/// Writes the entries of a record's lists, and where each list begins.
-pub(crate) fn write_lists(rec: &Record, entries: &mut [u16], starts: &mut [u16])
-    requires size { length rec.now ≡ length entries.old + 1 }
+/// Writes the entries of a record's lists, and where each list begins; returns how many lists there are.
+pub(crate) fn write_lists(rec: &Record, entries: &mut [u16], starts: &mut [u16]) -> u16
+    requires size { length entries.old + 1 ≡ length rec.now }
+    requires short { length entries.old < MAX_ENTRIES }
     requires room { length (lists_of rec.now) < length starts.old }
-    ensures holds { HoldsLists entries.new starts.new (length (lists_of rec.now)) }
+    ensures holds { HoldsLists entries.new starts.new result }
     ensures lists { lists_in entries.new ≡ lists_of rec.now }
 {
     widen(&rec.bytes()[1..], entries);
     find_starts(entries, starts);
+    u16::from(rec.order())
 }

@@ -1,10 +1,21 @@
 use Rattle.std.proofs.Common.{◌≡◌, ℕ, ◌+◌, ◌<◌, List, [], length, get_or, sym, subst, below_more, arith}
 use Rattle.std.proofs.lemmas.Bool.{iff_false}
-use Rattle.std.specs.List.{Any}
+use Rattle.std.specs.List.{All, Any}
 use Rattle.embedding.specs.Pairs.{HasPair}
+use Rattle.embedding.proofs.Ranges.{all_at_in_range}
 use Rattle.embedding.proofs.EachList.{yes_is, no_is}
 use Rattle.embedding.proofs.Symmetry.{HasLists, lacks_breaks, lacks_none}
 use Rattle.embedding.proofs.breaks.lacks_any_pair.Goals as goal
+
+pub add_pairs-requires-clause-small : goal.add_pairs-requires-clause-small
+add_pairs-requires-clause-small c =
+    subst (λ (l : List ℕ). All (λ v. v < 256) l) (sym c.at.ensures.value)
+    (all_at_in_range c.args.lists.now c.requires.range 256 c.loop-place.place c.requires.few)
+
+pub lacks_pair-requires-clause-small : goal.lacks_pair-requires-clause-small
+lacks_pair-requires-clause-small c =
+    subst (λ (l : List ℕ). All (λ v. v < 256) l) (sym c.at-in-loop-place-2.ensures.value)
+    (all_at_in_range c.args.lists.now c.requires.range 256 c.loop-place-2.place c.requires.few)
 
 pub returns-then-lacks_pair : goal.returns-then-lacks_pair
 returns-then-lacks_pair c =

@@ -1,11 +1,18 @@
-use Rattle.std.proofs.Common.{replicate, false, refl, arith}
+use Rattle.std.proofs.Common.{ℕ, ◌<◌, List, get_or, replicate, false, refl, sym, subst, arith}
+use Rattle.std.specs.List.{All}
 use Rattle.embedding.specs.declared.lists.TheConstants.{NUMBERS}
+use Rattle.embedding.proofs.Ranges.{all_in_range}
 use Rattle.embedding.proofs.Reached.{queue_none, queue_short, blank_flags, walking_starts, walking_more, walking_ends}
 use Rattle.embedding.proofs.reach.reached_from_first.Goals as goal
 
 pub reach-requires-clause-queue : goal.reach-requires-clause-queue
 reach-requires-clause-queue c =
     queue_none _ _ refl refl (blank_flags NUMBERS)
+
+pub reach_all-requires-clause-small : goal.reach_all-requires-clause-small
+reach_all-requires-clause-small c =
+    subst (λ (l : List ℕ). All (λ v. v < NUMBERS) l) (sym c.of_vertex.ensures.value)
+    (all_in_range c.args.lists.now c.requires NUMBERS (get_or c.loop-done.vertices.queue c.loop-done.done 0) (omega (arith, c.of_vertex.ensures.few)))
 
 pub loop-done-init : goal.loop-done-init
 loop-done-init c =
@@ -36,7 +43,7 @@ loop-done-smaller c =
 
 pub loop-done-preserved : goal.loop-done-preserved
 loop-done-preserved c =
-    walking_more c.of_vertex.result.now c.reach_all.new.vertices.reached c.reach_all.new.vertices.queue c.reach_all.new.vertices.found c.loop-done-test.true c.of_vertex.ensures c.loop-done.invariant
+    walking_more c.of_vertex.result.now c.reach_all.new.vertices.reached c.reach_all.new.vertices.queue c.reach_all.new.vertices.found c.loop-done-test.true c.of_vertex.ensures.value c.loop-done.invariant
     (record {
       queue_is = c.reach_all.ensures.queue;
       listed = c.reach_all.ensures.reached;
