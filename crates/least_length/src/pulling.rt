@@ -1,7 +1,7 @@
 //! The primal-dual method (Ahuja, Magnanti and Orlin, Network Flows, 1993, section 9.8): wires pull segments until all
 //! are in balance.
 
-ghost use Rattle.std.specs.Prelude.{◌≡◌, ◌<◌, ◌≤◌, ◌+◌, ℕ, [], length, true, vec_len, slice_index, IfOk, IfSome, OnOk};
+ghost use Rattle.std.specs.Prelude.{◌≡◌, ◌<◌, ◌≤◌, ◌+◌, ℕ, [], length, true, false, vec_len, slice_index, IfOk, IfSome, OnOk};
 ghost use Rattle.least_length.specs.declared.segments.TheConstants.{MAX_SEGMENTS, MAX_SIGHTS, MAX_WIRES};
 ghost use Rattle.least_length.specs.Lengths.{segment_at, wire_at};
 ghost use Rattle.least_length.specs.Weights.{HasEnds};
@@ -405,12 +405,14 @@ impl Pulling {
     }
 }
 
-/// Takes this many looks from those that are left; false if there are fewer.
+/// Takes this many looks from those that are left; false if there are fewer, and then none is left.
 fn spend(looks: &mut u64, count: usize) -> bool
     ensures left { result ≡ true → looks.old ≡ looks.new + count }
+    ensures none { result ≡ false → looks.new ≡ 0 }
     ensures fewer { looks.new ≤ looks.old }
 {
     let Some(left) = looks.checked_sub(count as u64) else {
+        *looks = 0;
         return false;
     };
     *looks = left;

@@ -6,7 +6,7 @@ ghost use Rattle.visibility.specs.Axes.{AreFew, AreListed, HaveEnds, KeepEnds};
 ghost use Rattle.visibility.specs.Crossing.{AreCrossed};
 
 use crate::segments::{MAX_COORDINATE, Segment, Segments};
-use least_length::{Wire, find_shorter};
+use least_length::{Wire, find_shorter, take_shorter};
 use std::alloc::{AllocError, Global};
 
 /// How many segments the searches for one drawing may go over in all, each counted each time. Only drawings with many
@@ -49,8 +49,8 @@ impl Shortening {
     }
 
     /// Gives segments coordinates with which those of the other axis, `other`, are shortest in all, while the
-    /// segments on each level keep their order; returns whether they are shorter then. If not, or if the searches for
-    /// this drawing have no looks left, no coordinate changes.
+    /// segments on each level keep their order; returns whether they are shorter then. If not, no coordinate changes. If
+    /// the searches for this drawing have no looks left, they may be shorter, and yet not shortest.
     pub(crate) fn shorten(
         &mut self,
         along: &mut Segments,
@@ -65,7 +65,7 @@ impl Shortening {
         self.list_wires(other.segments.as_slice())?;
         let segments = self.segments.as_slice();
         let wires = self.wires.as_slice();
-        if !find_shorter(
+        if !find(
             &mut self.search,
             segments,
             wires,
@@ -144,6 +144,25 @@ impl Shortening {
         }
         Ok(())
     }
+}
+
+/// Finds coordinates with which the wires are shortest, or shorter if the search has no looks left; false if there are none.
+fn find(
+    search: &mut least_length::Scratch,
+    segments: &[least_length::Segment],
+    wires: &[Wire],
+    looks: &mut u64,
+    coordinates: &mut Vec<u16>,
+) -> Result<bool, AllocError>
+    ensures { IfOk result (λ found. found ≡ true → length coordinates.new.items ≡ length segments.now) }
+{
+    if find_shorter(search, segments, wires, looks, coordinates)? {
+        return Ok(true);
+    }
+    if *looks > 0 {
+        return Ok(false);
+    }
+    take_shorter(search, segments, wires, coordinates)
 }
 
 /// Gives segments the coordinates found.
