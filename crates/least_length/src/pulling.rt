@@ -305,13 +305,7 @@ impl Pulling {
         for place in 0..self.reached.len() {
             let segment = self.reached[place];
             let slack = self.slack_of(segment);
-            if slack < least {
-                least = slack;
-                self.unlooked.clear();
-            }
-            if slack == least {
-                self.unlooked.push(segment)?;
-            }
+            least = note_least(&mut self.unlooked, segment, slack, least)?;
         }
         Ok(least)
     }
@@ -403,6 +397,28 @@ impl Pulling {
         }
         Ok(true)
     }
+}
+
+/// Lists a segment that can move so far, if those listed can move no less: besides them, or in their place if they can move
+/// further. Returns how far those listed can move.
+fn note_least(
+    listed: &mut Vec<u16>,
+    segment: u16,
+    slack: u32,
+    least: u32,
+) -> Result<u32, AllocError>
+    ensures { OnOk result ((count : ℕ) → segment < count → AreSegments count listed.old.items → AreSegments count listed.new.items) }
+{
+    if slack > least {
+        return Ok(least);
+    }
+    if slack < least {
+        listed.clear();
+        listed.push(segment)?;
+        return Ok(slack);
+    }
+    listed.push(segment)?;
+    Ok(least)
 }
 
 /// Takes this many looks from those that are left; false if there are fewer, and then none is left.
