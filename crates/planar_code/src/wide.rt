@@ -45,9 +45,10 @@ fn are_lists(entries: &[u16], count: u16) -> bool
         if remaining == 0 {
             return false;
         }
-        if entries[i] == 0 {
-            remaining -= 1;
+        if entries[i] != 0 {
+            continue;
         }
+        remaining -= 1;
     }
     remaining == 0
 }
@@ -116,6 +117,7 @@ impl WideRecord {
     pub fn into_entries(self) -> Vec<u16>
         ensures { result.items ≡ self }
     {
-        self.entries
+        let WideRecord { entries } = self;
+        entries
     }
 }

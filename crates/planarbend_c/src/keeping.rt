@@ -1,7 +1,7 @@
 //! What is found of a record whose layout keeps conditions.
 
 ghost use Rattle.std.specs.Prelude.{◌≡◌, ℕ, List, OnOk, IfOk, IfErr, is_some};
-ghost use Rattle.planar_code.specs.Stream.{IsRecord};
+ghost use Rattle.planar_code.specs.Stream.{IsRecord, lists_of};
 ghost use Rattle.common.specs.declared.choice.Choice.{Choice};
 ghost use Rattle.conditions.specs.declared.conditions.Conditions.{Conditions};
 ghost use Rattle.conditions.specs.Chosen.{IsKept};
@@ -12,12 +12,13 @@ ghost use Rattle.answers.specs.Kept.{IsKeptPlane, IsUnkept};
 ghost use Rattle.planarbend_c.specs.declared.outcome.Outcome.{Outcome};
 ghost use Rattle.planarbend_c.specs.Cuts.{cut_contents};
 ghost use Rattle.planarbend_c.specs.Left.{AreAsLong};
-ghost use Rattle.planarbend_c.specs.Found.{AreKeptStraightIfAsked, AreStraightIfAsked, IsAsAsked, IsDrawnIfAsked, IsFoundKeeping, IsQuickIfAsked, finding, finding_of};
-ghost use Rattle.planarbend_c.specs.Faults.{IsKeepingFault};
+ghost use Rattle.planarbend_c.specs.Found.{AreKeptStraightIfAsked, AreStraightIfAsked, IsAsAsked, IsDrawnIfAsked, IsFoundKeeping, IsNamedFinding, IsQuickIfAsked, finding, finding_of};
+ghost use Rattle.planarbend_c.specs.Faults.{IsKeepingFault, IsKeepingFaultOf};
 
 use crate::cut::{CutLists, put_cut};
 use crate::laid::Layout;
 use crate::layout::parsed;
+use crate::named::{NamedConditions, ends_of};
 use crate::outcome::Outcome;
 use crate::request::shape_kind;
 use answers::{KeptPlane, RecordScratch};
@@ -37,13 +38,13 @@ pub(crate) fn lay_out_keeping(
     bytes: &[u8],
     choice: Choice,
     kind: Option<DrawingKind>,
-    conditions: &Conditions<'_>,
+    named: &NamedConditions<'_>,
     cut: &mut CutLists<'_>,
 ) -> Result<Layout, Outcome>
-    ensures found { IfOk result (λ layout. IsFoundKeeping conditions.now choice bytes.now (finding_of layout)) }
+    ensures found { IfOk result (λ layout. IsNamedFinding named.now choice (lists_of bytes.now) (finding_of layout)) }
     ensures asked { IfOk result (λ layout. IsAsAsked kind (finding_of layout)) }
     ensures is_record { IfOk result (λ _. IsRecord bytes.now) }
-    ensures fault { IfErr result (IsKeepingFault conditions.now choice bytes.now (cut_contents cut.new)) }
+    ensures fault { IfErr result (IsKeepingFaultOf named.now choice bytes.now (cut_contents cut.new)) }
     ensures laid { OnOk result (cut_contents cut.new ≡ cut_contents cut.old) }
     ensures uncut { IfErr result (λ fault. ¬ (fault ≡ Outcome.NoShape) → cut_contents cut.new ≡ cut_contents cut.old) }
     ensures long { AreAsLong (cut_contents cut.old) (cut_contents cut.new) }
@@ -52,7 +53,17 @@ pub(crate) fn lay_out_keeping(
         Ok(rec) => rec,
         Err(outcome) => return Err(outcome),
     };
-    laid_keeping(alloc, &rec, choice, kind, conditions, cut)
+    let Ok(straight) = ends_of(alloc, named.straight) else {
+        return Err(Outcome::Memory);
+    };
+    let Ok(inner) = ends_of(alloc, named.inner) else {
+        return Err(Outcome::Memory);
+    };
+    let conditions = Conditions {
+        straight: straight.as_slice(),
+        inner: inner.as_slice(),
+    };
+    laid_keeping(alloc, &rec, choice, kind, &conditions, cut)
 }
 
 /// The layout that keeps conditions of a record, with this drawing or none.
@@ -64,10 +75,9 @@ fn laid_keeping(
     conditions: &Conditions<'_>,
     cut: &mut CutLists<'_>,
 ) -> Result<Layout, Outcome>
-    requires { IsRecord rec.now }
-    ensures found { IfOk result (λ layout. IsFoundKeeping conditions.now choice rec.now (finding_of layout)) }
+    ensures found { IfOk result (λ layout. IsFoundKeeping conditions.now choice (lists_of rec.now) (finding_of layout)) }
     ensures asked { IfOk result (λ layout. IsAsAsked kind (finding_of layout)) }
-    ensures fault { IfErr result (IsKeepingFault conditions.now choice rec.now (cut_contents cut.new)) }
+    ensures fault { IfErr result (IsKeepingFault conditions.now choice (lists_of rec.now) (cut_contents cut.new)) }
     ensures laid { OnOk result (cut_contents cut.new ≡ cut_contents cut.old) }
     ensures uncut { IfErr result (λ fault. ¬ (fault ≡ Outcome.NoShape) → cut_contents cut.new ≡ cut_contents cut.old) }
     ensures long { AreAsLong (cut_contents cut.old) (cut_contents cut.new) }
@@ -110,8 +120,8 @@ fn laid_kept(kept: KeptPlane, drawing: Option<Points>) -> Layout
 /// The outcome of a call if the plane of a record has no shape that keeps the conditions for this reason. If none keeps
 /// the edges straight, the cut is written.
 fn unkept(fault: KeepFault, cut: &mut CutLists<'_>) -> Outcome
-    ensures told { (conditions : Conditions) (choice : Choice) (bytes : List ℕ) → IsRecord bytes
-        → IsUnkept conditions choice bytes fault → IsKeepingFault conditions choice bytes (cut_contents cut.new) result }
+    ensures told { (conditions : Conditions) (choice : Choice) (g : List (List ℕ))
+        → IsUnkept conditions choice g fault → IsKeepingFault conditions choice g (cut_contents cut.new) result }
     ensures uncut { ¬ (result ≡ Outcome.NoShape) → cut_contents cut.new ≡ cut_contents cut.old }
     ensures long { AreAsLong (cut_contents cut.old) (cut_contents cut.new) }
 {

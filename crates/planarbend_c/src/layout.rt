@@ -2,10 +2,10 @@
 
 ghost use Rattle.std.specs.Prelude.{◌≡◌, IfOk, IfErr, is_some};
 ghost use Rattle.answers.specs.Steps.{IsPlaneOf};
-ghost use Rattle.planar_code.specs.Stream.{IsRecord};
+ghost use Rattle.planar_code.specs.Stream.{IsRecord, lists_of};
 ghost use Rattle.planarbend_c.specs.Requests.{shape_kind};
 ghost use Rattle.planarbend_c.specs.Found.{IsAsAsked, IsDrawnIfAsked, IsFound, IsQuickIfAsked, finding, finding_of};
-ghost use Rattle.planarbend_c.specs.Faults.{IsFault};
+ghost use Rattle.planarbend_c.specs.Faults.{IsFault, IsFaultOf, IsUnparsed};
 
 use crate::laid::Layout;
 use crate::outcome::Outcome;
@@ -24,10 +24,10 @@ pub(crate) fn lay_out(
     choice: Choice,
     kind: Option<DrawingKind>,
 ) -> Result<Layout, Outcome>
-    ensures found { IfOk result (λ layout. IsFound choice bytes.now (finding_of layout)) }
+    ensures found { IfOk result (λ layout. IsFound choice (lists_of bytes.now) (finding_of layout)) }
     ensures asked { IfOk result (λ layout. IsAsAsked kind (finding_of layout)) }
     ensures is_record { IfOk result (λ _. IsRecord bytes.now) }
-    ensures fault { IfErr result (IsFault bytes.now) }
+    ensures fault { IfErr result (IsFaultOf IsFault bytes.now) }
 {
     let rec = parsed(alloc, bytes)?;
     let mut scratch = RecordScratch::empty(alloc);
@@ -42,9 +42,9 @@ fn laid_record(
     choice: Choice,
     kind: Option<DrawingKind>,
 ) -> Result<Layout, Outcome>
-    ensures found { IfOk result (λ layout. IsFound choice rec.now (finding_of layout)) }
+    ensures found { IfOk result (λ layout. IsFound choice (lists_of rec.now) (finding_of layout)) }
     ensures asked { IfOk result (λ layout. IsAsAsked kind (finding_of layout)) }
-    ensures fault { IfErr result (IsFault rec.now) }
+    ensures fault { IfErr result (IsFault (lists_of rec.now)) }
 {
     let shaped_plane = shaped(alloc, scratch, rec, choice, kind)?;
     let drawing = drawn(alloc, scratch, &shaped_plane, kind)?;
@@ -75,7 +75,7 @@ fn laid_shape(shaped_plane: ShapedPlane, drawing: Option<Points>) -> Layout
 pub(crate) fn parsed(alloc: Global, bytes: &[u8]) -> Result<Record, Outcome>
     ensures same { IfOk result (λ rec. rec ≡ bytes.now) }
     ensures is_record { IfOk result (λ _. IsRecord bytes.now) }
-    ensures fault { IfErr result (IsFault bytes.now) }
+    ensures fault { IfErr result (IsUnparsed bytes.now) }
 {
     match Record::parse(alloc, bytes) {
         Ok(rec) => Ok(rec),
@@ -92,12 +92,10 @@ fn shaped(
     choice: Choice,
     kind: Option<DrawingKind>,
 ) -> Result<ShapedPlane, Outcome>
-    ensures plane { IfOk result (λ shaped_plane. IsPlaneOf choice rec.now shaped_plane.plane) }
+    ensures plane { IfOk result (λ shaped_plane. IsPlaneOf choice (lists_of rec.now) shaped_plane.plane) }
     ensures kind { IfOk result (λ shaped_plane. shaped_plane.drawing_kind ≡ shape_kind kind) }
-    ensures fault { IfErr result (IsFault rec.now) }
+    ensures fault { IfErr result (IsFault (lists_of rec.now)) }
 {
-    // Only the proof needs this: `bytes` says that the record is one.
-    let _bytes = rec.bytes();
     match scratch.shape(alloc, rec, choice, shape_kind(kind)) {
         Ok(shaped_plane) => Ok(shaped_plane),
         Err(ReadFault::Rule(rule)) => Err(Outcome::Refused(rule)),

@@ -9,6 +9,7 @@ mod keeping;
 mod laid;
 mod layout;
 mod lists;
+mod named;
 mod outcome;
 mod points;
 mod request;

@@ -3,8 +3,8 @@
 ghost use Rattle.std.specs.Prelude.{◌≡◌};
 ghost use Rattle.planarbend_c.specs.Requests.{choice_in, drawing_in, shape_kind};
 
+use crate::named::NamedConditions;
 use common::{Choice, DrawingKind};
-use conditions::Conditions;
 
 /// The options of a call: numbers of an outer face and of a kind of drawing, and the conditions to keep.
 #[repr(C)]
@@ -12,7 +12,7 @@ use conditions::Conditions;
 pub struct Request<'a> {
     pub outer: u32,
     pub drawing: u32,
-    pub conditions: Conditions<'a>,
+    pub conditions: NamedConditions<'a>,
 }
 
 /// The outer face with this number: 0 the face with the most darts, 1 the one that minimises bends.

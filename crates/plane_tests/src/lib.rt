@@ -22,6 +22,8 @@ mod planar_code_framing;
 #[cfg(test)]
 mod planar_code_parsing;
 #[cfg(test)]
+mod planar_code_wide;
+#[cfg(test)]
 mod region_laws_regions;
 #[cfg(test)]
 mod streams_frames;

@@ -1,4 +1,4 @@
-use Rattle.planar_code.proofs.Wide.{wide_fault-same, wide_fault-none}
+use Rattle.planar_code.proofs.WideRecords.{wide_fault-same, wide_fault-none}
 use Rattle.planar_code.proofs.laws.one_wide_fault.Goals as goal
 
 pub returns-clause-one : goal.returns-clause-one

@@ -1,6 +1,6 @@
 use Rattle.std.proofs.Common.{◌∙◌, inl, inr, sym}
 use Rattle.planarbend_c.specs.Held.{contents}
-use Rattle.planarbend_c.specs.Found.{IsFoundKeeping, finding_of}
+use Rattle.planarbend_c.specs.Found.{IsNamedFinding, finding_of}
 use Rattle.planarbend_c.specs.Cuts.{cut_contents}
 use Rattle.planarbend_c.specs.Outcomes.{IsUnlaid}
 use Rattle.planarbend_c.proofs.Told.{answer_of, not_drawn, told, unlaid_told}
@@ -13,15 +13,15 @@ pub returns-in_default-drawing_of-clause-outcome : goal.returns-in_default-drawi
 returns-in_default-drawing_of-clause-outcome c = inr (sym c.drawing_of.ensures ∙ c.in_default-drawing_of.is)
 
 pub tell-requires : goal.tell-requires
-tell-requires c = c.in-Ok.ensures.found.drawn
+tell-requires c = c.in-Ok.ensures.found.is_found.drawn
 
 pub returns-in-Ok-clause-outcome : goal.returns-in-Ok-clause-outcome
 returns-in-Ok-clause-outcome c =
     let request = c.args.request.now in
     let layout = c.in-Ok.layout in
     let found = c.in-Ok.ensures in
-    told (IsFoundKeeping request.conditions) (IsUnlaid request c.args.bytes.now (cut_contents c.lay_out_keeping.new.cut)) c.args.bytes.now request.outer request.drawing (finding_of layout) c.tell.new.counts (contents c.tell.new.lists) c.tell.result
-    (answer_of (IsFoundKeeping request.conditions) c.args.bytes.now request.outer request.drawing c.in-Some.choice c.in-Some-drawing_of.kind (finding_of layout)
+    told (IsNamedFinding request.conditions) (IsUnlaid request c.args.bytes.now (cut_contents c.lay_out_keeping.new.cut)) c.args.bytes.now request.outer request.drawing (finding_of layout) c.tell.new.counts (contents c.tell.new.lists) c.tell.result
+    (answer_of (IsNamedFinding request.conditions) c.args.bytes.now request.outer request.drawing c.in-Some.choice c.in-Some-drawing_of.kind (finding_of layout)
     (sym c.choice_of.ensures ∙ c.in-Some.is) (sym c.drawing_of.ensures ∙ c.in-Some-drawing_of.is) found.is_record found.found
     found.asked)
     c.tell.ensures.told

@@ -1,5 +1,5 @@
 -- The lists of a wide record's entries are the record's, so they spell it.
-use Rattle.planar_code.proofs.Wide.{spelt-wide, each-wide}
+use Rattle.planar_code.proofs.WideRecords.{spelt-wide, each-wide}
 use Rattle.planar_code.proofs.wide.WideRecord.entries.Goals as goal
 
 pub returns-clause-spelt : goal.returns-clause-spelt
