@@ -49,8 +49,8 @@ impl Shortening {
     }
 
     /// Gives segments coordinates with which those of the other axis, `other`, are shortest in all, while the
-    /// segments on each level keep their order; returns whether they are shorter then. If not, no coordinate changes. If
-    /// the searches for this drawing have no looks left, they may be shorter, and yet not shortest.
+    /// segments on each level keep their order; returns whether they are shorter then. If not, no coordinate changes. The
+    /// search that takes the last of the looks for this drawing may leave them shorter, and yet not shortest.
     pub(crate) fn shorten(
         &mut self,
         along: &mut Segments,
@@ -59,7 +59,10 @@ impl Shortening {
         requires { AreCrossed along.old other.now }
         ensures { OnOk result (AreCrossed along.new other.now) }
     {
-        if other.are_shortest(along) || !self.list_segments(along, other.segments.as_slice())? {
+        if self.looks == 0 || other.are_shortest(along) {
+            return Ok(false);
+        }
+        if !self.list_segments(along, other.segments.as_slice())? {
             return Ok(false);
         }
         self.list_wires(other.segments.as_slice())?;
