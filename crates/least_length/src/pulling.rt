@@ -154,7 +154,10 @@ impl Pulling {
             if self.up[usize::from(root)] <= self.down[usize::from(root)] {
                 return Ok(true);
             }
-            if !self.send(root, looks)? || !spend(looks, self.reached.len()) {
+            if !self.send(root, looks)? {
+                return Ok(false);
+            }
+            if !spend(looks, self.reached.len()) {
                 return Ok(false);
             }
         }
@@ -182,7 +185,10 @@ impl Pulling {
             if let Some(target) = self.search_pairs()? {
                 return Ok(self.augment(root, target));
             }
-            if !spend(looks, self.reached.len()) || !self.move_up()? {
+            if !spend(looks, self.reached.len()) {
+                return Ok(false);
+            }
+            if !self.move_up()? {
                 return Ok(false);
             }
         }
