@@ -11,7 +11,7 @@ use std::alloc::{AllocError, Global};
 
 /// How many segments the searches for one drawing may go over in all, each counted each time. Only drawings with many
 /// segments round one another need more.
-const MAX_LOOKS: u64 = 26_000;
+const MAX_LOOKS: u64 = 28_000;
 
 /// The buffers of a shortening.
 #[derive(Drop)]
