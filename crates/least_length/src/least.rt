@@ -39,8 +39,11 @@ pub fn find_shortest(
     ensures least { IfOk result (λ found. found ≡ true → IsShortest segments.now wires.now (coordinates_in coordinates.new.items)) }
     ensures count { IfOk result (λ found. found ≡ true → length coordinates.new.items ≡ length segments.now) }
 {
+    if wires.len() > MAX_WIRES {
+        return Ok(false);
+    }
     let mut looks = u64::MAX;
-    if wires.len() > MAX_WIRES || !balance(scratch, segments, wires, &mut looks)? {
+    if !balance(scratch, segments, wires, &mut looks)? {
         return Ok(false);
     }
     write_certified(scratch, segments, wires, coordinates)
@@ -63,7 +66,10 @@ pub fn find_shorter(
     ensures shorter { IfOk result (λ found. found ≡ true → total_length wires.now (coordinates_in coordinates.new.items) < total_length wires.now (λ r. (segment_at segments.now r).coordinate)) }
     ensures looks { looks.new ≤ looks.old }
 {
-    if wires.len() > MAX_WIRES || !balance(scratch, segments, wires, looks)? {
+    if wires.len() > MAX_WIRES {
+        return Ok(false);
+    }
+    if !balance(scratch, segments, wires, looks)? {
         return Ok(false);
     }
     if !scratch.pulling.has_moved() || !write_certified(scratch, segments, wires, coordinates)? {
@@ -94,7 +100,10 @@ pub fn take_shorter(
     if wires.len() > MAX_WIRES || !have_ends(segments, wires) {
         return Ok(false);
     }
-    if !scratch.pulling.write(coordinates)? || coordinates.len() != segments.len() {
+    if !scratch.pulling.write(coordinates)? {
+        return Ok(false);
+    }
+    if coordinates.len() != segments.len() {
         return Ok(false);
     }
     let sweep = &mut scratch.balance.sweep;
