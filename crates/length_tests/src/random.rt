@@ -139,13 +139,18 @@ impl Lent {
     fn length_within(&mut self, looks: u64) -> Result<u32, AllocError> {
         let segments = self.segments.as_slice();
         let wires = self.wires.as_slice();
-        let (scratch, coordinates) = (&mut self.scratch, &mut self.coordinates);
         let mut left = looks;
-        if find_shorter(scratch, segments, wires, &mut left, coordinates)? {
-            return Ok(length_of(wires, coordinates.as_slice()));
+        if find_shorter(
+            &mut self.scratch,
+            segments,
+            wires,
+            &mut left,
+            &mut self.coordinates,
+        )? {
+            return Ok(length_of(wires, self.coordinates.as_slice()));
         }
-        if take_shorter(scratch, segments, wires, coordinates)? {
-            return Ok(length_of(wires, coordinates.as_slice()));
+        if take_shorter(&mut self.scratch, segments, wires, &mut self.coordinates)? {
+            return Ok(length_of(wires, self.coordinates.as_slice()));
         }
         self.own_length()
     }
