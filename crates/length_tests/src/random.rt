@@ -215,7 +215,11 @@ fn searches_with_few_looks_end_between(rt: HostRuntime) {
         let own = lent.own_length().expect(&rt, "memory");
         for looks in FEW_LOOKS {
             let length = lent.length_within(looks).expect(&rt, "memory");
-            same!(&rt, (count, least < length, length <= own), (count, true, true));
+            same!(
+                &rt,
+                (count, least < length, length <= own),
+                (count, true, true)
+            );
         }
         let length = lent.length_within(u64::MAX).expect(&rt, "memory");
         same!(&rt, (count, length), (count, least));
