@@ -106,7 +106,9 @@ lists-entry x entries count entry some = (
 module _ (entries : List ℕ) (i count : ℕ) (inside : i < length entries) where
   -- the entry at a place, and those after it
   next : drop i entries ≡ get_or entries i 0 ∷ drop (i + 1) entries
-  next = drop-cons entries i 0 inside
+  next =
+      let e : suc i ≡ i + 1 = omega arith in
+      subst (λ k. drop i entries ≡ get_or entries i 0 ∷ drop k entries) e (drop-cons entries i 0 inside)
 
   pub step-over : AreLists (drop i entries) 0 → ⊥
   step-over h = over_ended h.lists (get_or entries i 0) (drop (i + 1) entries) h.counted (sym next ∙ h.spelt)

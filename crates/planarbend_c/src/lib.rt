@@ -19,4 +19,5 @@ pub use counts::Counts;
 pub use cut::CutLists;
 pub use export::{planarbend_c_layout, planarbend_c_layout_keeping};
 pub use lists::{DartTurns, GridPoint, Lists};
+pub use named::{NamedConditions, NamedDart};
 pub use request::Request;

@@ -9,7 +9,7 @@ use Rattle.planar_code.proofs.wide.are_lists.Goals as goal
 pub returns-then-remaining-eq0 : goal.returns-then-remaining-eq0
 returns-then-remaining-eq0 c = (
   (λ e. absurd (false≢true e)),
-  (λ h. absurd (step-over c.args.entries.now c.loop-i.i c.loop-i-test.true (subst (AreLists (drop c.loop-i.i c.args.entries.now)) c.if-remaining-eq0.true (c.loop-i.invariant.0 h)))),
+  (λ h. absurd (step-over c.args.entries.now c.loop-i.i c.loop-i.remaining c.loop-i-test.true (subst (AreLists (drop c.loop-i.i c.args.entries.now)) c.if-remaining-eq0.true (c.loop-i.invariant.0 h)))),
 )
 
 pub loop-i-preserved-then-entries-i-ne0 : goal.loop-i-preserved-then-entries-i-ne0
