@@ -3,6 +3,7 @@
 ghost use Rattle.std.specs.Prelude.{◌≡◌, ◌+◌, ◌<◌, ◌≤◌, ◌↔◌, length, IsTrue, MatchOption};
 ghost use Rattle.common.specs.declared.limits.TheConstants.{MAX_VERTICES};
 ghost use Rattle.embedding.specs.Rules.{Breaks, KeepsBefore, FirstBroken};
+ghost use Rattle.planar_code.specs.declared.TheConstants.{MAX_ENTRIES};
 ghost use Rattle.planar_code.specs.Stream.{lists_of};
 
 use crate::breaks::first_broken;
@@ -54,6 +55,8 @@ fn broken_by_lists(lists: &Lists<'_>) -> Option<Rule>
 /// in one of that.
 #[inline(never)]
 fn broken_within<const ENTRIES: usize, const STARTS: usize>(rec: &Record) -> Option<Rule>
+    requires fits_entries { ENTRIES < MAX_ENTRIES }
+    requires fits_starts { STARTS < MAX_ENTRIES }
     requires entries { length rec.now ≤ ENTRIES + 1 }
     requires starts { length (lists_of rec.now) < STARTS }
     ensures { MatchOption result (KeepsBefore (lists_of rec.now) 9)
@@ -76,7 +79,8 @@ pub fn broken_rule(rec: &Record) -> Option<Rule>
         (λ rule. FirstBroken (lists_of rec.now) rule) }
 {
     let size = size_of(rec);
-    if size <= FEW_ENTRIES && usize::from(rec.order()) < FEW_STARTS {
+    let order = usize::from(rec.order());
+    if size <= FEW_ENTRIES && order < FEW_STARTS {
         broken_within::<FEW_ENTRIES, FEW_STARTS>(rec)
     } else if size <= SOME_ENTRIES {
         broken_within::<SOME_ENTRIES, RECORD_STARTS>(rec)

@@ -9,6 +9,7 @@ ghost use Rattle.embedding.specs.Faces.{HasFaces, degree_in};
 ghost use Rattle.embedding.specs.Walk.{at};
 ghost use Rattle.embedding.specs.Rules.{KeepsBefore};
 ghost use Rattle.embedding.specs.Faults.{IsReadFault};
+ghost use Rattle.planar_code.specs.declared.TheConstants.{MAX_ENTRIES};
 ghost use Rattle.planar_code.specs.Stream.{lists_of};
 
 use crate::breaks::first_broken;
@@ -90,7 +91,8 @@ impl Graph {
         ensures fault { IfErr result (IsReadFault (lists_of rec.now)) }
     {
         let size = size_of(rec);
-        if size <= FEW_ENTRIES && usize::from(rec.order()) < FEW_STARTS {
+        let order = usize::from(rec.order());
+        if size <= FEW_ENTRIES && order < FEW_STARTS {
             Graph::read_within::<FEW_ENTRIES, FEW_STARTS>(alloc, scratch, rec)
         } else if size <= SOME_ENTRIES {
             Graph::read_within::<SOME_ENTRIES, RECORD_STARTS>(alloc, scratch, rec)
@@ -107,6 +109,8 @@ impl Graph {
         scratch: &mut Scratch,
         rec: &Record,
     ) -> Result<Graph, ReadFault>
+        requires fits_entries { ENTRIES < MAX_ENTRIES }
+        requires fits_starts { STARTS < MAX_ENTRIES }
         requires entries { length rec.now ≤ ENTRIES + 1 }
         requires starts { length (lists_of rec.now) < STARTS }
         ensures lists { IfOk result (λ graph. graph ≡ lists_of rec.now) }
@@ -166,7 +170,8 @@ impl Graph {
         scratch: &mut Scratch,
         rec: &WideRecord,
     ) -> Result<Graph, ReadFault>
-        requires { length (lists_of rec.now) < STARTS }
+        requires fits { STARTS < MAX_ENTRIES }
+        requires starts { length (lists_of rec.now) < STARTS }
         ensures lists { IfOk result (λ graph. graph ≡ lists_of rec.now) }
         ensures rules { OnOk result (KeepsBefore (lists_of rec.now) 8) }
         ensures fault { IfErr result (IsReadFault (lists_of rec.now)) }
