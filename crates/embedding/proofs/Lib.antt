@@ -22,4 +22,5 @@ pub mod Tracing
 pub mod Unique
 pub mod Degrees
 pub mod Faced
+pub mod Filled
 pub mod Euler

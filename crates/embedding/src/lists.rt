@@ -114,7 +114,7 @@ impl<'a> Lists<'a> {
         ensures value { result.now ≡ list_of self.now vertex }
         ensures few { length self.now ≤ MAX_VERTICES }
     {
-        if vertex == 0 || vertex > self.count() {
+        if vertex > self.count() || vertex == 0 {
             &[]
         } else {
             self.at(vertex - 1)

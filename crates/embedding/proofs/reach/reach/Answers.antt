@@ -9,6 +9,13 @@ bounds-vertices-vertices c =
     let room = queue_room _ _ _ c.args.vertex c.requires.small new c.requires.queue in
     omega (arith, room)
 
+pub offset_bounds-vertices-vertices : goal.offset_bounds-vertices-vertices
+offset_bounds-vertices-vertices c =
+    let new : get_or c.args.vertices.now.reached c.args.vertex false ≡ false =
+    ap (λ (k : ℕ). get_or c.args.vertices.now.reached k false) (sym c.from.ensures) ∙ c.if-not-vertices-from.true in
+    let room = queue_room _ _ _ c.args.vertex c.requires.small new c.requires.queue in
+    omega (arith, room)
+
 pub overflow_add-vertices : goal.overflow_add-vertices
 overflow_add-vertices c =
     let new : get_or c.args.vertices.now.reached c.args.vertex false ≡ false =

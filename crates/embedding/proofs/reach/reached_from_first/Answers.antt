@@ -31,6 +31,11 @@ bounds-vertices-done c =
     let short = queue_short _ _ _ c.loop-done.invariant.queue_is in
     omega (arith, short, c.loop-done-test.true)
 
+pub offset_bounds-vertices-done : goal.offset_bounds-vertices-done
+offset_bounds-vertices-done c =
+    let short = queue_short _ _ _ c.loop-done.invariant.queue_is in
+    omega (arith, short, c.loop-done-test.true)
+
 pub overflow_add-done : goal.overflow_add-done
 overflow_add-done c =
     let short = queue_short _ _ _ c.loop-done.invariant.queue_is in
