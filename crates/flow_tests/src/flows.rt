@@ -222,7 +222,7 @@ fn larger_networks_are_refused(rt: HostRuntime) {
     let wide = chain(&rt, rt.alloc(), 2402, &[(Cap::Any, 1)]);
     same!(&rt, wide.err(), Some(NetFault::TooLarge));
     for (count, fault) in [(9600, None), (9601, Some(NetFault::TooLarge))] {
-        let loops = vec![in rt.alloc(); (0, 0, Cap::Any, 0); count];
+        let loops = vec![in rt.alloc(); (0u32, 0u32, Cap::Any, 0u32); count];
         let dense = network(&rt, rt.alloc(), &[0], &loops.expect(&rt, "memory"));
         same!(&rt, dense.err(), fault);
     }
