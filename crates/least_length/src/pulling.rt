@@ -1,7 +1,7 @@
 //! The primal-dual method (Ahuja, Magnanti and Orlin, Network Flows, 1993, section 9.8): wires pull segments until all
 //! are in balance.
 
-ghost use Rattle.std.specs.Prelude.{◌≡◌, ◌<◌, ◌≤◌, ◌+◌, ℕ, [], length, true, vec_len, slice_index, IfOk, IfSome, OnOk};
+ghost use Rattle.std.specs.Prelude.{◌≡◌, ◌<◌, ◌≤◌, ◌+◌, ℕ, [], length, true, false, vec_len, slice_index, IfOk, IfSome, OnOk};
 ghost use Rattle.least_length.specs.declared.segments.TheConstants.{MAX_SEGMENTS, MAX_SIGHTS, MAX_WIRES};
 ghost use Rattle.least_length.specs.Lengths.{segment_at, wire_at};
 ghost use Rattle.least_length.specs.Weights.{HasEnds};
@@ -154,7 +154,10 @@ impl Pulling {
             if self.up[usize::from(root)] <= self.down[usize::from(root)] {
                 return Ok(true);
             }
-            if !self.send(root, looks)? || !spend(looks, self.reached.len()) {
+            if !self.send(root, looks)? {
+                return Ok(false);
+            }
+            if !spend(looks, self.reached.len()) {
                 return Ok(false);
             }
         }
@@ -182,7 +185,10 @@ impl Pulling {
             if let Some(target) = self.search_pairs()? {
                 return Ok(self.augment(root, target));
             }
-            if !spend(looks, self.reached.len()) || !self.move_up()? {
+            if !spend(looks, self.reached.len()) {
+                return Ok(false);
+            }
+            if !self.move_up()? {
                 return Ok(false);
             }
         }
@@ -305,13 +311,7 @@ impl Pulling {
         for place in 0..self.reached.len() {
             let segment = self.reached[place];
             let slack = self.slack_of(segment);
-            if slack < least {
-                least = slack;
-                self.unlooked.clear();
-            }
-            if slack == least {
-                self.unlooked.push(segment)?;
-            }
+            least = note_least(&mut self.unlooked, segment, slack, least)?;
         }
         Ok(least)
     }
@@ -405,12 +405,36 @@ impl Pulling {
     }
 }
 
-/// Takes this many looks from those that are left; false if there are fewer.
+/// Lists a segment that can move so far, if those listed can move no less: besides them, or in their place if they can move
+/// further. Returns how far those listed can move.
+fn note_least(
+    listed: &mut Vec<u16>,
+    segment: u16,
+    slack: u32,
+    least: u32,
+) -> Result<u32, AllocError>
+    ensures { OnOk result ((count : ℕ) → segment < count → AreSegments count listed.old.items → AreSegments count listed.new.items) }
+{
+    if slack > least {
+        return Ok(least);
+    }
+    if slack < least {
+        listed.clear();
+        listed.push(segment)?;
+        return Ok(slack);
+    }
+    listed.push(segment)?;
+    Ok(least)
+}
+
+/// Takes this many looks from those that are left; false if there are fewer, and then none is left.
 fn spend(looks: &mut u64, count: usize) -> bool
     ensures left { result ≡ true → looks.old ≡ looks.new + count }
+    ensures none { result ≡ false → looks.new ≡ 0 }
     ensures fewer { looks.new ≤ looks.old }
 {
     let Some(left) = looks.checked_sub(count as u64) else {
+        *looks = 0;
         return false;
     };
     *looks = left;

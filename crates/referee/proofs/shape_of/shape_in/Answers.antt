@@ -10,7 +10,7 @@ use Rattle.std.proofs.lemmas.Result.{err_from_is_err_and}
 use Rattle.referee.specs.Faults.{AreOnGridLines, IsFirstFailure}
 use Rattle.referee.specs.declared.fault.Fault.{Fault}
 use Rattle.referee.proofs.Listed.{taken_of}
-use Rattle.referee.proofs.shape_of.shape_of.Goals as goal
+use Rattle.referee.proofs.shape_of.shape_in.Goals as goal
 
 pub returns-clause-taken : goal.returns-clause-taken
 returns-clause-taken c =
