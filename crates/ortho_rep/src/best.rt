@@ -9,6 +9,7 @@ ghost use Rattle.ortho_rep.specs.Prices.{IsProof};
 ghost use Rattle.ortho_rep.specs.Best.{HasRep, NeedsBends, IsBest};
 ghost use Rattle.ortho_rep.specs.Tries.{IsMoving, IsIncumbent, IsNoWorse, IsNoBetter, AreBounds, HasRoom};
 
+use crate::distances::raise_bounds;
 use crate::least::shape_in;
 use crate::prices::Prices;
 use crate::scratch::ShapeLists;
@@ -18,6 +19,9 @@ use faces::Plane;
 use flow_network::FaceNet;
 use min_cost_flow::{SolveFault, WarmStart};
 use std::alloc::{AllocError, Global};
+
+/// In a plane with no more faces, it is quicker to try a face than to measure distances from it.
+const FEW_FACES: u16 = 64;
 
 /// The best face so far, and how many bends are needed with it as the outer one.
 #[derive(Clone, Copy)]
@@ -41,11 +45,12 @@ impl Incumbent {
 /// Makes the best face the outer face; returns a least shape, with prices that prove it.
 ///
 /// The best face minimises bends, and has the least number among equals. Each face is tried, except those for which the
-/// potentials of an earlier one prove that they are no better.
+/// potentials of an earlier one, or in a large plane the distances from it, prove that they are no better.
 ///
 /// # Errors
 ///
-/// `AllocError` if there is no memory for a network, its flow, the shape or the prices. The plane is then unchanged.
+/// `AllocError` if there is no memory for a network, its flow, the bounds of faces, the shape or the prices. The plane is
+/// then unchanged.
 pub fn best_shape(alloc: Global, plane: &mut Plane) -> Result<(Shape, Prices), AllocError>
     ensures outer_moved { OnOk result (plane.new ≡ with_outer plane.old plane.new.outer) }
     ensures best { OnOk result (IsBest plane.new) }
@@ -140,6 +145,9 @@ fn best_incumbent(
     let bends = bends_and_bounds(plane, &moving, &mut bounds);
     let face = plane.outer();
     let mut incumbent = Incumbent { face, bends };
+    if faces > FEW_FACES {
+        raise_bounds(alloc, plane, &mut bounds)?;
+    }
     let mut moving = tour(plane, moving, &mut incumbent, &mut bounds, &mut walk);
     for face in 0..faces {
         moving = visit(plane, moving, &mut incumbent, &mut bounds, face);
