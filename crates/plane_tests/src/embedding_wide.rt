@@ -159,7 +159,8 @@ fn beside(place: u16, first: u16, count: u16) -> (u16, u16) {
 /// Adds the list of a vertex with four neighbours.
 fn push_list(entries: &mut Vec<u16>, list: [u16; 4]) -> Result<(), AllocError> {
     entries.extend_from_slice(&list)?;
-    entries.push(0)
+    entries.push(0)?;
+    Ok(())
 }
 
 /// How many vertices a circle of the antiprism has.
@@ -186,8 +187,8 @@ fn antiprism(alloc: Global) -> Result<Vec<u16>, AllocError> {
     Ok(entries)
 }
 
-/// The antiprism of 1,200 vertices has as many edges and faces as a plane can have. Two faces have 600 darts, and the
-/// outer one has dart 0 or the third dart, since the two others at that corner are triangles.
+/// The antiprism of 1,200 vertices has as many edges and faces as a plane can have: 1,200 triangles and two faces of
+/// 600 darts, one of which is the outer face.
 #[test]
 fn the_largest_plane_is_traced(rt: HostRuntime) {
     let record = wide(&rt, antiprism(rt.alloc()).expect(&rt, "memory"));
