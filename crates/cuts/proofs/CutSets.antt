@@ -14,7 +14,7 @@ use Rattle.networks.specs.Networks.{NetworkModel, node_count, arc_count, arc_at,
 use Rattle.networks.specs.Flow.{outflow}
 use Rattle.networks.specs.ResidualArcs.{units_of}
 use Rattle.min_cost_flow.specs.Overfull.{leads_out, supply_of, capacity_out, IsOverfull}
-use Rattle.flow_network.specs.Straight.{is_marked}
+use Rattle.flow_network.specs.Marks.{is_marked}
 use Rattle.flow_network.specs.FaceNet.{IsKeepingNet, vertex_degree, crossing_cap}
 use Rattle.flow_network.proofs.Faultless.{arc_ends}
 use Rattle.flow_network.proofs.Flowing.{arrivals_some}

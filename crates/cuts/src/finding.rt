@@ -3,7 +3,7 @@
 
 ghost use Rattle.std.specs.Prelude.{◌≡◌, ◌+◌, ◌-◌, ◌<◌, ◌≤◌, ℕ, Bool, List, true, false, IfOk, IfSome, IfNone, length};
 ghost use Rattle.faces.specs.Planes.{PlaneModel, IsPlane, darts, vertices, head, face_at};
-ghost use Rattle.flow_network.specs.Straight.{is_marked};
+ghost use Rattle.flow_network.specs.Marks.{is_marked};
 ghost use Rattle.min_cost_flow.specs.Overfull.{is_in};
 ghost use Rattle.ortho_rep.specs.declared.turn.Turn.{Turn};
 ghost use Rattle.ortho_rep.specs.Representation.{Rep};

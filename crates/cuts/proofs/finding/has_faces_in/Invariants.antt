@@ -1,6 +1,6 @@
 use Rattle.std.proofs.Common.{◌≡◌, ◌<◌, ℕ, true}
 use Rattle.faces.specs.Planes.{head, face_at}
-use Rattle.flow_network.specs.Straight.{is_marked}
+use Rattle.flow_network.specs.Marks.{is_marked}
 use Rattle.cuts.proofs.finding.has_faces_in.Given as goal
 
 abbrev pub invariant-loop-dart : goal.invariant-loop-dart

@@ -1,5 +1,5 @@
 use Rattle.std.proofs.Common.{◌≡◌, ◌+◌, ◌<◌, ℕ, true, false, length}
-use Rattle.flow_network.specs.Straight.{is_marked}
+use Rattle.flow_network.specs.Marks.{is_marked}
 use Rattle.cuts.specs.Cut.{HasFacesIn, HasFaceOut}
 use Rattle.cuts.proofs.finding.vertices_of.Given as goal
 
