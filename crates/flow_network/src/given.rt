@@ -20,7 +20,7 @@ pub const MAX_GIVEN_TURNS: usize = 6 * MAX_VERTICES + 4;
 #[derive(Clone, Copy, Debug)]
 pub struct Given<'a> {
     angles: &'a [Option<u8>],
-    turns: &'a [Option<i16>],
+    turns: &'a [Option<i32>],
 }
 
 impl<'a> Model for Given<'a> {
@@ -45,14 +45,14 @@ impl<'a> Given<'a> {
     }
 
     /// Whether all angles are 1 to 4, and all turns together at most `MAX_GIVEN_TURNS`, as `new` requires.
-    pub fn can_be(angles: &[Option<u8>], turns: &[Option<i16>]) -> bool
+    pub fn can_be(angles: &[Option<u8>], turns: &[Option<i32>]) -> bool
         ensures { IsTrue result ↔ CanBeGiven angles.now turns.now }
     {
         angles.iter().all(|angle| is_angle(*angle)) && are_few(turns)
     }
 
     /// These angles and turns. It allocates nothing.
-    pub fn new(angles: &'a [Option<u8>], turns: &'a [Option<i16>]) -> Given<'a>
+    pub fn new(angles: &'a [Option<u8>], turns: &'a [Option<i32>]) -> Given<'a>
         requires { CanBeGiven angles.now turns.now }
         ensures { result ≡ record { angles = angles.now; turns = turns.now } }
     {
@@ -80,7 +80,7 @@ impl<'a> Given<'a> {
     }
 
     /// The turns that are given along a dart, to the left.
-    pub fn turns(&self, plane: &Plane, dart: u16) -> Option<i16>
+    pub fn turns(&self, plane: &Plane, dart: u16) -> Option<i32>
         requires { dart < darts plane.now }
         ensures value { result ≡ turns_given plane.now self.now dart }
         ensures few { nat_abs (lefts_given result) ≤ MAX_GIVEN_TURNS }
@@ -94,7 +94,7 @@ impl<'a> Given<'a> {
     }
 
     /// What stands at a dart in the list of turns.
-    fn turns_in_list(&self, dart: u16) -> Option<i16>
+    fn turns_in_list(&self, dart: u16) -> Option<i32>
         ensures value { result ≡ slice_index_or self.now.turns dart None }
         ensures few { nat_abs (lefts_given result) ≤ MAX_GIVEN_TURNS }
     {
@@ -108,7 +108,7 @@ impl<'a> Given<'a> {
 }
 
 /// Turns, met in walking the other way.
-fn back(turns: Option<i16>) -> Option<i16>
+fn back(turns: Option<i32>) -> Option<i32>
     requires { nat_abs (lefts_given turns) ≤ MAX_GIVEN_TURNS }
     ensures { result ≡ walked_back turns }
 {
@@ -129,7 +129,7 @@ fn is_angle(angle: Option<u8>) -> bool
 }
 
 /// Whether all turns together are at most `MAX_GIVEN_TURNS`. Linear in the list.
-fn are_few(turns: &[Option<i16>]) -> bool
+fn are_few(turns: &[Option<i32>]) -> bool
     ensures { IsTrue result ↔ (turns_in_all turns.now ≤ MAX_GIVEN_TURNS) }
 {
     let mut sum = 0;
@@ -154,11 +154,11 @@ pub(crate) fn beyond(angle: Option<u8>) -> i32
 }
 
 /// How many turns to the left given turns have.
-pub(crate) fn lefts(turns: Option<i16>) -> i32
+pub(crate) fn lefts(turns: Option<i32>) -> i32
     ensures { result ≡ lefts_given turns }
 {
     match turns {
-        Some(turns) => i32::from(turns),
+        Some(turns) => turns,
         None => 0,
     }
 }

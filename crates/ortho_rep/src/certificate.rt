@@ -90,7 +90,7 @@ fn is_angle_kept(given: Option<u8>, angle: u8, vertex: i32, face: i32) -> bool
 }
 
 /// Whether turns are as they are given, or else agree with the prices.
-fn are_turns_kept(given: Option<i16>, turns: &[Turn], face: i32, across: i32) -> bool
+fn are_turns_kept(given: Option<i32>, turns: &[Turn], face: i32, across: i32) -> bool
     ensures { IsTrue result ↔ AreTurnsKept given turns.now face across }
 {
     match given {
@@ -100,10 +100,10 @@ fn are_turns_kept(given: Option<i16>, turns: &[Turn], face: i32, across: i32) ->
 }
 
 /// Whether these are just so many left turns, or where the number is negative as many right turns.
-fn are_one_way(turns: &[Turn], lefts: i16) -> bool
+fn are_one_way(turns: &[Turn], lefts: i32) -> bool
     ensures { IsTrue result ↔ (turns.now ≡ one_way lefts) }
 {
-    let count = usize::from(lefts.unsigned_abs());
+    let count = lefts.unsigned_abs() as usize;
     let turn = if lefts < 0 { Turn::Right } else { Turn::Left };
     turns.len() == count && turns.iter().all(|made| *made == turn)
 }

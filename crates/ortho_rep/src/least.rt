@@ -184,15 +184,15 @@ fn dart_shape(
 }
 
 /// Which way given turns go, and how many they are.
-fn given_turns(turns: i16) -> (Turn, u16)
+fn given_turns(turns: i32) -> (Turn, u16)
     requires { nat_abs turns ≤ MAX_GIVEN_TURNS }
     ensures turns { replicate result.1 result.0 ≡ one_way turns }
     ensures short { result.1 ≤ MAX_REPEATS }
 {
     if turns < 0 {
-        (Turn::Right, turns.unsigned_abs())
+        (Turn::Right, turns.unsigned_abs() as u16)
     } else {
-        (Turn::Left, turns.unsigned_abs())
+        (Turn::Left, turns.unsigned_abs() as u16)
     }
 }
 
