@@ -59,7 +59,7 @@ beyond_few n at x k each =
 pub supply_fair : {given : GivenModel} (p : PlaneModel) (net : NetworkModel) → IsPlane p → CanBeGiven given.angles given.turns → IsKeepingNet p given net → (k : ℕ) → k < node_count net → IsInSupplyRange (supply_at net k)
 supply_fair {given} p net plane can is k l =
     let ends = plane_ends p plane in
-    let few : (d : ℕ) → beyond_first (angle_given given d) ≤ 3 = beyond_first_few given can in
+    let few = beyond_first_few given can in
     elim (cases_lt k (vertices p)) [
       | inl vertex ↦
           let back : k + 1 - 1 ≡ k = omega arith in
@@ -75,7 +75,7 @@ supply_fair {given} p net plane can is k l =
           (subst (λ (j : ℕ). supply_at net j ≡ face_has_to_turn p given f) at (is.at_face f f_in))
           (degree_at_most p plane f f_in) plane.order
           (beyond_few (darts p) (face_at p) (λ d. beyond_first (angle_given given d)) f few)
-          (lefts_few p given plane can f)
+          (lefts_few given p plane can f)
     ]
   where
     at_vertex : (z : ℤ) (k more : ℕ) → z ≡ pos 4 -ℤ pos k -ℤ pos more → k ≤ 4 → more ≤ 3 * k → IsInSupplyRange z
