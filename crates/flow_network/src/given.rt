@@ -17,7 +17,7 @@ pub const MAX_GIVEN_TURNS: usize = 6 * MAX_VERTICES + 4;
 /// Place d of each list belongs to dart d, and past the end of a list nothing is given. An angle lies at the head of its
 /// dart and is 1 to 4 right angles. Turns are counted to the left, and a negative number is of turns to the right. Those of
 /// an edge stand at its lesser dart; what stands at the other one is not read.
-#[derive(Clone, Copy, Debug)]
+#[derive(Debug, Drop)]
 pub struct Given<'a> {
     angles: &'a [Option<u8>],
     turns: &'a [Option<i32>],
