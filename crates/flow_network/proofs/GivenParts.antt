@@ -1,18 +1,18 @@
 -- What is given, as turns to the left and turns to the right: those of a dart are those of its reverse, exchanged, and no face
 -- has more than all edges have.
 use Rattle.std.proofs.Common.{◌≡◌, ◌≢◌, ℕ, zero, suc, ◌+◌, ◌-◌, ◌<◌, ◌≤◌, ◌==◌, if◌then◌else◌, ltb, Bool, true, false, List, length, ◌∙◌, refl, subst, sym, ap, inl, inr, arith}
-use Rattle.std.specs.Prelude.{ℤ, pos, negsuc, neg_ℤ, ◌-ℤ◌, ◌≤ℤ◌, nat_abs, nat_lt, slice_index_or, Option, Some, None}
+use Rattle.std.specs.Prelude.{ℤ, pos, negsuc, neg_ℤ, ◌+ℤ◌, ◌-ℤ◌, ◌≤ℤ◌, nat_abs, nat_lt, slice_index_or, Option, Some, None}
 use Rattle.std.proofs.lemmas.Bool.{cases_lt, cases_eq, cases_Bool, cond-true, cond-false, lt-ltb, le-ltb}
 use Rattle.std.proofs.lemmas.Int.{ints}
 use Rattle.std.proofs.lemmas.List.{get_or_past}
 use Rattle.common.specs.Sums.{sum_below, total_below}
 use Rattle.common.proofs.Sums.{sum_below-same, sum_below-le, sum_below-add, sum_below-none, sum_below-split, sum_below-turned, total_below-parts}
 use Rattle.embedding.specs.Lesser.{is_lesser_of}
-use Rattle.faces.specs.Planes.{PlaneModel, IsPlane, HasEnds, darts, reverse_dart, face_at}
+use Rattle.faces.specs.Planes.{PlaneModel, IsPlane, HasEnds, darts, head, reverse_dart, face_at, degree}
 use Rattle.faces.proofs.Ends.{plane_ends}
 use Rattle.flow_network.specs.declared.given.TheConstants.{MAX_GIVEN_TURNS}
-use Rattle.flow_network.specs.Given.{GivenModel, CanBeGiven, IsAngle, angle_given, turns_given, walked_back, beyond_first, lefts_given, turns_in_all}
-use Rattle.flow_network.specs.FaceNet.{lefts_in_face}
+use Rattle.flow_network.specs.Given.{GivenModel, CanBeGiven, IsAngle, nothing_given, angle_given, turns_given, walked_back, beyond_first, lefts_given, turns_in_all}
+use Rattle.flow_network.specs.FaceNet.{vertex_degree, beyond_at_vertex, beyond_in_face, lefts_in_face, vertex_has_to_turn, face_has_to_turn}
 
 -- how often given turns go to the left, and how often to the right
 abbrev pub left_part : Option ℤ → ℕ
@@ -91,6 +91,17 @@ turns_back p given d ends b =
           ∙ sym (back_twice (at r))
           ∙ ap walked_back (sym (cond-false {A = Option ℤ} (is_lesser_of p.lists d) (at d) (walked_back (at r)) greater))
     ]
+
+-- where nothing is given no dart has any
+pub none_along : (p : PlaneModel) (d : ℕ) → turns_given p nothing_given d ≡ None
+none_along p d = by_dart (is_lesser_of p.lists d)
+  where
+    by_dart : (c : Bool) → (if c then None else walked_back None) ≡ None
+    by_dart true = refl
+    by_dart false = refl
+
+pub none_at : (d : ℕ) → angle_given nothing_given d ≡ None
+none_at d = refl
 
 -- an angle that can be given has three right angles beyond the first at most
 pub beyond_first_few : (given : GivenModel) → CanBeGiven given.angles given.turns → (d : ℕ) → beyond_first (angle_given given d) ≤ 3
@@ -185,3 +196,39 @@ lefts_few given p plane can f =
     close : (z : ℤ) (a b k : ℕ) → z ≡ pos a -ℤ pos b → a ≤ k → b ≤ k → nat_abs z ≤ k
     close (pos n) a b k is few less = omega (arith, ints, is)
     close (negsuc n) a b k is few less = omega (arith, ints, is)
+
+-- where nothing is given, all have to turn as ever
+pub vertex_plain : (p : PlaneModel) (v : ℕ) → vertex_has_to_turn p nothing_given v ≡ pos 4 -ℤ pos (vertex_degree p v)
+vertex_plain p v =
+    let none : beyond_at_vertex p nothing_given v ≡ 0 = sum_below-none (darts p) (λ d. if head p d == v then beyond_first (angle_given nothing_given d) else 0) (λ d _. zero_or (head p d == v)) in
+    less (vertex_degree p v) (beyond_at_vertex p nothing_given v) none
+  where
+    zero_or : (c : Bool) → (if c then 0 else 0) ≡ 0
+    zero_or true = refl
+    zero_or false = refl
+
+    less : (k more : ℕ) → more ≡ 0 → pos 4 -ℤ pos k -ℤ pos more ≡ pos 4 -ℤ pos k
+    less k more none = omega (arith, ints)
+
+pub face_plain : (p : PlaneModel) (f : ℕ) → face_has_to_turn p nothing_given f ≡ (if f == p.outer then negsuc 3 else pos 4) -ℤ pos (degree p f)
+face_plain p f =
+    let angles : beyond_in_face p nothing_given f ≡ 0 = sum_below-none (darts p) (λ d. if face_at p d == f then beyond_first (angle_given nothing_given d) else 0) (λ d _. zero_or (face_at p d == f)) in
+    let turns : lefts_in_face p nothing_given f ≡ pos 0 =
+    total_below-parts (darts p) (λ d. if face_at p d == f then lefts_given (turns_given p nothing_given d) else pos 0) (λ _. 0) (λ _. 0)
+    (λ d _. ap (λ (g : Option ℤ). if face_at p d == f then lefts_given g else pos 0) (none_along p d) ∙ nothing (face_at p d == f))
+    ∙ even (sum_below (darts p) (λ _. 0)) in
+    less (if f == p.outer then negsuc 3 else pos 4) (degree p f) (beyond_in_face p nothing_given f) (lefts_in_face p nothing_given f) angles turns
+  where
+    zero_or : (c : Bool) → (if c then 0 else 0) ≡ 0
+    zero_or true = refl
+    zero_or false = refl
+
+    nothing : (c : Bool) → (if c then pos 0 else pos 0) ≡ pos 0 -ℤ pos 0
+    nothing true = omega (arith, ints)
+    nothing false = omega (arith, ints)
+
+    even : (k : ℕ) → pos k -ℤ pos k ≡ pos 0
+    even k = omega (arith, ints)
+
+    less : (turn : ℤ) (k more : ℕ) (t : ℤ) → more ≡ 0 → t ≡ pos 0 → turn -ℤ pos k +ℤ pos more -ℤ t ≡ turn -ℤ pos k
+    less turn k more t none straight = omega (arith, ints)

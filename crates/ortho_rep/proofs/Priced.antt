@@ -4,7 +4,10 @@ use Rattle.std.specs.Prelude.{ℤ, pos, ◌+ℤ◌, ◌-ℤ◌, ◌≤ℤ◌, Op
 use Rattle.ortho_rep.specs.declared.turn.Turn.{Turn}
 use Rattle.ortho_rep.specs.Turns.{lefts}
 use Rattle.ortho_rep.specs.Keeping.{one_way}
-use Rattle.ortho_rep.specs.Prices.{IsAnglePriced, AreTurnsPriced, IsAngleKept, AreTurnsKept}
+use Rattle.ortho_rep.specs.Prices.{IsAnglePriced, AreTurnsPriced, IsAngleKept, AreTurnsKept, IsPricedAt}
+use Rattle.faces.specs.Planes.{PlaneModel, head, reverse_dart, face_at}
+use Rattle.flow_network.specs.Given.{nothing_given}
+use Rattle.flow_network.proofs.GivenParts.{none_along}
 
 -- equal values are priced alike
 pub angle_same : (given : Option ℕ) (a b : ℕ) (v v' f f' : ℤ) → b ≡ a → v' ≡ v → f' ≡ f → IsAngleKept given a v f → IsAngleKept given b v' f'
@@ -39,3 +42,10 @@ angle_of given angle vertex face kept k is = subst (λ (g : Option ℕ). IsAngle
 
 pub turns_of : (given : Option ℤ) (turns : List Turn) (face across : ℤ) → AreTurnsKept given turns face across → (t : ℤ) → given ≡ Some t → turns ≡ one_way t
 turns_of given turns face across kept t is = subst (λ (g : Option ℤ). AreTurnsKept g turns face across) is kept
+
+-- where nothing is given, the prices of all angles and all turns agree
+pub plain_angle : (p : PlaneModel) (a : ℕ → ℕ) (s : ℕ → List Turn) (v q : ℕ → ℤ) (d : ℕ) → IsPricedAt p nothing_given a s v q d → IsAnglePriced (a d) (v (head p d)) (q (face_at p d))
+plain_angle p a s v q d priced = priced.angle
+
+pub plain_turns : (p : PlaneModel) (a : ℕ → ℕ) (s : ℕ → List Turn) (v q : ℕ → ℤ) (d : ℕ) → IsPricedAt p nothing_given a s v q d → AreTurnsPriced (s d) (q (face_at p d)) (q (face_at p (reverse_dart p d)))
+plain_turns p a s v q d priced = subst (λ (g : Option ℤ). AreTurnsKept g (s d) (q (face_at p d)) (q (face_at p (reverse_dart p d)))) (none_along p d) priced.turns
