@@ -1,14 +1,14 @@
 -- What is given, as turns to the left and turns to the right: those of a dart are those of its reverse, exchanged, and no face
 -- has more than all edges have.
-use Rattle.std.proofs.Common.{◌≡◌, ◌≢◌, ℕ, zero, suc, ◌+◌, ◌-◌, ◌<◌, ◌≤◌, ◌==◌, if◌then◌else◌, ltb, Bool, true, false, List, length, ◌∙◌, refl, subst, sym, ap, inl, inr, arith}
+use Rattle.std.proofs.Common.{◌≡◌, ◌≢◌, ℕ, zero, suc, ◌+◌, ◌-◌, ◌*◌, ◌<◌, ◌≤◌, ◌==◌, if◌then◌else◌, ltb, Bool, true, false, List, length, ◌∙◌, refl, subst, sym, ap, inl, inr, arith}
 use Rattle.std.specs.Prelude.{ℤ, pos, negsuc, neg_ℤ, ◌+ℤ◌, ◌-ℤ◌, ◌≤ℤ◌, nat_abs, nat_lt, slice_index_or, Option, Some, None}
-use Rattle.std.proofs.lemmas.Bool.{cases_lt, cases_eq, cases_Bool, cond-true, cond-false, lt-ltb, le-ltb}
+use Rattle.std.proofs.lemmas.Bool.{cases_lt, cases_eq, cases_Bool, eq-eqb, ne_eqb, cond-true, cond-false, lt-ltb, le-ltb}
 use Rattle.std.proofs.lemmas.Int.{ints}
 use Rattle.std.proofs.lemmas.List.{get_or_past}
 use Rattle.common.specs.Sums.{sum_below, total_below}
-use Rattle.common.proofs.Sums.{sum_below-same, sum_below-le, sum_below-add, sum_below-none, sum_below-split, sum_below-turned, total_below-parts}
+use Rattle.common.proofs.Sums.{sum_below-same, sum_below-le, sum_below-add, sum_below-none, sum_below-split, sum_below-turned, exchanged, total_below-parts}
 use Rattle.embedding.specs.Lesser.{is_lesser_of}
-use Rattle.faces.specs.Planes.{PlaneModel, IsPlane, HasEnds, darts, head, reverse_dart, face_at, degree}
+use Rattle.faces.specs.Planes.{PlaneModel, IsPlane, HasEnds, darts, vertices, head, reverse_dart, face_at, degree}
 use Rattle.faces.proofs.Ends.{plane_ends}
 use Rattle.flow_network.specs.declared.given.TheConstants.{MAX_GIVEN_TURNS}
 use Rattle.flow_network.specs.Given.{GivenModel, CanBeGiven, IsAngle, nothing_given, angle_given, turns_given, walked_back, beyond_first, lefts_given, turns_in_all}
@@ -232,3 +232,49 @@ face_plain p f =
 
     less : (turn : ℤ) (k more : ℕ) (t : ℤ) → more ≡ 0 → t ≡ pos 0 → turn -ℤ pos k +ℤ pos more -ℤ t ≡ turn -ℤ pos k
     less turn k more t none straight = omega (arith, ints)
+
+-- the left turns that are given to a face's darts, and the right turns
+abbrev pub lefts_of_face : PlaneModel → GivenModel → ℕ → ℕ
+lefts_of_face p given f = sum_below (darts p) (λ d. if face_at p d == f then left_part (turns_given p given d) else 0)
+
+abbrev pub rights_of_face : PlaneModel → GivenModel → ℕ → ℕ
+rights_of_face p given f = sum_below (darts p) (λ d. if face_at p d == f then right_part (turns_given p given d) else 0)
+
+pub face_parts : (p : PlaneModel) (given : GivenModel) (f : ℕ) → lefts_in_face p given f ≡ pos (lefts_of_face p given f) -ℤ pos (rights_of_face p given f)
+face_parts p given f =
+    total_below-parts (darts p) (λ d. if face_at p d == f then lefts_given (turns_given p given d) else pos 0)
+    (λ d. if face_at p d == f then left_part (turns_given p given d) else 0) (λ d. if face_at p d == f then right_part (turns_given p given d) else 0)
+    (λ d _. split (face_at p d == f) (turns_given p given d))
+  where
+    split : (c : Bool) (g : Option ℤ) → (if c then lefts_given g else pos 0) ≡ pos (if c then left_part g else 0) -ℤ pos (if c then right_part g else 0)
+    split true g = lefts_parts g
+    split false g = omega (arith, ints)
+
+-- a number of each dart, summed at the places of all darts
+pub all_at : (n m : ℕ) (at x : ℕ → ℕ) → ((d : ℕ) → d < n → at d < m) → sum_below m (λ k. sum_below n (λ d. if at d == k then x d else 0)) ≡ sum_below n x
+all_at n m at x inside =
+    sum_below-same m (λ k. sum_below n (λ d. if at d == k then x d else 0)) (λ k. 1 * sum_below n (λ d. if at d == k then x d else 0)) (λ k _. omega arith)
+    ∙ exchanged n m at x (λ _. 1) inside
+    ∙ sum_below-same n (λ d. 1 * x d) x (λ d _. omega arith)
+
+-- vertices are counted from 1
+pub all_at_vertices : (p : PlaneModel) (x : ℕ → ℕ) → HasEnds p → sum_below (vertices p) (λ k. sum_below (darts p) (λ d. if head p d == k + 1 then x d else 0)) ≡ sum_below (darts p) x
+all_at_vertices p x ends =
+    sum_below-same (vertices p) (λ k. sum_below (darts p) (λ d. if head p d == k + 1 then x d else 0)) (λ k. sum_below (darts p) (λ d. if head p d - 1 == k then x d else 0))
+    (λ k _. sum_below-same (darts p) (λ d. if head p d == k + 1 then x d else 0) (λ d. if head p d - 1 == k then x d else 0)
+    (λ d b. ap (λ (c : Bool). if c then x d else 0) (alike (head p d) k (ends.head_from d b))))
+    ∙ all_at (darts p) (vertices p) (λ d. head p d - 1) x (λ d b. omega (arith, ends.head_from d b, ends.head_to d b))
+  where
+    alike : (h k : ℕ) → 1 ≤ h → (h == k + 1) ≡ (h - 1 == k)
+    alike h k one =
+        elim (cases_eq h (k + 1)) [
+          | inl e ↦ eq-eqb h (k + 1) e ∙ sym (eq-eqb (h - 1) k (omega (arith, e)))
+          | inr ne ↦ ne_eqb h (k + 1) ne ∙ sym (ne_eqb (h - 1) k (λ e. ne (omega (arith, e, one))))
+        ]
+
+-- all darts have as many given left turns as right turns
+pub lefts_are_rights : (p : PlaneModel) (given : GivenModel) → HasEnds p → sum_below (darts p) (λ d. left_part (turns_given p given d)) ≡ sum_below (darts p) (λ d. right_part (turns_given p given d))
+lefts_are_rights p given ends =
+    sym (sum_below-turned (darts p) (reverse_dart p) (λ d. left_part (turns_given p given d)) ends.reverse_dart_in_range ends.reverse_dart_back)
+    ∙ sum_below-same (darts p) (λ d. left_part (turns_given p given (reverse_dart p d))) (λ d. right_part (turns_given p given d))
+    (λ d b. ap left_part (turns_back p given d ends b) ∙ left_back (turns_given p given d))
