@@ -1,5 +1,5 @@
 -- Lists of what is asked for, by darts, while conditions are put into them one after another.
-use Rattle.std.specs.Prelude.{◌≡◌, ◌≢◌, ℕ, zero, suc, ◌<◌, ◌↔◌, ◌&&◌, ◌==◌, if◌then◌else◌, ℤ, neg_ℤ, true, false, List, length, slice_index_or, slice_set, Option, Some, None}
+use Rattle.std.specs.Prelude.{◌≡◌, ◌≢◌, ℕ, zero, suc, ◌<◌, ◌↔◌, ◌&&◌, ◌==◌, if◌then◌else◌, ℤ, neg_ℤ, Bool, true, false, List, length, slice_index_or, slice_set, Option, Some, None}
 use Rattle.embedding.specs.Lesser.{is_lesser_of}
 use Rattle.faces.specs.Planes.{PlaneModel, darts, tail, head, reverse_dart}
 use Rattle.conditions.specs.declared.conditions.AngleAt.{AngleAt}
@@ -36,12 +36,18 @@ IsPutAt p d value old new = new ≡ slice_set old d value
 abbrev pub HoldsOther : {A : Type 0} → ℕ → Option A → List (Option A) → Type 0
 HoldsOther d value old = (slice_index_or old d None ≢ None) × (slice_index_or old d None ≢ value)
 
--- t turns along dart d are put at its edge's lesser dart
+-- t turns along dart d, which is the lesser one or not, are put at the lesser dart of its edge
+abbrev pub ArePutBy : Bool → ℕ → ℕ → ℤ → List (Option ℤ) → List (Option ℤ) → Type 0
+ArePutBy true d reverse t old new = new ≡ slice_set old d (Some t)
+ArePutBy false d reverse t old new = new ≡ slice_set old reverse (Some (neg_ℤ t))
+
 abbrev pub IsPutAlong : PlaneModel → ℕ → ℤ → List (Option ℤ) → List (Option ℤ) → Type 0
-IsPutAlong p d t old new =
-    if is_lesser_of p.lists d
-    then new ≡ slice_set old d (Some t)
-    else new ≡ slice_set old (reverse_dart p d) (Some (neg_ℤ t))
+IsPutAlong p d t old new = ArePutBy (is_lesser_of p.lists d) d (reverse_dart p d) t old new
+
+-- others are there
+abbrev pub AreOthersBy : Bool → ℕ → ℕ → ℤ → List (Option ℤ) → Type 0
+AreOthersBy true d reverse t old = HoldsOther d (Some t) old
+AreOthersBy false d reverse t old = HoldsOther reverse (Some (neg_ℤ t)) old
 
 abbrev pub HoldsOtherAlong : PlaneModel → ℕ → ℤ → List (Option ℤ) → Type 0
-HoldsOtherAlong p d t old = if is_lesser_of p.lists d then HoldsOther d (Some t) old else HoldsOther (reverse_dart p d) (Some (neg_ℤ t)) old
+HoldsOtherAlong p d t old = AreOthersBy (is_lesser_of p.lists d) d (reverse_dart p d) t old
