@@ -151,6 +151,8 @@ def run() -> int:
             graph = split(graph, to_split(graph, words.split))
         outer = named(graph, words.outer) if words.outer else ()
         straight = [edge for names in words.straight for edge in between(graph, names)]
+        for warning in graph.looks.warnings:
+            print(f"planarbend-draw: {words.graph}: {warning}", file=sys.stderr)
         drawing = draw(graph, Options(outer, words.compact, words.effort, words.seed, straight), engine_of())
         write(drawing, words.output, words.scale)
     except (ReadError, DrawError, PlanarbendError, NoConverter) as fault:

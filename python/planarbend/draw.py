@@ -97,7 +97,8 @@ def part_of(graph: Graph, vertices: list[int], edges: list[int], options: Option
     number = {vertex: place for place, vertex in enumerate(vertices)}
     chosen = [graph.edges[edge] for edge in edges]
     inner = Graph([graph.vertices[vertex] for vertex in vertices],
-                  [Edge(number[edge.tail], number[edge.head], edge.label, edge.arrow) for edge in chosen], graph.directed)
+                  [Edge(number[edge.tail], number[edge.head], edge.label, edge.arrow) for edge in chosen], graph.directed,
+                  graph.looks.part(vertices, edges))
     options = dataclasses.replace(options, outer=[number[vertex] for vertex in options.outer if vertex in number],
                                   straight=[place for place, edge in enumerate(edges) if edge in options.straight])
     if all(edge.tail == edge.head for edge in chosen):
@@ -205,6 +206,7 @@ def side_by_side(graph: Graph, parts: Sequence[Part]) -> Drawing:
     lines: list[list[Point]] = [[]] * len(graph.edges)
     crossings: list[Crossing] = []
     labels: dict[int, Box] = {}
+    end_labels: dict[tuple[int, bool], Box] = {}
     bounds = [part.sheet.bounds() for part in parts]
     places, width, height = packed([(right - left + BETWEEN, bottom - top + BETWEEN) for left, top, right, bottom in bounds])
     for part, box, (x, y) in zip(parts, bounds, places):
@@ -215,11 +217,14 @@ def side_by_side(graph: Graph, parts: Sequence[Part]) -> Drawing:
             lines[edge] = [point_at(point, corner, place) for point in sheet.line(number)]
         for number, item in sheet.labels.items():
             labels[edges[number]] = box_at(sheet.extent(item), corner, place)
+        for (number, is_head), item in sheet.end_labels.items():
+            end_labels[edges[number], is_head] = box_at(sheet.extent(item), corner, place)
         crossings += [Crossing(meeting(lines[edges[one]], lines[edges[other]]), (edges[one], edges[other]))
                       for one, other in crossings_of(sheet.shape)]
     size = (math.ceil(width - BETWEEN + 2 * MARGIN), math.ceil(height - BETWEEN + 2 * MARGIN))
     planars = (part.sheet.shape.expansion.planar for part in parts)
-    return Drawing(graph, boxes, lines, crossings, size, labels, [planar.lists for planar in planars if planar.tail])
+    return Drawing(graph, boxes, lines, crossings, size, labels, [planar.lists for planar in planars if planar.tail],
+                   end_labels)
 
 
 def point_at(point: Point, corner: Point, place: Point) -> Point:

@@ -2,7 +2,7 @@
 from __future__ import annotations
 
 import json
-from dataclasses import dataclass
+from dataclasses import dataclass, field
 
 from planarbend.graph import Graph
 from planarbend.drawing.nets import net_labels
@@ -40,6 +40,8 @@ class Drawing:
     embedding : list of neighbour lists
         For each component with an edge its vertices in the graph's order, then its crossings, each with its neighbours counted
         from 1, clockwise. Loops are left out.
+    end_boxes : dict from (edge, whether at the head) to Box
+        The place of each label at an end of an edge.
     """
 
     graph: Graph
@@ -49,6 +51,7 @@ class Drawing:
     size: tuple[float, float]
     label_boxes: dict[int, Box]
     embedding: list[Lists]
+    end_boxes: dict[tuple[int, bool], Box] = field(default_factory=dict)
 
     @property
     def bends(self) -> int:
