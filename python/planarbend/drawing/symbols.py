@@ -28,6 +28,7 @@ WIDER = 1.72  # a diamond, than its label
 STEPS = 24  # pieces of a quarter of an ellipse
 ROUND = 8  # pixels, the radius of rounded corners
 NEAR = 1e-6
+JOINED = 0.1  # pixels: corners that are nearer are one
 
 ELLIPSES = (Outline.ELLIPSE, Outline.CIRCLE, Outline.DOUBLE_CIRCLE, Outline.POINT)
 WHOLE = (None, Outline.BOX, Outline.SQUARE, Outline.NONE, Outline.RECORD, Outline.ROUND_RECORD)  # the box is the outline
@@ -90,7 +91,7 @@ def border(outline: Outline | None, box: Box, least: Point) -> list[Point]:
                 *arc((left, top, left + wide, top + high), 2, 3), *arc((right - wide, top, right, top + high), 3, 4)]
     found = [(left + across, top), (right - across, top), (right, top + down), (right, bottom - down), (right - across, bottom),
              (left + across, bottom), (left, bottom - down), (left, top + down)]
-    return [point for place, point in enumerate(found) if math.dist(point, found[place - 1]) > NEAR]
+    return [point for place, point in enumerate(found) if math.dist(point, found[place - 1]) > JOINED]
 
 
 def straight_border(outline: Outline | None, box: Box) -> list[Point]:
