@@ -307,5 +307,63 @@ class Read(unittest.TestCase):
             self.assertEqual((looks.nodes, looks.edges, looks.warnings), ({}, {}, []))
 
 
+GML = """graph [ node [ id 1 label "one" graphics [ x 1.0 w 30.0 type "ellipse" fill "#FF0000" outline "#0000FF" ] ]
+  node [ id 2 label "two" graphics [ type "diamond" fill "#00ff00" ] ] node [ id 3 label "three" graphics [ fill "?" ] ]
+  edge [ source 1 target 2 graphics [ fill "#808000" width 3 style "dashed" ] ] edge [ source 2 target 3 ] ]"""
+YED = """<graphml xmlns="http://graphml.graphdrawing.org/xmlns" xmlns:y="http://www.yworks.com/xml/graphml">
+<key for="node" id="d0" yfiles.type="nodegraphics"/><key for="edge" id="d1" yfiles.type="edgegraphics"/>
+<graph edgedefault="directed"><node id="n0"><data key="d0"><y:ShapeNode><y:Geometry height="30" width="30" x="0" y="0"/>
+<y:Fill color="#FFCC00" transparent="false"/><y:BorderStyle color="#993366" type="dotted" width="2.0"/>
+<y:NodeLabel fontFamily="Arial" fontSize="18" fontStyle="bold" textColor="#003366">first</y:NodeLabel><y:Shape type="hexagon"/>
+</y:ShapeNode></data></node><node id="n1"><data key="d0"><y:ShapeNode><y:Fill hasColor="false" transparent="false"/>
+<y:NodeLabel>second</y:NodeLabel><y:Shape type="roundrectangle"/></y:ShapeNode></data></node>
+<edge id="e0" source="n0" target="n1"><data key="d1"><y:PolyLineEdge><y:LineStyle color="#FF00FF" type="dashed" width="4.0"/>
+<y:Arrows source="none" target="standard"/></y:PolyLineEdge></data></edge></graph></graphml>"""
+GEPHI = """<graphml xmlns="http://graphml.graphdrawing.org/xmlns"><key attr.name="r" attr.type="int" for="node" id="r"/>
+<key attr.name="g" attr.type="int" for="node" id="g"/><key attr.name="b" attr.type="int" for="node" id="b"/>
+<graph edgedefault="undirected"><node id="u"><data key="r">153</data><data key="g">0</data><data key="b">16</data></node>
+<node id="v"/><edge source="u" target="v"/></graph></graphml>"""
+
+
+@support.needs_networkx
+class OtherFormats(unittest.TestCase):
+    """Colours and lines by hand, from the texts above."""
+
+    def drawn(self, text: str) -> list[Element]:
+        status, out, errors = support.said(["draw", "-", "-o", "-"], text)
+        self.assertEqual((status, errors), (0, ""))
+        return elements_of(xml.fromstring(out))
+
+    def test_gml(self) -> None:
+        found = self.drawn(GML)
+        circle = next(one for one in found if one.kind in ("circle", "ellipse"))
+        self.assertEqual((circle.values["fill"], circle.values["stroke"]), ("#ff0000", "#0000ff"))
+        diamond = next(one for one in found if one.kind == "polygon")
+        self.assertEqual((diamond.values["fill"], len(diamond.own["points"].split())), ("#00ff00", 4))
+        lines = [one for one in found if one.kind == "polyline"]
+        self.assertEqual([(one.values["stroke"], one.values["stroke-width"]) for one in lines if "stroke" in one.own],
+                         [("#808000", "3")])
+        self.assertEqual(["stroke-dasharray" in one.own for one in lines], [True, False])
+
+    def test_yed(self) -> None:
+        found = self.drawn(YED)
+        hexagon = next(one for one in found if one.kind == "polygon")
+        self.assertEqual([hexagon.values[key] for key in ("fill", "stroke", "stroke-width")], ["#ffcc00", "#993366", "2"])
+        self.assertEqual((len(hexagon.own["points"].split()), "stroke-dasharray" in hexagon.own), (6, True))
+        text = next(one for one in found if one.text == "first")
+        self.assertEqual([text.values[key] for key in ("fill", "font-size", "font-weight")], ["#003366", "18", "bold"])
+        self.assertTrue(text.values["font-family"].startswith("Arial"))
+        line = next(one for one in found if one.kind == "polyline")
+        self.assertEqual((line.values["stroke"], line.values["stroke-width"]), ("#ff00ff", "4"))
+        self.assertIn("marker-end", line.own)
+        second = next(one for one in found if one.kind == "rect" and "rx" in one.own)
+        self.assertGreater(float(second.own["rx"]), 4)
+
+    def test_gephi(self) -> None:
+        fills = [one.own["fill"] for one in self.drawn(GEPHI) if one.kind == "rect" and "rx" in one.own]
+        self.assertEqual(len(fills), 2)
+        self.assertIn("#990010", fills)
+
+
 if __name__ == "__main__":
     unittest.main()
