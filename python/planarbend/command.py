@@ -11,7 +11,7 @@ from planarbend.drawing.drawn import Drawing
 from planarbend.layout.engine import Engine, ProcessEngine, default_engine
 from planarbend.graph import Graph, Kind, split
 from planarbend.programs import SCRIPT, PlanarbendError
-from planarbend.drawing.picture import CONVERTED, NoConverter, check_output, svg, write_picture
+from planarbend.drawing.picture import CONVERTED, WRITTEN, NoConverter, check_output, svg, write_picture
 from planarbend.readers import FORMS, ReadError, read
 
 ABOUT = "Draws a graph along horizontal and vertical lines with few bends and few crossings, which are right angles."
@@ -32,7 +32,7 @@ on the path.
 exit status: 0; 1 if the graph cannot be read or drawn (standard error says why, and nothing is written); 2 if the
 command line is wrong
 """
-ENDINGS = (".svg", ".json", ".pc", *CONVERTED)
+ENDINGS = (".svg", ".json", ".pc", *CONVERTED, *WRITTEN)
 
 
 class Help(argparse.RawDescriptionHelpFormatter):
@@ -53,8 +53,8 @@ def command_line() -> argparse.Namespace:
     parser = argparse.ArgumentParser(description=ABOUT, epilog=TEXT, formatter_class=Help)
     parser.add_argument("graph", metavar="GRAPH", help="the file, or - for standard input")
     parser.add_argument("-o", "--output", metavar="OUT", required=True,
-                        help="a picture (.svg, .png, .pdf); the drawing's points for other programs (.json); the embedding"
-                             " with its crossings as planar_code (.pc); or - for SVG on standard output")
+                        help="a picture (.svg, .png, .pdf); the drawing's points for other programs (.json, .graphml, .gml,"
+                             " .gv); the embedding with its crossings as planar_code (.pc); or - for SVG on standard output")
     parser.add_argument("--format", choices=FORMS, help="the format of GRAPH (default: by its content)")
     parser.add_argument("--outer", metavar="NAMES", help="put these vertices on the outer face; commas separate names")
     parser.add_argument("--straight", metavar="NAME--NAME", action="append", default=[],
@@ -122,8 +122,9 @@ def write(drawing: Drawing, path: str, scale: float) -> None:
     if path == "-":
         sys.stdout.write(svg(drawing))
         sys.stdout.flush()
-    elif path.endswith((".json", ".pc")):
-        data = drawing.planar_code() if path.endswith(".pc") else (drawing.json() + "\n").encode()
+    elif path.endswith((".json", ".pc", *WRITTEN)):
+        ending = os.path.splitext(path)[1]
+        data = drawing.planar_code() if ending == ".pc" else drawing.text(WRITTEN.get(ending, "json")).encode()
         with open(path, "wb") as out:
             out.write(data)
     else:

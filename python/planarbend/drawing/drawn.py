@@ -78,3 +78,16 @@ class Drawing:
                  "crossings": [{"at": list(one.at), "edges": list(one.edges)} for one in self.crossings],
                  "bends": self.bends, "size": list(self.size)}
         return json.dumps(found, ensure_ascii=False, separators=(",", ":"))
+
+    def text(self, form: str) -> str:
+        """Return the drawing as "svg", "dot", "graphml", "gml" or "json"."""
+        from importlib import import_module  # these modules use this one
+
+        if form == "json":
+            return self.json() + "\n"
+        write = getattr(import_module("planarbend.drawing." + ("picture" if form == "svg" else "files")), form)
+        return str(write(self))
+
+    def _repr_svg_(self) -> str:
+        """Return the SVG picture, which notebooks show."""
+        return self.text("svg")

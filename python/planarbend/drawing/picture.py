@@ -22,6 +22,7 @@ DOT = 3.5  # pixels, the radius of a dot
 LABEL_FONT, LABEL_HEIGHT = 10, 12
 CAPTION = 6  # pixels beside and below the label of the graph
 CONVERTED = {".png": "png", ".pdf": "pdf"}
+WRITTEN = {".gv": "dot", ".dot": "dot", ".graphml": "graphml", ".gml": "gml"}  # and the functions of drawing/files.py
 
 
 class NoConverter(Exception):
