@@ -19,6 +19,7 @@ from planarbend.graph import Edge, Graph, Partition
 from planarbend.layout.engine import Engine, default_engine
 from planarbend.layout.planar_code import MOST_VERTICES
 from planarbend.programs import PlanarbendError
+from planarbend.progress import stage
 
 MARGIN = 10.0  # pixels around the whole
 BETWEEN = 18.0  # pixels between components
@@ -65,7 +66,12 @@ def draw(graph: Graph, options: Options = Options(), engine: Engine | None = Non
     """
     engine = engine or default_engine()
     check_straight(graph, options, engine)
-    return side_by_side(graph, [part_of(graph, vertices, edges, options, engine) for vertices, edges in components_of(graph)])
+    components, parts = components_of(graph), []
+    for place, (vertices, edges) in enumerate(components, 1):
+        stage(f"component {place} of {len(components)}: {len(vertices)} vertices, {len(edges)} edges")
+        parts.append(part_of(graph, vertices, edges, options, engine))
+    stage("writing")
+    return side_by_side(graph, parts)
 
 
 def check_straight(graph: Graph, options: Options, engine: Engine) -> None:
@@ -139,6 +145,7 @@ def embedded(graph: Graph, options: Options, attempt: int) -> Planarization:
     count, pairs = len(graph.vertices), [(edge.tail, edge.head) for edge in graph.edges]
     if count > MOST_VERTICES:
         raise DrawError(f"a component has {count} vertices; the limit is {MOST_VERTICES}")
+    stage(f"{count} vertices, {len(pairs)} edges: searching for few crossings{f', embedding {attempt + 1}' if attempt else ''}")
     order = random.Random(options.seed * MOST_EMBEDDINGS + attempt) if attempt else None
     try:
         return planarize(count, pairs, effort=options.effort, seed=options.seed, together=options.outer,
@@ -152,6 +159,7 @@ def embedded(graph: Graph, options: Options, attempt: int) -> Planarization:
 def shapes_of(planar: Planarization, graph: Graph, options: Options, engine: Engine) -> list[Shape]:
     """Return good shapes of an embedded component; raise a `DrawError` if it takes too many vertices, or no shape was found
     with all of `outer` on one face, or with straight edges."""
+    stage(f"{len(graph.vertices)} vertices, {len(graph.edges)} edges, {planar.crossings} crossings: searching for few bends")
     try:
         return choose(planar, engine, options)
     except TooLarge as fault:

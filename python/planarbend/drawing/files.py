@@ -17,6 +17,7 @@ INCH = 72.0  # pixels, as one pixel is written as one point
 ARROW = 8.0  # pixels, the length of an arrowhead
 ARROW_SIZE = 0.8  # the same, in Graphviz's unit
 PLAIN = "DejaVu Sans"
+TAB = 12.0  # pixels, four times the greatest height of the tab of a folder in Graphviz
 PLAIN_LOOK = NodeLook()
 YED = {Outline.ELLIPSE: "ellipse", Outline.CIRCLE: "ellipse", Outline.DOUBLE_CIRCLE: "ellipse", Outline.POINT: "ellipse",
        Outline.DIAMOND: "diamond", Outline.HEXAGON: "hexagon", Outline.OCTAGON: "octagon"}
@@ -89,8 +90,8 @@ def dot(drawing: Drawing) -> str:
 
 def dot_node(drawing: Drawing, number: int) -> dict[str, object]:
     """Return the attributes of a node."""
-    vertex, (left, top, right, bottom) = drawing.graph.vertices[number], drawing.boxes[number]
-    look, high = drawing.graph.looks.nodes.get(number, PLAIN_LOOK), drawing.size[1]
+    vertex, look, high = drawing.graph.vertices[number], drawing.graph.looks.nodes.get(number, PLAIN_LOOK), drawing.size[1]
+    left, top, right, bottom = without_tabs(look.outline, drawing.boxes[number])
     place: dict[str, object] = {"pos": f"{(left + right) / 2:g},{high - (top + bottom) / 2:g}", "width": (right - left) / INCH,
                                 "height": (bottom - top) / INCH}
     if vertex.kind is Kind.NET:
@@ -105,6 +106,13 @@ def dot_node(drawing: Drawing, number: int) -> dict[str, object]:
         found |= {"width": (right - left - 2 * RING) / INCH, "height": (bottom - top - 2 * RING) / INCH}
     fill = painted(look.fill, None if vertex.kind is Kind.VERTEX else FILLS[vertex.kind][0])
     return found if fill is None else found | {"fillcolor": fill}
+
+
+def without_tabs(outline: Outline | None, box: Box) -> Box:
+    """Return the box of a node in Graphviz, which draws the tab of a folder and the small boxes of a component outside it."""
+    left, top, right, bottom = box
+    out = min(TAB, min(right - left, bottom - top) / 3) / 4
+    return left + out * (outline is Outline.COMPONENT), top + out * (outline is Outline.FOLDER), right, bottom
 
 
 def shape_of(kind: Kind, look: NodeLook, box: Box, label: str) -> dict[str, object]:

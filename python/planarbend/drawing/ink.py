@@ -16,7 +16,7 @@ OPEN = (Head.OPEN_DOT, Head.OPEN_DIAMOND)
 MARKER = ('<marker id="{}" viewBox="0 0 10 10" refX="9" refY="5" markerWidth="8" markerHeight="8"'
           ' markerUnits="userSpaceOnUse" orient="auto-start-reverse">{}</marker>')
 
-Marker = tuple[Head, Colour, Colour]  # a head, the colour of its line and that inside
+Marker = tuple[Head, Colour, str]  # a head, the colour of its line, and what paints its inside
 
 
 def quoted(text: str) -> str:
@@ -61,8 +61,8 @@ class Markers:
     """The heads of a graph's edges, each kind and colour once."""
 
     def __init__(self, graph: Graph, ink: str, paper: str) -> None:
-        """Return the heads of a graph; `ink` is the colour of plain lines, `paper` that inside open heads."""
-        self.ink, self.paper = Colour(ink), Colour(paper)
+        """Return the heads of a graph; `ink` is the colour of plain lines; `paper` paints the inside of open ones."""
+        self.ink, self.paper = Colour(ink), paper
         self.names: dict[Marker, str] = {}
         self.at: list[str] = []  # for each edge the attributes of its line
         for number, edge in enumerate(graph.edges):
@@ -76,15 +76,13 @@ class Markers:
     def name(self, look: EdgeLook, head: Head | None) -> str:
         """Return the name of a head of an edge, which is new if there is none like it."""
         head, line = head or Head.NORMAL, look.colour or self.ink
-        marker = head, line, self.paper if head in OPEN else look.fill or line
+        marker = head, line, self.paper if head in OPEN else painted("fill", look.fill or line)
         return self.names.setdefault(marker, f"head{len(self.names) or ''}")
 
     def elements(self) -> list[str]:
         """Return the SVG that defines the heads."""
         found = []
         for (head, line, inside), name in self.names.items():
-            words = painted("fill", inside)
-            if inside != line:
-                words += painted("stroke", line)
-            found.append(MARKER.format(name, HEADS[head].format(words)))
+            words = "" if inside == painted("fill", line) else painted("stroke", line)
+            found.append(MARKER.format(name, HEADS[head].format(inside + words)))
         return ["<defs>" + "".join(found) + "</defs>"] if found else []

@@ -11,8 +11,9 @@ from planarbend.drawing.nets import dots_of, ends_of, net_labels, pieces_of
 from planarbend.drawing.items import size_of
 from planarbend.drawing.symbols import ROUND, WHOLE, border, drawn_on, elements
 from planarbend.drawing.texts import FAMILY, FONT, LINE_HEIGHT, LONGEST_LINE, lines_of, svg_text, text_size, xml_text
+from planarbend.drawing.themes import paper, themed
 from planarbend.graph import Kind, Vertex
-from planarbend.style import Colour, EdgeLook, NodeLook, Outline
+from planarbend.style import EdgeLook, NodeLook, Outline
 
 STROKE = 1.6  # pixels, of lines
 INK, LINE = "#1d2733", "#3f5873"
@@ -29,13 +30,18 @@ class NoConverter(Exception):
     """rsvg-convert is missing or failed."""
 
 
-def svg(drawing: Drawing) -> str:
-    """Return the SVG text of a drawing."""
+def svg(drawing: Drawing, theme: str = "light") -> str:
+    """Return the SVG text of a drawing, with the colours of one of `THEMES` where its file says none. If the file says what is
+    behind all, the theme is light."""
     background = drawing.graph.looks.graph.background
-    markers = Markers(drawing.graph, LINE, "white" if background is None or background.text == "none" else background.text)
+    theme = "light" if background is not None else theme
+    behind = paper(theme) if background is None else painted("fill", background)
+    cover = behind if background is None or background.text != "none" else paper("light")
+    markers = Markers(drawing.graph, LINE, cover)
     (width, height), caption = captioned(drawing)
-    return svg_text(width, height, [*markers.elements(), *line_elements(drawing, markers), *box_elements(drawing),
-                                    *label_elements(drawing), *net_label_elements(drawing), *caption], painted("fill", background or Colour("white")))
+    text = svg_text(width, height, [*markers.elements(), *line_elements(drawing, markers), *box_elements(drawing, theme),
+                                    *label_elements(drawing, cover), *net_label_elements(drawing), *caption], behind)
+    return themed(text, theme)
 
 
 def captioned(drawing: Drawing) -> tuple[tuple[int, int], list[str]]:
@@ -78,7 +84,7 @@ def line_elements(drawing: Drawing, markers: Markers) -> list[str]:
     return found + ["</g>"]
 
 
-def box_elements(drawing: Drawing) -> list[str]:
+def box_elements(drawing: Drawing, theme: str) -> list[str]:
     """Return the boxes with their names."""
     found = [f'<g stroke="{LINE}" stroke-width="{STROKE}">']
     texts = [f'<g fill="{INK}" font-family="{FAMILY}" font-size="{FONT}" text-anchor="middle">']
@@ -88,8 +94,9 @@ def box_elements(drawing: Drawing) -> list[str]:
             continue
         found += wrapped(look, outline_elements(vertex, look, box))
         height = LINE_HEIGHT * (look.font.size or FONT) / FONT
-        texts += wrapped(look, text_lines(lines_of(vertex.label), (box[0] + box[2]) / 2, (box[1] + box[3]) / 2, height,
-                                          lettered(look.font)))
+        is_own = look.fill is not None and look.fill.text != "none" and look.font.colour is None and theme != "light"
+        words = lettered(look.font) + (' fill="black"' if is_own else "")  # which the file expects on its own colours
+        texts += wrapped(look, text_lines(lines_of(vertex.label), (box[0] + box[2]) / 2, (box[1] + box[3]) / 2, height, words))
     return found + ["</g>", *net_elements(drawing), *texts, "</g>"]
 
 
@@ -125,21 +132,19 @@ def net_elements(drawing: Drawing) -> list[str]:
     return found + ["</g>"]
 
 
-def label_elements(drawing: Drawing) -> list[str]:
-    """Return the labels of the edges, each on its line."""
+def label_elements(drawing: Drawing, paint: str) -> list[str]:
+    """Return the labels of the edges, each on its line; `paint` are the attributes of what is between the two."""
     labels = [(number, drawing.graph.edges[number].label, box) for number, box in drawing.label_boxes.items()]
     for (number, is_head), box in drawing.end_boxes.items():
         look = drawing.graph.looks.edges[number]
         labels.append((number, look.head_label if is_head else look.tail_label, box))
     if not labels:
         return []
-    background = drawing.graph.looks.graph.background
-    paper = ' fill="white"' if background is None or background.text == "none" else painted("fill", background)
     found = [f'<g fill="{INK}" font-family="{FAMILY}" font-size="{LABEL_FONT}" text-anchor="middle">']
     for number, label, (left, top, right, bottom) in labels:
         look = drawing.graph.looks.edges.get(number, EdgeLook())
         if look.is_visible:
-            cover = (f'<rect x="{left:.1f}" y="{top:.1f}" width="{right - left:.1f}" height="{bottom - top:.1f}"{paper}/>')
+            cover = (f'<rect x="{left:.1f}" y="{top:.1f}" width="{right - left:.1f}" height="{bottom - top:.1f}"{paint}/>')
             height = LABEL_HEIGHT * (look.font.size or LABEL_FONT) / LABEL_FONT
             lines = text_lines(lines_of(label), (left + right) / 2, (top + bottom) / 2, height, lettered(look.font))
             found += wrapped(look, [cover, *lines])
