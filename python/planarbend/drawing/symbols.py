@@ -28,6 +28,7 @@ WIDER = 1.72  # a diamond, than its label
 STEPS = 24  # pieces of a quarter of an ellipse
 ROUND = 8  # pixels, the radius of rounded corners
 NEAR = 1e-6
+APART = 2.0  # pixels, for lines that meet the outline beside the same corner
 JOINED = 0.1  # pixels: corners that are nearer are one
 
 ELLIPSES = (Outline.ELLIPSE, Outline.CIRCLE, Outline.DOUBLE_CIRCLE, Outline.POINT)
@@ -71,9 +72,9 @@ def inset_of(outline: Outline | None, least: Point) -> Point:
     """Return the least distances from a corner of the box to lines at its sides, so that no two meet before they reach the
     outline."""
     share = 1 - math.sqrt(0.5) if outline in ELLIPSES else 0.5
-    across, down = corner_of(outline, least)
     plain = DOT_INSET if outline is Outline.POINT else INSET
-    return max(plain, share * across), max(plain, share * down)
+    across, down = (max(plain, share * cut + APART * (cut > 0)) for cut in corner_of(outline, least))
+    return across, down
 
 
 def border(outline: Outline | None, box: Box, least: Point) -> list[Point]:
