@@ -78,7 +78,8 @@ def dot(drawing: Drawing) -> str:
              "bgcolor": painted(graph.looks.graph.background), **lettered(graph.looks.graph.font, FONT)}
     nodes = {"shape": "box", "style": "filled,rounded", "fillcolor": FILL, "color": LINE, "penwidth": STROKE,
              "fontname": PLAIN, "fontsize": FONT, "fontcolor": INK, "fixedsize": "true"}
-    edges = {"color": LINE, "penwidth": STROKE, "arrowsize": ARROW_SIZE, "fontname": PLAIN, "fontsize": LABEL_FONT, "fontcolor": INK}
+    edges = {"color": LINE, "penwidth": STROKE, "arrowsize": ARROW_SIZE, "fontname": PLAIN, "fontsize": LABEL_FONT,
+             "fontcolor": INK}
     found = [f"{'digraph' if is_directed(graph) else 'graph'} {{", f"  graph{listed(whole)};", f"  node{listed(nodes)};",
              f"  edge{listed(edges)};"]
     for number, name in enumerate(names):
@@ -97,10 +98,10 @@ def dot_node(drawing: Drawing, number: int) -> dict[str, object]:
     if vertex.kind is Kind.NET:
         wide, tall = max(right - left, STROKE), max(bottom - top, STROKE)
         is_point = wide == tall == STROKE
-        size = {"width": 2 * DOT / INCH, "height": 2 * DOT / INCH} if is_point else {"width": wide / INCH, "height": tall / INCH}
-        return place | size | {"label": "", "shape": "point" if is_point else "box", "fillcolor": LINE, "style": "filled"}
-    found = place | {"label": "\n".join(lines_of(vertex.label)), **shape_of(vertex.kind, look, drawing.boxes[number], vertex.label),
-                     "color": painted(look.colour), "penwidth": look.width, **lettered(look.font, FONT),
+        wide, tall = (2 * DOT, 2 * DOT) if is_point else (wide, tall)
+        return place | {"width": wide / INCH, "height": tall / INCH} | {"label": "", "shape": "point" if is_point else "box", "fillcolor": LINE, "style": "filled"}
+    found = place | {"label": "\n".join(lines_of(vertex.label)),
+                     **shape_of(vertex.kind, look, drawing.boxes[number], vertex.label), "color": painted(look.colour), "penwidth": look.width, **lettered(look.font, FONT),
                      "URL": address(look.link), "tooltip": look.tooltip or None}
     if found["shape"] == Outline.DOUBLE_CIRCLE.value:  # Graphviz draws the outer circle around this size
         found |= {"width": (right - left - 2 * RING) / INCH, "height": (bottom - top - 2 * RING) / INCH}
@@ -127,7 +128,8 @@ def shape_of(kind: Kind, look: NodeLook, box: Box, label: str) -> dict[str, obje
                                         (look.dash and look.dash.value, look.dash is not None),
                                         ("invis", not look.is_visible)) if is_said]
     shape = "box" if outline in (None, Outline.RECORD, Outline.ROUND_RECORD, Outline.SQUARE) else outline.value
-    return {"shape": None if shape == "box" else shape, "style": None if words == ["filled", "rounded"] else ",".join(map(str, words))}
+    style = None if words == ["filled", "rounded"] else ",".join(map(str, words))
+    return {"shape": None if shape == "box" else shape, "style": style}
 
 
 def dot_edge(drawing: Drawing, number: int) -> dict[str, object]:
@@ -186,10 +188,12 @@ def gml(drawing: Drawing) -> str:
     found = ["graph [", f"  directed {is_directed(graph):d}", "  multigraph 1"]
     for number, (vertex, (left, top, right, bottom)) in enumerate(zip(graph.vertices, drawing.boxes, strict=True)):
         look = graph.looks.nodes.get(number, PLAIN_LOOK)
-        kind = YED.get(look.outline, "roundrectangle" if look.is_rounded else "rectangle") if look.outline else "roundrectangle"
+        is_round = look.outline is None or look.is_rounded
+        kind = YED.get(look.outline, "roundrectangle" if is_round else "rectangle")
         more = "".join(f' {key} "{colour.text}"' for key, colour in (("fill", look.fill), ("outline", look.colour)) if colour)
         found.append(f'  node [ id {number} label {gml_text(vertex.label)} name {gml_text(vertex.name)} graphics ['
-                     f' x {(left + right) / 2} y {(top + bottom) / 2} w {right - left} h {bottom - top} type "{kind}"{more} ] ]')
+                     f' x {(left + right) / 2} y {(top + bottom) / 2} w {right - left} h {bottom - top}'
+                     f' type "{kind}"{more} ] ]')
     for number, (edge, line) in enumerate(zip(graph.edges, drawing.lines, strict=True)):
         edge_look = graph.looks.edges.get(number, EdgeLook())
         points = " ".join(f"point [ x {x} y {y} ]" for x, y in line)
@@ -198,7 +202,8 @@ def gml(drawing: Drawing) -> str:
         for key, arrows in (("sourceArrow", (Arrow.BACK, Arrow.BOTH)), ("targetArrow", (Arrow.FORWARD, Arrow.BOTH))):
             more += f' {key} "standard"' if edge.arrow in arrows else ""
         label = f" label {gml_text(edge.label)}" if edge.label else ""
-        found.append(f'  edge [ source {edge.tail} target {edge.head}{label} graphics [ type "line"{more} Line [ {points} ] ] ]')
+        found.append(f'  edge [ source {edge.tail} target {edge.head}{label}'
+                     f' graphics [ type "line"{more} Line [ {points} ] ] ]')
     return "\n".join([*found, "]\n"])
 
 
@@ -231,14 +236,15 @@ def graphml_node(drawing: Drawing, number: int) -> str:
     """Return the data of a node."""
     vertex, (left, top, right, bottom) = drawing.graph.vertices[number], drawing.boxes[number]
     look = drawing.graph.looks.nodes.get(number, PLAIN_LOOK)
-    values = {"label": vertex.label, "x": (left + right) / 2, "y": (top + bottom) / 2, "width": right - left, "height": bottom - top}
+    values = {"label": vertex.label, "x": (left + right) / 2, "y": (top + bottom) / 2, "width": right - left,
+              "height": bottom - top}
     fill, line = look.fill or Colour(FILLS.get(vertex.kind, (FILL, 0))[0]), look.colour or Colour(LINE)
     size = f' fontSize="{look.font.size:g}"' if look.font.size else ""
     kind = YED.get(look.outline, "rectangle") if look.outline else "roundrectangle"
     return "".join([
         f'<data key="yn"><y:ShapeNode><y:Geometry x="{left}" y="{top}" width="{right - left}" height="{bottom - top}"/>',
         f'<y:Fill {hue(fill)}/><y:BorderStyle {hue(line)} type="{look.dash.value if look.dash else "line"}" width="{STROKE}"/>',
-        f"<y:NodeLabel{size}>{escape(allowed(vertex.label), quote=False)}</y:NodeLabel><y:Shape type=\"{kind}\"/></y:ShapeNode></data>",
+        f'<y:NodeLabel{size}>{escape(allowed(vertex.label), quote=False)}</y:NodeLabel><y:Shape type="{kind}"/></y:ShapeNode></data>',
         *(f'<data key="{key}">{escape(allowed(value), quote=False)}</data>' for key, value in values.items())])
 
 
@@ -266,7 +272,8 @@ def hue(colour: Colour) -> str:
 
 def allowed(value: object) -> str:
     """Return a value as text without the characters that XML does not allow."""
-    return "".join(letter if letter >= " " and letter not in "\ufffe\uffff" or letter in "\n\t" else "\ufffd" for letter in str(value))
+    return "".join(letter if letter >= " " and letter not in "\ufffe\uffff" or letter in "\n\t" else "\ufffd"
+                   for letter in str(value))
 
 
 def address(link: str) -> str | None:

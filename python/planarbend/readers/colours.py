@@ -3,7 +3,6 @@ from __future__ import annotations
 
 import colorsys
 import re
-import subprocess
 from collections.abc import Iterable
 
 from planarbend.readers.fault import program
@@ -75,6 +74,8 @@ def palette(wanted: Iterable[tuple[str, str]]) -> dict[tuple[str, str], Colour |
 
 def asked(wanted: list[tuple[str, str]]) -> list[Colour | None]:
     """Return the colours in which Graphviz fills nodes with these texts."""
+    import subprocess  # slow to load
+
     nodes = [f'c{number} [fillcolor="{first_of(text)}" colorscheme="{scheme}" pos="{9 * number},0"]'
              for number, (text, scheme) in enumerate(wanted)]
     text = 'graph { node [shape=box style=filled color=black label=""]\n' + "\n".join(nodes) + "\n}\n"

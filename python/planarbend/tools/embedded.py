@@ -47,7 +47,8 @@ def pictures(found: dict[int, Record], outer: str | None) -> Iterator[Picture]:
             except GraphError as fault:
                 if len(found) == 1:
                     raise DrawError(f"graph {number}: {reason_of(fault)}") from None
-                yield reason_picture(number, f"breaks the rule {fault.rule}" if isinstance(fault, GraphRefused) else reason_of(fault))
+                reason = f"breaks the rule {fault.rule}" if isinstance(fault, GraphRefused) else reason_of(fault)
+                yield reason_picture(number, reason)
                 continue
             yield draw(Embedding.of(record.lists), layout.line | {"graph": number}, outer is not None)
 
