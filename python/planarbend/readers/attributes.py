@@ -4,6 +4,7 @@ from __future__ import annotations
 import math
 import re
 from collections.abc import Callable, Mapping
+from typing import Any
 
 from planarbend.readers import colours, texts
 from planarbend.style import Colour, Dash, EdgeLook, Font, GraphLook, Head, Look, Looks, NodeLook, Outline
@@ -93,7 +94,7 @@ class Attributes:
         self.looks.warnings += [f"{what}: {', '.join(sorted(which))}" for what, which in sorted(self.strange.items())]
 
 
-def vars_of(look: Look, **changes: Colour | None) -> dict[str, object]:
+def vars_of(look: Look, **changes: Colour | None) -> dict[str, Any]:
     """Return the fields of a look by name, some of them changed."""
     return {name: getattr(look, name) for name in Look.__dataclass_fields__} | changes
 
