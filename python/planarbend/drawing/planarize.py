@@ -139,18 +139,22 @@ def needed_by_cycles(vertex_count: int, ends: Sequence[Pair]) -> int:
     for tail, head in ends:
         joined[tail].append(head)
         joined[head].append(tail)
-    girth = min((_shortest_cycle(joined, vertex) for vertex in range(vertex_count)), default=vertex_count + 1)
+    girth = vertex_count + 1
+    for vertex in range(vertex_count):
+        girth = _shortest_cycle(joined, vertex, girth)
     if girth > vertex_count:
         return 0
     return max(0, len(ends) - girth * (vertex_count - 2) // (girth - 2))
 
 
-def _shortest_cycle(joined: Sequence[Sequence[int]], start: int) -> int:
-    """Return the length of a shortest cycle through a vertex of a simple graph, or of a cycle that is no longer; more than the
-    number of vertices if none is found."""
+def _shortest_cycle(joined: Sequence[Sequence[int]], start: int, shortest: int) -> int:
+    """Return the length of a shortest cycle through a vertex of a simple graph, or of a cycle that is no longer; `shortest` if
+    none that is shorter is found."""
     distance, parent = {start: 0}, {start: start}
-    waiting, shortest = [start], len(joined) + 1
+    waiting = [start]
     for vertex in waiting:
+        if 2 * distance[vertex] + 1 >= shortest:
+            break
         for other in joined[vertex]:
             if other not in distance:
                 distance[other], parent[other] = distance[vertex] + 1, vertex

@@ -24,16 +24,22 @@ def one_of(numbers: Sequence[int], dice: random.Random) -> int:
 
 def growth(embedding: LinkedEmbedding, dice: random.Random) -> Iterator[tuple[int, list[int]]]:
     """Yield each vertex with its edges to those before it: always one with the most such edges, then with the most edges."""
-    placed = [0] * embedding.vertex_count  # neighbours that come before
-    waiting = dict.fromkeys(range(embedding.vertex_count))
+    count, chance = embedding.vertex_count, dice.random
+    step = 1 + max(map(len, embedding.edges_at), default=0)
+    rank = list(map(len, embedding.edges_at))  # plus `step` for each edge to a vertex that comes before
+    waiting, is_placed = list(range(count)), [False] * count
     while waiting:
-        vertex = max(waiting, key=lambda vertex: (placed[vertex], len(embedding.edges_at[vertex]), dice.random()))
-        del waiting[vertex]
+        ranks = [rank[vertex] for vertex in waiting]
+        most = max(ranks)
+        draws = [chance() for _ in waiting]
+        place = max((draw, place) for place, (draw, other) in enumerate(zip(draws, ranks)) if other == most)[1]
+        vertex = waiting.pop(place)
+        is_placed[vertex] = True
         edges = []
         for edge in embedding.edges_at[vertex]:
             other = sum(embedding.ends[edge]) - vertex
-            placed[other] += 1
-            if other not in waiting:
+            rank[other] += step
+            if is_placed[other]:
                 edges.append(edge)
         yield vertex, edges
 
@@ -61,17 +67,18 @@ class Reinsertion:
 
     # Distances
 
-    def distances(self, vertex: int, goals: Sequence[int] = ()) -> list[int]:
-        """Return for each face the weight of the edges to cross from a vertex to it, by Dial's algorithm; `FAR` if there is no
-        path, and maybe for faces farther than the nearest of some goals."""
+    def distances(self, vertex: int, goals: Sequence[int] = (), most: int = FAR) -> tuple[list[int], list[list[int]]]:
+        """Return for each face the weight of the edges to cross from a vertex to it, by Dial's algorithm, and the faces that
+        are reached; `FAR` if no path has at most a weight of `most`, and maybe for faces farther than the nearest of some
+        goals."""
         embedding, weights = self.embedding, self.weights
         onward, face, corner, edge = embedding.onward, embedding.face, embedding.corner, embedding.edge
         buckets = [list({face[dart] for dart in embedding.around(vertex)})]
         distance = [FAR] * len(corner)
         for here in buckets[0]:
             distance[here] = 0
-        work = steps = 0
-        while steps < len(buckets) and min(map(distance.__getitem__, goals), default=FAR) > steps:
+        work, steps, end = 0, 0, min(most + 1, FIXED)
+        while steps < len(buckets) and steps < most and min(map(distance.__getitem__, goals), default=FAR) > steps:
             next_step = steps + 1
             for here in buckets[steps]:
                 if distance[here] < steps:
@@ -82,7 +89,7 @@ class Reinsertion:
                     other = face[dart ^ 1]
                     if distance[other] > next_step:
                         there = steps + weights[edge[dart >> 1]]
-                        if there < distance[other] and there < FIXED:
+                        if there < distance[other] and there < end:
                             distance[other] = there
                             while len(buckets) <= there:
                                 buckets.append([])
@@ -92,7 +99,7 @@ class Reinsertion:
                         break
             steps = next_step
         self.work += work
-        return distance
+        return distance, buckets
 
     def path(self, distance: list[int], to: int) -> list[int]:
         """Return the darts that a shortest path to a face crosses, from its start on, chosen at random among the shortest."""
@@ -129,7 +136,7 @@ class Reinsertion:
         embedding = self.embedding
         tail, head = embedding.ends[edge]
         goals = sorted({embedding.face[dart] for dart in embedding.around(head)})
-        distance = self.distances(tail, goals)
+        distance, _ = self.distances(tail, goals)
         least = min(distance[goal] for goal in goals)
         goal = one_of([goal for goal in goals if distance[goal] == least], self.dice)
         crossed = self.path(distance, goal)
@@ -161,25 +168,28 @@ class Reinsertion:
 
     def move_vertex(self, vertex: int) -> None:
         """Remove a vertex with its edges and put it back."""
-        edges = self.embedding.edges_at[vertex]
+        edges, before = self.embedding.edges_at[vertex], self.cost
         for edge in edges:
             self.take(edge)
-        self.put_vertex(vertex, edges)
+        self.put_vertex(vertex, edges, before - self.cost)
 
-    def put_vertex(self, vertex: int, edges: Sequence[int]) -> None:
-        """Insert a vertex with these of its edges, whose other ends have further edges."""
-        totals: list[int] = [0] * len(self.embedding.corner)
-        near: list[list[int]] = []
+    def put_vertex(self, vertex: int, edges: Sequence[int], most: int = FAR) -> None:
+        """Insert a vertex with these of its edges, whose other ends have further edges, where this costs at most `most`."""
+        places, totals, least = list[int](), list[int](), 0
+        first: list[int] = []
         for edge in edges:
-            tail, head = self.embedding.ends[edge]
-            distance = self.distances(head if tail == vertex else tail)
-            near.append(distance)
             weight = self.weights[edge]
-            totals = [total + weight * far for total, far in zip(totals, distance)]
-        least = min(totals)
-        places = [face for face, total in enumerate(totals) if total == least]
-        face = places[int(self.dice.random() * len(places))]
-        self.put_at(edges[0], vertex, face, near[0])
+            distance, reached = self.distances(sum(self.embedding.ends[edge]) - vertex, (), (most - least) // weight)
+            if not first:
+                first, places = distance, sorted({face for faces in reached for face in faces})
+                totals = [0] * len(places)
+            totals = [total + weight * distance[face] for total, face in zip(totals, places)]
+            least = min(totals)
+            if most < FAR:
+                places = [face for face, total in zip(places, totals) if total <= most]
+                totals = [total for total in totals if total <= most]
+        places = [face for face, total in zip(places, totals) if total == least]
+        self.put_at(edges[0], vertex, places[int(self.dice.random() * len(places))], first)
         for edge in edges[1:]:
             self.put(edge)
 
