@@ -13,7 +13,7 @@ from collections.abc import Iterable, Sequence
 from typing import Any
 
 from planarbend.drawing.core import Core, core_of
-from planarbend.drawing.incremental import incremental_embedding
+from planarbend.drawing.incremental import fold, incremental_embedding
 from planarbend.graph import Partition
 from planarbend.drawing.planarization import LinkedEmbedding, Planarization
 from planarbend.drawing.reinsert import FIXED, Reinsertion
@@ -257,26 +257,31 @@ class _Starts:
         for edge in order:
             pair = self.core.ends[edge]
             (kept if parts.unite(*pair) else rest).append(pair)
-        embedding = self._test(kept)
-        assert embedding is not None, "a tree is planar"
         waiting = [rest]
         for _ in range(MOST_TESTS):
             if not waiting:
                 break
             some = waiting.pop()
-            larger = self._test(kept + some)
-            if larger is not None:
-                embedding = larger
+            if self._test(kept + some):
                 kept += some
             elif len(some) > 1:
                 middle = len(some) // 2
                 waiting += (some[middle:], some[:middle])
+        embedding = _planar(len(self.core.vertices), kept)
+        assert embedding is not None, "the tested part is planar"
         return embedding
 
-    def _test(self, pairs: list[Pair]) -> list[list[int]] | None:
-        """Return an embedding of edges of the core, or `None`."""
+    def _test(self, pairs: list[Pair]) -> bool:
+        """Return whether edges of the core, which connect it, make a planar graph."""
+        joined: list[set[int]] = [set() for _ in self.core.vertices]
+        for tail, head in pairs:
+            joined[tail].add(head)
+            joined[head].add(tail)
+        fold(joined)
+        number = {vertex: place for place, vertex in enumerate(vertex for vertex, others in enumerate(joined) if others)}
+        rest = [(place, number[other]) for vertex, place in number.items() for other in joined[vertex] if vertex < other]
         self.work += TEST * len(pairs)
-        return _planar(len(self.core.vertices), pairs)
+        return not rest or _planar(len(number), rest) is not None
 
 
 def _least(core: Core, effort: int, seed: int, limit: int) -> LinkedEmbedding:

@@ -67,16 +67,18 @@ class Reinsertion:
 
     # Distances
 
-    def distances(self, vertex: int, goals: Sequence[int] = (), most: int = FAR) -> tuple[list[int], list[list[int]]]:
+    def distances(self, vertex: int, goals: Sequence[int] = (), most: int = FAR, near: Sequence[int] = (), sum_most: int = FAR
+                  ) -> tuple[list[int], list[list[int]]]:
         """Return for each face the weight of the edges to cross from a vertex to it, by Dial's algorithm, and the faces that
-        are reached; `FAR` if no path has at most a weight of `most`, and maybe for faces farther than the nearest of some
-        goals."""
+        are reached; `FAR` if there is no path, and maybe for faces farther than the nearest of some goals, farther than
+        `most`, or with a sum above `sum_most` of this distance and that of `near`, there or on each shortest path."""
         embedding, weights = self.embedding, self.weights
         onward, face, corner, edge = embedding.onward, embedding.face, embedding.corner, embedding.edge
         buckets = [list({face[dart] for dart in embedding.around(vertex)})]
         distance = [FAR] * len(corner)
         for here in buckets[0]:
             distance[here] = 0
+        near = near or [0] * len(corner)
         work, steps, end = 0, 0, min(most + 1, FIXED)
         while steps < len(buckets) and steps < most and min(map(distance.__getitem__, goals), default=FAR) > steps:
             next_step = steps + 1
@@ -89,7 +91,7 @@ class Reinsertion:
                     other = face[dart ^ 1]
                     if distance[other] > next_step:
                         there = steps + weights[edge[dart >> 1]]
-                        if there < distance[other] and there < end:
+                        if there < distance[other] and there < end and near[other] + there <= sum_most:
                             distance[other] = there
                             while len(buckets) <= there:
                                 buckets.append([])
@@ -179,7 +181,11 @@ class Reinsertion:
         first: list[int] = []
         for edge in edges:
             weight = self.weights[edge]
-            distance, reached = self.distances(sum(self.embedding.ends[edge]) - vertex, (), (most - least) // weight)
+            # On a shortest path to a place, no face is nearer to the ends of two edges together than the place is.
+            lighter = min(weight, self.weights[edges[0]])
+            near = first if lighter == self.weights[edges[0]] else ()
+            distance, reached = self.distances(sum(self.embedding.ends[edge]) - vertex, (), (most - least) // weight, near,
+                                               most // lighter)
             if not first:
                 first, places = distance, sorted({face for faces in reached for face in faces})
                 totals = [0] * len(places)
