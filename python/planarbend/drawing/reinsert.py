@@ -2,7 +2,8 @@
 
 An edge goes back along a shortest path of the dual graph (Gutwenger and Mutzel 2004, with the embedding as it is), a vertex
 into the face from which the sum of such paths to its neighbours is least (after Clancy, Haythorpe and Newcombe 2019). Neither
-ever adds a crossing. Where several places are equally good, one is chosen at random, which lets the embedding drift.
+ever adds a crossing, so no face is searched from which the sum would be above that at the vertex's old place: on a shortest path
+to a better place, each face has a sum of distances from two neighbours of the same weight that is at most the place's. Where several places are equally good, one is chosen at random, which lets the embedding drift.
 
 Work is counted in darts that a search of the dual graph passes, not in seconds, so the same seed gives the same embedding.
 """
@@ -176,24 +177,22 @@ class Reinsertion:
         self.put_vertex(vertex, edges, before - self.cost)
 
     def put_vertex(self, vertex: int, edges: Sequence[int], most: int = FAR) -> None:
-        """Insert a vertex with these of its edges, whose other ends have further edges, where this costs at most `most`."""
-        places, totals, least = list[int](), list[int](), 0
-        first: list[int] = []
+        """Insert a vertex with these of its edges, whose other ends have further edges, where this costs at most `most`, the cost
+        at its place before."""
+        embedding, weights = self.embedding, self.weights
+        first, places, totals, least = list[int](), list[int](), list[int](), 0
         for edge in edges:
-            weight = self.weights[edge]
-            # On a shortest path to a place, no face is nearer to the ends of two edges together than the place is.
-            lighter = min(weight, self.weights[edges[0]])
-            near = first if lighter == self.weights[edges[0]] else ()
-            distance, reached = self.distances(sum(self.embedding.ends[edge]) - vertex, (), (most - least) // weight, near,
+            lighter = min(weights[edge], weights[edges[0]])
+            near = first if lighter == weights[edges[0]] else ()
+            distance, reached = self.distances(sum(embedding.ends[edge]) - vertex, (), (most - least) // weights[edge], near,
                                                most // lighter)
             if not first:
                 first, places = distance, sorted({face for faces in reached for face in faces})
                 totals = [0] * len(places)
-            totals = [total + weight * distance[face] for total, face in zip(totals, places)]
+            totals = [total + weights[edge] * distance[face] for total, face in zip(totals, places)]
             least = min(totals)
-            if most < FAR:
-                places = [face for face, total in zip(places, totals) if total <= most]
-                totals = [total for total in totals if total <= most]
+            places = [face for face, total in zip(places, totals) if total <= most]
+            totals = [total for total in totals if total <= most]
         places = [face for face, total in zip(places, totals) if total == least]
         self.put_at(edges[0], vertex, places[int(self.dice.random() * len(places))], first)
         for edge in edges[1:]:
