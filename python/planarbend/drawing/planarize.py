@@ -24,7 +24,7 @@ STARTS = 8  # first embeddings that are improved, for each unit of effort
 PATIENCE = 2  # consecutive rounds without success after which an embedding is left as it is
 WORK = 12_000_000  # darts to pass for each block and unit of effort (about ten seconds), after which the search ends
 EASY = 25_000  # darts to pass in search of as few crossings as Euler's formula requires
-TEST = 64  # work of a planarity test for each edge, in darts
+TEST = 64  # work of a planarity test for each edge that is left when vertices of degree 1 and 2 are folded away, in darts
 HOPELESS = 6  # a first embedding may have this many times the allowed crossings: improving it divides them by three at most
 MOST_TESTS = 100  # planarity tests for one first embedding
 
@@ -280,7 +280,7 @@ class _Starts:
         fold(joined)
         number = {vertex: place for place, vertex in enumerate(vertex for vertex, others in enumerate(joined) if others)}
         rest = [(place, number[other]) for vertex, place in number.items() for other in joined[vertex] if vertex < other]
-        self.work += TEST * len(pairs)
+        self.work += TEST * len(rest)
         return not rest or _planar(len(number), rest) is not None
 
 
