@@ -2,8 +2,10 @@
 
 An edge goes back along a shortest path of the dual graph (Gutwenger and Mutzel 2004, with the embedding as it is), a vertex
 into the face from which the sum of such paths to its neighbours is least (after Clancy, Haythorpe and Newcombe 2019). Neither
-ever adds a crossing, so no face is searched from which the sum would be above that at the vertex's old place: on a shortest path
-to a better place, each face has a sum of distances from two neighbours of the same weight that is at most the place's. Where several places are equally good, one is chosen at random, which lets the embedding drift.
+ever adds a crossing. Where several places are equally good, one is chosen at random, which lets the embedding drift.
+
+A vertex came from a place where the sum was known, so faces with a greater one are no places for it. Nor does a shortest path
+to a place pass a face whose distances from two neighbours add up to more, if their edges have the same weight.
 
 Work is counted in darts that a search of the dual graph passes, not in seconds, so the same seed gives the same embedding.
 """
@@ -177,8 +179,8 @@ class Reinsertion:
         self.put_vertex(vertex, edges, before - self.cost)
 
     def put_vertex(self, vertex: int, edges: Sequence[int], most: int = FAR) -> None:
-        """Insert a vertex with these of its edges, whose other ends have further edges, where this costs at most `most`, the cost
-        at its place before."""
+        """Insert a vertex with these of its edges, whose other ends have further edges, where this costs least: at most `most`,
+        which is known to be possible."""
         embedding, weights = self.embedding, self.weights
         first, places, totals, least = list[int](), list[int](), list[int](), 0
         for edge in edges:
