@@ -233,6 +233,15 @@ class Planarized(unittest.TestCase):
         result = self.checked(26, five + moved + apart + [(0, 10), (10, 11)])
         self.assertEqual(result.crossings, 3)
 
+    def test_cuts(self) -> None:
+        """Vertices without edges, vertices of degree 1 and blocks with a common vertex beside a block with many crossings."""
+        eight = [(tail, head) for head in range(8) for tail in range(head)]  # 18 crossings
+        moved = [(tail + 7, head + 7) for tail, head in eight]
+        for count, edges, known in ((9, eight, 18), (9, [*eight, (0, 8)], 18), (9, [*eight, (8, 3)], 18), (10, [*eight, (8, 9)], 18),
+                                    (15, eight + moved, 36)):
+            with self.subTest(count=count, edges=len(edges)):
+                self.assertEqual(self.checked(count, edges).crossings, known)
+
     def test_many_edges(self) -> None:
         """Loops, parallel edges and chains beside them; crossing a bundle costs each of its edges."""
         five = [(tail, head) for tail in range(5) for head in range(tail)]

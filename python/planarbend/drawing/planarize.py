@@ -114,11 +114,12 @@ def needed_crossings(vertex_count: int, edges: Sequence[Pair]) -> int:
 
 def _certainly_least(vertex_count: int, ends: Sequence[Pair], seed: int) -> Planarization | None:
     """Return an embedding with as many crossings as Euler's formula requires, so that no other has fewer, of a graph that is
-    not planar; `None` if a short search finds none, or there are parallel edges."""
+    not planar; `None` if a short search finds none, or there are parallel edges, or a vertex that would leave others without
+    edges, or parts of the graph apart, if it were moved."""
     if len(set(map(frozenset, ends))) < len(ends):
         return None
     least = needed_by_cycles(vertex_count, ends)
-    if not least:
+    if not least or _has_cuts(vertex_count, ends):
         return None
     dice, work = random.Random(seed + 1), 0  # other choices than `choose` makes
     while work < EASY:
@@ -195,6 +196,14 @@ def _planar(vertex_count: int, ends: Iterable[Pair]) -> list[list[int]] | None:
     if embedding is None:
         return None
     return [list(embedding.neighbors_cw_order(vertex)) if embedding.degree(vertex) else [] for vertex in range(vertex_count)]
+
+
+def _has_cuts(vertex_count: int, ends: Sequence[Pair]) -> bool:
+    """Return whether a graph has a cut vertex, or a vertex of degree 0 or 1."""
+    import networkx
+
+    graph = _graph(vertex_count, ends)
+    return min(len(graph[vertex]) for vertex in graph) < 2 or any(True for _ in networkx.articulation_points(graph))
 
 
 def _blocks(vertex_count: int, ends: Sequence[Pair]) -> list[list[int]]:
