@@ -25,6 +25,7 @@ PATIENCE = 2  # consecutive rounds without success after which an embedding is l
 WORK = 12_000_000  # darts to pass for each block and unit of effort (about ten seconds), after which the search ends
 EASY = 25_000  # darts to pass in search of as few crossings as Euler's formula requires
 TEST = 64  # work of a planarity test for each edge that is left when vertices of degree 1 and 2 are folded away, in darts
+LEAST_EDGES = 9  # of a graph that is not planar
 HOPELESS = 6  # a first embedding may have this many times the allowed crossings: improving it divides them by three at most
 MOST_TESTS = 100  # planarity tests for one first embedding
 
@@ -91,7 +92,7 @@ def _planarized(vertex_count: int, ends: list[Pair], together: list[int], effort
     crossed: list[list[int]] = [[] for _ in ends]
     made = 0
     for block in _blocks(count, ends):
-        if _planar(count, [ends[edge] for edge in block]) is None:
+        if len(block) >= LEAST_EDGES and _planar(count, [ends[edge] for edge in block]) is None:
             core = core_of(block, ends, weights, FIXED)
             made = _unfold(core, _least(core, effort, seed, limit - made), crossed, made)
     result = _embedded(vertex_count, count, ends, crossed)
