@@ -95,6 +95,18 @@ class Room(unittest.TestCase):
                     check(drawing)
                     self.look_at(drawing)
 
+    def test_labels_of_loops(self) -> None:
+        """They keep their distance from all other boxes, also from those beside their own."""
+        for seed in range(12):
+            dice = random.Random(seed)
+            count = dice.randrange(2, 6)
+            edges = [Edge(dice.randrange(vertex), vertex) for vertex in range(1, count)]
+            edges += [Edge(vertex, vertex, "label\nx") for vertex in range(count) for _ in range(dice.randrange(4))]
+            drawing = drawing_of(Graph([Vertex(str(vertex), str(vertex)) for vertex in range(count)], edges), effort=0)
+            with self.subTest(seed=seed):
+                check(drawing)
+                self.look_at(drawing)
+
     def look_at(self, drawing: dict[str, Any]) -> None:
         """Looks at the room between all items but those that belong together."""
         part = components_of(drawing)
