@@ -16,7 +16,7 @@ FONT, HEIGHT = 10, 12  # pixels
 AWAY = 3.0  # pixels, from the line to which a name belongs
 ROOM = 2.0  # pixels, from everything else
 STEP = 12.0  # pixels, between the places that are tried along a line
-NARROW = 12.0  # pixels: in a box that is no higher the trunk is straight with one of its ends
+NARROW = 12.0  # pixels: in a lower box the trunk is straight with one of its ends
 
 if TYPE_CHECKING:
     from planarbend.drawing.drawn import Box, Drawing, Point

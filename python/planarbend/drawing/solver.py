@@ -2,7 +2,6 @@
 from __future__ import annotations
 
 import math
-
 from collections.abc import Sequence
 
 BLOCK = 24  # tree edges that are compared before the best of them leaves
