@@ -2,6 +2,7 @@
 The library and the program give the same, field by field."""
 from __future__ import annotations
 
+import contextlib
 import functools
 import itertools
 import json
@@ -160,15 +161,33 @@ class Library(unittest.TestCase):
             for record, rule in (({1: [1]}, "loop"), ({1: [2], 2: []}, "asymmetric"), ({1: []}, "edgeless"),
                                  ({1: [2], 2: [1], 3: [4], 4: [3]}, "disconnected"), ({1: [2, 2], 2: [1, 1]}, "multi"),
                                  ({0: [1, 2, 3, 4, 5], **{leaf: [0] for leaf in range(1, 6)}}, "degree")):
-                with self.assertRaisesRegex(planarbend.GraphRefused, f"^graph 1: refused {rule}$") as refused:
+                with self.assertRaisesRegex(planarbend.GraphRefused, f"^graph 1: refused {rule}: ") as refused:
                     planarbend.layout_of(record)
                 self.assertEqual(refused.exception.rule, rule)
+
+    def test_what_breaks_a_rule(self) -> None:
+        """By hand: the torus has 4 vertices, 6 edges and 2 faces."""
+        torus = {"a": "bcd", "b": "acd", "c": "abd", "d": "abc"}
+        for graph, what, vertices in (
+                ({"a": "a"}, "loop: vertex 'a' is its own neighbour", "a"),
+                ({"a": "bb", "b": "aa"}, "multi: 'b' is 2 times in the list of 'a'", "ab"),
+                ({"a": "bc", "b": "ac", "c": "b"}, "asymmetric: 'c' is in the list of 'a', 'a' is not in that of 'c'", "ac"),
+                ({"a": "", "b": ""}, "edgeless: 2 vertices without a neighbour", ""),
+                ({"a": "bcdef", **{leaf: "a" for leaf in "bcdef"}}, "degree: vertex 'a' has 5 neighbours", "a"),
+                ({"a": "b", "b": "a", "c": "d", "d": "c"}, "disconnected: no path joins 'a' and 'c'", "ac"),
+                (torus, "genus: 4 vertices - 6 edges \\+ 2 faces is 0, and not 2", ""),
+                (planarbend.Record.read(bytes([2, 2, 0, 3, 0])), "range: vertex 2 has the neighbour 3, and the last vertex is 2",
+                 (2,))):
+            for library_or_program in (calling(library.path()), contextlib.nullcontext()):
+                with library_or_program, self.assertRaisesRegex(planarbend.GraphRefused, f"^graph 1: refused {what}$") as found:
+                    planarbend.layout_of(graph)
+                self.assertEqual(found.exception.vertices, tuple(vertices))
 
     def test_the_stream_goes_on_after_a_graph_that_is_refused(self) -> None:
         edge = {"a": ["b"], "b": ["a"]}
         with calling(library.path()), planarbend.layouts([edge, {"a": []}, edge]) as found:
             self.assertEqual(next(found).number, 1)
-            with self.assertRaisesRegex(planarbend.GraphRefused, "^graph 2: refused edgeless$"):
+            with self.assertRaisesRegex(planarbend.GraphRefused, "^graph 2: refused edgeless: vertex 'a' has no neighbour$"):
                 next(found)
             self.assertEqual(next(found).number, 3)
             self.assertEqual(list(found), [])
@@ -274,7 +293,7 @@ class StandIn(unittest.TestCase):
         words = ("range", "loop", "multi", "asymmetric", "edgeless", "degree", "disconnected", "genus")
         with calling(self.path):
             for result, word in enumerate(words, 1):
-                with self.assertRaisesRegex(planarbend.GraphRefused, f"^graph 1: refused {word}$"):
+                with self.assertRaisesRegex(planarbend.GraphRefused, f"^graph 1: refused {word}(: |$)"):
                     planarbend.layout_of(planarbend.Record((1,), [[result]]))
                 self.assertEqual(list(library.Library().bends([bytes([1, result, 0])])), [None])
             with self.assertRaisesRegex(ValueError, "not one record"):

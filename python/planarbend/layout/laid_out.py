@@ -24,6 +24,7 @@ from typing import Any
 from planarbend.layout import library
 from planarbend.layout.embedding import Embedding
 from planarbend.layout.engine import Answer, Refusal, Representation, points_of
+from planarbend.layout.faults import fault_of
 from planarbend.layout.planar_code import HEADER, MOST_NEIGHBOURS, MOST_RECORDS, MOST_VERTICES, Lists, lists_of, record_of
 from planarbend.programs import NoProgram, PlanarbendError, RunFailed, program
 from planarbend.layout.reports import NoLine, json_line
@@ -42,12 +43,13 @@ class GraphError(PlanarbendError):
 
 
 class GraphRefused(GraphError):
-    """The graph breaks a rule: `rule` is its word in docs/FORMAT.md."""
+    """The graph breaks a rule: `rule` is its word in docs/FORMAT.md, `what` says what breaks it, and `vertices` are those that
+    `what` names."""
 
-    def __init__(self, number: int, rule: str) -> None:
+    def __init__(self, number: int, rule: str, what: str = "", vertices: tuple[Vertex, ...] = ()) -> None:
         """Return the error of a graph."""
-        super().__init__(number, f"refused {rule}")
-        self.rule = rule
+        super().__init__(number, f"refused {rule}{what and ': '}{what}")
+        self.rule, self.what, self.vertices = rule, what, vertices
 
 
 class GraphUndrawn(GraphError):
@@ -151,7 +153,8 @@ class Layout:
         """Return the layout of a record, or raise a `GraphError` if the answer is a refusal."""
         if isinstance(answer, Refusal):
             if answer.status == "refused":
-                raise GraphRefused(number, answer.word)
+                what, which = fault_of(answer.word, record.names, record.lists)
+                raise GraphRefused(number, answer.word, what, tuple(record.names[vertex] for vertex in which))
             raise GraphUndrawn(number, answer.word) if answer.status == "undrawn" else GraphLost(number)
         assert answer.representation is not None, "it was asked for"
         embedding, names = Embedding.of(record.lists), record.names
