@@ -11,7 +11,10 @@ from planarbend.drawing.drawn import Drawing
 from planarbend.layout.engine import Engine, ProcessEngine, default_engine
 from planarbend.graph import Graph, Kind, split
 from planarbend.programs import SCRIPT, PlanarbendError
-from planarbend.drawing.picture import CONVERTED, NoConverter, check_output, svg, write_picture
+from planarbend.drawing.picture import CONVERTED, WRITTEN, NoConverter, check_output, svg, write_picture
+from planarbend.drawing.themes import THEMES
+from planarbend.layout.planar_code import HEADER
+from planarbend.progress import Progress
 from planarbend.readers import FORMS, ReadError, read
 
 ABOUT = "Draws a graph along horizontal and vertical lines with few bends and few crossings, which are right angles."
@@ -22,7 +25,8 @@ examples:
   planarbend-draw board.kicad_pcb -o board.png --split GND,VCC
 
 GRAPH is a list of connections, one or more per line (`antenna -- tuner -> mixer`, or two words); DOT, GraphML, GML,
-node-link JSON or graph6; or a KiCad netlist or board. The content determines the format, unless --format is given.
+node-link JSON or graph6; a KiCad netlist or board; or planar_code, of which each graph is drawn as it is embedded
+(then --outer takes first or best, and shades the outer face). The content determines the format, unless --format is given.
 
 networkx (Debian: python3-networkx) tests which graphs are planar, and reads GraphML, GML and graph6. DOT is read by
 Graphviz (graphviz). rsvg-convert (librsvg2-bin) makes PNG and PDF. Layouts are computed by libplanarbend of this
@@ -30,9 +34,11 @@ checkout or the system; or by the program planarbend: the one that PLANARBEND na
 on the path.
 
 exit status: 0; 1 if the graph cannot be read or drawn (standard error says why, and nothing is written); 2 if the
-command line is wrong
+command line is wrong; 3 if a page was written, but its planar_code does not end complete
 """
-ENDINGS = (".svg", ".json", ".pc", *CONVERTED)
+ENDINGS = (".svg", ".json", ".pc", ".html", *CONVERTED, *WRITTEN)
+INCOMPLETE = 3  # exit status
+TAKES_PLANAR_CODE = (".svg", ".html", *CONVERTED)
 
 
 class Help(argparse.RawDescriptionHelpFormatter):
@@ -53,8 +59,9 @@ def command_line() -> argparse.Namespace:
     parser = argparse.ArgumentParser(description=ABOUT, epilog=TEXT, formatter_class=Help)
     parser.add_argument("graph", metavar="GRAPH", help="the file, or - for standard input")
     parser.add_argument("-o", "--output", metavar="OUT", required=True,
-                        help="a picture (.svg, .png, .pdf); the drawing's points for other programs (.json); the embedding"
-                             " with its crossings as planar_code (.pc); or - for SVG on standard output")
+                        help="a picture (.svg, .png, .pdf); of planar_code an HTML page of all graphs (.html); the"
+                             " drawing's points for other programs (.json, .graphml, .gml, .gv); the embedding with its crossings"
+                             " as planar_code (.pc); or - for SVG on standard output")
     parser.add_argument("--format", choices=FORMS, help="the format of GRAPH (default: by its content)")
     parser.add_argument("--outer", metavar="NAMES", help="put these vertices on the outer face; commas separate names")
     parser.add_argument("--straight", metavar="NAME--NAME", action="append", default=[],
@@ -67,14 +74,31 @@ def command_line() -> argparse.Namespace:
     parser.add_argument("--seed", metavar="N", type=int, default=0,
                         help="seed of the random choices: the same seed gives the same drawing (default 0)")
     parser.add_argument("--scale", metavar="N", type=float, default=1.0, help="scale of a PNG; 1 is 96 dots per inch")
+    parser.add_argument("--theme", choices=THEMES, default="light",
+                        help="colours where GRAPH says none: light, dark, or as the reader's system is set (auto, SVG only)")
+    parser.add_argument("--graphs", metavar="LIST", type=numbers,
+                        help="of planar_code, draw these graphs in a grid or on a page, such as 1-12 (default: the first; on a"
+                             " page all)")
     words = parser.parse_args()
+    check_words(parser, words)
+    return words
+
+
+def numbers(word: str) -> list[int]:
+    """Return the numbers of a list such as 1-12."""
+    from planarbend.tools.svg import numbers_of  # slow to load
+
+    return numbers_of(word)
+
+
+def check_words(parser: argparse.ArgumentParser, words: argparse.Namespace) -> None:
+    """Check the arguments; end with the status 2 if one is wrong."""
     if os.path.splitext(words.output)[1] not in ENDINGS and words.output != "-":
         parser.error(f"OUT must end with {', '.join(ENDINGS)}")
     if not 0.1 <= words.scale <= 20:
         parser.error("--scale must be 0.1 to 20")
     if not 0 <= words.effort <= 100:
         parser.error("--effort must be 0 to 100")
-    return words
 
 
 def named(graph: Graph, names: str) -> list[int]:
@@ -117,17 +141,53 @@ def to_split(graph: Graph, which: str) -> list[int]:
             if degree[number] > int(which) and (vertex.kind is Kind.NET or not is_circuit)]
 
 
-def write(drawing: Drawing, path: str, scale: float) -> None:
+def write(drawing: Drawing, path: str, scale: float, theme: str) -> None:
     """Write a drawing in the format of the file's extension."""
     if path == "-":
-        sys.stdout.write(svg(drawing))
+        sys.stdout.write(svg(drawing, theme))
         sys.stdout.flush()
-    elif path.endswith((".json", ".pc")):
-        data = drawing.planar_code() if path.endswith(".pc") else (drawing.json() + "\n").encode()
+    elif path.endswith((".json", ".pc", *WRITTEN)):
+        ending = os.path.splitext(path)[1]
+        data = drawing.planar_code() if ending == ".pc" else drawing.text(WRITTEN.get(ending, "json")).encode()
         with open(path, "wb") as out:
             out.write(data)
     else:
-        write_picture(svg(drawing), path, scale)
+        write_picture(svg(drawing, theme), path, scale)
+
+
+def draw_embedded(data: bytes, words: argparse.Namespace) -> int:
+    """Return the exit status after drawing graphs of planar_code as they are embedded."""
+    from planarbend.tools.embedded import embedded_text
+
+    ending = os.path.splitext(words.output)[1]
+    if words.output != "-" and ending not in TAKES_PLANAR_CODE:
+        raise DrawError(f"planar_code is drawn as {', '.join(TAKES_PLANAR_CODE)}, not as {ending}")
+    text, end = embedded_text(data, words.graph, words.graphs, words.outer, ending == ".html")
+    if words.output == "-":
+        sys.stdout.write(text)
+        sys.stdout.flush()
+    else:
+        write_picture(text, words.output, words.scale)
+    if end != "complete":
+        print(f"planarbend-draw: {words.graph} ends {end}, so graphs may be missing", file=sys.stderr)
+    return 0 if end == "complete" else INCOMPLETE
+
+
+def draw_graph(data: bytes, words: argparse.Namespace) -> int:
+    """Return the exit status after drawing a graph."""
+    if words.graphs or words.output.endswith(".html"):
+        raise DrawError(f"{words.graph}: {'--graphs' if words.graphs else 'an HTML page'} needs planar_code")
+    graph = read(data, words.graph, words.format)
+    if words.split:
+        graph = split(graph, to_split(graph, words.split))
+    outer = named(graph, words.outer) if words.outer else ()
+    straight = [edge for names in words.straight for edge in between(graph, names)]
+    for warning in graph.looks.warnings:
+        print(f"planarbend-draw: {words.graph}: {warning}", file=sys.stderr)
+    with Progress("planarbend-draw"):
+        drawing = draw(graph, Options(outer, words.compact, words.effort, words.seed, straight), engine_of())
+    write(drawing, words.output, words.scale, words.theme)
+    return 0
 
 
 def engine_of() -> Engine:
@@ -146,19 +206,12 @@ def run() -> int:
         if words.output != "-":
             check_output(words.output)
         with sys.stdin.buffer if words.graph == "-" else open(words.graph, "rb") as source:
-            graph = read(source.read(), words.graph, words.format)
-        if words.split:
-            graph = split(graph, to_split(graph, words.split))
-        outer = named(graph, words.outer) if words.outer else ()
-        straight = [edge for names in words.straight for edge in between(graph, names)]
-        drawing = draw(graph, Options(outer, words.compact, words.effort, words.seed, straight), engine_of())
-        write(drawing, words.output, words.scale)
+            data = source.read()
+        return draw_embedded(data, words) if data.startswith(HEADER) and not words.format else draw_graph(data, words)
     except (ReadError, DrawError, PlanarbendError, NoConverter) as fault:
         print(f"planarbend-draw: {fault}", file=sys.stderr)
     except ModuleNotFoundError as error:
         print(f"planarbend-draw: needs the Python library {error.name} (Debian: python3-{error.name})", file=sys.stderr)
     except OSError as error:
         print(f"planarbend-draw: {error.filename or words.output}: {error.strerror}", file=sys.stderr)
-    else:
-        return 0
     return 1

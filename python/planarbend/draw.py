@@ -19,6 +19,7 @@ from planarbend.graph import Edge, Graph, Partition
 from planarbend.layout.engine import Engine, default_engine
 from planarbend.layout.planar_code import MOST_VERTICES
 from planarbend.programs import PlanarbendError
+from planarbend.progress import stage
 
 MARGIN = 10.0  # pixels around the whole
 BETWEEN = 18.0  # pixels between components
@@ -65,7 +66,12 @@ def draw(graph: Graph, options: Options = Options(), engine: Engine | None = Non
     """
     engine = engine or default_engine()
     check_straight(graph, options, engine)
-    return side_by_side(graph, [part_of(graph, vertices, edges, options, engine) for vertices, edges in components_of(graph)])
+    components, parts = components_of(graph), []
+    for place, (vertices, edges) in enumerate(components, 1):
+        stage(f"component {place} of {len(components)}: {len(vertices)} vertices, {len(edges)} edges")
+        parts.append(part_of(graph, vertices, edges, options, engine))
+    stage("writing")
+    return side_by_side(graph, parts)
 
 
 def check_straight(graph: Graph, options: Options, engine: Engine) -> None:
@@ -97,7 +103,8 @@ def part_of(graph: Graph, vertices: list[int], edges: list[int], options: Option
     number = {vertex: place for place, vertex in enumerate(vertices)}
     chosen = [graph.edges[edge] for edge in edges]
     inner = Graph([graph.vertices[vertex] for vertex in vertices],
-                  [Edge(number[edge.tail], number[edge.head], edge.label, edge.arrow) for edge in chosen], graph.directed)
+                  [Edge(number[edge.tail], number[edge.head], edge.label, edge.arrow) for edge in chosen], graph.directed,
+                  graph.looks.part(vertices, edges))
     options = dataclasses.replace(options, outer=[number[vertex] for vertex in options.outer if vertex in number],
                                   straight=[place for place, edge in enumerate(edges) if edge in options.straight])
     if all(edge.tail == edge.head for edge in chosen):
@@ -138,6 +145,8 @@ def embedded(graph: Graph, options: Options, attempt: int) -> Planarization:
     count, pairs = len(graph.vertices), [(edge.tail, edge.head) for edge in graph.edges]
     if count > MOST_VERTICES:
         raise DrawError(f"a component has {count} vertices; the limit is {MOST_VERTICES}")
+    more = f", embedding {attempt + 1}" if attempt else ""
+    stage(f"{count} vertices, {len(pairs)} edges: searching for few crossings{more}")
     order = random.Random(options.seed * MOST_EMBEDDINGS + attempt) if attempt else None
     try:
         return planarize(count, pairs, effort=options.effort, seed=options.seed, together=options.outer,
@@ -151,6 +160,7 @@ def embedded(graph: Graph, options: Options, attempt: int) -> Planarization:
 def shapes_of(planar: Planarization, graph: Graph, options: Options, engine: Engine) -> list[Shape]:
     """Return good shapes of an embedded component; raise a `DrawError` if it takes too many vertices, or no shape was found
     with all of `outer` on one face, or with straight edges."""
+    stage(f"{len(graph.vertices)} vertices, {len(graph.edges)} edges, {planar.crossings} crossings: searching for few bends")
     try:
         return choose(planar, engine, options)
     except TooLarge as fault:
@@ -205,6 +215,7 @@ def side_by_side(graph: Graph, parts: Sequence[Part]) -> Drawing:
     lines: list[list[Point]] = [[]] * len(graph.edges)
     crossings: list[Crossing] = []
     labels: dict[int, Box] = {}
+    end_labels: dict[tuple[int, bool], Box] = {}
     bounds = [part.sheet.bounds() for part in parts]
     places, width, height = packed([(right - left + BETWEEN, bottom - top + BETWEEN) for left, top, right, bottom in bounds])
     for part, box, (x, y) in zip(parts, bounds, places):
@@ -215,11 +226,14 @@ def side_by_side(graph: Graph, parts: Sequence[Part]) -> Drawing:
             lines[edge] = [point_at(point, corner, place) for point in sheet.line(number)]
         for number, item in sheet.labels.items():
             labels[edges[number]] = box_at(sheet.extent(item), corner, place)
+        for (number, is_head), item in sheet.end_labels.items():
+            end_labels[edges[number], is_head] = box_at(sheet.extent(item), corner, place)
         crossings += [Crossing(meeting(lines[edges[one]], lines[edges[other]]), (edges[one], edges[other]))
                       for one, other in crossings_of(sheet.shape)]
     size = (math.ceil(width - BETWEEN + 2 * MARGIN), math.ceil(height - BETWEEN + 2 * MARGIN))
     planars = (part.sheet.shape.expansion.planar for part in parts)
-    return Drawing(graph, boxes, lines, crossings, size, labels, [planar.lists for planar in planars if planar.tail])
+    return Drawing(graph, boxes, lines, crossings, size, labels, [planar.lists for planar in planars if planar.tail],
+                   end_labels)
 
 
 def point_at(point: Point, corner: Point, place: Point) -> Point:

@@ -9,6 +9,8 @@ import enum
 from collections.abc import Collection
 from dataclasses import dataclass, field
 
+from planarbend.style import Looks
+
 
 class Kind(enum.Enum):
     """The kind of a vertex, which determines how it is drawn."""
@@ -49,11 +51,12 @@ class Edge:
 
 @dataclass(slots=True)
 class Graph:
-    """A graph; `directed` is true if its file says that it is directed."""
+    """A graph; `directed` is true if its file says that it is directed, `looks` is what it says about the picture."""
 
     vertices: list[Vertex] = field(default_factory=list)
     edges: list[Edge] = field(default_factory=list)
     directed: bool = False
+    looks: Looks = field(default_factory=Looks)
 
 
 def split(graph: Graph, vertices: Collection[int]) -> Graph:
@@ -63,7 +66,8 @@ def split(graph: Graph, vertices: Collection[int]) -> Graph:
     after all vertices.
     """
     found = Graph([Vertex(one.name, one.label, Kind.FLAG if number in vertices else one.kind)
-                   for number, one in enumerate(graph.vertices)], [], graph.directed)
+                   for number, one in enumerate(graph.vertices)], [], graph.directed,
+                  dataclasses.replace(graph.looks, nodes=dict(graph.looks.nodes)))
     used: set[int] = set()
 
     def end(vertex: int) -> int:
@@ -71,6 +75,8 @@ def split(graph: Graph, vertices: Collection[int]) -> Graph:
         if vertex not in vertices or vertex not in used:
             used.add(vertex)
             return vertex
+        if vertex in graph.looks.nodes:
+            found.looks.nodes[len(found.vertices)] = graph.looks.nodes[vertex]
         found.vertices.append(dataclasses.replace(found.vertices[vertex]))
         return len(found.vertices) - 1
 

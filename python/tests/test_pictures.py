@@ -118,7 +118,8 @@ class Pictures(unittest.TestCase):
 
     def test_nothing_is_written_of_what_is_refused(self) -> None:
         out = self.folder / "refused.svg"
-        for text, said in (("a -- b -- ", ":1: a connection lacks a name"), (">>planar_code<<", "a planar_code file"),
+        for text, said in (("a -- b -- ", ":1: a connection lacks a name"),
+                           (">>planar_code<<", "record 1, which begins at byte 15, is truncated"),
                            ("\n".join(f"v{number} v{number + 1}" for number in range(300)), "255"),
                            ("graph { a -> b }", ":1: Graphviz: syntax error")):
             with self.subTest(text[:20]):

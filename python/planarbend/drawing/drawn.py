@@ -2,7 +2,7 @@
 from __future__ import annotations
 
 import json
-from dataclasses import dataclass
+from dataclasses import dataclass, field
 
 from planarbend.graph import Graph
 from planarbend.drawing.nets import net_labels
@@ -40,6 +40,8 @@ class Drawing:
     embedding : list of neighbour lists
         For each component with an edge its vertices in the graph's order, then its crossings, each with its neighbours counted
         from 1, clockwise. Loops are left out.
+    end_boxes : dict from (edge, whether at the head) to Box
+        The place of each label at an end of an edge.
     """
 
     graph: Graph
@@ -49,6 +51,7 @@ class Drawing:
     size: tuple[float, float]
     label_boxes: dict[int, Box]
     embedding: list[Lists]
+    end_boxes: dict[tuple[int, bool], Box] = field(default_factory=dict)
 
     @property
     def bends(self) -> int:
@@ -75,3 +78,16 @@ class Drawing:
                  "crossings": [{"at": list(one.at), "edges": list(one.edges)} for one in self.crossings],
                  "bends": self.bends, "size": list(self.size)}
         return json.dumps(found, ensure_ascii=False, separators=(",", ":"))
+
+    def text(self, form: str) -> str:
+        """Return the drawing as "svg", "dot", "graphml", "gml" or "json"."""
+        from importlib import import_module  # these modules use this one
+
+        if form == "json":
+            return self.json() + "\n"
+        write = getattr(import_module("planarbend.drawing." + ("picture" if form == "svg" else "files")), form)
+        return str(write(self))
+
+    def _repr_svg_(self) -> str:
+        """Return the SVG picture, which notebooks show."""
+        return self.text("svg")

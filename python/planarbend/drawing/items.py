@@ -13,12 +13,13 @@ from dataclasses import dataclass, field
 
 from planarbend.drawing.drawn import Box, Point
 from planarbend.drawing.shape import Shape
-from planarbend.drawing.texts import LINE_HEIGHT, lines_of, width_of
+from planarbend.drawing.symbols import INSET, inset_of, room
+from planarbend.drawing.texts import FONT, LINE_HEIGHT, lines_of, text_size, width_of
 from planarbend.graph import Graph, Kind, Partition
+from planarbend.style import NodeLook
 
 UNIT = 4096  # of the fine grid, to one of the shape's
 PAD = (6.0, 4.0)  # pixels between a name and the border of its box
-INSET = 6.0  # pixels from a corner of a box to a line at its side
 LEAST_SIDE = 22.0  # pixels, the width of a box
 LEAST_FLAG = 14.0  # pixels, the width of a flag
 LABEL_FONT = 10
@@ -79,6 +80,7 @@ class Sheet:
         self.axes = (Axis(), Axis())
         self.items: list[Item] = []
         self.boxes: list[Item] = []
+        self.end_labels: dict[tuple[int, bool], Item] = {}  # by edge, and whether it is at the head
         self.pieces: list[list[Item]] = []
         self.labels: dict[int, Item] = {}
         self.sides: Counter[tuple[int, int, bool]] = Counter()  # the lines at a box's sides: above, below, left, right
@@ -86,7 +88,8 @@ class Sheet:
         self.corners: dict[int, list[tuple[int, int]]] = {}  # of loops
         self.within: tuple[list[tuple[int, int, float]], ...] = ([], [])  # distances within boxes: from, to, at least
         self.at_box: tuple[dict[int, list[int]], ...] = ({}, {})  # for each box the coordinates of the pieces at its sides
-        self.sizes = [size_of(vertex.label, vertex.kind) for vertex in graph.vertices]  # the least ones
+        looks = graph.looks.nodes
+        self.sizes = [size_of(vertex.label, vertex.kind, looks.get(number)) for number, vertex in enumerate(graph.vertices)]
         for number, flat in enumerate(self._flat()):
             self._add_box(number, flat)
         for number, line in enumerate(shape.lines):
@@ -99,6 +102,10 @@ class Sheet:
         for number, edge in enumerate(graph.edges):
             if edge.label.strip():
                 self._add_label(number, edge.label)
+        for number, look in graph.looks.edges.items():
+            for is_head, text in ((False, look.tail_label), (True, look.head_label)):
+                if text.strip():
+                    self._add_end_label(number, is_head, text)
         self._unite()
 
     def _flat(self) -> list[list[int | None]]:
@@ -195,19 +202,21 @@ class Sheet:
             if box.low[axis] == box.high[axis]:
                 self.axes[axis].same.unite(box.low[axis], found)
                 continue
-            inset = self.inset(host)
+            inset = self.inset(host, axis)
             self.within[axis].extend([(box.low[axis], found, inset), (found, box.high[axis], inset)])
             self.at_box[axis].setdefault(host, []).append(found)
         return found
 
-    def inset(self, host: int) -> float:
-        """Return the distance from a corner of a box to a line at its side."""
-        return 0.0 if self.graph.vertices[host].kind is Kind.NET else INSET
+    def inset(self, host: int, axis: int) -> float:
+        """Return the distance along an axis from a corner of a box to a line at its side."""
+        if self.graph.vertices[host].kind is Kind.NET:
+            return 0.0
+        look = self.graph.looks.nodes.get(host)
+        return INSET if look is None else inset_of(look.outline, self.sizes[host])[axis]
 
     def _add_label(self, number: int, text: str) -> None:
         """Put a label on the piece of its edge that has the most room."""
-        lines = lines_of(text)
-        size = (max(width_of(line, LABEL_FONT) for line in lines) + 4, LABEL_HEIGHT * len(lines))
+        size = self._label_size(number, text)
         pieces = self.pieces[number]
 
         def room(place: int) -> tuple[float, int]:
@@ -230,6 +239,29 @@ class Sheet:
         item.owns, item.before, item.after = (True, True), [-size[0] / 2, -size[1] / 2], [size[0] / 2, size[1] / 2]
         self.labels[number] = item
         self.items.append(item)
+
+    def _add_end_label(self, number: int, is_head: bool, text: str) -> None:
+        """Put a label on the piece of an edge at its head or its tail, near the end."""
+        size, piece = self._label_size(number, text), self.pieces[number][-1 if is_head else 0]
+        across, running = piece.across, 1 - piece.across
+        first, last = piece.grid[running]
+        box = self.boxes[self.graph.edges[number].head if is_head else self.graph.edges[number].tail]
+        is_at_last = piece.high[running] in (box.low[running], box.high[running])
+        middle = last - (last - first) / 8 if is_at_last else first + (last - first) / 8
+        place = self.axes[running].add(middle)
+        item = item_at(LABEL, across, (piece.low[across], piece.grid[across][0]), (place, middle), (place, middle),
+                       [-1 - number - (1 + is_head) * len(self.graph.edges)])
+        item.owns, item.before, item.after = (True, True), [-size[0] / 2, -size[1] / 2], [size[0] / 2, size[1] / 2]
+        self.end_labels[number, is_head] = item
+        self.items.append(item)
+
+    def _label_size(self, number: int, text: str) -> tuple[float, float]:
+        """Return the size of a label of an edge."""
+        lines, look = lines_of(text), self.graph.looks.edges.get(number)
+        if look is None:
+            return max(width_of(line, LABEL_FONT) for line in lines) + 4, LABEL_HEIGHT * len(lines)
+        width, height = text_size(lines, look.font, LABEL_FONT, LABEL_HEIGHT)
+        return width + 4, height
 
     def _unite(self) -> None:
         """Replace each coordinate by its representative number."""
@@ -279,11 +311,14 @@ class Sheet:
         return found
 
 
-def size_of(label: str, kind: Kind) -> tuple[float, float]:
+def size_of(label: str, kind: Kind, look: NodeLook | None = None) -> tuple[float, float]:
     """Return the least width and height of a box."""
     if kind is Kind.NET:
         return 0.0, 0.0
     lines = lines_of(label)
+    if look is not None and kind is not Kind.FLAG:
+        text = text_size(lines, look.font, FONT, LINE_HEIGHT)
+        return room(look.outline, text, (max(LEAST_SIDE, text[0] + 2 * PAD[0]), text[1] + 2 * PAD[1]))
     if kind is Kind.FLAG:
         return max(LEAST_FLAG, max(map(width_of, lines)) + 8), len(lines) * LINE_HEIGHT + 2
     return (max(LEAST_SIDE, max(map(width_of, lines)) + 2 * PAD[0]), len(lines) * LINE_HEIGHT + 2 * PAD[1])

@@ -5,10 +5,15 @@ import errno
 import math
 import os
 
-from planarbend.drawing.drawn import Drawing
-from planarbend.graph import Arrow, Kind
+from planarbend.drawing.drawn import Box, Drawing, Point
+from planarbend.drawing.ink import Markers, lettered, painted, stroked, wrapped
 from planarbend.drawing.nets import dots_of, ends_of, net_labels, pieces_of
-from planarbend.drawing.texts import FAMILY, FONT, LINE_HEIGHT, lines_of, svg_text, xml_text
+from planarbend.drawing.items import size_of
+from planarbend.drawing.symbols import ROUND, WHOLE, border, drawn_on, elements
+from planarbend.drawing.texts import FAMILY, FONT, LINE_HEIGHT, LONGEST_LINE, lines_of, svg_text, text_size, xml_text
+from planarbend.drawing.themes import paper, themed
+from planarbend.graph import Kind, Vertex
+from planarbend.style import EdgeLook, NodeLook, Outline
 
 STROKE = 1.6  # pixels, of lines
 INK, LINE = "#1d2733", "#3f5873"
@@ -16,53 +21,104 @@ FILL, PART_FILL, FLAG_FILL = "#f4f7fb", "#fdf6e3", "#e3f1e4"
 FILLS = {Kind.VERTEX: (FILL, 4), Kind.PART: (PART_FILL, 0), Kind.FLAG: (FLAG_FILL, 7)}  # and the radius of the corners
 DOT = 3.5  # pixels, the radius of a dot
 LABEL_FONT, LABEL_HEIGHT = 10, 12
+CAPTION = 6  # pixels beside and below the label of the graph
 CONVERTED = {".png": "png", ".pdf": "pdf"}
+WRITTEN = {".gv": "dot", ".dot": "dot", ".graphml": "graphml", ".gml": "gml"}  # and the functions of drawing/files.py
 
 
 class NoConverter(Exception):
     """rsvg-convert is missing or failed."""
 
 
-def svg(drawing: Drawing) -> str:
-    """Return the SVG text of a drawing."""
-    head = []
-    if any(edge.arrow is not Arrow.NONE for edge in drawing.graph.edges):
-        head.append('<defs><marker id="head" viewBox="0 0 10 10" refX="9" refY="5" markerWidth="8" markerHeight="8"'
-                    ' markerUnits="userSpaceOnUse" orient="auto-start-reverse">'
-                    f'<path d="M0 1L9 5L0 9z" fill="{LINE}"/></marker></defs>')
-    return svg_text(*map(math.ceil, drawing.size), [*head, *line_elements(drawing), *box_elements(drawing),
-                                                    *label_elements(drawing), *net_label_elements(drawing)])
+def svg(drawing: Drawing, theme: str = "light") -> str:
+    """Return the SVG text of a drawing, with the colours of one of `THEMES` where its file says none. If the file says what is
+    behind all, the theme is light."""
+    background = drawing.graph.looks.graph.background
+    theme = "light" if background is not None else theme
+    behind = paper(theme) if background is None else painted("fill", background)
+    cover = behind if background is None or background.text != "none" else paper("light")
+    markers = Markers(drawing.graph, LINE, cover)
+    (width, height), caption = captioned(drawing)
+    text = svg_text(width, height, [*markers.elements(), *line_elements(drawing, markers), *box_elements(drawing, theme),
+                                    *label_elements(drawing, cover), *net_label_elements(drawing), *caption], behind)
+    return themed(text, theme)
 
 
-def line_elements(drawing: Drawing) -> list[str]:
+def captioned(drawing: Drawing) -> tuple[tuple[int, int], list[str]]:
+    """Return the size of the picture in pixels, and the label of the graph, which is below everything else."""
+    width, height = map(math.ceil, drawing.size)
+    label, font = drawing.graph.looks.graph.label, drawing.graph.looks.graph.font
+    if not label.strip():
+        return (width, height), []
+    scale = (font.size or FONT) / FONT
+    lines = lines_of(label, max(LONGEST_LINE, (width - 2 * CAPTION) / scale))
+    wide, high = text_size(lines, font, FONT, LINE_HEIGHT)
+    width = max(width, math.ceil(wide + 2 * CAPTION))
+    texts = text_lines(lines, width / 2, height + high / 2, LINE_HEIGHT * scale, lettered(font))
+    group = f'<g fill="{INK}" font-family="{FAMILY}" font-size="{FONT}" text-anchor="middle">'
+    return (width, math.ceil(height + high + CAPTION)), [group, *texts, "</g>"]
+
+
+def line_of(drawing: Drawing, number: int) -> list[Point]:
+    """Return the corners of an edge between the borders of the outlines at its ends."""
+    edge, line = drawing.graph.edges[number], drawing.lines[number]
+    ends = []
+    for end, at, before in ((edge.tail, line[0], line[1]), (edge.head, line[-1], line[-2])):
+        vertex, look = drawing.graph.vertices[end], drawing.graph.looks.nodes.get(end)
+        if look is None or look.outline in WHOLE or vertex.kind in (Kind.NET, Kind.FLAG):
+            ends.append(at)
+        else:
+            corners = border(look.outline, drawing.boxes[end], size_of(vertex.label, vertex.kind, look))
+            ends.append(drawn_on(corners, at, before))
+    return [ends[0], *line[1:-1], ends[1]]
+
+
+def line_elements(drawing: Drawing, markers: Markers) -> list[str]:
     """Return the lines of the edges."""
     found = [f'<g fill="none" stroke="{LINE}" stroke-width="{STROKE}" stroke-linejoin="round">']
-    for edge, line in zip(drawing.graph.edges, drawing.lines, strict=True):
-        points = " ".join(f"{x:.1f},{y:.1f}" for x, y in line)
-        heads = ' marker-end="url(#head)"' if edge.arrow in (Arrow.FORWARD, Arrow.BOTH) else ""
-        heads += ' marker-start="url(#head)"' if edge.arrow in (Arrow.BACK, Arrow.BOTH) else ""
-        found.append(f'<polyline points="{points}"{heads}/>')
+    for number, heads in enumerate(markers.at):
+        look = drawing.graph.looks.edges.get(number, EdgeLook())
+        if look.is_visible:
+            points = " ".join(f"{x:.1f},{y:.1f}" for x, y in line_of(drawing, number))
+            found += wrapped(look, [f'<polyline points="{points}"{stroked(look)}{heads}/>'])
     return found + ["</g>"]
 
 
-def box_elements(drawing: Drawing) -> list[str]:
+def box_elements(drawing: Drawing, theme: str) -> list[str]:
     """Return the boxes with their names."""
     found = [f'<g stroke="{LINE}" stroke-width="{STROKE}">']
     texts = [f'<g fill="{INK}" font-family="{FAMILY}" font-size="{FONT}" text-anchor="middle">']
-    for vertex, (left, top, right, bottom) in zip(drawing.graph.vertices, drawing.boxes, strict=True):
-        if vertex.kind is Kind.NET:
+    for number, vertex in enumerate(drawing.graph.vertices):
+        box, look = drawing.boxes[number], drawing.graph.looks.nodes.get(number, NodeLook())
+        if vertex.kind is Kind.NET or not look.is_visible:
             continue
-        fill, round_corner = FILLS[vertex.kind]
-        found.append(f'<rect x="{left:.1f}" y="{top:.1f}" width="{right - left:.1f}" height="{bottom - top:.1f}"'
-                     f' rx="{round_corner}" fill="{fill}"/>')
-        texts += text_lines(lines_of(vertex.label), (left + right) / 2, (top + bottom) / 2, LINE_HEIGHT)
+        found += wrapped(look, outline_elements(vertex, look, box))
+        height = LINE_HEIGHT * (look.font.size or FONT) / FONT
+        is_own = look.fill is not None and look.fill.text != "none" and look.font.colour is None and theme != "light"
+        words = lettered(look.font) + (' fill="black"' if is_own else "")  # which the file expects on its own colours
+        texts += wrapped(look, text_lines(lines_of(vertex.label), (box[0] + box[2]) / 2, (box[1] + box[3]) / 2, height, words))
     return found + ["</g>", *net_elements(drawing), *texts, "</g>"]
 
 
-def text_lines(lines: list[str], x: float, y: float, height: float) -> list[str]:
-    """Return the lines of a text around a point."""
+def outline_elements(vertex: Vertex, look: NodeLook, box: Box) -> list[str]:
+    """Return the outline of a node, or the box of a part or a flag."""
+    fill, corner = FILLS[vertex.kind]
+    outline = None if vertex.kind is Kind.FLAG else look.outline
+    if outline is not None:
+        corner = 0
+    if look.is_rounded or outline is Outline.ROUND_RECORD:
+        corner = ROUND
+    stroke = stroked(look)
+    if outline is Outline.NONE:
+        fill, stroke = "none", ' stroke="none"'
+    paint = f' fill="{fill}"' if look.fill is None else painted("fill", look.fill)
+    return elements(outline, box, size_of(vertex.label, vertex.kind, look), corner, paint + stroke)
+
+
+def text_lines(lines: list[str], x: float, y: float, height: float, words: str = "") -> list[str]:
+    """Return the lines of a text around a point, with these attributes."""
     first = y - (len(lines) - 1) * height / 2
-    return [f'<text x="{x:.1f}" y="{first + place * height:.1f}" dy=".35em">{xml_text(line)}</text>'
+    return [f'<text x="{x:.1f}" y="{first + place * height:.1f}" dy=".35em"{words}>{xml_text(line)}</text>'
             for place, line in enumerate(lines) if line]
 
 
@@ -76,16 +132,22 @@ def net_elements(drawing: Drawing) -> list[str]:
     return found + ["</g>"]
 
 
-def label_elements(drawing: Drawing) -> list[str]:
-    """Return the labels of the edges, each on its line."""
-    if not drawing.label_boxes:
+def label_elements(drawing: Drawing, paint: str) -> list[str]:
+    """Return the labels of the edges, each on its line; `paint` are the attributes of what is between the two."""
+    labels = [(number, drawing.graph.edges[number].label, box) for number, box in drawing.label_boxes.items()]
+    for (number, is_head), box in drawing.end_boxes.items():
+        look = drawing.graph.looks.edges[number]
+        labels.append((number, look.head_label if is_head else look.tail_label, box))
+    if not labels:
         return []
     found = [f'<g fill="{INK}" font-family="{FAMILY}" font-size="{LABEL_FONT}" text-anchor="middle">']
-    for number, (left, top, right, bottom) in drawing.label_boxes.items():
-        found.append(f'<rect x="{left:.1f}" y="{top:.1f}" width="{right - left:.1f}" height="{bottom - top:.1f}"'
-                     ' fill="white"/>')
-        found += text_lines(lines_of(drawing.graph.edges[number].label), (left + right) / 2, (top + bottom) / 2,
-                            LABEL_HEIGHT)
+    for number, label, (left, top, right, bottom) in labels:
+        look = drawing.graph.looks.edges.get(number, EdgeLook())
+        if look.is_visible:
+            cover = (f'<rect x="{left:.1f}" y="{top:.1f}" width="{right - left:.1f}" height="{bottom - top:.1f}"{paint}/>')
+            height = LABEL_HEIGHT * (look.font.size or LABEL_FONT) / LABEL_FONT
+            lines = text_lines(lines_of(label), (left + right) / 2, (top + bottom) / 2, height, lettered(look.font))
+            found += wrapped(look, [cover, *lines])
     return found + ["</g>"]
 
 

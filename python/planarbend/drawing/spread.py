@@ -60,7 +60,7 @@ def centre(sheet: Sheet, axis: int, solver: Solver) -> None:
                 solver.move_to(line, sum(wanted) / len(wanted))
         for number, lines in sheet.at_box[axis].items():
             box = sheet.boxes[number]
-            solver.fit(box.low[axis], box.high[axis], lines, sheet.sizes[number][axis], sheet.inset(number))
+            solver.fit(box.low[axis], box.high[axis], lines, sheet.sizes[number][axis], sheet.inset(number, axis))
         if solver.value == before:
             return
 
@@ -77,7 +77,7 @@ def pull(sheet: Sheet, axis: int, solver: Solver) -> None:
     sides = {side for box in sheet.boxes for side in (box.low[axis], box.high[axis]) if box.low[axis] != box.high[axis]}
     movable = [number for number in ends if number not in sides]
     fits = [(box.low[axis], box.high[axis], sheet.at_box[axis].get(number, []), sheet.sizes[number][axis],
-             sheet.inset(number)) for number, box in enumerate(sheet.boxes) if box.low[axis] != box.high[axis]]
+             sheet.inset(number, axis)) for number, box in enumerate(sheet.boxes) if box.low[axis] != box.high[axis]]
     for _ in range(6):
         before = solver.value[:]
         for fit in fits:

@@ -1,8 +1,11 @@
 """The width of a text, its division into lines, and SVG."""
 from __future__ import annotations
 
+import re
 import unicodedata
-from collections.abc import Iterable
+from collections.abc import Iterable, Sequence
+
+from planarbend.style import Font
 
 FONT = 11  # pixels, font size of a name
 LINE_HEIGHT = 14  # pixels from line to line of a name
@@ -11,12 +14,23 @@ FAMILY = "DejaVu Sans, Verdana, sans-serif"
 
 WIDTHS = {0.32: " ", 0.40: "ijlI.,:;'|!()[]{}`frt-\"/\\", 0.98: "mMwW@%&"}  # of characters, relative to the font size
 WIDTH = {letter: width for width, letters in WIDTHS.items() for letter in letters}
+MONOSPACED = re.compile("mono|courier|consol|fixed|typewriter", re.I)
+BOLDER = 1.1  # times as wide as plain letters
 LOWER, UPPER, OTHER, WIDE = 0.64, 0.80, 0.85, 1.05
 
 
 def width_of(text: str, font: float = FONT) -> float:
     """Return the greatest width of a text, in pixels."""
     return font * sum(map(letter_width, text))
+
+
+def text_size(lines: Sequence[str], font: Font, size: float, height: float) -> tuple[float, float]:
+    """Return the width and height of lines in a font; `size` and the `height` of a line are those of the plain font."""
+    pixels = font.size or size
+    widest = max(width_of(line, pixels) for line in lines)
+    if MONOSPACED.search(font.family):
+        widest = max(widest, max(map(len, lines)) * LOWER * pixels)
+    return widest * (BOLDER if font.is_bold else 1), len(lines) * height * pixels / size
 
 
 def letter_width(letter: str) -> float:
@@ -54,7 +68,7 @@ def xml_text(text: str) -> str:
     return known.replace("&", "&amp;").replace("<", "&lt;").replace(">", "&gt;")
 
 
-def svg_text(width: int, height: int, elements: Iterable[str]) -> str:
-    """Return the text of an SVG picture on a white background."""
+def svg_text(width: int, height: int, elements: Iterable[str], paper: str = ' fill="white"') -> str:
+    """Return the text of an SVG picture on a background with these attributes."""
     head = f'<svg xmlns="http://www.w3.org/2000/svg" width="{width}" height="{height}" viewBox="0 0 {width} {height}">'
-    return "\n".join([head, '<rect width="100%" height="100%" fill="white"/>', *elements, "</svg>\n"])
+    return "\n".join([head, f'<rect width="100%" height="100%"{paper}/>', *elements, "</svg>\n"])

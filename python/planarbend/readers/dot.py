@@ -4,25 +4,37 @@ from __future__ import annotations
 import re
 import subprocess
 from collections.abc import Iterator
+from dataclasses import dataclass
 
 from planarbend.graph import Arrow, Graph
 from planarbend.readers import texts
+from planarbend.readers.attributes import EDGE_KEYS, GRAPH_KEYS, NODE_KEYS, Attributes, palette_of
 from planarbend.readers.building import Builder
 from planarbend.readers.fault import Fault, program
 
 PACKAGE = "graphviz"
+LABEL_KEYS = ("label", "xlabel", "headlabel", "taillabel")
+
+
+def printed(of: str, *keys: str) -> str:
+    """Return the statements of gvpr that print these attributes of a graph, node or edge, each after a space."""
+    return "".join(f'printf(" %s", value(aget({of}, "{key}")));' for key in keys)
+
+
 # One line for each graph, node or edge: a letter, then values in DOT's quotes, HTML strings after an h. `canon` quotes.
-LISTING = r"""
-BEG_G {
+LISTING = f"""
+BEG_G {{
   node_t n; edge_t e;
-  printf("g %d %s %s\n", isDirect($G), quoted($G.name), quoted(aget($G, "charset")));
+  printf("g %d %s", isDirect($G), quoted($G.name)); {printed("$G", "charset", "label", *GRAPH_KEYS)} printf("\\n");
+  for (n = fstnode($G); n; n = nxtnode(n)) {{
+    printf("n %s", quoted(n.name)); {printed("n", "label", *NODE_KEYS)} printf("\\n");
+  }}
   for (n = fstnode($G); n; n = nxtnode(n))
-    printf("n %s %s %s\n", quoted(n.name), quoted(aget(n, "shape")), value(aget(n, "label")));
-  for (n = fstnode($G); n; n = nxtnode(n))
-    for (e = fstout(n); e; e = nxtout(e))
-      printf("e %s %s %s %s %s %s %s\n", quoted(e.tail.name), quoted(e.head.name), quoted(aget(e, "dir")),
-             quoted(aget(e, "arrowhead")), quoted(aget(e, "arrowtail")), value(aget(e, "label")), value(aget(e, "xlabel")));
-}
+    for (e = fstout(n); e; e = nxtout(e)) {{
+      printf("e %s %s", quoted(e.tail.name), quoted(e.head.name));
+      {printed("e", *LABEL_KEYS, "dir", *EDGE_KEYS)} printf("\\n");
+    }}
+}}
 """
 FUNCTIONS = r"""
 BEGIN {
@@ -45,20 +57,18 @@ def read_dot(data: bytes) -> Graph:
     Nodes of clusters and other subgraphs are nodes of the graph; invisible nodes and edges too. Labels are plain text: the
     fields of a record with bars between them, an HTML label without its markup. An edge's label is `label`, or `xlabel` if
     that is empty. Arrows are by `dir`, `arrowhead` and `arrowtail`. A `Fault` is raised if Graphviz is missing, refuses the
-    text (with its line), or finds no graph or several.
+    text (with its line), or finds no graph or several. What else the file says about nodes, edges and the whole is their look.
     """
     canonical = run([program("dot", PACKAGE), "-Tcanon"], data)
-    listing = run([program("gvpr", PACKAGE), FUNCTIONS + LISTING], canonical)
-    found, name, graphs = Builder(), "", 0
-    for kind, flag, values in listed(listing):
-        if kind == "g":
-            found.directed, name, graphs = flag == "1", values[0][1], graphs + 1
-        elif kind == "n":
-            add_node(found, values, name)
-        else:
-            add_edge(found, values, name)
-    if graphs != 1:
-        raise Fault("the file has no graph" if not graphs else f"the file has {graphs} graphs; only one can be drawn")
+    entries = list(listed(run([program("gvpr", PACKAGE), FUNCTIONS + LISTING], canonical)))
+    graphs = [entry for entry in entries if entry.kind == "g"]
+    if len(graphs) != 1:
+        raise Fault(f"the file has {len(graphs)} graphs; only one can be drawn" if graphs else "the file has no graph")
+    found, name = Builder(directed=graphs[0].flag == "1"), graphs[0].names[0]
+    attributes = Attributes(found.looks, palette_of([entry.values for entry in entries]))
+    for entry in entries:
+        ADD[entry.kind](found, entry, name, attributes)
+    attributes.warn()
     return found
 
 
@@ -75,29 +85,63 @@ def run(words: list[str], data: bytes) -> bytes:
     return ran.stdout
 
 
-def listed(listing: bytes) -> Iterator[tuple[str, str, list[tuple[bool, str]]]]:
-    """Yield the entries of a listing: the letter, the flag of a graph, and the values, each with whether it is HTML."""
+@dataclass(frozen=True, slots=True)
+class Entry:
+    """An entry of a listing: a letter, the flag of a graph, names, labels (each with whether it is HTML), other attributes."""
+
+    kind: str
+    flag: str
+    names: list[str]
+    labels: list[tuple[bool, str]]
+    values: dict[str, str]
+
+
+# For each letter the numbers of names and of labels, and the names of the attributes that follow.
+COLUMNS = {"g": (1, 2, GRAPH_KEYS), "n": (1, 1, NODE_KEYS), "e": (2, len(LABEL_KEYS), ("dir", *EDGE_KEYS))}
+
+
+def listed(listing: bytes) -> Iterator[Entry]:
+    """Yield the entries of a listing."""
     is_latin = re.match(rb'g [01] "[^"]*" "(?i:' + "|".join(LATIN).encode() + rb')"', listing)
     text = listing.decode("latin-1" if is_latin else "utf-8", errors="replace")
     for kind, flag, values in COUNTED.findall(text):
-        yield kind, flag.strip(), [(html == "h", value.replace("%22", '"').replace("%25", "%"))
-                                   for html, value in VALUE.findall(values)]
+        found = [(html == "h", value.replace("%22", '"').replace("%25", "%")) for html, value in VALUE.findall(values)]
+        names, labels, keys = COLUMNS[kind]
+        yield Entry(kind, flag.strip(), [value for _, value in found[:names]], found[names:names + labels],
+                    dict(zip(keys, (value for _, value in found[names + labels:]))))
 
 
-def add_node(found: Builder, values: list[tuple[bool, str]], graph: str) -> None:
-    """Add the node of an entry: its name, its shape and its label."""
-    (_, name), (_, shape), (is_html, label) = values
-    names = {"N": name, "G": graph}
-    text = texts.of_record if shape in RECORDS else texts.plain
-    found.vertex(name, texts.of_html(label) if is_html else text(label, names))
+def text_of(label: tuple[bool, str], names: dict[str, str]) -> str:
+    """Return a label as plain text."""
+    return texts.of_html(label[1]) if label[0] else texts.plain(label[1], names)
 
 
-def add_edge(found: Builder, values: list[tuple[bool, str]], graph: str) -> None:
-    """Add the edge of an entry: its ends, `dir`, `arrowhead`, `arrowtail`, `label` and `xlabel`."""
-    tail, head, way, at_head, at_tail = (value for _, value in values[:5])
-    is_html, label = values[5] if values[5][1] else values[6]
+def add_graph(found: Builder, entry: Entry, graph: str, attributes: Attributes) -> None:
+    """Add the look of the whole: its label and its other attributes."""
+    found.looks.graph = attributes.graph(entry.values, text_of(entry.labels[1], {"G": graph}))
+
+
+def add_node(found: Builder, entry: Entry, graph: str, attributes: Attributes) -> None:
+    """Add the node of an entry: its name, its label and its look."""
+    names = {"N": entry.names[0], "G": graph}
+    is_html, label = entry.labels[0]
+    is_record = not is_html and entry.values["shape"] in RECORDS
+    text = texts.of_record(label, names) if is_record else text_of((is_html, label), names)
+    number = found.vertex(entry.names[0], "" if entry.values["shape"] == "point" else text)
+    found.looks.add_node(number, attributes.node(entry.values, names))
+
+
+def add_edge(found: Builder, entry: Entry, graph: str, attributes: Attributes) -> None:
+    """Add the edge of an entry: its ends, its arrow, its labels and its look."""
+    (tail, head), values = entry.names, entry.values
     joint = "->" if found.directed else "--"
     names = {"T": tail, "H": head, "E": f"{tail}{joint}{head}", "G": graph}
-    back, forward = ARROWS.get(way, (False, found.directed))
-    arrow = ARROW[back and at_tail != "none", forward and at_head != "none"]
-    found.edge(tail, head, texts.of_html(label) if is_html else texts.plain(label, names), arrow)
+    label, other, at_head, at_tail = entry.labels
+    back, forward = ARROWS.get(values["dir"], (False, found.directed))
+    arrow = ARROW[back and values["arrowtail"] != "none", forward and values["arrowhead"] != "none"]
+    found.edge(tail, head, text_of(label if label[1] else other, names), arrow)
+    look = attributes.edge(values, names, (text_of(at_head, names), text_of(at_tail, names)))
+    found.looks.add_edge(len(found.edges) - 1, look)
+
+
+ADD = {"g": add_graph, "n": add_node, "e": add_edge}

@@ -9,6 +9,7 @@ from collections.abc import Hashable, Iterable
 from typing import Any
 
 from planarbend.graph import Arrow, Graph
+from planarbend.readers import graphics
 from planarbend.readers.building import Builder
 from planarbend.readers.fault import Fault, decoded, shown
 
@@ -53,12 +54,15 @@ def read_graphml(data: bytes) -> Graph:
         except Exception as error:  # networkx lets many kinds through
             raise Fault(f"not GraphML: {shown(str(error))}") from None
     built = Builder(directed=found.is_directed())
+    elements = {node.get("id"): node for node in root.iter(NAMESPACE + "node")}
     for node, values in found.nodes(data=True):
-        built.vertex(node, label_of(values))
+        built.looks.add_node(built.vertex(node, label_of(values)), graphics.graphml_node(elements[node], values))
+    lines = list(root.iter(NAMESPACE + "edge"))
     for tail, head, key, values in sorted(found.edges(keys=True, data=True), key=operator.itemgetter(2)):
         tail, head = directions[key][0], directions[key][1]  # of an undirected graph networkx may exchange the ends
         is_arrow = found.is_directed() if directions[key][2] is None else directions[key][2]
         built.edge(tail, head, label_of(values) or "", Arrow.FORWARD if is_arrow else Arrow.NONE)
+        built.looks.add_edge(len(built.edges) - 1, graphics.graphml_edge(lines[int(key)], values))
         built.directed |= is_arrow
     return built
 
@@ -122,11 +126,12 @@ def read_gml(data: bytes) -> Graph:
         place = PLACE.search(str(error))
         raise Fault(f"not GML: {shown(PLACE.sub('', str(error)))}", int(place[1]) if place else None) from None
     built = Builder(directed=found.is_directed())
-    names = {node: label_of(values) or str(node) for node, values in found.nodes(data=True)}
-    for node, name in names.items():
-        built.vertex(node, name, name=name)
+    for node, values in found.nodes(data=True):
+        name = label_of(values) or str(node)
+        built.looks.add_node(built.vertex(node, name, name=name), graphics.gml_node(values))
     for tail, head, values in found.edges(data=True):
         built.edge(tail, head, label_of(values) or "", Arrow.FORWARD if built.directed else Arrow.NONE)
+        built.looks.add_edge(len(built.edges) - 1, graphics.gml_edge(values))
     return built
 
 

@@ -1,0 +1,287 @@
+"""A drawing as DOT with positions, as GraphML and as GML, for other programs."""
+from __future__ import annotations
+
+from collections import Counter
+from collections.abc import Mapping
+from html import escape
+
+from planarbend.drawing.drawn import Box, Drawing, Point
+from planarbend.drawing.items import size_of
+from planarbend.drawing.picture import DOT, FILL, FILLS, INK, LABEL_FONT, LINE, STROKE
+from planarbend.drawing.symbols import ELLIPSES, RING, corner_of
+from planarbend.drawing.texts import FONT, lines_of
+from planarbend.graph import Arrow, Graph, Kind
+from planarbend.style import Colour, EdgeLook, Font, NodeLook, Outline
+
+INCH = 72.0  # pixels, as one pixel is written as one point
+ARROW = 8.0  # pixels, the length of an arrowhead
+ARROW_SIZE = 0.8  # the same, in Graphviz's unit
+PLAIN = "DejaVu Sans"
+TAB = 12.0  # pixels, four times the greatest height of the tab of a folder in Graphviz
+PLAIN_LOOK = NodeLook()
+YED = {Outline.ELLIPSE: "ellipse", Outline.CIRCLE: "ellipse", Outline.DOUBLE_CIRCLE: "ellipse", Outline.POINT: "ellipse",
+       Outline.DIAMOND: "diamond", Outline.HEXAGON: "hexagon", Outline.OCTAGON: "octagon"}
+
+Values = Mapping[str, object]
+
+
+def names_of(graph: Graph) -> list[str]:
+    """Return a name for each vertex; all are different."""
+    used, found = Counter(vertex.name for vertex in graph.vertices), []
+    seen: set[str] = set()
+    for number, vertex in enumerate(graph.vertices):
+        name = vertex.name
+        while name in seen or (used[vertex.name] > 1 and vertex.name in seen and name in used):
+            name = f"{vertex.name} {number}" if name == vertex.name else name + "+"
+        seen.add(name)
+        found.append(name)
+    return found
+
+
+def is_directed(graph: Graph) -> bool:
+    """Return whether a graph is written as a directed one: its file says so, or an edge has an arrow."""
+    return graph.directed or any(edge.arrow is not Arrow.NONE for edge in graph.edges)
+
+
+def quoted(text: str) -> str:
+    """Return a text as a string of DOT."""
+    return '"' + text.replace("\\", "\\\\").replace('"', '\\"').replace("\r", "").replace("\n", "\\n") + '"'
+
+
+def listed(values: Values) -> str:
+    """Return attributes of DOT in brackets, without those that are None."""
+    given = [f"{key}={quoted(value) if isinstance(value, str) else f'{value:g}'}" for key, value in values.items()
+             if value is not None]
+    return f" [{', '.join(given)}]" if given else ""
+
+
+def painted(colour: Colour | None, plain: str | None = None) -> str | None:
+    """Return a colour as DOT has it, or the plain one if there is none."""
+    if colour is None or colour.text == "none":
+        return plain if colour is None else "transparent"
+    opacity = f"{round(255 * colour.opacity):02x}" if colour.opacity < 1 and colour.text.startswith("#") else ""
+    return colour.text + opacity
+
+
+def lettered(font: Font, size: float) -> dict[str, object]:
+    """Return the attributes of a font; `size` is that of the plain one."""
+    face = ("-Bold" if font.is_bold else "") + ("-Italic" if font.is_italic else "")
+    family = font.family or (PLAIN if face else None)
+    return {"fontname": family and family + face, "fontsize": font.size, "fontcolor": painted(font.colour)}
+
+
+def dot(drawing: Drawing) -> str:
+    """Return the drawing as DOT with positions, sizes and splines: `neato -n2` shows it. A pixel is written as a point."""
+    graph, names, height = drawing.graph, names_of(drawing.graph), drawing.size[1]
+    joint = "->" if is_directed(graph) else "--"
+    whole = {"bb": f"0,0,{drawing.size[0]:g},{height:g}", "label": graph.looks.graph.label or None,
+             "bgcolor": painted(graph.looks.graph.background), **lettered(graph.looks.graph.font, FONT)}
+    nodes = {"shape": "box", "style": "filled,rounded", "fillcolor": FILL, "color": LINE, "penwidth": STROKE,
+             "fontname": PLAIN, "fontsize": FONT, "fontcolor": INK, "fixedsize": "true"}
+    edges = {"color": LINE, "penwidth": STROKE, "arrowsize": ARROW_SIZE, "fontname": PLAIN, "fontsize": LABEL_FONT,
+             "fontcolor": INK}
+    found = [f"{'digraph' if is_directed(graph) else 'graph'} {{", f"  graph{listed(whole)};", f"  node{listed(nodes)};",
+             f"  edge{listed(edges)};"]
+    for number, name in enumerate(names):
+        found.append(f"  {quoted(name)}{listed(dot_node(drawing, number))};")
+    for number, edge in enumerate(graph.edges):
+        found.append(f"  {quoted(names[edge.tail])} {joint} {quoted(names[edge.head])}{listed(dot_edge(drawing, number))};")
+    return "\n".join([*found, "}\n"])
+
+
+def dot_node(drawing: Drawing, number: int) -> dict[str, object]:
+    """Return the attributes of a node."""
+    vertex, look, high = drawing.graph.vertices[number], drawing.graph.looks.nodes.get(number, PLAIN_LOOK), drawing.size[1]
+    left, top, right, bottom = without_tabs(look.outline, drawing.boxes[number])
+    place: dict[str, object] = {"pos": f"{(left + right) / 2:g},{high - (top + bottom) / 2:g}", "width": (right - left) / INCH,
+                                "height": (bottom - top) / INCH}
+    if vertex.kind is Kind.NET:
+        wide, tall = max(right - left, STROKE), max(bottom - top, STROKE)
+        is_point = wide == tall == STROKE
+        wide, tall = (2 * DOT, 2 * DOT) if is_point else (wide, tall)
+        return place | {"width": wide / INCH, "height": tall / INCH, "label": "", "shape": "point" if is_point else "box",
+                        "fillcolor": LINE, "style": "filled"}
+    found = place | {"label": "\n".join(lines_of(vertex.label)),
+                     **shape_of(vertex.kind, look, drawing.boxes[number], vertex.label), "color": painted(look.colour),
+                     "penwidth": look.width, **lettered(look.font, FONT), "URL": address(look.link),
+                     "tooltip": look.tooltip or None}
+    if found["shape"] == Outline.DOUBLE_CIRCLE.value:  # Graphviz draws the outer circle around this size
+        found |= {"width": (right - left - 2 * RING) / INCH, "height": (bottom - top - 2 * RING) / INCH}
+    fill = painted(look.fill, None if vertex.kind is Kind.VERTEX else FILLS[vertex.kind][0])
+    return found if fill is None else found | {"fillcolor": fill}
+
+
+def without_tabs(outline: Outline | None, box: Box) -> Box:
+    """Return the box of a node in Graphviz, which draws the tab of a folder and the small boxes of a component outside it."""
+    left, top, right, bottom = box
+    out = min(TAB, min(right - left, bottom - top) / 3) / 4
+    return left + out * (outline is Outline.COMPONENT), top + out * (outline is Outline.FOLDER), right, bottom
+
+
+def shape_of(kind: Kind, look: NodeLook, box: Box, label: str) -> dict[str, object]:
+    """Return the shape and the style of a node, if they are not those of a plain node."""
+    least, (left, top, right, bottom) = size_of(label, kind, look), box
+    outline = look.outline
+    if outline is not None and any(corner_of(outline, least)):
+        is_larger = right - left > least[0] + 1 or bottom - top > least[1] + 1
+        outline = (Outline.ROUND_RECORD if outline in ELLIPSES else Outline.OCTAGON) if is_larger else outline
+    is_round = kind is not Kind.PART and (outline in (None, Outline.ROUND_RECORD) or look.is_rounded)
+    is_filled = outline is not Outline.NONE or look.fill is not None
+    words = [word for word, is_said in (("filled", is_filled), ("rounded", is_round),
+                                        (look.dash and look.dash.value, look.dash is not None),
+                                        ("invis", not look.is_visible)) if is_said]
+    shape = "box" if outline in (None, Outline.RECORD, Outline.ROUND_RECORD, Outline.SQUARE) else outline.value
+    style = None if words == ["filled", "rounded"] else ",".join(map(str, words))
+    return {"shape": None if shape == "box" else shape, "style": style}
+
+
+def dot_edge(drawing: Drawing, number: int) -> dict[str, object]:
+    """Return the attributes of an edge."""
+    edge, look = drawing.graph.edges[number], drawing.graph.looks.edges.get(number, EdgeLook())
+    found: dict[str, object] = {"pos": spline(drawing.lines[number], edge.arrow, drawing.size[1])}
+    way = {Arrow.NONE: "none", Arrow.FORWARD: "forward", Arrow.BACK: "back", Arrow.BOTH: "both"}[edge.arrow]
+    if way != ("forward" if is_directed(drawing.graph) else "none"):
+        found["dir"] = way
+    for key, text, box in (("label", edge.label, drawing.label_boxes.get(number)),
+                           ("taillabel", look.tail_label, drawing.end_boxes.get((number, False))),
+                           ("headlabel", look.head_label, drawing.end_boxes.get((number, True)))):
+        if box is not None:
+            place = {"label": "lp", "taillabel": "tail_lp", "headlabel": "head_lp"}[key]
+            found |= {key: "\n".join(lines_of(text)),
+                      place: f"{(box[0] + box[2]) / 2:g},{drawing.size[1] - (box[1] + box[3]) / 2:g}"}
+    style = look.dash.value if look.dash else None
+    return found | {"color": painted(look.colour), "fillcolor": painted(look.fill), "penwidth": look.width,
+                    "style": style if look.is_visible else "invis", "arrowhead": look.head and look.head.value,
+                    "arrowtail": look.tail and look.tail.value, **lettered(look.font, LABEL_FONT), "URL": address(look.link),
+                    "tooltip": look.tooltip or None}
+
+
+def spline(line: list[Point], arrow: Arrow, height: float) -> str:
+    """Return a line as a spline of DOT: three further points for each straight piece, and the tips of arrows apart."""
+    points = [(x, height - y) for x, y in line]
+    tips = []
+    if arrow in (Arrow.BACK, Arrow.BOTH):
+        tips.append("s,{:g},{:g}".format(*points[0]))
+        points[0] = shortened(points[0], points[1])
+    if arrow in (Arrow.FORWARD, Arrow.BOTH):
+        tips.append("e,{:g},{:g}".format(*points[-1]))
+        points[-1] = shortened(points[-1], points[-2])
+    found = [points[0]]
+    for (x, y), (u, v) in zip(points, points[1:]):
+        found += [(x + (u - x) / 3, y + (v - y) / 3), (x + 2 * (u - x) / 3, y + 2 * (v - y) / 3), (u, v)]
+    return " ".join([*tips, *(f"{round(x, 3):g},{round(y, 3):g}" for x, y in found)])
+
+
+def shortened(end: Point, before: Point) -> Point:
+    """Return the point at which an arrowhead begins that ends at a point, at most half-way to the one before."""
+    far = abs(end[0] - before[0]) + abs(end[1] - before[1])
+    share = min(ARROW, far / 2) / far
+    return end[0] + share * (before[0] - end[0]), end[1] + share * (before[1] - end[1])
+
+
+def gml_text(text: str) -> str:
+    """Return a text as a string of GML, which is ASCII."""
+    plain = escape(allowed(text))
+    return '"' + "".join(letter if " " <= letter <= "~" else f"&#{ord(letter)};" for letter in plain) + '"'
+
+
+def gml(drawing: Drawing) -> str:
+    """Return the drawing as GML, with the middle and the size of each box, and the points of each line, y downwards."""
+    graph = drawing.graph
+    found = ["graph [", f"  directed {is_directed(graph):d}", "  multigraph 1"]
+    for number, (vertex, (left, top, right, bottom)) in enumerate(zip(graph.vertices, drawing.boxes, strict=True)):
+        look = graph.looks.nodes.get(number, PLAIN_LOOK)
+        is_round = look.outline is None or look.is_rounded
+        kind = YED.get(look.outline, "roundrectangle" if is_round else "rectangle")
+        more = "".join(f' {key} "{colour.text}"' for key, colour in (("fill", look.fill), ("outline", look.colour)) if colour)
+        found.append(f'  node [ id {number} label {gml_text(vertex.label)} name {gml_text(vertex.name)} graphics ['
+                     f' x {(left + right) / 2} y {(top + bottom) / 2} w {right - left} h {bottom - top}'
+                     f' type "{kind}"{more} ] ]')
+    for number, (edge, line) in enumerate(zip(graph.edges, drawing.lines, strict=True)):
+        edge_look = graph.looks.edges.get(number, EdgeLook())
+        points = " ".join(f"point [ x {x} y {y} ]" for x, y in line)
+        more = f' fill "{edge_look.colour.text}"' if edge_look.colour else ""
+        more += f' style "{edge_look.dash.value}"' if edge_look.dash else ""
+        for key, arrows in (("sourceArrow", (Arrow.BACK, Arrow.BOTH)), ("targetArrow", (Arrow.FORWARD, Arrow.BOTH))):
+            more += f' {key} "standard"' if edge.arrow in arrows else ""
+        label = f" label {gml_text(edge.label)}" if edge.label else ""
+        found.append(f'  edge [ source {edge.tail} target {edge.head}{label}'
+                     f' graphics [ type "line"{more} Line [ {points} ] ] ]')
+    return "\n".join([*found, "]\n"])
+
+
+def attribute(text: object) -> str:
+    """Return a text as the value of an attribute of XML, in quotes."""
+    return '"' + escape(allowed(text)).replace("\n", "&#10;") + '"'
+
+
+def graphml(drawing: Drawing) -> str:
+    """Return the drawing as GraphML, with coordinates as numbers for networkx and Gephi, and as graphics for yEd."""
+    graph = drawing.graph
+    keys = [("label", "node", "string"), *((key, "node", "double") for key in ("x", "y", "width", "height")),
+            ("text", "edge", "string"), ("points", "edge", "string")]
+    found = ['<?xml version="1.0" encoding="UTF-8"?>', '<graphml xmlns="http://graphml.graphdrawing.org/xmlns"'
+             ' xmlns:y="http://www.yworks.com/xml/graphml">',
+             *(f'<key id="{key}" for="{of}" attr.name="{"label" if key == "text" else key}" attr.type="{kind}"/>'
+               for key, of, kind in keys),
+             '<key id="yn" for="node" yfiles.type="nodegraphics"/><key id="ye" for="edge" yfiles.type="edgegraphics"/>',
+             f'<graph edgedefault="{"directed" if is_directed(graph) else "undirected"}">']
+    names = names_of(graph)
+    for number, name in enumerate(names):
+        found.append(f"<node id={attribute(name)}>{graphml_node(drawing, number)}</node>")
+    for number, edge in enumerate(graph.edges):
+        found.append(f"<edge id=\"e{number}\" source={attribute(names[edge.tail])} target={attribute(names[edge.head])}>"
+                     f"{graphml_edge(drawing, number)}</edge>")
+    return "\n".join([*found, "</graph>", "</graphml>\n"])
+
+
+def graphml_node(drawing: Drawing, number: int) -> str:
+    """Return the data of a node."""
+    vertex, (left, top, right, bottom) = drawing.graph.vertices[number], drawing.boxes[number]
+    look = drawing.graph.looks.nodes.get(number, PLAIN_LOOK)
+    values = {"label": vertex.label, "x": (left + right) / 2, "y": (top + bottom) / 2, "width": right - left,
+              "height": bottom - top}
+    fill, line = look.fill or Colour(FILLS.get(vertex.kind, (FILL, 0))[0]), look.colour or Colour(LINE)
+    size = f' fontSize="{look.font.size:g}"' if look.font.size else ""
+    kind = YED.get(look.outline, "rectangle") if look.outline else "roundrectangle"
+    return "".join([
+        f'<data key="yn"><y:ShapeNode><y:Geometry x="{left}" y="{top}" width="{right - left}" height="{bottom - top}"/>',
+        f'<y:Fill {hue(fill)}/><y:BorderStyle {hue(line)} type="{look.dash.value if look.dash else "line"}"'
+        f' width="{STROKE}"/><y:NodeLabel{size}>{escape(allowed(vertex.label), quote=False)}</y:NodeLabel>'
+        f'<y:Shape type="{kind}"/></y:ShapeNode></data>',
+        *(f'<data key="{key}">{escape(allowed(value), quote=False)}</data>' for key, value in values.items())])
+
+
+def graphml_edge(drawing: Drawing, number: int) -> str:
+    """Return the data of an edge."""
+    edge, line = drawing.graph.edges[number], drawing.lines[number]
+    look = drawing.graph.looks.edges.get(number, EdgeLook())
+    boxes = [drawing.boxes[end] for end in (edge.tail, edge.head)]
+    (a, b), (c, d) = ((x - (box[0] + box[2]) / 2, y - (box[1] + box[3]) / 2)
+                      for box, (x, y) in zip(boxes, (line[0], line[-1])))
+    label = f'<data key="text">{escape(allowed(edge.label), quote=False)}</data>' if edge.label else ""
+    arrows = ["standard" if edge.arrow in ways else "none" for ways in ((Arrow.BACK, Arrow.BOTH), (Arrow.FORWARD, Arrow.BOTH))]
+    return "".join([
+        label, f'<data key="points">{" ".join(f"{x},{y}" for x, y in line)}</data>',
+        f'<data key="ye"><y:PolyLineEdge><y:Path sx="{a:g}" sy="{b:g}" tx="{c:g}" ty="{d:g}">',
+        *(f'<y:Point x="{x}" y="{y}"/>' for x, y in line[1:-1]),
+        f'</y:Path><y:LineStyle {hue(look.colour or Colour(LINE))} type="{look.dash.value if look.dash else "line"}"'
+        f' width="{STROKE if look.width is None else look.width:g}"/><y:Arrows source="{arrows[0]}" target="{arrows[1]}"/>',
+        f"<y:EdgeLabel>{escape(allowed(edge.label), quote=False)}</y:EdgeLabel>" if edge.label else "",
+        "</y:PolyLineEdge></data>"])
+
+
+def hue(colour: Colour) -> str:
+    """Return the attributes of a colour for yEd."""
+    return 'hasColor="false"' if colour.text == "none" else f'color="{colour.text}"'
+
+
+def allowed(value: object) -> str:
+    """Return a value as text without the characters that XML does not allow."""
+    return "".join(letter if letter >= " " and letter not in "\ufffe\uffff" or letter in "\n\t" else "\ufffd"
+                   for letter in str(value))
+
+
+def address(link: str) -> str | None:
+    """Return a link as Graphviz can write it into XML, or None if there is none."""
+    return "".join(f"%{ord(letter):02X}" if letter in '<>"' else letter for letter in link).replace("&", "&amp;") or None

@@ -1,0 +1,88 @@
+"""Turns looks into SVG: attributes of lines, boxes and texts, arrowheads, links and tooltips."""
+from __future__ import annotations
+
+from planarbend.drawing.texts import FAMILY, xml_text
+from planarbend.graph import Arrow, Graph
+from planarbend.style import Colour, Dash, EdgeLook, Font, Head, Look
+
+DASHES = {Dash.DASHED: "5 3", Dash.DOTTED: "1.5 3"}  # pixels: drawn, left out
+# The SVG of heads in a square of 10, in which the line comes from the left and ends at (9, 5). Open ones are not filled.
+HEADS = {
+    Head.NORMAL: '<path d="M0 1L9 5L0 9z"{}/>', Head.INVERTED: '<path d="M9 1L0 5L9 9z"{}/>',
+    Head.VEE: '<path d="M0 1L9 5L0 9L3.5 5z"{}/>', Head.DOT: '<circle cx="5" cy="5" r="4"{}/>',
+    Head.OPEN_DOT: '<circle cx="5" cy="5" r="3.5"{}/>', Head.DIAMOND: '<path d="M0 5L4.5 1.5L9 5L4.5 8.5z"{}/>',
+    Head.OPEN_DIAMOND: '<path d="M0.5 5L4.5 1.8L8.5 5L4.5 8.2z"{}/>', Head.TEE: '<path d="M6.5 0H9V10H6.5z"{}/>'}
+OPEN = (Head.OPEN_DOT, Head.OPEN_DIAMOND)
+MARKER = ('<marker id="{}" viewBox="0 0 10 10" refX="9" refY="5" markerWidth="8" markerHeight="8"'
+          ' markerUnits="userSpaceOnUse" orient="auto-start-reverse">{}</marker>')
+
+Marker = tuple[Head, Colour, str]  # a head, the colour of its line, and what paints its inside
+
+
+def quoted(text: str) -> str:
+    """Return a text as the value of an attribute, in quotes."""
+    return '"' + xml_text(text).replace('"', "&quot;").replace("\ufffd", " ") + '"'
+
+
+def painted(kind: str, colour: Colour | None) -> str:
+    """Return the attributes that paint with a colour, `kind` being "fill" or "stroke"; none for no colour."""
+    if colour is None:
+        return ""
+    return f' {kind}="{colour.text}"' + (f' {kind}-opacity="{colour.opacity:g}"' if colour.opacity < 1 else "")
+
+
+def stroked(look: Look) -> str:
+    """Return the attributes of the lines of a look."""
+    found = painted("stroke", look.colour)
+    if look.width is not None:
+        found += f' stroke-width="{look.width:g}"'
+    return found + (f' stroke-dasharray="{DASHES[look.dash]}"' if look.dash else "")
+
+
+def lettered(font: Font) -> str:
+    """Return the attributes of the texts in a font."""
+    found = painted("fill", font.colour)
+    if font.family:
+        found += f" font-family={quoted(f'{font.family}, {FAMILY}')}"
+    if font.size is not None:
+        found += f' font-size="{font.size:g}"'
+    return found + (' font-weight="bold"' if font.is_bold else "") + (' font-style="italic"' if font.is_italic else "")
+
+
+def wrapped(look: Look, elements: list[str]) -> list[str]:
+    """Return elements with the link and the tooltip of a look."""
+    if not elements or not (look.link or look.tooltip):
+        return elements
+    title = [f"<title>{xml_text(look.tooltip)}</title>"] if look.tooltip else []
+    return [f"<a href={quoted(look.link)}>" if look.link else "<g>", *title, *elements, "</a>" if look.link else "</g>"]
+
+
+class Markers:
+    """The heads of a graph's edges, each kind and colour once."""
+
+    def __init__(self, graph: Graph, ink: str, paper: str) -> None:
+        """Return the heads of a graph; `ink` is the colour of plain lines; `paper` paints the inside of open ones."""
+        self.ink, self.paper = Colour(ink), paper
+        self.names: dict[Marker, str] = {}
+        self.at: list[str] = []  # for each edge the attributes of its line
+        for number, edge in enumerate(graph.edges):
+            look, words = graph.looks.edges.get(number, EdgeLook()), ""
+            if look.is_visible and edge.arrow in (Arrow.FORWARD, Arrow.BOTH):
+                words += f' marker-end="url(#{self.name(look, look.head)})"'
+            if look.is_visible and edge.arrow in (Arrow.BACK, Arrow.BOTH):
+                words += f' marker-start="url(#{self.name(look, look.tail)})"'
+            self.at.append(words)
+
+    def name(self, look: EdgeLook, head: Head | None) -> str:
+        """Return the name of a head of an edge, which is new if there is none like it."""
+        head, line = head or Head.NORMAL, look.colour or self.ink
+        marker = head, line, self.paper if head in OPEN else painted("fill", look.fill or line)
+        return self.names.setdefault(marker, f"head{len(self.names) or ''}")
+
+    def elements(self) -> list[str]:
+        """Return the SVG that defines the heads."""
+        found = []
+        for (head, line, inside), name in self.names.items():
+            words = "" if inside == painted("fill", line) else painted("stroke", line)
+            found.append(MARKER.format(name, HEADS[head].format(inside + words)))
+        return ["<defs>" + "".join(found) + "</defs>"] if found else []
